@@ -1,0 +1,9 @@
+pub mod Params
+pub mod Stored
+pub mod Cutting
+pub mod Codewords
+pub mod Mapping
+pub mod Blocks
+pub mod CodedDataSets
+pub mod Places
+pub mod Limits

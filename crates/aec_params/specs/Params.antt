@@ -1,0 +1,79 @@
+-- The parameters of a stream: which the format has, and the numbers that follow from them.
+use Rattle.std.specs.Prelude.{◌≡◌, ℕ, ◌+◌, ◌-◌, ◌*◌, ◌^◌, ◌<◌, Bool, ◌&&◌, ◌||◌, not, nat_le, nat_lt, ◌==◌, if◌then◌else◌, Option, Some, None, ℤ, pos, negsuc, neg_ℤ, ◌-ℤ◌, int_le, IsTrue}
+use Rattle.aec_params.specs.declared.settings.Settings.{Settings}
+use Rattle.aec_params.specs.declared.fault.Fault.{Fault}
+use Rattle.aec_params.specs.declared.fault.Fault.TheVariants.{BitsPerSample, BlockSize, Interval, RestrictedWidth}
+
+-- whether n lies from low to high
+abbrev pub is_between : ℕ → ℕ → ℕ → Bool
+is_between low high n = nat_le low n && nat_le n high
+
+-- the block sizes of the format
+abbrev pub is_block_size : ℕ → Bool
+is_block_size j = (j == 8) || ((j == 16) || ((j == 32) || (j == 64)))
+
+-- the first rule that the settings break, if there is one
+abbrev pub settings_fault : Settings → Option Fault
+settings_fault s =
+    if not (is_between 1 32 s.bits) then Some BitsPerSample
+    else (if not (is_block_size s.block_size) then Some BlockSize
+    else (if not (is_between 1 4096 s.interval) then Some Interval
+    else (if s.restricted && nat_lt 4 s.bits then Some RestrictedWidth else None)))
+
+-- settings that break no rule
+pub record IsAllowed (s : Settings) : Type 0 where
+  pub bits : IsTrue (is_between 1 32 s.bits)
+  pub block_size : IsTrue (is_block_size s.block_size)
+  pub interval : IsTrue (is_between 1 4096 s.interval)
+  pub restricted : IsTrue (not (s.restricted && nat_lt 4 s.bits))
+
+-- samples in a reference sample interval
+abbrev pub interval_len : Settings → ℕ
+interval_len s = s.block_size * s.interval
+
+-- bits of an identifier
+abbrev pub id_len : Settings → ℕ
+id_len s =
+    if s.restricted then (if nat_le s.bits 2 then 1 else 2)
+    else (if nat_le s.bits 8 then 3 else (if nat_le s.bits 16 then 4 else 5))
+
+-- how many sample-splitting options there are
+abbrev pub split_count : Settings → ℕ
+split_count s = 2 ^ id_len s - 2
+
+-- the greatest k of a sample-splitting option, if there is one
+abbrev pub k_max : Settings → Option ℕ
+k_max s = if id_len s == 1 then None else Some (2 ^ id_len s - 3)
+
+-- how many values n bits have
+abbrev pub value_count : Settings → ℕ
+value_count s = 2 ^ s.bits
+
+-- the least and the greatest sample
+abbrev pub x_min : Settings → ℤ
+x_min s = if s.signed then neg_ℤ (pos (2 ^ (s.bits - 1))) else pos 0
+
+abbrev pub x_max : Settings → ℤ
+x_max s = if s.signed then pos (2 ^ (s.bits - 1) - 1) else pos (2 ^ s.bits - 1)
+
+-- whether a number is a sample of these settings
+abbrev pub is_held : Settings → ℤ → Bool
+is_held s x = int_le (x_min s) x && int_le x (x_max s)
+
+abbrev pub IsHeld : Settings → ℤ → Type 0
+IsHeld s x = IsTrue (is_held s x)
+
+-- a sample's two's complement in n bits, as an unsigned number
+abbrev pub sample_pattern : Settings → ℤ → ℕ
+sample_pattern s (pos m) = m
+sample_pattern s (negsuc m) = 2 ^ s.bits - (m + 1)
+
+-- the sample of a pattern: of signed samples the upper half is negative
+abbrev pub pattern_value : Settings → ℕ → ℤ
+pattern_value s u = if s.signed && nat_le (2 ^ (s.bits - 1)) u then pos u -ℤ pos (2 ^ s.bits) else pos u
+
+-- bytes of a stored sample
+abbrev pub storage_len : Settings → ℕ
+storage_len s =
+    if nat_le s.bits 8 then 1
+    else (if nat_le s.bits 16 then 2 else (if s.three_byte && nat_le s.bits 24 then 3 else 4))

@@ -1,0 +1,61 @@
+-- Samples as they are stored: which bytes a sample has, and which samples bytes are.
+use Rattle.std.specs.Prelude.{◌≡◌, ℕ, ◌+◌, ◌-◌, ◌*◌, ◌/◌, ◌%◌, ◌^◌, Bool, ◌&&◌, ◌||◌, nat_le, nat_lt, ◌==◌, if◌then◌else◌, Option, Some, None, Result, Ok, Err, List, [], ◌∷◌, length, ℤ, pos, negsuc}
+use Rattle.std.specs.Simd.{first_chunks}
+use Rattle.byteorder.specs.Endian.{big_bytes, little_bytes, big_number, little_number}
+use Rattle.aec_params.specs.declared.settings.Settings.{Settings}
+use Rattle.aec_params.specs.declared.fault.Fault.{Fault}
+use Rattle.aec_params.specs.declared.fault.Fault.TheVariants.{SampleRange, Memory}
+use Rattle.aec_params.specs.Params.{storage_len, pattern_value}
+
+-- a sample in all bits of its bytes: unsigned with zeros in the unused bits, signed with its sign in them
+abbrev pub stored_number : Settings → ℤ → ℕ
+stored_number s (pos m) = m
+stored_number s (negsuc m) = 2 ^ (8 * storage_len s) - (m + 1)
+
+-- the bytes of a sample, in the order of the settings
+abbrev pub stored_bytes : Settings → ℤ → List ℕ
+stored_bytes s x =
+    if s.msb_first then big_bytes (storage_len s) (stored_number s x)
+    else little_bytes (storage_len s) (stored_number s x)
+
+-- the number in the bytes of one sample
+abbrev pub number_in : Settings → List ℕ → ℕ
+number_in s bytes =
+    if s.msb_first then big_number (storage_len s) bytes else little_number (storage_len s) bytes
+
+-- whether the bits above the lowest n are copies of the sign bit, bit n - 1, or all zero where it is not set
+abbrev pub is_sign_extended : Settings → ℕ → Bool
+is_sign_extended s u =
+    (u / 2 ^ (s.bits - 1) == 2 ^ (8 * storage_len s - (s.bits - 1)) - 1)
+
+-- the sample that a stored number is: its unused bits are zero, or where samples are signed copies of its sign
+abbrev pub sample_of_number : Settings → ℕ → Option ℤ
+sample_of_number s u =
+    if nat_lt u (2 ^ s.bits) then Some (pattern_value s u)
+    else (if s.signed && is_sign_extended s u then Some (pattern_value s (u % 2 ^ s.bits)) else None)
+
+-- the whole groups of bytes that hold a sample each; what is left over at the end is in none
+abbrev pub byte_groups : Settings → List ℕ → List (List ℕ)
+byte_groups s bytes = first_chunks (storage_len s) (length bytes / storage_len s) bytes
+
+-- one sample, where there is one, before what comes after it
+abbrev pub sample_before : Option ℤ → ℕ → Result (List ℤ) ℕ → Result (List ℤ) ℕ
+sample_before None i later = Err i
+sample_before (Some x) i (Ok xs) = Ok (x ∷ xs)
+sample_before (Some x) i (Err k) = Err k
+
+-- the samples of the groups, or the place of the first group that is none, counted from i
+abbrev pub samples_of_groups : Settings → ℕ → List (List ℕ) → Result (List ℤ) ℕ
+samples_of_groups s i [] = Ok []
+samples_of_groups s i (g ∷ gs) = sample_before (sample_of_number s (number_in s g)) i (samples_of_groups s (i + 1) gs)
+
+-- the samples that bytes are, or the index of the first that is none
+abbrev pub samples_of_bytes : Settings → List ℕ → Result (List ℤ) ℕ
+samples_of_bytes s bytes = samples_of_groups s 0 (byte_groups s bytes)
+
+-- What a reading of stored samples answers, seen by view: the samples, or want of memory in their place; where a
+-- sample is none of the settings, its index and nothing else.
+abbrev pub AnswersSamples : {X : Type 0} → (X → List ℤ) → Result (List ℤ) ℕ → Result X Fault → Type 0
+AnswersSamples view (Ok xs) (Ok answer) = view answer ≡ xs
+AnswersSamples view (Ok xs) (Err e) = e ≡ Memory
+AnswersSamples view (Err index) answer = answer ≡ Err (SampleRange index)

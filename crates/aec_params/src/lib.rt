@@ -1,0 +1,18 @@
+//! The words of the project: parameters, samples as they are stored, edits and refusals.
+#![tactic(auto)]
+
+mod edit;
+mod fault;
+mod limits;
+mod params;
+mod samples;
+mod settings;
+mod stored;
+
+pub use edit::Edit;
+pub use fault::Fault;
+pub use limits::Limits;
+pub use params::Params;
+pub use samples::Samples;
+pub use settings::Settings;
+pub use stored::{put_sample, read_samples};

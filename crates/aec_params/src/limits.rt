@@ -1,0 +1,54 @@
+//! How much a run takes in.
+
+use std::marker::Model;
+
+/// At most so many samples, and so many bytes of coded data or of a script.
+#[derive(Clone, Copy, Debug, PartialEq, Eq)]
+pub struct Limits {
+    samples: u64,
+    bytes: u64,
+}
+
+impl Model for Limits {
+    ghost use Rattle.aec_params.specs.Limits.{Caps, AreLimits};
+
+    ghost Value = { Caps };
+
+    ghost view = { λ l. record { samples = l.samples; bytes = l.bytes } };
+
+    ghost invariant = { λ l. AreLimits (record { samples = l.samples; bytes = l.bytes }) };
+
+    ghost inverse = { λ c. record { samples = c.samples; bytes = c.bytes } };
+}
+
+impl Limits {
+    ghost use Rattle.std.specs.Prelude.{◌≡◌, ◌≤◌, SomeIff};
+    ghost use Rattle.aec_params.specs.Limits.{Caps, AreLimits};
+
+    /// Limits of so many samples and bytes; `None` where there are more than 2^32 samples or 2^40 bytes.
+    pub fn new(samples: u64, bytes: u64) -> Option<Limits>
+        ensures { let caps : Caps = record { samples = samples; bytes = bytes } in SomeIff result (AreLimits caps) caps }
+    {
+        if samples <= 1 << 32 && bytes <= 1 << 40 {
+            Some(Limits { samples, bytes })
+        } else {
+            None
+        }
+    }
+
+    /// The greatest number of samples.
+    pub fn samples(&self) -> u64
+        ensures value { result ≡ self.now.samples }
+        ensures limits { AreLimits self.now }
+    {
+        self.samples
+    }
+
+    /// The greatest number of bytes.
+    pub fn bytes(&self) -> u64
+        ensures value { result ≡ self.now.bytes }
+        ensures limits { AreLimits self.now }
+    {
+        self.bytes
+    }
+}

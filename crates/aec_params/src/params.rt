@@ -1,0 +1,211 @@
+//! Settings that the format has, and the numbers that follow from them.
+
+use crate::fault::Fault;
+use crate::settings::Settings;
+use std::marker::Model;
+
+/// Parameters of a stream: settings that break no rule of the format.
+#[derive(Clone, Copy, Debug, PartialEq, Eq)]
+pub struct Params {
+    settings: Settings,
+}
+
+impl Model for Params {
+    ghost use Rattle.aec_params.specs.declared.settings.Settings.{Settings};
+    ghost use Rattle.aec_params.specs.Params.{IsAllowed};
+
+    ghost Value = { Settings };
+
+    ghost view = { λ p. p.settings };
+
+    ghost invariant = { λ p. IsAllowed p.settings };
+
+    ghost inverse = { λ s. record { settings = s } };
+}
+
+impl Params {
+    ghost use Rattle.std.specs.Prelude.{◌≡◌, ◌<◌, ◌^◌, IfOk, nat_lt};
+    ghost use Rattle.std.specs.Result.{result_err};
+    ghost use Rattle.aec_params.specs.Params.{IsAllowed, settings_fault, interval_len as samples_in_interval, id_len as identifier_len, k_max as greatest_k, x_min as least_sample, x_max as greatest_sample, storage_len, is_held, IsHeld, sample_pattern, pattern_value};
+
+    /// Parameters for the settings. The rules are judged in this order: bits per sample 1 to 32; block size 8, 16,
+    /// 32 or 64; interval 1 to 4096 blocks; the restricted set for at most 4 bits. The first that is broken is the
+    /// refusal.
+    pub fn new(settings: Settings) -> Result<Params, Fault>
+        ensures ok { IfOk result (λ p. p ≡ settings) }
+        ensures allowed { IfOk result (λ p. IsAllowed p) }
+        ensures refuses { result_err result ≡ settings_fault settings }
+    {
+        if settings.bits < 1 || settings.bits > 32 {
+            return Err(Fault::BitsPerSample);
+        }
+        if !matches!(settings.block_size, 8 | 16 | 32 | 64) {
+            return Err(Fault::BlockSize);
+        }
+        if settings.interval < 1 || settings.interval > 4096 {
+            return Err(Fault::Interval);
+        }
+        if settings.restricted && settings.bits > 4 {
+            return Err(Fault::RestrictedWidth);
+        }
+        Ok(Params { settings })
+    }
+
+    /// Bits per sample, n.
+    pub fn bits(&self) -> u32
+        ensures value { result ≡ self.now.bits }
+        ensures allowed { IsAllowed self.now }
+    {
+        self.settings.bits
+    }
+
+    /// Samples in a block, J.
+    pub fn block_size(&self) -> u32
+        ensures value { result ≡ self.now.block_size }
+        ensures allowed { IsAllowed self.now }
+    {
+        self.settings.block_size
+    }
+
+    /// Blocks in a reference sample interval, r.
+    pub fn interval(&self) -> u32
+        ensures value { result ≡ self.now.interval }
+        ensures allowed { IsAllowed self.now }
+    {
+        self.settings.interval
+    }
+
+    /// Samples in a reference sample interval, 8 to 262,144.
+    pub fn interval_len(&self) -> u64
+        ensures value { result ≡ samples_in_interval self.now }
+        ensures allowed { IsAllowed self.now }
+    {
+        u64::from(self.settings.block_size) * u64::from(self.settings.interval)
+    }
+
+    /// Bits of an identifier, 1 to 5: the table of identifiers, by the number of bits per sample and the code set.
+    pub fn id_len(&self) -> u32
+        ensures value { result ≡ identifier_len self.now }
+        ensures allowed { IsAllowed self.now }
+    {
+        match (self.settings.restricted, self.settings.bits) {
+            (true, ..=2) => 1,
+            (true, _) => 2,
+            (false, ..=8) => 3,
+            (false, ..=16) => 4,
+            (false, _) => 5,
+        }
+    }
+
+    /// The greatest k of a sample-splitting option; `None` where identifiers have one bit and there is none.
+    pub fn k_max(&self) -> Option<u32>
+        ensures value { result ≡ greatest_k self.now }
+        ensures allowed { IsAllowed self.now }
+    {
+        match self.id_len() {
+            1 => None,
+            len => Some((1 << len) - 3),
+        }
+    }
+
+    /// The least sample.
+    pub fn x_min(&self) -> i64
+        ensures value { result ≡ least_sample self.now }
+        ensures allowed { IsAllowed self.now }
+    {
+        if self.settings.signed {
+            -(1i64 << (self.settings.bits - 1))
+        } else {
+            0
+        }
+    }
+
+    /// The greatest sample.
+    pub fn x_max(&self) -> i64
+        ensures value { result ≡ greatest_sample self.now }
+        ensures allowed { IsAllowed self.now }
+    {
+        if self.settings.signed {
+            (1i64 << (self.settings.bits - 1)) - 1
+        } else {
+            (1i64 << self.settings.bits) - 1
+        }
+    }
+
+    /// Bytes of a stored sample, 1 to 4.
+    pub fn storage(&self) -> usize
+        ensures value { result ≡ storage_len self.now }
+        ensures allowed { IsAllowed self.now }
+    {
+        match self.settings.bits {
+            ..=8 => 1,
+            ..=16 => 2,
+            ..=24 if self.settings.three_byte => 3,
+            _ => 4,
+        }
+    }
+
+    /// Whether samples are signed.
+    pub fn signed(&self) -> bool
+        ensures { result ≡ self.now.signed }
+    {
+        self.settings.signed
+    }
+
+    /// Whether a stored sample has its most significant byte first.
+    pub fn msb_first(&self) -> bool
+        ensures { result ≡ self.now.msb_first }
+    {
+        self.settings.msb_first
+    }
+
+    /// Whether the preprocessor runs.
+    pub fn preprocess(&self) -> bool
+        ensures { result ≡ self.now.preprocess }
+    {
+        self.settings.preprocess
+    }
+
+    /// Whether each interval is filled up to a byte boundary.
+    pub fn pad(&self) -> bool
+        ensures { result ≡ self.now.pad }
+    {
+        self.settings.pad
+    }
+
+    /// Whether a number is a sample: from `x_min` to `x_max`.
+    pub fn holds(&self, x: i64) -> bool
+        ensures { result ≡ is_held self.now x }
+    {
+        self.x_min() <= x && x <= self.x_max()
+    }
+
+    /// The pattern of a sample: its two's complement in n bits, as an unsigned number.
+    pub fn pattern(&self, x: i64) -> u32
+        requires { IsHeld self.now x }
+        ensures value { result ≡ sample_pattern self.now x }
+        ensures fits { result < 2 ^ self.now.bits }
+        ensures undone { pattern_value self.now result ≡ x }
+    {
+        if x >= 0 {
+            x as u32
+        } else {
+            (x + (1i64 << self.settings.bits)) as u32
+        }
+    }
+
+    /// The sample of a pattern.
+    pub fn value(&self, pattern: u32) -> i64
+        requires { pattern < 2 ^ self.now.bits }
+        ensures value { result ≡ pattern_value self.now pattern }
+        ensures held { IsHeld self.now result }
+        ensures undone { sample_pattern self.now result ≡ pattern }
+    {
+        let bits = self.settings.bits;
+        if self.settings.signed && pattern >= 1 << (bits - 1) {
+            i64::from(pattern) - (1i64 << bits)
+        } else {
+            i64::from(pattern)
+        }
+    }
+}
