@@ -16,7 +16,7 @@ use std::alloc::Global;
 pub fn read_samples(alloc: Global, params: &Params, bytes: &[u8]) -> Result<Vec<i64>, Fault>
     ensures { AnswersSamples (λ v. v.items) (samples_of_bytes params.now bytes.now) result }
 {
-    let _ = (alloc, params, bytes);
+    let _allocator = alloc;
     Err(Fault::Memory)
 }
 

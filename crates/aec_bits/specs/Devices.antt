@@ -1,0 +1,12 @@
+-- Devices that fail at most once: after a failure each further call fails again.
+use Rattle.std.specs.Prelude.{◌≡◌, ℕ, ◌+◌, ◌-◌, ◌^◌, min, Result, MatchResult}
+use Rattle.aec_params.specs.declared.fault.Fault.{Fault}
+
+-- A call answers the device's fault exactly where the device has failed by its end. The count of failures, 0 or 1, was 0
+-- before a call that succeeds, and stays so.
+abbrev pub FailsOnce : {X : Type 0} → Fault → ℕ → ℕ → Result X Fault → Type 0
+FailsOnce fault old new result = MatchResult result (λ _. (old ≡ 0) × (new ≡ 0)) (λ e. (e ≡ fault) × (new ≡ 1))
+
+-- a count one higher, or as it was at the greatest that 64 bits have
+abbrev pub counted : ℕ → ℕ
+counted n = min (n + 1) (2 ^ 64 - 1)
