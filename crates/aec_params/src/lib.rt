@@ -7,7 +7,6 @@ mod limits;
 mod params;
 mod samples;
 mod settings;
-mod stored;
 
 pub use edit::Edit;
 pub use fault::Fault;
@@ -15,4 +14,3 @@ pub use limits::Limits;
 pub use params::Params;
 pub use samples::Samples;
 pub use settings::Settings;
-pub use stored::{put_sample, read_samples};
