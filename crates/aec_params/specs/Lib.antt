@@ -7,3 +7,10 @@ pub mod Blocks
 pub mod CodedDataSets
 pub mod Places
 pub mod Limits
+pub mod Spellings
+pub mod Runs
+pub mod Intervals
+pub mod Streams
+pub mod Reading
+pub mod Faults
+pub mod Edits

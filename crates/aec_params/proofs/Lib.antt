@@ -1,0 +1,5 @@
+pub mod WorkedSettings
+pub mod WorkedStreams
+pub mod WorkedBlocks
+pub mod WorkedEdits
+pub mod WorkedReadings

@@ -1,0 +1,28 @@
+-- The settings of the worked examples.
+use Rattle.std.proofs.Common.{ℕ, Bool, true, false}
+use Rattle.aec_params.specs.declared.settings.Settings.{Settings}
+
+-- 8 bits, blocks of 8, intervals of 2 blocks, unsigned, with preprocessing
+abbrev pub usual : Settings
+usual = record { bits = 8; block_size = 8; interval = 2; signed = false; msb_first = false; three_byte = false; preprocess = true; pad = false; restricted = false }
+
+abbrev pub with_interval : ℕ → Settings
+with_interval r = record usual { interval = r }
+
+abbrev pub unprocessed : Settings
+unprocessed = record usual { preprocess = false }
+
+abbrev pub padded : Settings
+padded = record usual { pad = true }
+
+abbrev pub restricted_two : Settings
+restricted_two = record usual { bits = 2; interval = 1; restricted = true }
+
+abbrev pub twelve_bits : Settings
+twelve_bits = record usual { bits = 12 }
+
+abbrev pub five_signed : Settings
+five_signed = record usual { bits = 5; signed = true }
+
+abbrev pub twenty_bits : Settings
+twenty_bits = record usual { bits = 20 }

@@ -1,0 +1,36 @@
+-- The fault that stands in the place of a reading.
+use Rattle.std.specs.Prelude.{◌≡◌, ℕ, ◌%◌, Bool, true, false, Option, List}
+use Rattle.aec_params.specs.declared.settings.Settings.{Settings}
+use Rattle.aec_params.specs.declared.fault.Fault.{Fault}
+use Rattle.aec_params.specs.declared.fault.Fault.TheVariants.{Truncated, ValueTooLarge, RunTooLong, TooManySamples}
+use Rattle.aec_params.specs.CodedDataSets.{CodedDataSet, HasShape, has_small_values}
+use Rattle.aec_params.specs.Places.{stays_in_segment, is_reference_block, IsLawful}
+use Rattle.aec_params.specs.Reading.{StandsAt, next_block, is_wanted, keeps_limit, LeadsTo}
+
+-- a coded data set, lawful or not, that stands at position b for block p of an interval
+pub record HasSetAt (s : Settings) (bits : List Bool) (p b : ℕ) (c : CodedDataSet) : Type 0 where
+  pub shape : HasShape s (is_reference_block s p) c
+  pub stands : StandsAt s bits b c
+
+-- what is wrong at block i of the stream and position b
+pub data IsWrongAt (s : Settings) (count : Option ℕ) (limit : ℕ) (bits : List Bool) (i b : ℕ) : Fault → Type 0 where
+  -- no coded data set begins there
+  cut_short : ((c : CodedDataSet) → HasSetAt s bits (i % s.interval) b c → ⊥) → IsWrongAt s count limit bits i b (Truncated b)
+  -- else a value is above 2^n - 1
+  too_large : (c : CodedDataSet) → HasSetAt s bits (i % s.interval) b c → has_small_values s c ≡ false → IsWrongAt s count limit bits i b (ValueTooLarge b)
+  -- else the run is longer than its segment
+  too_long : (c : CodedDataSet) → HasSetAt s bits (i % s.interval) b c → has_small_values s c ≡ true
+      → stays_in_segment s (i % s.interval) c ≡ false → IsWrongAt s count limit bits i b (RunTooLong b)
+  -- else the samples with this coded data set pass the limit
+  too_many : (c : CodedDataSet) → HasSetAt s bits (i % s.interval) b c → IsLawful s (i % s.interval) c
+      → keeps_limit s count limit (next_block s i c) ≡ false → IsWrongAt s count limit bits i b (TooManySamples limit)
+
+-- the fault of the bits from block i at position b on: lawful coded data sets lead to a place where more is wanted, and there
+-- something is wrong
+pub record IsFault (s : Settings) (count : Option ℕ) (limit : ℕ) (bits : List Bool) (i b : ℕ) (fault : Fault) : Type 0 where
+  pub sets : List CodedDataSet
+  pub block : ℕ
+  pub bit : ℕ
+  pub leads : LeadsTo s count limit bits i b sets block bit
+  pub wanted : is_wanted s count bits block bit ≡ true
+  pub wrong : IsWrongAt s count limit bits block bit fault

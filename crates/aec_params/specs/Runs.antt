@@ -1,0 +1,27 @@
+-- Runs of zero blocks: how the blocks of a segment are grouped, and the number that a run's code spells.
+use Rattle.std.specs.Prelude.{ℕ, ◌+◌, ◌-◌, Bool, true, false, nat_le, if◌then◌else◌, Option, List, [], ◌∷◌}
+use Rattle.aec_params.specs.Blocks.{Block, is_zero_block}
+use Rattle.aec_params.specs.Cutting.{pieces_of}
+
+-- a run of zero blocks, with the reference of its first and how many they are; or one other block
+pub data Group : Type 0 where
+  zero_run : Option ℕ → ℕ → Group
+  single_block : Block → Group
+
+-- blocks in consecutive segments of 64
+abbrev pub segments_of : List Block → List (List Block)
+segments_of blocks = pieces_of 64 blocks
+
+-- a zero block with the reference it has before groups: it joins a run that comes first
+abbrev pub with_zero_block : Option ℕ → List Group → List Group
+with_zero_block reference (zero_run later z ∷ groups) = zero_run reference (z + 1) ∷ groups
+with_zero_block reference groups = zero_run reference 1 ∷ groups
+
+-- a segment in runs of zero blocks, each as long as possible, and single other blocks
+abbrev pub groups_of : List Block → List Group
+groups_of [] = []
+groups_of (b ∷ blocks) = if is_zero_block b then with_zero_block b.reference (groups_of blocks) else single_block b ∷ groups_of blocks
+
+-- the number that is written for a run of z blocks; the remainder code, 4, only where the run ends its segment
+abbrev pub run_code : ℕ → Bool → ℕ
+run_code z is_last = if nat_le z 4 then z - 1 else (if is_last then 4 else z)

@@ -1,0 +1,40 @@
+-- The coded data sets that can stand for one block by itself, and the shortest of them.
+use Rattle.std.specs.Prelude.{ℕ, zero, suc, ◌-◌, Bool, nat_lt, Option, Some, None, List, [], ◌∷◌, ◌++◌, length, map, drop}
+use Rattle.std.specs.List.{range_with_len, best_of}
+use Rattle.aec_params.specs.declared.settings.Settings.{Settings}
+use Rattle.aec_params.specs.Params.{split_count}
+use Rattle.aec_params.specs.Blocks.{Block}
+use Rattle.aec_params.specs.CodedDataSets.{CodedDataSet, plain_values, value_pairs, split_values, cds_bits}
+
+-- the values that are written one by one: those behind the reference place, where there is one
+abbrev pub after_reference : Option ℕ → List ℕ → List ℕ
+after_reference None values = values
+after_reference (Some r) values = drop 1 values
+
+abbrev pub written_values : Block → List ℕ
+written_values b = after_reference b.reference b.values
+
+-- the block by each option: no compression; second extension, whose pairs have the reference place too; splitting with k
+abbrev pub uncompressed : Block → CodedDataSet
+uncompressed b = record { reference = b.reference; body = plain_values (written_values b) }
+
+abbrev pub paired : Block → CodedDataSet
+paired b = record { reference = b.reference; body = value_pairs b.values }
+
+abbrev pub split : Block → ℕ → CodedDataSet
+split b k = record { reference = b.reference; body = split_values k (written_values b) }
+
+-- the options after no compression, in the order in which the first of the shortest is taken
+abbrev pub compressed_spellings : Settings → Block → List CodedDataSet
+compressed_spellings s b = paired b ∷ map (split b) (range_with_len 0 (split_count s))
+
+abbrev pub spellings : Settings → Block → List CodedDataSet
+spellings s b = uncompressed b ∷ compressed_spellings s b
+
+-- whether one coded data set has fewer bits than another
+abbrev pub is_shorter : Settings → CodedDataSet → CodedDataSet → Bool
+is_shorter s c d = nat_lt (length (cds_bits s c)) (length (cds_bits s d))
+
+-- the first spelling that none is shorter than
+abbrev pub shortest_spelling : Settings → Block → CodedDataSet
+shortest_spelling s b = best_of (is_shorter s) (uncompressed b) (compressed_spellings s b)
