@@ -3,3 +3,4 @@ pub mod WorkedStreams
 pub mod WorkedBlocks
 pub mod WorkedEdits
 pub mod WorkedReadings
+pub mod WorkedRests
