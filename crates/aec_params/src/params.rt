@@ -181,17 +181,14 @@ impl Params {
     }
 
     /// The pattern of a sample: its two's complement in n bits, as an unsigned number.
+    #[tactic(auto, using(crate::proofs::ParamsLemmas::patterns))]
     pub fn pattern(&self, x: i64) -> u32
         requires { IsHeld self.now x }
         ensures value { result ≡ sample_pattern self.now x }
         ensures fits { result < 2 ^ self.now.bits }
         ensures undone { pattern_value self.now result ≡ x }
     {
-        if x >= 0 {
-            x as u32
-        } else {
-            (x + (1i64 << self.settings.bits)) as u32
-        }
+        (x.cast_unsigned() % (1u64 << self.bits())) as u32
     }
 
     /// The sample of a pattern.

@@ -21,14 +21,14 @@ pub fn read_samples(alloc: Global, params: &Params, bytes: &[u8]) -> Result<Vec<
 }
 
 /// Writes the bytes of a sample to the front of `out` and leaves the others. The number of them, `storage`.
+#[tactic(auto, using(crate::proofs::StoredLemmas::storing))]
 pub fn put_sample(params: &Params, x: i64, out: &mut [u8; 4]) -> usize
     requires { IsHeld params.now x }
     ensures bytes { out.new ≡ stored_bytes params.now x ++ drop (storage_len params.now) out.old }
     ensures len { result ≡ storage_len params.now }
 {
     let width = params.storage();
-    let bits = 8 * width as u32;
-    let number = if x >= 0 { x as u64 } else { (x + (1i64 << bits)) as u64 };
+    let number = x.cast_unsigned() % (1u64 << (8 * width));
     if params.msb_first() {
         BigEndian::write_uint(out, number, width);
     } else {

@@ -1,0 +1,2 @@
+pub mod ParamsLemmas
+pub mod StoredLemmas
