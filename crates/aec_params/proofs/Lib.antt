@@ -1,3 +1,5 @@
+pub mod ParamsLemmas
+pub mod StoredLemmas
 pub mod WorkedSettings
 pub mod WorkedStreams
 pub mod WorkedBlocks
