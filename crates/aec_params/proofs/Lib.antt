@@ -3,3 +3,5 @@ pub mod WorkedStreams
 pub mod WorkedBlocks
 pub mod WorkedEdits
 pub mod WorkedReadings
+pub mod ListLaws
+pub mod CodewordLaws

@@ -1,0 +1,34 @@
+-- What the definitions of the format were meant to say: codewords tell numbers apart, values and pieces give back what they came from.
+use Rattle.std.specs.Prelude.{◌≡◌, ℕ, ◌+◌, ◌^◌, ◌<◌, Bool, true, List, ◌++◌, length, map}
+use Rattle.std.specs.List.{flat_map, list_all}
+use Rattle.aec_params.specs.Codewords.{fs, binary, bits_number}
+
+-- ---- codewords
+
+abbrev pub FundamentalSequencesDiffer : Type 0
+FundamentalSequencesDiffer = (a b : ℕ) (u v : List Bool) → fs a ++ u ≡ fs b ++ v → (a ≡ b) × (u ≡ v)
+
+abbrev pub BinaryNumbersDiffer : Type 0
+BinaryNumbersDiffer = (w a b : ℕ) (u v : List Bool) → a < 2 ^ w → b < 2 ^ w → binary w a ++ u ≡ binary w b ++ v → (a ≡ b) × (u ≡ v)
+
+-- codewords have the lengths that their names say
+pub record CodewordLengths : Type 0 where
+  pub of_fs : (v : ℕ) → length (fs v) ≡ v + 1
+  pub of_binary : (w v : ℕ) → length (binary w v) ≡ w
+
+-- numbers of w bits are read back, and bits are spelled again
+pub record BinaryNumbersAreReadBack : Type 0 where
+  pub number : (w v : ℕ) → v < 2 ^ w → bits_number (binary w v) ≡ v
+  pub below : (bits : List Bool) → bits_number bits < 2 ^ length bits
+  pub bits : (bits : List Bool) → binary (length bits) (bits_number bits) ≡ bits
+
+-- whatever follows its words, a code tells the keys of what it codes, of what passes the test
+abbrev pub TellsKeys : {X K : Type 0} → (X → Bool) → (X → List Bool) → (X → K) → Type 0
+TellsKeys {X} test code key =
+    (a b : X) (u v : List Bool) → test a ≡ true → test b ≡ true → code a ++ u ≡ code b ++ v → (key a ≡ key b) × (u ≡ v)
+
+-- such a code tells the keys of lists of one length
+abbrev pub ListsAreTold : Type 0 → Type 0 → Type 0
+ListsAreTold X K = (test : X → Bool) (code : X → List Bool) (key : X → K) → TellsKeys test code key
+    → (xs ys : List X) (u v : List Bool) → length xs ≡ length ys → list_all test xs ≡ true → list_all test ys ≡ true
+    → flat_map code xs ++ u ≡ flat_map code ys ++ v → (map key xs ≡ map key ys) × (u ≡ v)
