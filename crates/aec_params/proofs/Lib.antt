@@ -5,3 +5,4 @@ pub mod WorkedEdits
 pub mod WorkedReadings
 pub mod ListLaws
 pub mod CodewordLaws
+pub mod PairLaws

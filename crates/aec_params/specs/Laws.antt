@@ -2,6 +2,7 @@
 use Rattle.std.specs.Prelude.{◌≡◌, ℕ, ◌+◌, ◌^◌, ◌<◌, Bool, true, List, ◌++◌, length, map}
 use Rattle.std.specs.List.{flat_map, list_all}
 use Rattle.aec_params.specs.Codewords.{fs, binary, bits_number}
+use Rattle.aec_params.specs.CodedDataSets.{pair_number}
 
 -- ---- codewords
 
@@ -32,3 +33,10 @@ abbrev pub ListsAreTold : Type 0 → Type 0 → Type 0
 ListsAreTold X K = (test : X → Bool) (code : X → List Bool) (key : X → K) → TellsKeys test code key
     → (xs ys : List X) (u v : List Bool) → length xs ≡ length ys → list_all test xs ≡ true → list_all test ys ≡ true
     → flat_map code xs ++ u ≡ flat_map code ys ++ v → (map key xs ≡ map key ys) × (u ≡ v)
+
+-- ---- pairs
+
+-- each number is the number of exactly one pair
+pub record EachNumberIsOnePair : Type 0 where
+  pub one_to_one : (a b c d : ℕ) → pair_number a b ≡ pair_number c d → (a ≡ c) × (b ≡ d)
+  pub onto : (m : ℕ) → (a : ℕ) × (b : ℕ) × (pair_number a b ≡ m)

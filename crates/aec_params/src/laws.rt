@@ -1,6 +1,6 @@
 //! Laws of the format's definitions. Their functions do nothing: what each one's contract says is proved.
 
-ghost use Rattle.aec_params.specs.Laws.{FundamentalSequencesDiffer, BinaryNumbersDiffer, CodewordLengths, BinaryNumbersAreReadBack, ListsAreTold};
+ghost use Rattle.aec_params.specs.Laws.{FundamentalSequencesDiffer, BinaryNumbersDiffer, CodewordLengths, BinaryNumbersAreReadBack, ListsAreTold, EachNumberIsOnePair};
 
 /// Fundamental sequences of two numbers differ, whatever bits follow them.
 pub fn fundamental_sequences_differ()
@@ -26,3 +26,9 @@ pub fn binary_numbers_are_read_back()
 pub fn lists_of_codewords_differ<X, K>()
     ensures { ListsAreTold X K }
 {}
+
+/// Each number is the number of exactly one pair.
+pub fn each_number_is_one_pair()
+    ensures { EachNumberIsOnePair }
+{
+}
