@@ -6,3 +6,6 @@ pub mod WorkedReadings
 pub mod ListLaws
 pub mod CodewordLaws
 pub mod PairLaws
+pub mod MappingLaws
+pub mod PatternLaws
+pub mod ValueLaws

@@ -1,5 +1,5 @@
 -- Each number is the number of exactly one pair.
-use Rattle.std.proofs.Common.{◌≡◌, ℕ, zero, suc, ◌+◌, ◌*◌, ◌/◌, ◌<◌, ◌≤◌, refl, ap, sym, ◌∙◌, arith, inl, inr, ⊎_elim, ◌⊎◌}
+use Rattle.std.proofs.Common.{◌≡◌, ℕ, zero, suc, ◌+◌, ◌*◌, ◌/◌, ◌<◌, ◌≤◌, refl, ap, sym, ◌∙◌, arith, ⊎_elim, ◌⊎◌}
 use Rattle.std.proofs.lemmas.Bool.{cases_order}
 use Rattle.std.proofs.Math.Nat.{mul-div_cancel}
 use Rattle.aec_params.specs.CodedDataSets.{pair_number}
@@ -30,11 +30,11 @@ same_sum : (s t b d : ℕ) → b ≤ s → d ≤ t → triangle s + b ≡ triang
 same_sum s t b d h k e =
     ⊎_elim (λ (q : s ≡ t). q)
     (⊎_elim (λ (l : s < t). absurd (let g = triangle-lt s t b d h l in omega arith))
-     (λ (l : t < s). absurd (let g = triangle-lt t s d b k l in omega arith)))
+    (λ (l : t < s). absurd (let g = triangle-lt t s d b k l in omega arith)))
     (cases_order s t)
 
 pub pair_number-one_to_one : (a b c d : ℕ) → pair_number a b ≡ pair_number c d → (a ≡ c) × (b ≡ d)
-pair_number-one_to_one a b c d e = 
+pair_number-one_to_one a b c d e =
     let f : triangle (a + b) + b ≡ triangle (c + d) + d = sym (pair_number-triangle a b) ∙ (e ∙ pair_number-triangle c d) in
     let g : a + b ≡ c + d = same_sum (a + b) (c + d) b d (omega arith) (omega arith) f in
     let h = ap triangle g in

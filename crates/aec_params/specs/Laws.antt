@@ -1,8 +1,11 @@
 -- What the definitions of the format were meant to say: codewords tell numbers apart, values and pieces give back what they came from.
-use Rattle.std.specs.Prelude.{◌≡◌, ℕ, ◌+◌, ◌^◌, ◌<◌, Bool, true, List, ◌++◌, length, map}
+use Rattle.std.specs.Prelude.{◌≡◌, ℕ, ◌+◌, ◌^◌, ◌<◌, Bool, true, ℤ, List, ◌++◌, length, map}
 use Rattle.std.specs.List.{flat_map, list_all}
 use Rattle.aec_params.specs.Codewords.{fs, binary, bits_number}
 use Rattle.aec_params.specs.CodedDataSets.{pair_number}
+use Rattle.aec_params.specs.declared.settings.Settings.{Settings}
+use Rattle.aec_params.specs.Params.{IsAllowed, IsHeld, sample_pattern}
+use Rattle.aec_params.specs.Mapping.{mapped_value}
 
 -- ---- codewords
 
@@ -40,3 +43,22 @@ ListsAreTold X K = (test : X → Bool) (code : X → List Bool) (key : X → K) 
 pub record EachNumberIsOnePair : Type 0 where
   pub one_to_one : (a b c d : ℕ) → pair_number a b ≡ pair_number c d → (a ≡ c) × (b ≡ d)
   pub onto : (m : ℕ) → (a : ℕ) × (b : ℕ) × (pair_number a b ≡ m)
+
+-- ---- samples and values
+
+-- at the prediction p, the samples and the values below 2^n stand for one another
+pub record EachValueIsOneSample (s : Settings) (p : ℤ) : Type 0 where
+  pub fits : (x : ℤ) → IsHeld s x → mapped_value s p x < 2 ^ s.bits
+  pub one_to_one : (x y : ℤ) → IsHeld s x → IsHeld s y → mapped_value s p x ≡ mapped_value s p y → x ≡ y
+  pub onto : (m : ℕ) → m < 2 ^ s.bits → (x : ℤ) × IsHeld s x × (mapped_value s p x ≡ m)
+
+-- the samples and their patterns of n bits stand for one another
+pub record EachPatternIsOneSample (s : Settings) : Type 0 where
+  pub fits : (x : ℤ) → IsHeld s x → sample_pattern s x < 2 ^ s.bits
+  pub one_to_one : (x y : ℤ) → IsHeld s x → IsHeld s y → sample_pattern s x ≡ sample_pattern s y → x ≡ y
+  pub onto : (m : ℕ) → m < 2 ^ s.bits → (x : ℤ) × IsHeld s x × (sample_pattern s x ≡ m)
+
+-- both, at any settings of the format and any prediction that is a sample
+pub record SamplesAreValues : Type 0 where
+  pub values : (s : Settings) (p : ℤ) → IsAllowed s → IsHeld s p → EachValueIsOneSample s p
+  pub patterns : (s : Settings) → IsAllowed s → EachPatternIsOneSample s

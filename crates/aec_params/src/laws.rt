@@ -1,6 +1,6 @@
 //! Laws of the format's definitions. Their functions do nothing: what each one's contract says is proved.
 
-ghost use Rattle.aec_params.specs.Laws.{FundamentalSequencesDiffer, BinaryNumbersDiffer, CodewordLengths, BinaryNumbersAreReadBack, ListsAreTold, EachNumberIsOnePair};
+ghost use Rattle.aec_params.specs.Laws.{FundamentalSequencesDiffer, BinaryNumbersDiffer, CodewordLengths, BinaryNumbersAreReadBack, ListsAreTold, EachNumberIsOnePair, SamplesAreValues};
 
 /// Fundamental sequences of two numbers differ, whatever bits follow them.
 pub fn fundamental_sequences_differ()
@@ -30,5 +30,9 @@ pub fn lists_of_codewords_differ<X, K>()
 /// Each number is the number of exactly one pair.
 pub fn each_number_is_one_pair()
     ensures { EachNumberIsOnePair }
-{
-}
+{}
+
+/// At each prediction, and without preprocessing, samples and values below 2^n stand for one another.
+pub fn samples_are_values()
+    ensures { SamplesAreValues }
+{}
