@@ -6,3 +6,9 @@ pub mod WorkedBlocks
 pub mod WorkedEdits
 pub mod WorkedReadings
 pub mod WorkedRests
+pub mod ListLaws
+pub mod CodewordLaws
+pub mod PairLaws
+pub mod MappingLaws
+pub mod PatternLaws
+pub mod ValueLaws

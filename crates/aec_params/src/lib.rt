@@ -3,6 +3,7 @@
 
 mod edit;
 mod fault;
+pub mod laws;
 mod limits;
 mod params;
 mod samples;
