@@ -1,6 +1,8 @@
 //! Bits in order, readers of them, devices, and the interface of an interval coder.
 #![tactic(auto)]
 
+mod bit_buf;
 mod device;
 
+pub use bit_buf::BitBuf;
 pub use device::{Sink, Source};
