@@ -59,6 +59,27 @@ impl BitBuf {
         self.bits[i as usize]
     }
 
+    /// The number of bytes that the bits fill.
+    #[tactic(auto, using(crate::proofs::CodewordLemmas::byte_counts))]
+    pub fn byte_len(&self) -> u64
+        ensures value { result ≡ length (bytes_of self.now.list) }
+        ensures bits { result ≡ div_ceil (length self.now.list) 8 }
+    {
+        self.len().div_ceil(8)
+    }
+
+    /// Byte `i` of the bytes that the bits fill; zeros fill the last one.
+    #[tactic(auto, using(crate::proofs::CodewordLemmas::byte_counts))]
+    pub fn byte(&self, i: u64) -> u8
+        requires { i < length (bytes_of self.now.list) }
+        ensures { result ≡ slice_index (bytes_of self.now.list) i }
+    {
+        let len = self.len();
+        let start = 8 * i;
+        let width = (len - start).min(8);
+        (number_at(&self.bits, start as usize, width as u32) << (8 - width)) as u8
+    }
+
     /// Makes room for so many more bits.
     pub fn reserve(&mut self, bits: u64) -> Result<(), Fault>
         ensures ok { OnOk result (bits ≤ self.new.room) }
@@ -117,6 +138,27 @@ impl BitBuf {
     {
         self.reserve(other.len())?;
         self.bits.extend_from_slice(&other.bits).unwrap();
+        Ok(())
+    }
+
+    /// Replaces the bits from place `start` up to place `stop` by those of another list. Takes no memory where the list
+    /// does not get longer.
+    pub fn splice(&mut self, start: u64, stop: u64, with: &BitBuf) -> Result<(), Fault>
+        requires order { start ≤ stop }
+        requires within { stop ≤ length self.old.list }
+        ensures ok { OnOk result (self.new.list ≡ take start self.old.list ++ (with.now.list ++ drop stop self.old.list)) }
+        ensures room { OnOk result (self.old.room + (stop - start) ≤ self.new.room + length with.now.list) }
+        ensures err { OnErr result (self.new ≡ self.old) }
+        ensures full { OnErr result (self.old.room + (stop - start) < length with.now.list) }
+        ensures fault { IfErr result (λ e. e ≡ Memory) }
+    {
+        let removed = stop - start;
+        let added = with.len();
+        if added > removed {
+            self.reserve(added - removed)?;
+        }
+        move_tail(&mut self.bits, stop as usize, (start + added) as usize);
+        write_over(self.bits.as_mut_slice(), start as usize, &with.bits);
         Ok(())
     }
 
@@ -179,6 +221,43 @@ fn push_zeros(bits: &mut Vec<bool>, count: usize)
     ensures capacity { vec_capacity bits.old ≤ vec_capacity bits.new }
 {
     bits.resize(bits.len() + count, false).unwrap();
+}
+
+/// Moves the bits from place `from` on to place `to`, and makes the list longer or shorter by the difference; it has room
+/// for that. Zeros and old bits stand in between.
+fn move_tail(bits: &mut Vec<bool>, from: usize, to: usize)
+    requires within { from ≤ vec_len bits.old }
+    requires room { to + (vec_len bits.old - from) ≤ vec_capacity bits.old }
+    ensures items { bits.new.items ≡ take to (bits.old.items ++ replicate (to - from) false) ++ drop from bits.old.items }
+    ensures len { vec_len bits.new ≡ to + (vec_len bits.old - from) }
+    ensures capacity { vec_capacity bits.old ≤ vec_capacity bits.new }
+{
+    let len = bits.len();
+    push_zeros(bits, to.saturating_sub(from));
+    bits.copy_within(from..len, to);
+    bits.truncate(to + (len - from));
+}
+
+/// Writes bits over those from place `at` on.
+fn write_over(bits: &mut [bool], at: usize, with: &[bool])
+    requires { at + length with.now ≤ length bits.old }
+    ensures { bits.new ≡ take at bits.old ++ (with.now ++ drop (at + length with.now) bits.old) }
+{
+    bits[at..at + with.len()].copy_from_slice(with);
+}
+
+/// The number that `width` bits spell from place `start` on, the most significant first.
+fn number_at(bits: &[bool], start: usize, width: u32) -> u64
+    requires width { width ≤ 64 }
+    requires within { start + width ≤ length bits.now }
+    ensures fits { result < 2 ^ width }
+    ensures bits { drop start bits.now ≡ binary width result ++ drop (start + width) bits.now }
+{
+    let mut value = 0;
+    for i in start..start + width as usize {
+        value = 2 * value + u64::from(bits[i]);
+    }
+    value
 }
 
 /// Appends the lowest `width` bits of a number, for which there is room, the most significant first.
