@@ -1,1 +1,2 @@
 pub mod CodewordLemmas
+pub mod DeviceLemmas

@@ -3,6 +3,7 @@
 
 mod bit_buf;
 mod device;
+mod writing;
 
 pub use bit_buf::BitBuf;
 pub use device::{Sink, Source};
