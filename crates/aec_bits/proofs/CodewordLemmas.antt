@@ -8,11 +8,12 @@ use Rattle.std.specs.Simd.{first_chunks}
 use Rattle.std.proofs.lemmas.Grind.{common_steps}
 use Rattle.std.proofs.lemmas.Nat.{and_mask, shr-shr, pow-add, mod-pow-add, shl_below}
 use Rattle.std.proofs.lemmas.Bool.{cases_lt}
-use Rattle.std.proofs.lemmas.List.{take_more, append-nil, take-append-le, take-take, drop_at, take_at, length-take-le, drop-append-le, length-drop, length-replicate, length-map, get_or-map, drop_more, drop-drop, drop_all, take_all}
+use Rattle.std.proofs.lemmas.List.{take_more, append-nil, take-append-le, take-take, drop_at, take_at, length-take-le, drop-append-le, length-drop, length-replicate, length-map, get_or-map, drop_more, drop-drop, drop_all, take_all, replicate_more}
 use Rattle.std.proofs.lemmas.List.Edits.{take-paste}
 use lib.Seq.{paste}
 use Rattle.aec_params.specs.Codewords.{fs, binary, bits_number, bytes_of, padded_to_byte, bits_of_bytes}
 use Rattle.aec_params.specs.Cutting.{pieces_of, up_to_multiple}
+use Rattle.aec_bits.specs.BitReader.{has_one}
 
 -- the first bit of a number in bits, and the others
 pub binary_first : (w v : ℕ) → 0 < w → binary w v ≡ (bit_and (v / 2 ^ (w - 1)) 1 == 1) ∷ binary (w - 1) v
@@ -201,3 +202,24 @@ byte_at bits i w v within width fits stands =
 -- the low bits of a byte in its high places
 pub byte_fits : (v w : ℕ) → w ≤ 8 → v < 2 ^ w → v * 2 ^ (8 - w) < 2 ^ 8
 byte_fits v w small fits = let e : w + (8 - w) ≡ 8 = omega arith in let h = shl_below v w (8 - w) fits in rw e at h
+
+-- ---- zeros before a one
+
+-- one more zero
+pub zeros_more : (bits : List Bool) (start i : ℕ) → start ≤ i → i < length bits → get_or bits i false ≡ false
+    → drop start bits ≡ replicate (i - start) false ++ drop i bits → drop start bits ≡ replicate (i + 1 - start) false ++ drop (i + 1) bits
+zeros_more bits start i below within zero_there so_far =
+    let count : i + 1 - start ≡ (i - start) + 1 = omega arith in
+    so_far
+    ∙ ap (λ l. replicate (i - start) false ++ l) (drop_more bits i false within ∙ ap (λ b. b ∷ drop (i + 1) bits) zero_there)
+    ∙ sym (append_assoc (replicate (i - start) false) (false ∷ []) (drop (i + 1) bits))
+    ∙ ap (λ l. l ++ drop (i + 1) bits) (replicate_more (i - start) false ∙ ap (λ n. replicate n false) (sym count))
+
+has_one-zeros : (n : ℕ) → has_one (replicate n false) ≡ false
+has_one-zeros zero = refl
+has_one-zeros (suc n) = has_one-zeros n
+
+-- nothing but zeros up to the end
+pub zeros_all : (bits : List Bool) (start i : ℕ) → length bits ≤ i → drop start bits ≡ replicate (i - start) false ++ drop i bits → has_one (drop start bits) ≡ false
+zeros_all bits start i past so_far =
+    ap has_one (so_far ∙ ap (λ l. replicate (i - start) false ++ l) (drop_all i bits past) ∙ append-nil (replicate (i - start) false)) ∙ has_one-zeros (i - start)

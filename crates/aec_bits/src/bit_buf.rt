@@ -28,11 +28,12 @@ impl Model for BitBuf {
 }
 
 impl BitBuf {
-    ghost use Rattle.std.specs.Prelude.{◌≡◌, ◌+◌, ◌-◌, ◌*◌, ◌<◌, ◌≤◌, ◌^◌, [], ◌∷◌, ◌++◌, List, Bool, false, length, take, drop, replicate, slice_index, slice_index_or, IfOk, OnOk, OnErr, IfErr};
+    ghost use Rattle.std.specs.Prelude.{◌≡◌, ◌+◌, ◌-◌, ◌*◌, ◌<◌, ◌≤◌, ◌^◌, [], ◌∷◌, ◌++◌, List, Bool, false, length, take, drop, replicate, slice_index, slice_index_or, IfOk, OnOk, OnErr, IfErr, MatchOption, is_some};
     ghost use Rattle.std.specs.Int.{div_ceil};
     ghost use Rattle.aec_params.specs.declared.fault.Fault.TheVariants.{Memory};
     ghost use Rattle.aec_params.specs.Codewords.{fs, binary, bytes_of, bits_of_bytes, padded_to_byte};
     ghost use Rattle.aec_params.specs.Cutting.{up_to_multiple};
+    ghost use Rattle.aec_bits.specs.BitReader.{has_one};
 
     /// No bits. Takes no memory.
     pub fn new(alloc: Global) -> BitBuf
@@ -78,6 +79,29 @@ impl BitBuf {
         let start = 8 * i;
         let width = (len - start).min(8);
         (number_at(&self.bits, start as usize, width as u32) << (8 - width)) as u8
+    }
+
+    /// The number that `width` bits spell from place `start` on, the most significant first.
+    pub(crate) fn number(&self, start: u64, width: u32) -> u64
+        requires width { width ≤ 64 }
+        requires within { start + width ≤ length self.now.list }
+        ensures fits { result < 2 ^ width }
+        ensures bits { drop start self.now.list ≡ binary width result ++ drop (start + width) self.now.list }
+    {
+        number_at(&self.bits, start as usize, width)
+    }
+
+    /// How many zeros stand from place `start` on before a one; `None` where no one follows.
+    pub(crate) fn zeros_before_one(&self, start: u64) -> Option<u64>
+        requires { start ≤ length self.now.list }
+        ensures cases { MatchOption result
+            (has_one (drop start self.now.list) ≡ false)
+            (λ v. (start + v < length self.now.list) × (drop start self.now.list ≡ fs v ++ drop (start + v + 1) self.now.list)) }
+        ensures some { is_some result ≡ has_one (drop start self.now.list) }
+        ensures bound { length self.now.list ≤ 2 ^ 62 }
+    {
+        let _ = &self.bits;
+        zeros_at(&self.bits, start as usize).map(|zeros| zeros as u64)
     }
 
     /// Makes room for so many more bits.
@@ -200,8 +224,9 @@ impl BitBuf {
     }
 }
 
-ghost use Rattle.std.specs.Prelude.{◌≡◌, ◌+◌, ◌-◌, ◌<◌, ◌≤◌, ◌^◌, ◌*◌, [], ◌∷◌, ◌++◌, true, false, length, take, drop, replicate, vec_len, vec_capacity};
-ghost use Rattle.aec_params.specs.Codewords.{binary, bits_of_bytes};
+ghost use Rattle.std.specs.Prelude.{◌≡◌, ◌+◌, ◌-◌, ◌<◌, ◌≤◌, ◌^◌, ◌*◌, [], ◌∷◌, ◌++◌, true, false, length, take, drop, replicate, vec_len, vec_capacity, MatchOption, is_some};
+ghost use Rattle.aec_params.specs.Codewords.{fs, binary, bits_of_bytes};
+ghost use Rattle.aec_bits.specs.BitReader.{has_one};
 
 /// Appends a bit for which there is room.
 fn push_bit(bits: &mut Vec<bool>, bit: bool)
@@ -258,6 +283,22 @@ fn number_at(bits: &[bool], start: usize, width: u32) -> u64
         value = 2 * value + u64::from(bits[i]);
     }
     value
+}
+
+/// How many zeros stand from place `start` on before a one; `None` where no one follows.
+fn zeros_at(bits: &[bool], start: usize) -> Option<usize>
+    requires { start ≤ length bits.now }
+    ensures cases { MatchOption result
+        (has_one (drop start bits.now) ≡ false)
+        (λ v. (start + v < length bits.now) × (drop start bits.now ≡ fs v ++ drop (start + v + 1) bits.now)) }
+    ensures some { is_some result ≡ has_one (drop start bits.now) }
+{
+    for i in start..bits.len() {
+        if bits[i] {
+            return Some(i - start);
+        }
+    }
+    None
 }
 
 /// Appends the lowest `width` bits of a number, for which there is room, the most significant first.

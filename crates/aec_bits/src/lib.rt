@@ -2,8 +2,10 @@
 #![tactic(auto)]
 
 mod bit_buf;
+mod bit_reader;
 mod device;
 mod writing;
 
 pub use bit_buf::BitBuf;
+pub use bit_reader::BitReader;
 pub use device::{Sink, Source};
