@@ -1,5 +1,15 @@
 -- The mapping on offsets from the least sample: numbers without sign, of which `top` is the greatest.
-use Rattle.std.specs.Prelude.{ℕ, ◌+◌, ◌-◌, ◌*◌, min, ◌&&◌, nat_le, nat_lt, if◌then◌else◌}
+use Rattle.std.specs.Prelude.{ℕ, ◌+◌, ◌-◌, ◌*◌, ◌^◌, min, ◌&&◌, nat_le, nat_lt, if◌then◌else◌, ℤ, ◌-ℤ◌, unsigned_abs}
+use Rattle.aec_params.specs.declared.settings.Settings.{Settings}
+use Rattle.aec_params.specs.Params.{x_min}
+
+-- how far a sample lies above the least one
+abbrev pub sample_offset : Settings → ℤ → ℕ
+sample_offset s x = unsigned_abs (x -ℤ x_min s)
+
+-- the offset of the greatest sample
+abbrev pub top_offset : Settings → ℕ
+top_offset s = 2 ^ s.bits - 1
 
 -- how far an offset can lie on both sides of p
 abbrev pub offset_room : ℕ → ℕ → ℕ

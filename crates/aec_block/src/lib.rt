@@ -2,3 +2,5 @@
 #![tactic(auto)]
 
 mod mapping;
+
+pub use mapping::{map, unmap};
