@@ -1,2 +1,3 @@
 pub mod MappingLemmas
 pub mod PatternLemmas
+pub mod LengthLemmas
