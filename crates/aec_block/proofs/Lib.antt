@@ -1,0 +1,3 @@
+pub mod MappingLemmas
+pub mod PatternLemmas
+pub mod LengthLemmas
