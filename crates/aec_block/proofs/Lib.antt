@@ -1,0 +1,5 @@
+pub mod CodewordLemmas
+pub mod PairLemmas
+pub mod SplitLemmas
+pub mod KindLemmas
+pub mod SetLemmas

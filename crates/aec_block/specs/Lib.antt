@@ -1,0 +1,2 @@
+pub mod ReadAt
+pub mod Laws

@@ -1,0 +1,5 @@
+//! One block: its coded data sets, written and read.
+#![tactic(auto)]
+
+pub mod laws;
+mod reading;
