@@ -6,3 +6,6 @@ pub mod Codec
 pub mod Refusals
 pub mod Octets
 pub mod OctetsLaw
+pub mod CodeLaws
+pub mod RefusalLaws
+pub mod Laws
