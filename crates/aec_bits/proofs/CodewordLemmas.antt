@@ -6,7 +6,7 @@ use mir.Val.{bool_byte}
 use Rattle.std.specs.Int.{div_ceil}
 use Rattle.std.specs.Simd.{first_chunks}
 use Rattle.std.proofs.lemmas.Grind.{common_steps}
-use Rattle.std.proofs.lemmas.Nat.{and_mask, shr-shr, pow-add, mod-pow-add, shl_below}
+use Rattle.std.proofs.lemmas.Nat.{and_mask, shr-shr, shl_below}
 use Rattle.std.proofs.lemmas.Bool.{cases_lt}
 use Rattle.std.proofs.lemmas.List.{take_more, append-nil, take-append-le, take-take, drop_at, take_at, length-take-le, drop-append-le, length-drop, length-replicate, length-map, get_or-map, drop_more, drop-drop, drop_all, take_all, replicate_more}
 use Rattle.std.proofs.lemmas.List.Edits.{take-paste}
@@ -14,6 +14,7 @@ use lib.Seq.{paste}
 use Rattle.aec_params.specs.Codewords.{fs, binary, bits_number, bytes_of, padded_to_byte, bits_of_bytes}
 use Rattle.aec_params.specs.Cutting.{pieces_of, up_to_multiple}
 use Rattle.aec_bits.specs.BitReader.{has_one}
+use Rattle.aec_bits.specs.CodewordLaws.{length-binary, bits_number-append, bits_number-zeros, bits_number-binary}
 
 -- the first bit of a number in bits, and the others
 pub binary_first : (w v : ℕ) → 0 < w → binary w v ≡ (bit_and (v / 2 ^ (w - 1)) 1 == 1) ∷ binary (w - 1) v
@@ -35,10 +36,6 @@ pub bits_of_bytes_more : (front : List Bool) (xs : List ℕ) (i d : ℕ) → i <
     → (front ++ bits_of_bytes (take i xs)) ++ binary 8 (get_or xs i d) ≡ front ++ bits_of_bytes (take (i + 1) xs)
 bits_of_bytes_more front xs i d h =
     rw (append_assoc, take_more xs i d h, bits_of_bytes-append) (ap (λ l. front ++ (bits_of_bytes (take i xs) ++ l)) (sym (append-nil (binary 8 (get_or xs i d)))))
-
-pub length-binary : (w v : ℕ) → length (binary w v) ≡ w
-length-binary zero v = refl
-length-binary (suc w) v = ap suc (length-binary w v)
 
 low_bit : (v : ℕ) (b : Bool) → ((2 * v + cond b 1 0) % 2 == 1) ≡ b
 low_bit v true = let e : (2 * v + 1) % 2 ≡ 1 = omega arith in rw e refl
@@ -138,28 +135,6 @@ number_more-lt start i value c below small fits =
 pub bit_value : (c : ℕ) (b : Bool) → c ≡ bool_byte b → (c ≤ 1) × (c ≡ cond b 1 0)
 bit_value c true e = (omega arith, e)
 bit_value c false e = (omega arith, e)
-
-bits_number-append : (xs ys : List Bool) → bits_number (xs ++ ys) ≡ bits_number xs * 2 ^ length ys + bits_number ys
-bits_number-append [] ys = omega arith
-bits_number-append (true ∷ xs) ys =
-    let longer : 2 ^ length (xs ++ ys) ≡ 2 ^ length xs * 2 ^ length ys = ap (λ n. 2 ^ n) (length-append xs ys) ∙ pow-add 2 (length xs) (length ys) in
-    rw (longer, bits_number-append xs ys) (omega arith)
-bits_number-append (false ∷ xs) ys = rw (bits_number-append xs ys) (omega arith)
-
-bits_number-zeros : (n : ℕ) → bits_number (replicate n false) ≡ 0
-bits_number-zeros zero = refl
-bits_number-zeros (suc n) = omega (arith, bits_number-zeros n)
-
-chosen : (x p : ℕ) → x < 2 → cond (x == 1) p 0 ≡ x * p
-chosen zero p h = omega arith
-chosen (suc zero) p h = omega arith
-chosen (suc (suc x)) p h = absurd (omega arith)
-
-pub bits_number-binary : (w v : ℕ) → bits_number (binary w v) ≡ v % 2 ^ w
-bits_number-binary zero v = omega arith
-bits_number-binary (suc w) v =
-    let top : cond (v / 2 ^ w % 2 == 1) (2 ^ w) 0 ≡ v / 2 ^ w % 2 * 2 ^ w = chosen (v / 2 ^ w % 2) (2 ^ w) (omega arith) in
-    rw (length-binary w v, top, bits_number-binary w v) (sym (mod-pow-add v 1 w) ∙ ap (λ n. v % 2 ^ n) (one-add w))
 
 -- ---- the bytes that bits fill
 
