@@ -1,3 +1,4 @@
 pub mod MappingLemmas
 pub mod PatternLemmas
 pub mod LengthLemmas
+pub mod BlockLemmas

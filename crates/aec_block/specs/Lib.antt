@@ -1,3 +1,4 @@
 pub mod Offsets
 pub mod BlockShape
 pub mod Lengths
+pub mod Choices

@@ -2,7 +2,10 @@
 #![tactic(auto)]
 
 mod block;
+mod choice;
+mod lengths;
 mod mapping;
 
 pub use block::Block;
+pub use choice::{Choice, Coding, choose};
 pub use mapping::{map, unmap};
