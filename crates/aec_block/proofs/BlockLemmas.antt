@@ -1,8 +1,8 @@
 -- What a block's shape says of its values.
-use Rattle.std.proofs.Common.{◌≡◌, ℕ, ◌+◌, ◌<◌, ◌≤◌, arith, ap, Option, Some, None, List, [], ◌∷◌, length}
+use Rattle.std.proofs.Common.{◌≡◌, ℕ, ◌≤◌, arith, ap, Option, Some, None, List, length}
 use Rattle.aec_params.specs.Blocks.{Block}
 use Rattle.aec_params.specs.Places.{placed_values}
-use Rattle.aec_params.specs.Spellings.{after_reference, written_values}
+use Rattle.aec_params.specs.Spellings.{after_reference}
 use Rattle.aec_block.specs.BlockShape.{IsSound}
 
 -- with a reference there is a value in the reference place

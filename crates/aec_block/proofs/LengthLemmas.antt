@@ -1,6 +1,6 @@
 -- The lengths of spellings are the sums.
-use Rattle.std.proofs.Common.{◌≡◌, ℕ, zero, suc, ◌+◌, ◌-◌, ◌*◌, ◌/◌, ◌%◌, ◌^◌, ◌<◌, ◌≤◌, refl, ap, ◌∙◌, sym, arith, Option, Some, None, List, [], ◌∷◌, ◌++◌, length, true, false, length-append, length-drop, drop-cons, drop, get_or}
-use Rattle.std.specs.List.{flat_map, sum_by}
+use Rattle.std.proofs.Common.{◌≡◌, ℕ, zero, suc, ◌+◌, ◌-◌, ◌*◌, ◌/◌, ◌%◌, ◌^◌, ◌<◌, ◌≤◌, refl, ap, ◌∙◌, arith, Option, Some, None, List, [], ◌∷◌, length, length-append, length-drop, drop-cons, drop, get_or}
+use Rattle.std.specs.List.{flat_map}
 use Rattle.std.proofs.lemmas.List.{length-replicate}
 use Rattle.std.proofs.lemmas.List.Sums.{sum_by-cons}
 use Rattle.aec_params.specs.declared.settings.Settings.{Settings}
@@ -9,7 +9,7 @@ use Rattle.aec_params.specs.Codewords.{fs, binary}
 use Rattle.aec_params.specs.Blocks.{Block}
 use Rattle.aec_params.specs.CodedDataSets.{pair_number, pair_bits, reference_bits, cds_bits}
 use Rattle.aec_params.specs.Spellings.{written_values, uncompressed, paired, split}
-use Rattle.aec_block.specs.Lengths.{reference_len, head_len, shifted_sum, pairs_len, uncompressed_len, paired_len, split_len}
+use Rattle.aec_block.specs.Lengths.{reference_len, shifted_sum, pairs_len, uncompressed_len, paired_len, split_len}
 
 pub length-binary : (w v : ℕ) → length (binary w v) ≡ w
 length-binary zero v = refl
