@@ -1,15 +1,15 @@
 -- The lengths of spellings are the sums.
-use Rattle.std.proofs.Common.{◌≡◌, ℕ, zero, suc, ◌+◌, ◌-◌, ◌*◌, ◌/◌, ◌%◌, ◌^◌, ◌<◌, ◌≤◌, refl, ap, ◌∙◌, sym, arith, Option, Some, None, List, [], ◌∷◌, ◌++◌, length, true, false, length-append}
-use Rattle.std.specs.List.{flat_map, sum_by}
+use Rattle.std.proofs.Common.{◌≡◌, ℕ, zero, suc, ◌+◌, ◌-◌, ◌*◌, ◌/◌, ◌%◌, ◌^◌, ◌<◌, ◌≤◌, refl, ap, ◌∙◌, arith, Option, Some, None, List, [], ◌∷◌, length, length-append, length-drop, drop-cons, drop, get_or}
+use Rattle.std.specs.List.{flat_map}
 use Rattle.std.proofs.lemmas.List.{length-replicate}
 use Rattle.std.proofs.lemmas.List.Sums.{sum_by-cons}
 use Rattle.aec_params.specs.declared.settings.Settings.{Settings}
 use Rattle.aec_params.specs.Params.{id_len}
 use Rattle.aec_params.specs.Codewords.{fs, binary}
 use Rattle.aec_params.specs.Blocks.{Block}
-use Rattle.aec_params.specs.CodedDataSets.{pair_bits, reference_bits, cds_bits}
+use Rattle.aec_params.specs.CodedDataSets.{pair_number, pair_bits, reference_bits, cds_bits}
 use Rattle.aec_params.specs.Spellings.{written_values, uncompressed, paired, split}
-use Rattle.aec_block.specs.Lengths.{reference_len, head_len, shifted_sum, pairs_len, uncompressed_len, paired_len, split_len}
+use Rattle.aec_block.specs.Lengths.{reference_len, shifted_sum, pairs_len, uncompressed_len, paired_len, split_len}
 
 pub length-binary : (w v : ℕ) → length (binary w v) ≡ w
 length-binary zero v = refl
@@ -73,3 +73,25 @@ length-split s b k =
     let high = length-high_parts k (written_values b) in
     let low = length-low_parts k (written_values b) in
     simp length-append (omega arith)
+
+-- the next pair of values, and the end
+pub pairs_len-drop : (values : List ℕ) (i j k : ℕ) → j ≡ i + 1 → k ≡ i + 2 → j < length values
+    → pairs_len (drop i values) ≡ pair_number (get_or values i 0) (get_or values j 0) + 1 + pairs_len (drop k values)
+pairs_len-drop values i j k next after within =
+    let here : i < length values = omega arith in
+    let there : suc i < length values = omega arith in
+    let first = drop-cons values i 0 here in
+    let second = drop-cons values (suc i) 0 there in
+    let at_j : j ≡ suc i = omega arith in
+    let at_k : k ≡ suc (suc i) = omega arith in
+    rw (at_j, at_k) (ap pairs_len first ∙ ap (λ (rest : List ℕ). pairs_len (get_or values i 0 ∷ rest)) second)
+
+pairs_len-short : (values : List ℕ) → length values ≤ 1 → pairs_len values ≡ 0
+pairs_len-short [] few = refl
+pairs_len-short (a ∷ []) few = refl
+pairs_len-short (a ∷ (b ∷ values)) few = absurd (omega arith)
+
+pub pairs_len-drop_end : (values : List ℕ) (i : ℕ) → length values ≤ i + 1 → pairs_len (drop i values) ≡ 0
+pairs_len-drop_end values i few = pairs_len-short (drop i values) (omega (arith, length-drop i values))
+
+pub ruleset pair_steps = (pairs_len-drop, pairs_len-drop_end)

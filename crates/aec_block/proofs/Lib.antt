@@ -6,3 +6,5 @@ pub mod PairLemmas
 pub mod SplitLemmas
 pub mod KindLemmas
 pub mod SetLemmas
+pub mod BlockLemmas
+pub mod ChoiceLemmas

@@ -3,3 +3,4 @@ pub mod BlockShape
 pub mod Lengths
 pub mod ReadAt
 pub mod Laws
+pub mod Choices

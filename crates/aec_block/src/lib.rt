@@ -4,8 +4,11 @@
 
 mod block;
 pub mod laws;
+mod choice;
+mod lengths;
 mod mapping;
 mod reading;
 
 pub use block::Block;
+pub use choice::{Choice, Coding, choose};
 pub use mapping::{map, unmap};
