@@ -9,3 +9,5 @@ pub mod PairLaws
 pub mod MappingLaws
 pub mod PatternLaws
 pub mod ValueLaws
+pub mod CuttingLaws
+pub mod ByteLaws
