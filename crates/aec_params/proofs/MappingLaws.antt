@@ -201,7 +201,8 @@ error-one_to_one s p x y allowed held held_x held_y e =
     let h = places s p allowed held in
     let w = within_places s p x low high h held_x (x -ℤ p) refl in
     let v = within_places s p y low high h held_y (y -ℤ p) refl in
-    same_from_difference x y p (error_apart low high (x -ℤ p) (y -ℤ p) w v (ap (λ (t : ℤ). mapped_error t (x -ℤ p)) (sym (room s p low high h)) ∙ (e ∙ ap (λ (t : ℤ). mapped_error t (y -ℤ p)) (room s p low high h))))
+    same_from_difference x y p (error_apart low high (x -ℤ p) (y -ℤ p) w v
+        (ap (λ (t : ℤ). mapped_error t (x -ℤ p)) (sym (room s p low high h)) ∙ (e ∙ ap (λ (t : ℤ). mapped_error t (y -ℤ p)) (room s p low high h))))
 
 pub error-reaches : (s : Settings) (p : ℤ) (m : ℕ) → IsAllowed s → IsHeld s p → m < 2 ^ s.bits
     → (x : ℤ) × IsHeld s x × (mapped_error (room_around s p) (x -ℤ p) ≡ m)
@@ -210,4 +211,6 @@ error-reaches s p m allowed held l =
     let h = places s p allowed held in
     let r = error-onto low high m (subst (λ (t : ℕ). m < t) (sym h.all) l) in
     let back : (p +ℤ r.0) -ℤ p ≡ r.0 = omega (arith, ints) in
-    (p +ℤ r.0, held_from_difference s p low high h r.0 r.1, ap (λ (t : ℤ). mapped_error t ((p +ℤ r.0) -ℤ p)) (room s p low high h) ∙ (ap (λ (t : ℤ). mapped_error (pos (min low high)) t) back ∙ r.2))
+    (p +ℤ r.0, held_from_difference s p low high h r.0 r.1,
+        ap (λ (t : ℤ). mapped_error t ((p +ℤ r.0) -ℤ p)) (room s p low high h)
+        ∙ (ap (λ (t : ℤ). mapped_error (pos (min low high)) t) back ∙ r.2))

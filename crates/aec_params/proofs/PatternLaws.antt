@@ -43,7 +43,8 @@ held_from : (b : Bool) (n : ℕ) (x : ℤ) → HeldAs b n x → int_le (lowest b
 held_from true n (pos m) h =
     and_from (int_le (lowest true n) (pos m)) (int_le (pos m) (highest true n)) (natural_above (2 ^ (n - 1)) m) (le-leb m (2 ^ (n - 1) - 1) (omega arith))
 held_from true n (negsuc m) h = and_from (int_le (lowest true n) (negsuc m)) true (negative_above (2 ^ (n - 1)) m h) refl
-held_from false n (pos m) h = and_from (int_le (pos 0) (pos m)) (int_le (pos m) (highest false n)) (le-leb 0 m (omega arith)) (le-leb m (2 ^ n - 1) (omega arith))
+held_from false n (pos m) h =
+    and_from (int_le (pos 0) (pos m)) (int_le (pos m) (highest false n)) (le-leb 0 m (omega arith)) (le-leb m (2 ^ n - 1) (omega arith))
 held_from false n (negsuc m) h = absurd h
 
 pub HeldAs-from_held : (s : Settings) (x : ℤ) → IsHeld s x → HeldAs s.signed s.bits x
