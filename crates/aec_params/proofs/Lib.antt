@@ -4,6 +4,7 @@ pub mod WorkedBlocks
 pub mod WorkedEdits
 pub mod WorkedReadings
 pub mod ListLaws
+pub mod SettingLaws
 pub mod CodewordLaws
 pub mod PairLaws
 pub mod MappingLaws
@@ -11,3 +12,6 @@ pub mod PatternLaws
 pub mod ValueLaws
 pub mod CuttingLaws
 pub mod ByteLaws
+pub mod SampleLaws
+pub mod BlockShapeLaws
+pub mod FillLaws

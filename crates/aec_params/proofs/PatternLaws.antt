@@ -5,7 +5,8 @@ use Rattle.std.proofs.lemmas.Bool.{cases_lt, and_parts, and_from, le-leb, leb-tr
 use Rattle.std.proofs.lemmas.Nat.{pow_pos}
 use Rattle.aec_params.specs.declared.settings.Settings.{Settings}
 use Rattle.aec_params.specs.Params.{IsAllowed, IsHeld, x_min, x_max, sample_pattern}
-use Rattle.aec_params.proofs.MappingLaws.{at_least_one_bit, pow-half}
+use Rattle.aec_params.proofs.SettingLaws.{at_least_one_bit}
+use Rattle.aec_params.proofs.MappingLaws.{pow-half}
 
 -- ---- held numbers by sign
 

@@ -8,6 +8,9 @@ use Rattle.aec_params.specs.CodedDataSets.{pair_number}
 use Rattle.aec_params.specs.declared.settings.Settings.{Settings}
 use Rattle.aec_params.specs.Params.{IsAllowed, IsHeld, sample_pattern}
 use Rattle.aec_params.specs.Mapping.{mapped_value}
+use Rattle.aec_params.specs.Blocks.{Block, blocks_of, all_blocks_of}
+use Rattle.aec_params.specs.Reading.{FillBlocks}
+use Rattle.aec_params.specs.BlockShapes.{AreBlocksFrom}
 
 -- ---- codewords
 
@@ -94,3 +97,16 @@ pub record BytesAreBits : Type 0 where
   pub count : (bits : List Bool) → length (bytes_of bits) ≡ div_ceil (length bits) 8
   pub below : (bits : List Bool) → AllByRecursion (λ (byte : ℕ). byte < 256) (bytes_of bits)
   pub bytes : (bytes : List ℕ) → AllByRecursion (λ (byte : ℕ). byte < 256) bytes → bytes_of (bits_of_bytes bytes) ≡ bytes
+
+-- ---- samples and blocks
+
+-- held samples are known from their number and their blocks, those of one interval and all
+pub record BlocksTellSamples : Type 0 where
+  pub interval : (s : Settings) (xs ys : List ℤ) → IsAllowed s → AllByRecursion (IsHeld s) xs → AllByRecursion (IsHeld s) ys
+      → length xs ≡ length ys → blocks_of s xs ≡ blocks_of s ys → xs ≡ ys
+  pub all : (s : Settings) (xs ys : List ℤ) → IsAllowed s → AllByRecursion (IsHeld s) xs → AllByRecursion (IsHeld s) ys
+      → length xs ≡ length ys → all_blocks_of s xs ≡ all_blocks_of s ys → xs ≡ ys
+
+-- blocks in the shape that the format has are those of samples
+abbrev pub BlocksHaveSamples : Type 0
+BlocksHaveSamples = (s : Settings) (blocks : List Block) → IsAllowed s → AreBlocksFrom s 0 blocks → (samples : List ℤ) × FillBlocks s samples blocks

@@ -1,6 +1,6 @@
 //! Laws of the format's definitions. Their functions do nothing: what each one's contract says is proved.
 
-ghost use Rattle.aec_params.specs.Laws.{FundamentalSequencesDiffer, BinaryNumbersDiffer, CodewordLengths, BinaryNumbersAreReadBack, ListsAreTold, EachNumberIsOnePair, SamplesAreValues, PiecesAreTheCut, WholePiecesComeFirst, BytesAreBits};
+ghost use Rattle.aec_params.specs.Laws.{FundamentalSequencesDiffer, BinaryNumbersDiffer, CodewordLengths, BinaryNumbersAreReadBack, ListsAreTold, EachNumberIsOnePair, SamplesAreValues, PiecesAreTheCut, WholePiecesComeFirst, BytesAreBits, BlocksTellSamples, BlocksHaveSamples};
 
 /// Fundamental sequences of two numbers differ, whatever bits follow them.
 pub fn fundamental_sequences_differ()
@@ -50,4 +50,14 @@ pub fn whole_pieces_come_first<X>()
 /// Bits as bytes and back.
 pub fn bytes_are_bits()
     ensures { BytesAreBits }
+{}
+
+/// Held samples are known from their number and their blocks.
+pub fn blocks_tell_samples()
+    ensures { BlocksTellSamples }
+{}
+
+/// Blocks in the shape that the format has are the blocks of held samples.
+pub fn blocks_have_samples()
+    ensures { BlocksHaveSamples }
 {}
