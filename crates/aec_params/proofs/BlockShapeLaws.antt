@@ -7,7 +7,8 @@ use Rattle.aec_params.specs.BlockShapes.{IsBlockAt, AreBlocksFrom}
 
 -- ---- the places of blocks
 
-pub AreBlocksFrom-append : (s : Settings) (i : ℕ) (xs ys : List Block) → AreBlocksFrom s i xs → AreBlocksFrom s (i + length xs) ys → AreBlocksFrom s i (xs ++ ys)
+pub AreBlocksFrom-append : (s : Settings) (i : ℕ) (xs ys : List Block)
+    → AreBlocksFrom s i xs → AreBlocksFrom s (i + length xs) ys → AreBlocksFrom s i (xs ++ ys)
 AreBlocksFrom-append s i [] ys h k = let e : i + 0 ≡ i = omega arith in subst (λ (t : ℕ). AreBlocksFrom s t ys) e k
 AreBlocksFrom-append s i (x ∷ xs) ys h k =
     let e : i + suc (length xs) ≡ i + 1 + length xs = omega arith in

@@ -82,7 +82,8 @@ plain_again : (s : Settings) (blocks : List Block) → AllByRecursion (IsLaterBl
     → map (λ (values : List ℕ). record { reference = None; values = values }) (map (λ (b : Block). b.values) blocks) ≡ blocks
 plain_again s [] all = refl
 plain_again s (b ∷ blocks) all =
-    ap (λ (r : Option ℕ). record { reference = r; values = b.values } ∷ map (λ (values : List ℕ). record { reference = None; values = values }) (map (λ (b : Block). b.values) blocks)) (sym all.0.reference)
+    let later = map (λ (values : List ℕ). record { reference = None; values = values }) (map (λ (b : Block). b.values) blocks) in
+    ap (λ (r : Option ℕ). record { reference = r; values = b.values } ∷ later) (sym all.0.reference)
     ∙ ap (λ (t : List Block). b ∷ t) (plain_again s blocks all.1)
 
 length-values_in : (s : Settings) (blocks : List Block) → AllByRecursion (λ (b : Block). length b.values ≡ s.block_size) blocks
@@ -91,7 +92,8 @@ length-values_in s [] all = omega arith
 length-values_in s (b ∷ blocks) all =
     let h = length-values_in s blocks all.1 in let c = all.0 in simp length-append (omega arith)
 
-later_counts : (s : Settings) (blocks : List Block) → AllByRecursion (IsLaterBlock s) blocks → AllByRecursion (λ (b : Block). length b.values ≡ s.block_size) blocks
+later_counts : (s : Settings) (blocks : List Block) → AllByRecursion (IsLaterBlock s) blocks
+    → AllByRecursion (λ (b : Block). length b.values ≡ s.block_size) blocks
 later_counts s [] all = tt
 later_counts s (b ∷ blocks) all = (all.0.count, later_counts s blocks all.1)
 
@@ -150,7 +152,11 @@ samples_of_blocks s b bs a h all =
 -- ---- blocks at their places
 
 later_block : (s : Settings) (p : ℕ) (b : Block) → 0 < p → IsBlockAt s p b → IsLaterBlock s b
-later_block s p b l h = record { reference = no_reference s b.reference (subst (λ (t : Bool). HasReference s t b.reference) no h.reference); count = h.count; below = h.below }
+later_block s p b l h = record {
+  reference = no_reference s b.reference (subst (λ (t : Bool). HasReference s t b.reference) no h.reference);
+  count = h.count;
+  below = h.below;
+}
   where
     no : is_reference_block s p ≡ false
     no = and_right s.preprocess (eqb p 0) (ne_eqb p 0 (λ e. absurd (omega arith)))
@@ -239,7 +245,8 @@ have_samples (suc m) s (b ∷ bs) l a h =
     let e : (b ∷ take n bs) ++ drop n bs ≡ b ∷ bs = ap (λ (t : List Block). b ∷ t) (take-append-drop n bs) in
     let c : length (b ∷ take n bs) ≡ s.interval = cut_length s b bs a k in
     let w : AreBlocksFrom s 0 ((b ∷ take n bs) ++ drop n bs) = subst (AreBlocksFrom s 0) (sym e) h in
-    let back = AreBlocksFrom-interval s 0 (drop n bs) (subst (λ (t : ℕ). AreBlocksFrom s t (drop n bs)) (ap (λ (t : ℕ). 0 + t) c) (AreBlocksFrom-back s 0 (b ∷ take n bs) (drop n bs) w)) in
+    let back = AreBlocksFrom-interval s 0 (drop n bs) (subst (λ (t : ℕ). AreBlocksFrom s t (drop n bs)) (ap (λ (t : ℕ). 0 + t) c)
+    (AreBlocksFrom-back s 0 (b ∷ take n bs) (drop n bs) w)) in
     subst (HasSamples s) e
     (more_samples s b (take n bs) (drop n bs) a c (AreBlocksFrom-front s 0 (b ∷ take n bs) (drop n bs) w)
     (have_samples m s (drop n bs) (fewer n m b bs l) a back)))

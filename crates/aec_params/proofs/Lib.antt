@@ -15,3 +15,5 @@ pub mod ByteLaws
 pub mod SampleLaws
 pub mod BlockShapeLaws
 pub mod FillLaws
+pub mod StreamLaws
+pub mod ReadingLaws

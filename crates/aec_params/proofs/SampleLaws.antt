@@ -176,7 +176,8 @@ apart (suc m) s (x ∷ xs) (y ∷ ys) b a h k l e =
     let n = interval_len s in
     let p = interval_len-positive s a in
     let c = same_block_count s (take n (x ∷ xs)) (take n (y ∷ ys)) (block_size-positive s a) (same_take n l) in
-    let f = append_apart (blocks_of s (take n (x ∷ xs))) (blocks_of s (take n (y ∷ ys))) (all_blocks_of s (drop n (x ∷ xs))) (all_blocks_of s (drop n (y ∷ ys))) c
+    let f = append_apart (blocks_of s (take n (x ∷ xs))) (blocks_of s (take n (y ∷ ys)))
+    (all_blocks_of s (drop n (x ∷ xs))) (all_blocks_of s (drop n (y ∷ ys))) c
     (sym (all_blocks_of-step s (x ∷ xs) a (omega arith)) ∙ (e ∙ all_blocks_of-step s (y ∷ ys) a (omega arith))) in
     let front = blocks_of-one_to_one s (take n (x ∷ xs)) (take n (y ∷ ys)) a (held-take s n (x ∷ xs) h) (held-take s n (y ∷ ys) k) (same_take n l) f.0 in
     let back = apart m s (drop n (x ∷ xs)) (drop n (y ∷ ys)) (shorter n p b) a (held-drop s n (x ∷ xs) h) (held-drop s n (y ∷ ys) k) (same_drop n l) f.1 in

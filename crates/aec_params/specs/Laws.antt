@@ -1,5 +1,5 @@
 -- What the definitions of the format were meant to say: codewords tell numbers apart, values and pieces give back what they came from.
-use Rattle.std.specs.Prelude.{◌≡◌, ℕ, ◌+◌, ◌^◌, ◌<◌, ◌≤◌, Bool, true, ℤ, ⊤, List, [], ◌∷◌, ◌++◌, length, map}
+use Rattle.std.specs.Prelude.{◌≡◌, ℕ, ◌+◌, ◌^◌, ◌<◌, ◌≤◌, Bool, true, ℤ, Option, ⊤, List, [], ◌∷◌, ◌++◌, length, map}
 use Rattle.std.specs.List.{flat_map, list_all, AllByRecursion}
 use Rattle.aec_params.specs.Codewords.{fs, binary, bits_number, padded_to_byte, bytes_of, bits_of_bytes}
 use Rattle.aec_params.specs.Cutting.{pieces_of}
@@ -9,7 +9,7 @@ use Rattle.aec_params.specs.declared.settings.Settings.{Settings}
 use Rattle.aec_params.specs.Params.{IsAllowed, IsHeld, sample_pattern}
 use Rattle.aec_params.specs.Mapping.{mapped_value}
 use Rattle.aec_params.specs.Blocks.{Block, blocks_of, all_blocks_of}
-use Rattle.aec_params.specs.Reading.{FillBlocks}
+use Rattle.aec_params.specs.Reading.{FillBlocks, IsBlockReading}
 use Rattle.aec_params.specs.BlockShapes.{AreBlocksFrom}
 
 -- ---- codewords
@@ -110,3 +110,9 @@ pub record BlocksTellSamples : Type 0 where
 -- blocks in the shape that the format has are those of samples
 abbrev pub BlocksHaveSamples : Type 0
 BlocksHaveSamples = (s : Settings) (blocks : List Block) → IsAllowed s → AreBlocksFrom s 0 blocks → (samples : List ℤ) × FillBlocks s samples blocks
+
+-- each reading of blocks is one of samples, and of one list alone
+pub record ReadingsHaveSamples : Type 0 where
+  pub samples : (s : Settings) (count : Option ℕ) (limit : ℕ) (bits : List Bool) (blocks : List Block) → IsAllowed s
+      → IsBlockReading s count limit bits 0 0 blocks → (samples : List ℤ) × FillBlocks s samples blocks
+  pub unique : (s : Settings) (xs ys : List ℤ) (blocks : List Block) → IsAllowed s → FillBlocks s xs blocks → FillBlocks s ys blocks → xs ≡ ys

@@ -1,6 +1,6 @@
 //! Laws of the format's definitions. Their functions do nothing: what each one's contract says is proved.
 
-ghost use Rattle.aec_params.specs.Laws.{FundamentalSequencesDiffer, BinaryNumbersDiffer, CodewordLengths, BinaryNumbersAreReadBack, ListsAreTold, EachNumberIsOnePair, SamplesAreValues, PiecesAreTheCut, WholePiecesComeFirst, BytesAreBits, BlocksTellSamples, BlocksHaveSamples};
+ghost use Rattle.aec_params.specs.Laws.{FundamentalSequencesDiffer, BinaryNumbersDiffer, CodewordLengths, BinaryNumbersAreReadBack, ListsAreTold, EachNumberIsOnePair, SamplesAreValues, PiecesAreTheCut, WholePiecesComeFirst, BytesAreBits, BlocksTellSamples, BlocksHaveSamples, ReadingsHaveSamples};
 
 /// Fundamental sequences of two numbers differ, whatever bits follow them.
 pub fn fundamental_sequences_differ()
@@ -60,4 +60,9 @@ pub fn blocks_tell_samples()
 /// Blocks in the shape that the format has are the blocks of held samples.
 pub fn blocks_have_samples()
     ensures { BlocksHaveSamples }
+{}
+
+/// Each reading of blocks is one of samples, and of one list alone.
+pub fn readings_have_samples()
+    ensures { ReadingsHaveSamples }
 {}
