@@ -17,3 +17,4 @@ pub mod BlockShapeLaws
 pub mod FillLaws
 pub mod StreamLaws
 pub mod ReadingLaws
+pub mod EditLaws

@@ -125,7 +125,8 @@ pub length-cds_blocks : (s : Settings) (p : ℕ) (c : CodedDataSet) → p < s.in
 length-cds_blocks s p c l = length-blocks_in s p c.reference c.body l
 
 -- the blocks of a lawful coded data set can stand where it stands
-pub cds_blocks-shape : (s : Settings) (i : ℕ) (c : CodedDataSet) → IsAllowed s → IsLawful s (i % s.interval) c → AreBlocksFrom s i (cds_blocks s (i % s.interval) c)
+pub cds_blocks-shape : (s : Settings) (i : ℕ) (c : CodedDataSet)
+    → IsAllowed s → IsLawful s (i % s.interval) c → AreBlocksFrom s i (cds_blocks s (i % s.interval) c)
 cds_blocks-shape s i c a h = blocks_in-shape s i c.reference c.body a h.shape.reference h.shape.body h.small h.within
 
 -- ---- coded data sets one after the other
