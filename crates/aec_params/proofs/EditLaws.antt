@@ -7,6 +7,7 @@ use Rattle.std.proofs.lemmas.Nat.{le-div}
 use Rattle.std.proofs.lemmas.List.Elements.{filter-append}
 use Rattle.std.proofs.lemmas.List.FromFn.{length-range_with_len}
 use Rattle.std.proofs.Math.Nat.{div-mul-le_self, add-div_right, div-add-mod', mul-le-mul_right, mod-lt}
+use Rattle.aec_params.specs.declared.samples.Samples.{Samples}
 use Rattle.aec_params.specs.declared.edit.Edit.{Edit}
 use Rattle.aec_params.specs.declared.edit.Edit.TheVariants.{Overwrite, Append, Truncate}
 use Rattle.aec_params.specs.Edits.{touched_intervals, keeps_a_sample, needed_calls, opened_intervals}
@@ -115,7 +116,8 @@ keeps_nothing n old first len k h l a b =
     let e = div-add-mod' first n in
     let m = mod-lt first h in
     let d = div-mul-le_self (first + len - 1) n in
-    or_from (ltb (k * n) first) (ltb (first + len) (min (k * n + n) old)) (le-ltb (k * n) first (omega arith)) (le-ltb (first + len) (min (k * n + n) old) (omega arith))
+    or_from (ltb (k * n) first) (ltb (first + len) (min (k * n + n) old))
+    (le-ltb (k * n) first (omega arith)) (le-ltb (first + len) (min (k * n + n) old) (omega arith))
   where
     below : (a b n : ℕ) → a < b → a + 1 ≤ b
     below a b n h = omega arith
@@ -170,3 +172,33 @@ opened_intervals-le-needed_calls n old (Append values) h =
     needs_one (eqb (length values) 0) (eqb (old % n) 0) (div_ceil (old + length values) n - old / n)
     (λ b c. ceil_more n old (length values) h (positive (old % n) (eqb-false (old % n) 0 c)) (positive (length values) (eqb-false (length values) 0 b)))
 opened_intervals-le-needed_calls n old (Truncate count) h = omega arith
+
+-- an append codes the intervals that its samples lie in
+ceil-pred : (m n : ℕ) → 0 < n → 0 < m → div_ceil m n ≡ (m - 1) / n + 1
+ceil-pred zero n h l = absurd (omega arith)
+ceil-pred (suc m) n h l =
+    let one : suc m ≡ m + 1 = omega arith in
+    let back : suc m - 1 ≡ m = omega arith in
+    rw (back, one) (ceil_after m n h)
+  where
+    ceil_after : (m n : ℕ) → 0 < n → div_ceil (m + 1) n ≡ m / n + 1
+    ceil_after m n h =
+        let p = div-add-mod' m n in
+        let q = div-add-mod' (m + 1) n in
+        let r = mod-lt m h in
+        ⊎_elim (λ (e : (m + 1) / n ≡ m / n). let f = ap (λ (t : ℕ). t * n) e in omega arith)
+        (λ (e : (m + 1) / n ≡ m / n + 1). let f = ap (λ (t : ℕ). t * n) e in omega arith)
+        (div-step n m h)
+
+appended : (n old len : ℕ) → 0 < n → cond (eqb len 0) 0 (div_ceil (old + len) n - old / n) ≡ length (touched_intervals n old len)
+appended n old zero h = refl
+appended n old (suc len) h =
+    let some : eqb (suc len) 0 ≡ false = ne_eqb (suc len) 0 (λ e. absurd (omega arith)) in
+    let c = ceil-pred (old + suc len) n h (omega arith) in
+    let t = length-touched_intervals n old (suc len) h (omega arith) in
+    let l = div-le n old (old + suc len - 1) h (omega arith) in
+    rw some (omega arith)
+
+pub needed_calls-append : (n old : ℕ) (values : Samples) → 0 < n
+    → needed_calls n old (Append values) ≡ length (touched_intervals n old (length values))
+needed_calls-append n old values h = appended n old (length values) h

@@ -18,3 +18,4 @@ pub mod FillLaws
 pub mod StreamLaws
 pub mod ReadingLaws
 pub mod EditLaws
+pub mod SampleShapeLaws

@@ -68,7 +68,7 @@ zero_block_at s p r a h = record {
 
 -- ---- one coded data set
 
-not_first : (s : Settings) (p : ℕ) → 0 < p → is_reference_block s p ≡ false
+pub not_first : (s : Settings) (p : ℕ) → 0 < p → is_reference_block s p ≡ false
 not_first s p l = and_right s.preprocess (eqb p 0) (ne_eqb p 0 (λ e. absurd (omega arith)))
 
 -- k zero blocks from place q of an interval on, which begins at block r * d
