@@ -122,7 +122,8 @@ first_place s x xs a =
 
 -- how many blocks there are
 
-length-join : (n : ℕ) (groups : List (List ℕ)) → AllByRecursion (λ (g : List ℕ). length g ≡ n) groups → length (flat_map (λ (g : List ℕ). g) groups) ≡ length groups * n
+length-join : (n : ℕ) (groups : List (List ℕ)) → AllByRecursion (λ (g : List ℕ). length g ≡ n) groups
+    → length (flat_map (λ (g : List ℕ). g) groups) ≡ length groups * n
 length-join n [] w = omega arith
 length-join n (g ∷ groups) w = let h = length-join n groups w.1 in let e = w.0 in simp length-append (omega arith)
 
