@@ -58,31 +58,6 @@ binary-push_suc (suc k) v b =
 pub binary-push : (k v : ℕ) (b : Bool) → binary (k + 1) (2 * v + cond b 1 0) ≡ binary k v ++ b ∷ []
 binary-push k v b = let e : k + 1 ≡ suc k = omega arith in rw e (binary-push_suc k v b)
 
--- ---- bits moved within a list
-
--- a tail moved to another place
-pub moved_tail : (xs : List Bool) (from to : ℕ) → from ≤ length xs
-    → take (to + (length xs - from)) (paste (xs ++ replicate (to - from) false) to (drop from (xs ++ replicate (to - from) false)) (length xs - from))
-      ≡ take to (xs ++ replicate (to - from) false) ++ drop from xs
-moved_tail xs from to h =
-    let zs : List Bool = replicate (to - from) false in
-    let longer : length (xs ++ zs) ≡ length xs + (to - from) = omega (arith, length-append xs zs, length-replicate (to - from) false) in
-    let tail : drop from (xs ++ zs) ≡ drop from xs ++ zs = drop-append-le from xs zs h in
-    rw (take-paste (xs ++ zs) to (drop from (xs ++ zs)) (length xs - from) (omega arith) (omega (arith, length-drop from (xs ++ zs))))
-       (ap (λ l. take to (xs ++ zs) ++ l) (ap (take (length xs - from)) tail ∙ take_at (drop from xs) zs (length xs - from) (length-drop from xs)))
-
--- bits written before a moved tail
-pub written_before_tail : (xs ys zs : List Bool) (start stop : ℕ) → start ≤ stop → stop ≤ length xs → start + length ys ≤ length (xs ++ zs)
-    → take start (take (start + length ys) (xs ++ zs) ++ drop stop xs) ++ (ys ++ drop (start + length ys) (take (start + length ys) (xs ++ zs) ++ drop stop xs))
-      ≡ take start xs ++ (ys ++ drop stop xs)
-written_before_tail xs ys zs start stop order within room =
-    let front : List Bool = take (start + length ys) (xs ++ zs) in
-    let front_len : length front ≡ start + length ys = length-take-le (start + length ys) (xs ++ zs) room in
-    let left : take start (front ++ drop stop xs) ≡ take start xs =
-        take-append-le start front (drop stop xs) (omega arith) ∙ take-take start (start + length ys) (xs ++ zs) (omega arith) ∙ take-append-le start xs zs (omega arith) in
-    let right : drop (start + length ys) (front ++ drop stop xs) ≡ drop stop xs = drop_at front (drop stop xs) (start + length ys) front_len in
-    rw (left, right) refl
-
 -- ---- bytes
 
 length-first_chunks : {X : Type 0} (n k : ℕ) (xs : List X) → length (first_chunks n k xs) ≡ k
@@ -145,18 +120,18 @@ eight_of bits i w v within width stands =
     let zs : List Bool = replicate (up_to_multiple 8 (length bits)) false in
     let rest : List Bool = drop (8 * i + w) bits in
     let from_there : drop (8 * i) (bits ++ zs) ≡ binary w v ++ (rest ++ zs) =
-        drop-append-le (8 * i) bits zs (omega arith) ∙ ap (λ l. l ++ zs) stands ∙ append_assoc (binary w v) rest zs in
+    drop-append-le (8 * i) bits zs (omega arith) ∙ ap (λ l. l ++ zs) stands ∙ append_assoc (binary w v) rest zs in
     elim (cases_lt (length bits - 8 * i) 8) [
-      inl short ↦
-        let none : rest ≡ [] = drop_all (8 * i + w) bits (omega arith) in
-        let missing : up_to_multiple 8 (length bits) ≡ 8 - w = omega arith in
-        let whole : binary w v ++ (rest ++ zs) ≡ binary w v ++ replicate (8 - w) false = rw (none, missing) refl in
-        ap (take 8) (from_there ∙ whole)
-        ∙ take_all 8 (binary w v ++ replicate (8 - w) false) (omega (arith, length-append (binary w v) (replicate (8 - w) false), length-binary w v, length-replicate (8 - w) false))
-    | inr long ↦
-        let none : 8 - w ≡ 0 = omega arith in
-        ap (take 8) from_there ∙ take_at (binary w v) (rest ++ zs) 8 (length-binary w v ∙ omega arith)
-        ∙ sym (append-nil (binary w v)) ∙ ap (λ n. binary w v ++ replicate n false) (sym none)
+      | inl short ↦
+          let none : rest ≡ [] = drop_all (8 * i + w) bits (omega arith) in
+          let missing : up_to_multiple 8 (length bits) ≡ 8 - w = omega arith in
+          let whole : binary w v ++ (rest ++ zs) ≡ binary w v ++ replicate (8 - w) false = rw (none, missing) refl in
+          ap (take 8) (from_there ∙ whole)
+          ∙ take_all 8 (binary w v ++ replicate (8 - w) false) (omega (arith, length-append (binary w v) (replicate (8 - w) false), length-binary w v, length-replicate (8 - w) false))
+      | inr long ↦
+          let none : 8 - w ≡ 0 = omega arith in
+          ap (take 8) from_there ∙ take_at (binary w v) (rest ++ zs) 8 (length-binary w v ∙ omega arith)
+          ∙ sym (append-nil (binary w v)) ∙ ap (λ n. binary w v ++ replicate n false) (sym none)
     ]
 
 pub byte_at : (bits : List Bool) (i w v : ℕ) → i < length (bytes_of bits) → w ≡ min (length bits - 8 * i) 8 → v < 2 ^ w
@@ -167,12 +142,12 @@ byte_at bits i w v within width fits stands =
     let same : length (bytes_of bits) ≡ length (pieces_of 8 (padded_to_byte bits)) = length-map (pieces_of 8 (padded_to_byte bits)) bits_number in
     let there : 8 * i < length bits = omega (arith, length-bytes_of bits) in
     let spelled : bits_number (binary w v ++ replicate (8 - w) false) ≡ v * 2 ^ (8 - w) =
-        bits_number-append (binary w v) (replicate (8 - w) false)
-        ∙ rw (bits_number-binary, bits_number-zeros, length-replicate, mod-eq_of_lt fits) (omega arith) in
+    bits_number-append (binary w v) (replicate (8 - w) false)
+    ∙ rw (bits_number-binary, bits_number-zeros, length-replicate, mod-eq_of_lt fits) (omega arith) in
     sym (
-        get_or-map bits_number (pieces_of 8 (padded_to_byte bits)) i [] 0 (omega arith)
-        ∙ ap bits_number (get_or-first_chunks 8 count i (padded_to_byte bits) (omega arith) ∙ eight_of bits i w v there width stands)
-        ∙ spelled)
+    get_or-map bits_number (pieces_of 8 (padded_to_byte bits)) i [] 0 (omega arith)
+    ∙ ap bits_number (get_or-first_chunks 8 count i (padded_to_byte bits) (omega arith) ∙ eight_of bits i w v there width stands)
+    ∙ spelled)
 
 -- the low bits of a byte in its high places
 pub byte_fits : (v w : ℕ) → w ≤ 8 → v < 2 ^ w → v * 2 ^ (8 - w) < 2 ^ 8

@@ -44,5 +44,5 @@ NamesTheFirstValue = (f : Format) (limit : ℕ) (s values : List ℤ) (i : ℕ) 
 abbrev pub AllowsWhatFits : Type 0
 AllowsWhatFits = (f : Format) (limit first : ℕ) (s values : List ℤ) → AreHeld f values
     → (first + length values ≤ length s → refusal_of f limit s (Overwrite first values) ≡ None)
-      × (length s + length values ≤ limit → refusal_of f limit s (Append values) ≡ None)
-      × (first ≤ length s → refusal_of f limit s (Truncate first) ≡ None)
+    × (length s + length values ≤ limit → refusal_of f limit s (Append values) ≡ None)
+    × (first ≤ length s → refusal_of f limit s (Truncate first) ≡ None)

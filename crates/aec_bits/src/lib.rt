@@ -7,6 +7,8 @@ mod codec;
 mod device;
 mod io_device;
 pub mod laws;
+#[cfg(test)]
+mod tests;
 mod writing;
 
 pub use bit_buf::BitBuf;
