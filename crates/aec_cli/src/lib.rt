@@ -1,0 +1,12 @@
+//! The command `aec`: its words, its job, the files that it reads and writes, and one whole run.
+#![tactic(auto)]
+
+mod failure;
+mod job;
+mod usage;
+mod words;
+
+pub use failure::{Failure, status};
+pub use job::{Action, Job, settings};
+pub use usage::Usage;
+pub use words::command;
