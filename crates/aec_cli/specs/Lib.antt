@@ -1,3 +1,5 @@
 pub mod Commands
 pub mod Jobs
+pub mod Openings
 pub mod Statuses
+pub mod Tallies

@@ -2,11 +2,15 @@
 #![tactic(auto)]
 
 mod failure;
+mod files;
 mod job;
+mod program;
 mod usage;
 mod words;
 
 pub use failure::{Failure, status};
+pub use files::{DestSink, FileSource};
 pub use job::{Action, Job, settings};
+pub use program::perform;
 pub use usage::Usage;
 pub use words::command;
