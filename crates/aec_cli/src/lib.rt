@@ -14,3 +14,6 @@ pub use job::{Action, Job, settings};
 pub use program::perform;
 pub use usage::Usage;
 pub use words::command;
+
+#[cfg(test)]
+mod tests;
