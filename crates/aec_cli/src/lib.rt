@@ -13,7 +13,7 @@ pub use files::{DestSink, FileSource};
 pub use job::{Action, Job, settings};
 pub use program::perform;
 pub use usage::Usage;
-pub use words::command;
+pub use words::{command, parse};
 
 #[cfg(test)]
 mod tests;

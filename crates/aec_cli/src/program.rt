@@ -7,7 +7,7 @@ ghost use Rattle.aec_cli.specs.Statuses.{parse_status, status_of};
 use crate::failure::{Failure, status};
 use crate::job::{Action, Job, settings};
 use crate::usage::Usage;
-use crate::words::command;
+use crate::words::parse;
 use clap::error::ErrorKind;
 use std::alloc::Global;
 use std::io::Write;
@@ -22,11 +22,7 @@ pub fn perform<F: Files, O: Write, E: Write>(
     out: &mut O,
     err: &mut E,
 ) -> u8 {
-    let command = match command(alloc) {
-        Ok(command) => command,
-        Err(usage) => return report(Failure::Usage(usage), err),
-    };
-    let matches = match command.try_get_matches_from(words.as_slice()) {
+    let matches = match parse(alloc, words.as_slice()) {
         Ok(matches) => matches,
         Err(error) => return answer(&error, out, err),
     };

@@ -1,14 +1,18 @@
 //! The command and its words.
 
-ghost use Rattle.std.specs.Prelude.{◌≡◌, IfOk, IfErr, Some, false, pos};
-ghost use Rattle.clap.specs.Simple.{app_of};
-ghost use Rattle.clap.specs.Walk.{rule_of};
+ghost use Rattle.std.specs.Prelude.{◌≡◌, IfOk, IfErr, false, map};
+ghost use Rattle.std.specs.String.{string_bytes};
+ghost use Rattle.clap.specs.Faults.{fault_of};
+ghost use Rattle.clap.specs.Kinds.{FailsBy};
+ghost use Rattle.clap.specs.Matches.{found_of};
+ghost use Rattle.clap.specs.Simple.{app_of, matches_of};
+ghost use Rattle.clap.specs.Walk.{rows_of, rule_of};
 ghost use Rattle.aec_cli.specs.Commands.{aec_app, with_rules, flag_rule, number_rule, file_rule};
 ghost use Rattle.aec_cli.specs.Commands.{number_rules, coding_rules, storage_rules, work_rules, file_rules};
 
 use crate::usage::Usage;
 use clap::builder::ValueParser;
-use clap::{Arg, ArgAction, Command};
+use clap::{Arg, ArgAction, ArgMatches, Command, Error};
 use std::alloc::{AllocError, Global};
 
 /// The command `aec`, which has no rules between its arguments. `Memory` is the only refusal.
@@ -22,6 +26,18 @@ pub fn command<'a>(alloc: Global) -> Result<Command<'a>, Usage>
     let command = with_storage(alloc, command)?;
     let command = with_work(alloc, command)?;
     Ok(with_files(alloc, command)?)
+}
+
+/// What the words say to the command, the first of them the program's name. The entries are those that the words
+/// state; an error has the kind of the first mistake, or is want of memory.
+pub fn parse<'a>(alloc: Global, words: &'a [String]) -> Result<ArgMatches<'a>, Error>
+    ensures entries { IfOk result (λ m. rows_of (found_of m) ≡ matches_of aec_app (map string_bytes words.entry.now)) }
+    ensures kinds { FailsBy (fault_of aec_app (map string_bytes words.entry.now)) result }
+{
+    let Ok(command) = command(alloc) else {
+        return Err(Error::from(AllocError));
+    };
+    command.try_get_matches_from(words)
 }
 
 // The numbers of the format.
