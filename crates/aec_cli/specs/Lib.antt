@@ -1,3 +1,4 @@
+pub mod CommandExamples
 pub mod Commands
 pub mod Jobs
 pub mod Openings

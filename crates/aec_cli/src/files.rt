@@ -20,6 +20,21 @@ enum Opening<T: Drop> {
     Failed,
 }
 
+impl<T: Drop> Opening<T> {
+    ghost use Rattle.std.specs.Prelude.{◌≡◌};
+    ghost use Rattle.aec_cli.specs.Openings.{failures_of};
+
+    // How often the device has failed.
+    fn failures(&self) -> u64
+        ensures { result ≡ failures_of self.now }
+    {
+        match self {
+            Opening::Unopened | Opening::Open(_) => 0,
+            Opening::Failed => 1,
+        }
+    }
+}
+
 /// The bytes of a file. The first `take` opens it. A file that can't be opened, and any error of a read, is a failure.
 /// Contracts see how often the source has failed, 0 or 1.
 #[derive(Drop)]
@@ -85,10 +100,7 @@ impl<'a, F: Files> Source for FileSource<'a, F> {
     }
 
     fn failures(&self) -> u64 {
-        match self.file {
-            Opening::Unopened | Opening::Open(_) => 0,
-            Opening::Failed => 1,
-        }
+        self.file.failures()
     }
 }
 
@@ -188,10 +200,7 @@ impl<'a, F: Files> Sink for DestSink<'a, F> {
     }
 
     fn failures(&self) -> u64 {
-        match self.file {
-            Opening::Unopened | Opening::Open(_) => 0,
-            Opening::Failed => 1,
-        }
+        self.file.failures()
     }
 
     fn begins(&self) -> u64 {

@@ -1,6 +1,6 @@
 //! One whole run of the program.
 
-ghost use Rattle.std.specs.Prelude.{◌≡◌};
+ghost use Rattle.std.specs.Prelude.{◌≡◌, ◌≤◌};
 ghost use Rattle.clap.specs.Values.{kind_of};
 ghost use Rattle.aec_cli.specs.Statuses.{parse_status, status_of};
 
@@ -13,7 +13,7 @@ use std::alloc::Global;
 use std::io::Write;
 use std::rt::Files;
 
-/// Runs the program on its words, of which the first is the program's name, and answers its status. What belongs on
+/// Runs the program on its words, of which the first is the program's name, and answers its status, 0, 1 or 2. What belongs on
 /// standard output is written to `out`, what belongs on standard error to `err`; a fault of either changes nothing.
 pub fn perform<F: Files, O: Write, E: Write>(
     rt: &F,
@@ -21,7 +21,9 @@ pub fn perform<F: Files, O: Write, E: Write>(
     words: Vec<String>,
     out: &mut O,
     err: &mut E,
-) -> u8 {
+) -> u8
+    ensures { result ≤ 2 }
+{
     let matches = match parse(alloc, words.as_slice()) {
         Ok(matches) => matches,
         Err(error) => return answer(&error, out, err),
