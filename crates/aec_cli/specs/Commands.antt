@@ -1,19 +1,23 @@
 -- The command `aec` as a parse sees it: its options and operands, one after the other.
-use Rattle.std.specs.Prelude.{ℕ, List, [], ◌∷◌, Some, pos, true, codes}
+use Rattle.std.specs.Prelude.{ℕ, List, [], ◌∷◌, Some, pos, true, codes, slice_index}
 use Rattle.clap.specs.Simple.{App, new_app, new_rule, with_rule}
 use Rattle.clap.specs.Walk.{Rule, Text}
 use Rattle.clap.specs.declared.builder.action.ArgAction.TheVariants.{SetTrue}
 use Rattle.clap.specs.declared.builder.value_parser.ValueParser.{ValueParser}
 use Rattle.clap.specs.declared.builder.value_parser.ValueParser.TheVariants as parser
 
+-- the one byte of a text
+abbrev pub letter : Text → ℕ
+letter text = slice_index text 0
+
 -- an option of one letter that takes no value
 abbrev pub flag_rule : Text → ℕ → Rule
-flag_rule id letter = record (new_rule id) { short = Some letter; action = Some SetTrue }
+flag_rule id key = record (new_rule id) { short = Some key; action = Some SetTrue }
 
 -- an option of one letter that takes one value, which the parser judges
 abbrev pub number_rule : ValueParser → Text → ℕ → Rule
-number_rule judge id letter = record (new_rule id) {
-  short = Some letter;
+number_rule judge id key = record (new_rule id) {
+  short = Some key;
   value_names = 1;
   parser = Some judge;
 }
@@ -34,22 +38,25 @@ abbrev pub with_rules : App → List Rule → App
 with_rules a [] = a
 with_rules a (r ∷ rs) = with_rules (with_rule a r) rs
 
--- the numbers of the format: -n, -j and -r
+-- the numbers of the format
 unfoldable pub number_rules : List Rule
-number_rules = number_rule word_parser (codes "bits") 110 ∷ number_rule word_parser (codes "block-size") 106
-    ∷ number_rule word_parser (codes "interval") 114 ∷ []
+number_rules = number_rule word_parser (codes "bits") (letter (codes "n"))
+    ∷ number_rule word_parser (codes "block-size") (letter (codes "j"))
+    ∷ number_rule word_parser (codes "interval") (letter (codes "r")) ∷ []
 
--- how samples are coded: -N, -p and -t
+-- how samples are coded
 unfoldable pub coding_rules : List Rule
-coding_rules = flag_rule (codes "plain") 78 ∷ flag_rule (codes "pad") 112 ∷ flag_rule (codes "restricted") 116 ∷ []
+coding_rules = flag_rule (codes "plain") (letter (codes "N")) ∷ flag_rule (codes "pad") (letter (codes "p"))
+    ∷ flag_rule (codes "restricted") (letter (codes "t")) ∷ []
 
--- how samples are stored: -s, -m and -3
+-- how samples are stored
 unfoldable pub storage_rules : List Rule
-storage_rules = flag_rule (codes "signed") 115 ∷ flag_rule (codes "msb-first") 109 ∷ flag_rule (codes "three-byte") 51 ∷ []
+storage_rules = flag_rule (codes "signed") (letter (codes "s")) ∷ flag_rule (codes "msb-first") (letter (codes "m"))
+    ∷ flag_rule (codes "three-byte") (letter (codes "3")) ∷ []
 
--- what is done: -d and -b
+-- what is done
 unfoldable pub work_rules : List Rule
-work_rules = flag_rule (codes "decode") 100 ∷ number_rule long_parser (codes "buffer") 98 ∷ []
+work_rules = flag_rule (codes "decode") (letter (codes "d")) ∷ number_rule long_parser (codes "buffer") (letter (codes "b")) ∷ []
 
 -- the two files, in this order
 unfoldable pub file_rules : List Rule

@@ -144,7 +144,8 @@ impl<'a, F: Files> DestSink<'a, F> {
     // Writes once. `None` where the sink has failed or is not begun, or the write fails.
     fn write(&mut self, piece: &[u8]) -> Option<usize>
         ensures some { IfSome result (λ k. (k ≤ length piece.now) × (0 < length piece.now → 0 < k)) }
-        ensures sound { OnSome result ((self.old.failures ≡ 0) × (self.new.failures ≡ 0) × (0 < self.old.begins)) }
+        ensures sound { OnSome result ((self.old.failures ≡ 0) × (self.new.failures ≡ 0)) }
+        ensures begun { OnSome result (0 < self.old.begins) }
         ensures count { self.new.begins ≡ self.old.begins }
     {
         let Opening::Open(file) = &mut self.file else {

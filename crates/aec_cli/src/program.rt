@@ -13,8 +13,9 @@ use std::alloc::Global;
 use std::io::Write;
 use std::rt::Files;
 
-/// Runs the program on its words, of which the first is the program's name, and answers its status, 0, 1 or 2. What belongs on
-/// standard output is written to `out`, what belongs on standard error to `err`; a fault of either changes nothing.
+/// Runs the program on its words, of which the first is the program's name, and answers its status: 0, 1 or 2. What
+/// belongs on standard output is written to `out`, what belongs on standard error to `err`; a fault of either changes
+/// nothing.
 pub fn perform<F: Files, O: Write, E: Write>(
     rt: &F,
     alloc: Global,

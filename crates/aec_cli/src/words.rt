@@ -31,7 +31,8 @@ pub fn command<'a>(alloc: Global) -> Result<Command<'a>, Usage>
 /// What the words say to the command, the first of them the program's name. The entries are those that the words
 /// state; an error has the kind of the first mistake, or is want of memory.
 pub fn parse<'a>(alloc: Global, words: &'a [String]) -> Result<ArgMatches<'a>, Error>
-    ensures entries { IfOk result (λ m. rows_of (found_of m) ≡ matches_of aec_app (map string_bytes words.entry.now)) }
+    ensures entries { IfOk result (λ m.
+        rows_of (found_of m) ≡ matches_of aec_app (map string_bytes words.entry.now)) }
     ensures kinds { FailsBy (fault_of aec_app (map string_bytes words.entry.now)) result }
 {
     let Ok(command) = command(alloc) else {
