@@ -6,6 +6,7 @@ use Rattle.std.specs.Str.Parse.{digits_value, without_leading_plus}
 use Rattle.std.specs.String.{string_bytes}
 use Rattle.clap.specs.Matches.{first_value, one_text}
 use Rattle.clap.specs.ValueTests.{is_numeral}
+use Rattle.clap.specs.Walk.{Text}
 use Rattle.clap.specs.declared.parser.matches.Found.{Found}
 use Rattle.aec_params.specs.Params.{settings_fault}
 use Rattle.aec_params.specs.declared.settings.Settings.{Settings}
@@ -14,9 +15,6 @@ use Rattle.aec_cli.specs.declared.usage.Usage.TheVariants.{Setting}
 use Rattle.aec_cli.specs.declared.job.Action.{Action}
 use Rattle.aec_cli.specs.declared.job.Action.TheVariants.{Encode, Decode}
 use Rattle.aec_cli.specs.declared.job.Job.{Job}
-
-abbrev pub Text : Type 0
-Text = List ℕ
 
 -- one job: the settings, what is done, and the names of the two files
 pub record Task : Type 0 where

@@ -4,8 +4,9 @@ use super::*;
 use aec_bits::{Sink, Source};
 use aec_params::{Fault, Params, Settings};
 use std::alloc::{AllocError, Global};
-use std::fs;
+use std::io::Write;
 use std::test::Fail;
+use std::{fs, io};
 
 const DEFAULTS: Settings = Settings {
     bits: 8,
@@ -154,15 +155,20 @@ fn failures_have_their_texts(rt: HostRuntime) -> Result<(), Fail> {
     Ok(())
 }
 
-// A run of the program: its status, and what it wrote to standard output and to standard error.
-fn run_of(rt: &HostRuntime, words: &[&str]) -> Result<(u8, Vec<u8>, Vec<u8>), AllocError> {
+fn words_of(rt: &HostRuntime, words: &[&str]) -> Result<Vec<String>, AllocError> {
     let mut owned = Vec::new(rt.alloc());
     for word in words {
         owned.push(String::from_str(rt.alloc(), *word)?)?;
     }
+    Ok(owned)
+}
+
+// A run of the program: its status, and what it wrote to standard output and to standard error.
+fn run_of(rt: &HostRuntime, words: &[&str]) -> Result<(u8, Vec<u8>, Vec<u8>), AllocError> {
+    let words = words_of(rt, words)?;
     let mut out = Vec::new(rt.alloc());
     let mut err = Vec::new(rt.alloc());
-    let status = perform(rt, rt.alloc(), owned, &mut out, &mut err);
+    let status = perform(rt, rt.alloc(), words, &mut out, &mut err);
     Ok((status, out, err))
 }
 
@@ -213,6 +219,32 @@ fn help_goes_to_standard_output(rt: HostRuntime) -> Result<(), Fail> {
     Ok(())
 }
 
+// A stream that takes nothing.
+#[derive(Drop)]
+struct Broken;
+
+impl Write for Broken {
+    fn write(&mut self, _buf: &[u8]) -> io::Result<usize> {
+        Err(io::Error::from(io::ErrorKind::BrokenPipe))
+    }
+
+    fn flush(&mut self) -> io::Result<()> {
+        Ok(())
+    }
+}
+
+#[test]
+fn broken_streams_change_no_status(rt: HostRuntime) -> Result<(), Fail> {
+    for (last, expected) in [("--help", 0), ("-x", 2), ("-n40", 2)] {
+        let words = words_of(&rt, &["aec", "a", "b", last])?;
+        assert_eq!(rt;
+            perform(&rt, rt.alloc(), words, &mut Broken, &mut Broken),
+            expected
+        );
+    }
+    Ok(())
+}
+
 #[test]
 fn a_job_that_waits_is_refused(rt: HostRuntime) -> Result<(), Fail> {
     let (status, out, err) = run_of(&rt, &["aec", "a", "b"])?;
@@ -222,18 +254,26 @@ fn a_job_that_waits_is_refused(rt: HostRuntime) -> Result<(), Fail> {
     Ok(())
 }
 
+fn taken<R: Source>(source: &mut R, buf: &mut [u8]) -> Result<usize, Fault> {
+    source.take(buf)
+}
+
+fn written<W: Sink>(sink: &mut W, piece: &[u8]) -> Result<usize, Fault> {
+    sink.put(piece)
+}
+
 #[test]
 fn a_file_is_taken_in_pieces(rt: HostRuntime) -> Result<(), Fail> {
     fs::write(&rt, "taken", "seven..")?;
     let path = String::from_str(rt.alloc(), "taken")?;
     let mut source = FileSource::new(&rt, path);
     let mut buf = [0u8; 4];
-    assert_eq!(rt; source.take(&mut [])?, 0);
-    assert_eq!(rt; source.take(&mut buf)?, 4);
+    assert_eq!(rt; taken(&mut source, &mut [])?, 0);
+    assert_eq!(rt; taken(&mut source, &mut buf)?, 4);
     assert_eq!(rt; buf, *b"seve");
-    assert_eq!(rt; source.take(&mut buf)?, 3);
+    assert_eq!(rt; taken(&mut source, &mut buf)?, 3);
     assert_eq!(rt; buf, *b"n..e");
-    assert_eq!(rt; source.take(&mut buf)?, 0);
+    assert_eq!(rt; taken(&mut source, &mut buf)?, 0);
     assert_eq!(rt; source.failures(), 0);
     fs::remove_file(&rt, "taken")?;
     Ok(())
@@ -244,9 +284,9 @@ fn a_missing_file_fails_for_good(rt: HostRuntime) -> Result<(), Fail> {
     let mut source = FileSource::new(&rt, String::from_str(rt.alloc(), "late")?);
     let mut buf = [0u8; 4];
     assert_eq!(rt; source.failures(), 0);
-    assert_eq!(rt; source.take(&mut buf), Err(Fault::Read));
+    assert_eq!(rt; taken(&mut source, &mut buf), Err(Fault::Read));
     fs::write(&rt, "late", "here now")?;
-    assert_eq!(rt; source.take(&mut buf), Err(Fault::Read));
+    assert_eq!(rt; taken(&mut source, &mut buf), Err(Fault::Read));
     assert_eq!(rt; source.failures(), 1);
     fs::remove_file(&rt, "late")?;
     Ok(())
@@ -261,9 +301,9 @@ fn a_sink_creates_or_empties_its_file(rt: HostRuntime) -> Result<(), Fail> {
         b"what was there before".as_slice()
     );
     sink.begin()?;
-    assert_eq!(rt; sink.put(b"abc")?, 3);
-    assert_eq!(rt; sink.put(b"")?, 0);
-    assert_eq!(rt; sink.put(b"de")?, 2);
+    assert_eq!(rt; written(&mut sink, b"abc")?, 3);
+    assert_eq!(rt; written(&mut sink, b"")?, 0);
+    assert_eq!(rt; written(&mut sink, b"de")?, 2);
     assert_eq!(rt; (sink.failures(), sink.begins()), (0, 1));
     assert_eq!(rt; fs::read(&rt, "written")?.as_slice(), b"abcde".as_slice());
     fs::remove_file(&rt, "written")?;
@@ -273,13 +313,13 @@ fn a_sink_creates_or_empties_its_file(rt: HostRuntime) -> Result<(), Fail> {
 #[test]
 fn a_sink_fails_for_good(rt: HostRuntime) -> Result<(), Fail> {
     let mut early = DestSink::new(&rt, String::from_str(rt.alloc(), "early")?);
-    assert_eq!(rt; early.put(b"abc"), Err(Fault::Write));
+    assert_eq!(rt; written(&mut early, b"abc"), Err(Fault::Write));
     assert_eq!(rt; early.begin(), Err(Fault::Write));
     assert_eq!(rt; (early.failures(), early.begins()), (1, 1));
     assert!(rt; !fs::exists(&rt, "early")?);
     let mut lost = DestSink::new(&rt, String::from_str(rt.alloc(), "no/such/folder")?);
     assert_eq!(rt; lost.begin(), Err(Fault::Write));
-    assert_eq!(rt; lost.put(b"abc"), Err(Fault::Write));
+    assert_eq!(rt; written(&mut lost, b"abc"), Err(Fault::Write));
     assert_eq!(rt; (lost.failures(), lost.begins()), (1, 1));
     Ok(())
 }
