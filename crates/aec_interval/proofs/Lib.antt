@@ -1,3 +1,4 @@
 pub mod CuttingLemmas
 pub mod MappingLemmas
 pub mod BlockLemmas
+pub mod SpellingLemmas
