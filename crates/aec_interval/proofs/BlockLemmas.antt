@@ -107,7 +107,7 @@ AreBlocksFrom s p (b ∷ blocks) = IsBlockFor s (is_reference_block s p) b × Ar
 pub block_size-positive : (s : Settings) → IsAllowed s → 0 < s.block_size
 block_size-positive s a = let b = a.block_size in grind arith
 
-later_reference : (s : Settings) (p : ℕ) → is_reference_block s (suc p) ≡ false
+pub later_reference : (s : Settings) (p : ℕ) → is_reference_block s (suc p) ≡ false
 later_reference s p = and_right s.preprocess (suc p == 0) (ne_eqb (suc p) 0 (λ e. omega arith))
 
 later_blocks : (s : Settings) (p : ℕ) (groups : List (List ℕ)) → AllByRecursion (λ piece. length piece ≡ s.block_size) groups

@@ -2,3 +2,5 @@ pub mod CuttingLemmas
 pub mod MappingLemmas
 pub mod BlockLemmas
 pub mod SpellingLemmas
+pub mod GroupLemmas
+pub mod CoveringLemmas
