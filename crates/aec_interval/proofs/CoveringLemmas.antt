@@ -103,7 +103,7 @@ segment_left-later : (s : Settings) (p z : ℕ) → z < segment_left s p → seg
 segment_left-later s p z h = omega arith
 
 -- groups that fill up what their segment has left, or are the last of the interval
-abbrev EndsWell : ℕ → ℕ → List CodedDataSet → List Block → Type 0
+abbrev pub EndsWell : ℕ → ℕ → List CodedDataSet → List Block → Type 0
 EndsWell total left sets behind = (total ≡ left) ⊎ ((sets ≡ []) × (behind ≡ []))
 
 group_len-positive : (s : Settings) (p : ℕ) (g : Group) → IsGroupAt s p g → 0 < group_len g
@@ -201,7 +201,7 @@ left_after s n p left g groups sets behind h k most ends c =
       later_ends = ⊎_elim (λ f. inl (omega arith)) (λ f. inr f) ends;
       later_covered = subst (λ q. IsCovering s n q sets behind) (omega arith) c }
 
-IsCovering-groups : (s : Settings) (n p left : ℕ) (groups : List Group) (sets : List CodedDataSet) (behind : List Block) → AreGroupsFrom s p groups
+pub IsCovering-groups : (s : Settings) (n p left : ℕ) (groups : List Group) (sets : List CodedDataSet) (behind : List Block) → AreGroupsFrom s p groups
     → (0 < length (flat_map (group_blocks s) groups) → segment_left s p ≡ left) → length (flat_map (group_blocks s) groups) ≤ left
     → EndsWell (length (flat_map (group_blocks s) groups)) left sets behind
     → IsCovering s n (p + length (flat_map (group_blocks s) groups)) sets behind

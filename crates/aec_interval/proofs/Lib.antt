@@ -4,3 +4,4 @@ pub mod BlockLemmas
 pub mod SpellingLemmas
 pub mod GroupLemmas
 pub mod CoveringLemmas
+pub mod IntervalLemmas
