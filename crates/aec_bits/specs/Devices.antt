@@ -1,5 +1,6 @@
 -- Devices that fail at most once: after a failure each further call fails again.
-use Rattle.std.specs.Prelude.{◌≡◌, ℕ, ◌+◌, ◌-◌, ◌^◌, min, Result, MatchResult}
+use Rattle.std.specs.Prelude.{◌≡◌, ℕ, ◌+◌, ◌-◌, ◌^◌, min, List, take, Option, Result, MatchResult}
+use Rattle.std.specs.Io.KnownBytes.{Appends}
 use Rattle.aec_params.specs.declared.fault.Fault.{Fault}
 
 -- A call answers the device's fault exactly where the device has failed by its end. The count of failures, 0 or 1, was 0
@@ -10,3 +11,7 @@ FailsOnce fault old new result = MatchResult result (λ _. (old ≡ 0) × (new �
 -- a count one higher, or as it was at the greatest that 64 bits have
 abbrev pub counted : ℕ → ℕ
 counted n = min (n + 1) (2 ^ 64 - 1)
+
+-- known bytes grow by the front of bs, how much of it is open
+abbrev pub AppendsFront : Option (List ℕ) → Option (List ℕ) → List ℕ → Type 0
+AppendsFront old new bs = (n : ℕ) × Appends old new (take n bs)

@@ -1,1 +1,3 @@
 pub mod Devices
+pub mod BitBuf
+pub mod BitReader

@@ -1,0 +1,2 @@
+pub mod CodewordLemmas
+pub mod DeviceLemmas

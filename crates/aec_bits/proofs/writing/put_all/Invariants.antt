@@ -1,0 +1,15 @@
+use Rattle.std.proofs.Common.{◌≡◌, ◌≤◌, ◌<◌, ◌-◌, length, take}
+use Rattle.std.specs.Io.KnownBytes.{Appends}
+use Rattle.aec_bits.proofs.writing.put_all.Given as goal
+
+abbrev pub invariant-loop-done : goal.invariant-loop-done
+invariant-loop-done g l = record {
+  within : l.done ≤ length l.piece;
+  bytes : Appends (g.W.Sink.taken l.initial.out) (g.W.Sink.taken l.out) (take l.done l.piece);
+  begun : g.W.Sink.begun l.out ≡ g.W.Sink.begun l.initial.out;
+  works : g.W.Sink.failed l.out ≡ g.W.Sink.failed l.initial.out;
+  worked : 0 < l.done → g.W.Sink.failed l.initial.out ≡ 0;
+}
+
+abbrev pub decreases-loop-done : goal.decreases-loop-done
+decreases-loop-done g l = length l.initial.piece - l.done

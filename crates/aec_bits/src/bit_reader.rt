@@ -1,0 +1,117 @@
+//! A reader of bits.
+
+use crate::bit_buf::BitBuf;
+use aec_params::Fault;
+use std::marker::Model;
+
+/// A place in a list of bits, from which bits are read in order. Contracts see the list and the place. No call takes
+/// memory.
+#[derive(Debug, Drop)]
+pub struct BitReader<'a> {
+    buf: &'a BitBuf,
+    pos: u64,
+}
+
+impl<'a> Model for BitReader<'a> {
+    ghost use Rattle.std.specs.Prelude.{◌≤◌, length};
+    ghost use Rattle.aec_bits.specs.BitReader.{Cursor};
+
+    ghost Value = { Cursor };
+
+    ghost view = { λ r. record { list = r.buf.now.list; pos = r.pos } };
+
+    ghost invariant = { λ r. r.pos ≤ length r.buf.now.list };
+}
+
+impl<'a> BitReader<'a> {
+    ghost use Rattle.std.specs.Prelude.{◌≡◌, ◌+◌, ◌<◌, ◌≤◌, ◌^◌, ◌++◌, min, not, false, length, drop, MatchResult, IfOk, IfErr, OnErr};
+    ghost use Rattle.aec_params.specs.declared.fault.Fault.TheVariants.{Truncated};
+    ghost use Rattle.aec_params.specs.Codewords.{fs, binary};
+    ghost use Rattle.aec_params.specs.Cutting.{up_to_multiple};
+    ghost use Rattle.aec_bits.specs.BitReader.{has_one};
+
+    /// A reader at the first bit.
+    pub fn new(buf: &'a BitBuf) -> BitReader<'a>
+        ensures list { result.list ≡ buf.now.list }
+        ensures pos { result.pos ≡ 0 }
+    {
+        BitReader { buf, pos: 0 }
+    }
+
+    /// The place of the next bit.
+    pub fn pos(&self) -> u64
+        ensures value { result ≡ self.now.pos }
+        ensures within { self.now.pos ≤ length self.now.list }
+        ensures bound { length self.now.list ≤ 2 ^ 62 }
+    {
+        let _len = self.buf.len();
+        self.pos
+    }
+
+    /// Goes to place `pos`.
+    pub fn seek(&mut self, pos: u64)
+        requires { pos ≤ length self.old.list }
+        ensures list { self.new.list ≡ self.old.list }
+        ensures pos { self.new.pos ≡ pos }
+    {
+        self.pos = pos;
+    }
+
+    /// The number that the next `width` bits spell, the most significant first. `Truncated` with the present place where
+    /// fewer bits are left.
+    pub fn read(&mut self, width: u32) -> Result<u64, Fault>
+        requires { width ≤ 64 }
+        ensures ok { IfOk result (λ v. (v < 2 ^ width)
+            × (drop self.old.pos self.old.list ≡ binary width v ++ drop (self.old.pos + width) self.old.list)
+            × (self.new.pos ≡ self.old.pos + width)) }
+        ensures refuses { MatchResult result
+            (λ _. self.old.pos + width ≤ length self.old.list)
+            (λ e. (length self.old.list < self.old.pos + width) × (e ≡ Truncated self.old.pos)) }
+        ensures list { self.new.list ≡ self.old.list }
+        ensures err { OnErr result (self.new ≡ self.old) }
+    {
+        let start = self.pos;
+        if u64::from(width) > self.buf.len() - start {
+            return Err(Fault::Truncated { bit: start });
+        }
+        let value = self.buf.number(start, width);
+        self.pos = start + u64::from(width);
+        Ok(value)
+    }
+
+    /// The number of zeros before the next one, which is read too. `Truncated` with the present place where no one is left.
+    pub fn read_fs(&mut self) -> Result<u64, Fault>
+        ensures ok { IfOk result (λ v. (drop self.old.pos self.old.list ≡ fs v ++ drop (self.old.pos + v + 1) self.old.list)
+            × (self.new.pos ≡ self.old.pos + v + 1)) }
+        ensures refuses { IfErr result (λ e. (has_one (drop self.old.pos self.old.list) ≡ false) × (e ≡ Truncated self.old.pos)) }
+        ensures within { self.new.pos ≤ length self.new.list }
+        ensures list { self.new.list ≡ self.old.list }
+        ensures err { OnErr result (self.new ≡ self.old) }
+    {
+        let start = self.pos;
+        match self.buf.zeros_before_one(start) {
+            None => Err(Fault::Truncated { bit: start }),
+            Some(zeros) => {
+                self.pos = start + zeros + 1;
+                Ok(zeros)
+            }
+        }
+    }
+
+    /// Goes to the next multiple of 8, or to the end where that comes first. A place that is a multiple of 8 stays.
+    pub fn skip_to_byte(&mut self)
+        ensures list { self.new.list ≡ self.old.list }
+        ensures pos { self.new.pos ≡ min (self.old.pos + up_to_multiple 8 self.old.pos) (length self.old.list) }
+    {
+        let len = self.buf.len();
+        let missing = (8 - self.pos % 8) % 8;
+        self.pos = (self.pos + missing).min(len);
+    }
+
+    /// Whether no bit that is left is a one. True at the end.
+    pub fn rest_is_zero(&self) -> bool
+        ensures { result ≡ not (has_one (drop self.now.pos self.now.list)) }
+    {
+        self.buf.zeros_before_one(self.pos).is_none()
+    }
+}

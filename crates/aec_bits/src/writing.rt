@@ -1,0 +1,67 @@
+//! The bytes that a list of bits fills, written to a sink.
+
+ghost use Rattle.std.specs.Prelude.{◌≡◌, ◌+◌, ◌-◌, ◌<◌, ◌≤◌, min, length, take, drop, OnOk, OnErr, IfErr};
+ghost use Rattle.std.specs.Io.KnownBytes.{Appends};
+ghost use Rattle.aec_params.specs.declared.fault.Fault.TheVariants.{Write as WriteFault};
+ghost use Rattle.aec_params.specs.Codewords.{bytes_of};
+ghost use Rattle.aec_bits.specs.Devices.{AppendsFront};
+
+use crate::bit_buf::BitBuf;
+use crate::device::Sink;
+use aec_params::Fault;
+
+/// How many bytes are handed to a sink at a time.
+const PIECE_LEN: usize = 1024;
+
+impl BitBuf {
+    /// Appends the bytes that the bits fill to what the sink has taken; zeros fill the last one. `Write` where the sink
+    /// fails, which has then taken the front of these bytes. Takes no memory, and doesn't call `begin`.
+    pub fn write_to<W: Sink>(&self, out: &mut W) -> Result<(), Fault>
+        ensures ok { OnOk result (Appends (W.taken out.old) (W.taken out.new) (bytes_of self.now.list)) }
+        ensures prefix { OnErr result (AppendsFront (W.taken out.old) (W.taken out.new) (bytes_of self.now.list)) }
+        ensures begun { W.begun out.new ≡ W.begun out.old }
+        ensures fault { IfErr result (λ e. (e ≡ WriteFault) × (W.failed out.new ≡ 1)) }
+        ensures works { OnOk result (W.failed out.new ≡ W.failed out.old) }
+        ensures worked { OnOk result (0 < length self.now.list → W.failed out.old ≡ 0) }
+    {
+        let mut piece = [0u8; PIECE_LEN];
+        let total = self.byte_len();
+        let mut done = 0;
+        while done < total {
+            let count = fill(self, done, &mut piece);
+            put_all(out, &piece[..count])?;
+            done += count as u64;
+        }
+        Ok(())
+    }
+}
+
+/// Puts the bytes from byte `first` on into a piece, as many as it holds and there are. The number of them.
+fn fill(buf: &BitBuf, first: u64, piece: &mut [u8]) -> usize
+    requires { first ≤ length (bytes_of buf.now.list) }
+    ensures count { result ≡ min (length piece.old) (length (bytes_of buf.now.list) - first) }
+    ensures bytes { take result piece.new ≡ take result (drop first (bytes_of buf.now.list)) }
+{
+    let left = buf.byte_len() - first;
+    let count = piece.len().min(left as usize);
+    for k in 0..count {
+        piece[k] = buf.byte(first + k as u64);
+    }
+    count
+}
+
+/// Puts all bytes of a piece to a sink, in as many calls as it needs.
+fn put_all<W: Sink>(out: &mut W, piece: &[u8]) -> Result<(), Fault>
+    ensures ok { OnOk result (Appends (W.taken out.old) (W.taken out.new) piece.now) }
+    ensures prefix { OnErr result (AppendsFront (W.taken out.old) (W.taken out.new) piece.now) }
+    ensures begun { W.begun out.new ≡ W.begun out.old }
+    ensures fault { IfErr result (λ e. (e ≡ WriteFault) × (W.failed out.new ≡ 1)) }
+    ensures works { OnOk result (W.failed out.new ≡ W.failed out.old) }
+    ensures worked { OnOk result (0 < length piece.now → W.failed out.old ≡ 0) }
+{
+    let mut done = 0;
+    while done < piece.len() {
+        done += out.put(&piece[done..])?;
+    }
+    Ok(())
+}

@@ -1,0 +1,8 @@
+pub mod MappingLemmas
+pub mod PatternLemmas
+pub mod LengthLemmas
+pub mod CodewordLemmas
+pub mod PairLemmas
+pub mod SplitLemmas
+pub mod KindLemmas
+pub mod SetLemmas
