@@ -15,7 +15,8 @@ use Rattle.aec_params.specs.CodedDataSets.{HasReference}
 use Rattle.aec_params.specs.Places.{is_reference_block, placed_values, placed_members}
 use Rattle.aec_params.specs.Spellings.{written_values, after_reference}
 use Rattle.aec_interval.proofs.CuttingLemmas.{IsPieceBefore, by_pieces, pieces_of-nil, pieces_of-cons, length-pieces_of, up_to_multiple-fills, div_ceil-times}
-use Rattle.aec_interval.proofs.MappingLemmas.{mapped_value-below, sample_pattern-below}
+use Rattle.aec_params.proofs.ValueLaws.{mapped_value-fits}
+use Rattle.aec_params.proofs.PatternLaws.{pattern-fits}
 
 -- ---- what holds of each element
 
@@ -64,12 +65,12 @@ last_or-held P x d (y ∷ xs) h k = last_or-held P y d xs k.0 k.1
 
 pub all-mapped_after : (s : Settings) (p : ℤ) (xs : List ℤ) → IsAllowed s → IsHeld s p → AllByRecursion (IsHeld s) xs → AllByRecursion (λ v. v < 2 ^ s.bits) (mapped_after s p xs)
 all-mapped_after s p [] a h k = tt
-all-mapped_after s p (x ∷ xs) a h k = (mapped_value-below s p x a h k.0, all-mapped_after s x xs a k.0 k.1)
+all-mapped_after s p (x ∷ xs) a h k = (mapped_value-fits s p x a h k.0, all-mapped_after s x xs a k.0 k.1)
 
 pub all-mapped_values : (s : Settings) (xs : List ℤ) → IsAllowed s → AllByRecursion (IsHeld s) xs → AllByRecursion (λ v. v < 2 ^ s.bits) (mapped_values s xs)
 all-mapped_values s [] a h = tt
 all-mapped_values s (x ∷ xs) a h =
-    (cond_both s.preprocess 0 (sample_pattern s x) (λ v. v < 2 ^ s.bits) (λ _. pow_pos s.bits) (λ _. sample_pattern-below s x a h.0), all-mapped_after s x xs a h.0 h.1)
+    (cond_both s.preprocess 0 (sample_pattern s x) (λ v. v < 2 ^ s.bits) (λ _. pow_pos s.bits) (λ _. pattern-fits s x a h.0), all-mapped_after s x xs a h.0 h.1)
 
 pub length-mapped_after : (s : Settings) (p : ℤ) (xs : List ℤ) → length (mapped_after s p xs) ≡ length xs
 length-mapped_after s p [] = refl
@@ -148,7 +149,7 @@ first_piece n h x xs =
 pub AreBlocksFrom-blocks_of : (s : Settings) (x : ℤ) (v : List ℤ) → IsAllowed s → AllByRecursion (IsHeld s) (x ∷ v) → AreBlocksFrom s 0 (blocks_of s (x ∷ v))
 AreBlocksFrom-blocks_of s x v a h =
     subst (λ groups. AreBlocksFrom s 0 (with_reference (reference_of s (x ∷ v)) groups)) (sym e)
-    (blocks_from_groups s x v (sample_pattern s x) (take (s.block_size - 1) behind) (pieces_of s.block_size (drop (s.block_size - 1) behind)) (sample_pattern-below s x a h.0)
+    (blocks_from_groups s x v (sample_pattern s x) (take (s.block_size - 1) behind) (pieces_of s.block_size (drop (s.block_size - 1) behind)) (pattern-fits s x a h.0)
         (subst (AllByRecursion (λ piece. length piece ≡ s.block_size)) e
             (whole_pieces s.block_size positive values (div_ceil (length (x ∷ v)) s.block_size) (length-mapped_values s filled ∙ length-filled_samples s (x ∷ v) positive)))
         (subst (AllByRecursion (AllByRecursion (λ u. u < 2 ^ s.bits))) e

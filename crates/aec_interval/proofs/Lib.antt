@@ -1,5 +1,4 @@
 pub mod CuttingLemmas
-pub mod MappingLemmas
 pub mod BlockLemmas
 pub mod SpellingLemmas
 pub mod GroupLemmas
