@@ -4,3 +4,5 @@ pub mod SpellingLemmas
 pub mod GroupLemmas
 pub mod CoveringLemmas
 pub mod IntervalLemmas
+pub mod PlaceLemmas
+pub mod StreamLemmas
