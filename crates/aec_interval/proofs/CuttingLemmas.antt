@@ -33,6 +33,9 @@ div_ceil-one m n h k =
     let d : div_ceil (m - n) n ≡ 0 = ap (λ x. div_ceil x n) e ∙ div_ceil-zero n (omega arith) in
     omega (arith, div_ceil-more m n (omega arith) h)
 
+pub div_ceil-positive : (m n : ℕ) → 0 < n → 0 < m → 0 < div_ceil m n
+div_ceil-positive m n h k = omega (arith, div_ceil-more m n h k)
+
 pub pieces_of-nil : {X : Type 0} (n : ℕ) → 0 < n → pieces_of {X = X} n [] ≡ []
 pieces_of-nil n h = ap (λ k. first_chunks n k []) (div_ceil-zero n h)
 
