@@ -6,3 +6,4 @@ pub mod CoveringLemmas
 pub mod IntervalLemmas
 pub mod PlaceLemmas
 pub mod StreamLemmas
+pub mod RoundTripLemmas
