@@ -7,3 +7,6 @@ pub mod IntervalLemmas
 pub mod PlaceLemmas
 pub mod StreamLemmas
 pub mod RoundTripLemmas
+pub mod WalkLemmas
+pub mod EqualLengthLemmas
+pub mod OutcomeLemmas
