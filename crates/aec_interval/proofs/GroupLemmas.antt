@@ -1,9 +1,9 @@
 -- The groups of a segment stand for its blocks, one behind the other.
-use Rattle.std.proofs.Common.{◌≡◌, ℕ, zero, suc, ◌+◌, ◌-◌, ◌*◌, ◌^◌, ◌<◌, ◌≤◌, Bool, true, false, cond, IsTrue, Option, Some, None, List, [], ◌∷◌, ◌++◌, length, map, take, drop, replicate, refl, sym, ap, ap₂, ◌∙◌, subst, arith, rules, inl, inr, ⊎_elim}
-use Rattle.std.specs.Prelude.{⊤, ◌&&◌, ◌==◌, if◌then◌else◌}
-use Rattle.std.specs.List.{AllByRecursion, flat_map, list_all}
+use Rattle.std.proofs.Common.{◌≡◌, ℕ, suc, ◌+◌, ◌-◌, ◌<◌, Bool, true, false, Option, Some, None, List, [], ◌∷◌, ◌++◌, length, replicate, refl, sym, ap, ap₂, ◌∙◌, subst, arith}
+use Rattle.std.specs.Prelude.{⊤, ◌==◌}
+use Rattle.std.specs.List.{flat_map, list_all}
 use Rattle.std.proofs.lemmas.List.{length-replicate}
-use Rattle.std.proofs.lemmas.Bool.{cond_both, and_right, and_parts, eqb-true, ne_eqb}
+use Rattle.std.proofs.lemmas.Bool.{cond_both, and_parts, eqb-true}
 use Rattle.aec_params.specs.declared.settings.Settings.{Settings}
 use Rattle.aec_params.specs.Blocks.{Block, is_zero_block}
 use Rattle.aec_params.specs.CodedDataSets.{HasReference}
@@ -87,5 +87,5 @@ flat_map-groups_of s p (b ∷ blocks) h =
     let later = flat_map-groups_of s (suc p) blocks h.1 in
     cond_both (is_zero_block b) (with_zero_block b.reference (groups_of blocks)) (single_block b ∷ groups_of blocks) (λ groups. flat_map (group_blocks s) groups ≡ b ∷ blocks)
     (λ z. blocks-with_zero_block s p b.reference (groups_of blocks) (AreGroupsFrom-groups_of s (suc p) blocks h.1)
-        ∙ ap₂ ◌∷◌ (zero_block-is s (is_reference_block s p) b h.0 z) later)
+    ∙ ap₂ ◌∷◌ (zero_block-is s (is_reference_block s p) b h.0 z) later)
     (λ _. ap (◌∷◌ b) later)

@@ -1,16 +1,15 @@
 -- The code of an interval is read as its blocks.
-use Rattle.std.proofs.Common.{◌≡◌, ℕ, zero, suc, ◌+◌, ◌-◌, ◌*◌, ◌%◌, ◌<◌, ◌≤◌, min, Bool, true, false, List, [], ◌∷◌, ◌++◌, length, take, refl, sym, ap, ap₂, ◌∙◌, subst, arith, rules, inl, inr, ⊎_elim, lt_of_mul-lt-mul_right}
+use Rattle.std.proofs.Common.{◌≡◌, ℕ, suc, ◌+◌, ◌%◌, ◌<◌, ◌≤◌, List, [], ◌∷◌, ◌++◌, length, refl, sym, ap, ◌∙◌, subst, arith, inl, inr, ⊎_elim, lt_of_mul-lt-mul_right}
 use Rattle.std.specs.Prelude.{ℤ}
 use Rattle.std.specs.List.{AllByRecursion, flat_map}
 use Rattle.std.specs.Int.{div_ceil}
-use Rattle.std.proofs.lemmas.List.{length-append, append-nil, nil_from_length}
+use Rattle.std.proofs.lemmas.List.{length-append, nil_from_length}
 use Rattle.std.proofs.lemmas.Bool.{cases_lt}
 use Rattle.aec_params.specs.declared.settings.Settings.{Settings}
 use Rattle.aec_params.specs.Params.{IsAllowed, IsHeld, interval_len}
 use Rattle.aec_params.specs.Blocks.{Block, blocks_of}
-use Rattle.aec_params.specs.CodedDataSets.{CodedDataSet, cds_bits}
 use Rattle.aec_params.specs.Places.{segment_left}
-use Rattle.aec_params.specs.Runs.{segments_of, groups_of}
+use Rattle.aec_params.specs.Runs.{groups_of}
 use Rattle.aec_params.specs.Intervals.{group_sets, block_sets, plain_bits}
 use Rattle.aec_params.specs.Reading.{ReadsBlocks}
 use Rattle.aec_interval.proofs.CuttingLemmas.{IsPieceBefore, by_pieces, pieces_of-nil, pieces_of-cons, div_ceil-bounds}
@@ -45,22 +44,28 @@ AreCovered-segment : (s : Settings) (n : ℕ) (front rest : List Block) → IsPi
 AreCovered-segment s n front rest piece ih p h aligned reach within =
     subst (λ sets. IsCovering s n p sets (front ++ rest)) (sym (block_sets-cons s front rest piece))
     (subst (λ blocks. IsCovering s n p (group_sets s (groups_of front) ++ block_sets s rest) (blocks ++ rest)) e
-        (IsCovering-groups s n p (segment_left s p) (groups_of front) (block_sets s rest) rest
-            (AreGroupsFrom-groups_of s p front here) (λ _. refl) (omega (arith, len, piece.fits, length-append front rest)) ends
-            (subst (λ k. IsCovering s n (p + k) (block_sets s rest) rest) (sym len) later)))
+    (IsCovering-groups s n p (segment_left s p) (groups_of front) (block_sets s rest) rest
+    (AreGroupsFrom-groups_of s p front here) (λ _. refl) (omega (arith, len, piece.fits, length-append front rest)) ends
+    (subst (λ k. IsCovering s n (p + k) (block_sets s rest) rest) (sym len) later)))
   where
     here : AreBlocksFrom s p front
     here = AreBlocksFrom_left s p front rest h
+
     e : flat_map (group_blocks s) (groups_of front) ≡ front
     e = flat_map-groups_of s p front here
+
     len : length (flat_map (group_blocks s) (groups_of front)) ≡ length front
     len = ap length e
+
     nothing : length rest ≡ 0 → EndsWell (length (flat_map (group_blocks s) (groups_of front))) (segment_left s p) (block_sets s rest) rest
     nothing z = let none = nil_from_length rest z in inr (ap (block_sets s) none ∙ block_sets-nil s, none)
+
     more : 0 < length rest → EndsWell (length (flat_map (group_blocks s) (groups_of front))) (segment_left s p) (block_sets s rest) rest
     more l = inl (omega (arith, len, piece.full l, length-append front rest))
+
     ends : EndsWell (length (flat_map (group_blocks s) (groups_of front))) (segment_left s p) (block_sets s rest) rest
     ends = ⊎_elim more (λ l. nothing (omega arith)) (cases_lt 0 (length rest))
+
     later : IsCovering s n (p + length front) (block_sets s rest) rest
     later = ⊎_elim
         (λ l. ih (p + length front) (AreBlocksFrom_right s p front rest h) (omega (arith, piece.full l)) (omega (arith, length-append front rest)) within)

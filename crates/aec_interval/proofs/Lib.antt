@@ -10,3 +10,4 @@ pub mod RoundTripLemmas
 pub mod WalkLemmas
 pub mod EqualLengthLemmas
 pub mod OutcomeLemmas
+pub mod ReadingLemmas

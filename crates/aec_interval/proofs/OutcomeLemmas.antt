@@ -1,5 +1,5 @@
 -- A reading or a fault always stands: the walk goes on until no coded data set is wanted or something is wrong.
-use Rattle.std.proofs.Common.{◌≡◌, ℕ, zero, suc, ◌+◌, ◌-◌, ◌*◌, ◌^◌, ◌%◌, ◌<◌, ◌≤◌, min, Bool, true, false, Option, Some, None, List, [], ◌∷◌, ◌++◌, length, take, drop, refl, sym, ap, ap₂, ◌∙◌, subst, arith, rules, inl, inr, ◌⊎◌, ⊎_elim}
+use Rattle.std.proofs.Common.{◌≡◌, ℕ, zero, suc, ◌+◌, ◌-◌, ◌^◌, ◌%◌, ◌<◌, ◌≤◌, min, Bool, true, false, Option, List, [], ◌∷◌, ◌++◌, length, drop, refl, sym, ap, ◌∙◌, arith, inl, inr, ◌⊎◌, ⊎_elim}
 use Rattle.std.specs.Prelude.{◌==◌, ◌&&◌}
 use Rattle.std.specs.Int.{next_multiple_of}
 use Rattle.std.proofs.lemmas.List.{length-append, length-drop, drop_at, drop-drop}
@@ -9,10 +9,9 @@ use Rattle.aec_params.specs.declared.fault.Fault.{Fault}
 use Rattle.aec_params.specs.declared.fault.Fault.TheVariants.{Truncated, ValueTooLarge, RunTooLong, TooManySamples}
 use Rattle.aec_params.specs.Params.{IsAllowed, id_len}
 use Rattle.aec_params.specs.Blocks.{Block}
-use Rattle.aec_params.specs.Codewords.{binary}
-use Rattle.aec_params.specs.CodedDataSets.{Body, plain_values, value_pairs, split_values, zero_blocks, CodedDataSet, cds_bits, identifier, reference_bits, body_bits, HasShape, has_small_values}
+use Rattle.aec_params.specs.CodedDataSets.{Body, plain_values, value_pairs, split_values, zero_blocks, CodedDataSet, cds_bits, identifier, reference_bits, body_bits, has_small_values}
 use Rattle.aec_params.specs.Places.{stays_in_segment, is_reference_block, IsLawful}
-use Rattle.aec_params.specs.Reading.{StandsAt, begin_of, next_block, next_begin, is_wanted, keeps_limit, LeadsTo, stream_blocks, kept_blocks, IsBlockReading}
+use Rattle.aec_params.specs.Reading.{StandsAt, begin_of, next_block, next_begin, is_wanted, keeps_limit, stream_blocks, kept_blocks, IsBlockReading}
 use Rattle.aec_params.specs.Faults.{HasSetAt, IsWrongAt, cut_short, too_large, too_long, too_many, IsFault}
 use Rattle.aec_params.proofs.CodewordLaws.{length-binary}
 use Rattle.aec_block.specs.ReadAt.{nothing, taken, cds_at}
@@ -33,8 +32,14 @@ length-cds_bits-positive s c = omega (arith, length-append (identifier s c.body)
 -- one that stands there ends within the bits
 pub stands-within : (s : Settings) (bits : List Bool) (b : ℕ) (c : CodedDataSet) → StandsAt s bits b c → b + length (cds_bits s c) ≤ length bits
 stands-within s bits b c h =
-    omega (arith, ap length h, length-append (cds_bits s c) (drop (b + length (cds_bits s c)) bits), length-drop b bits, length-drop (b + length (cds_bits s c)) bits,
-        length-cds_bits-positive s c)
+    omega (
+      arith,
+      ap length h,
+      length-append (cds_bits s c) (drop (b + length (cds_bits s c)) bits),
+      length-drop b bits,
+      length-drop (b + length (cds_bits s c)) bits,
+      length-cds_bits-positive s c,
+    )
 
 begin_of-ahead : (s : Settings) (bits : List Bool) (i b : ℕ) → b ≤ length bits → b ≤ begin_of s bits i b
 begin_of-ahead s bits i b h =
@@ -54,13 +59,15 @@ set_or_none s bits p b a = ⊎_elim none (λ t. some t.0 t.1.0 t.1.1) (cases_tak
   where
     Answer : Type 0
     Answer = ((c : CodedDataSet) × HasSetAt s bits p b c) ⊎ ((c : CodedDataSet) → HasSetAt s bits p b c → ⊥)
+
     none : cds_at s (is_reference_block s p) (drop b bits) ≡ nothing → Answer
     none e = inr (λ c h. (nothing_is_read_where_none_begins s a (is_reference_block s p) (drop b bits)).0 e c (drop (b + length (cds_bits s c)) bits) h.shape h.stands)
+
     some : (c : CodedDataSet) (rest : List Bool) → cds_at s (is_reference_block s p) (drop b bits) ≡ taken c rest → Answer
     some c rest e =
         let h = what_is_read_is_spelled s a (is_reference_block s p) (drop b bits) c rest e in
         let behind : drop (b + length (cds_bits s c)) bits ≡ rest =
-            sym (drop-drop (length (cds_bits s c)) b bits) ∙ ap (drop (length (cds_bits s c))) h.1 ∙ drop_at (cds_bits s c) rest (length (cds_bits s c)) refl in
+        sym (drop-drop (length (cds_bits s c)) b bits) ∙ ap (drop (length (cds_bits s c))) h.1 ∙ drop_at (cds_bits s c) rest (length (cds_bits s c)) refl in
         inl (c, record { shape = h.0; stands = h.1 ∙ ap (◌++◌ (cds_bits s c)) (sym behind) })
 
 -- ---- the walk
@@ -81,8 +88,10 @@ module _ (s : Settings) (a : IsAllowed s) (count : Option ℕ) (limit : ℕ) (bi
       → keeps_limit s count limit (next_block s i c) ≡ true → Outcome (next_block s i c) (next_begin s bits i b c) → Outcome i b
   before i b c e x l k (inl r) =
       let h = r.1 in
-      inl (kept_blocks s count i (stream_blocks s i (c ∷ h.sets)),
-           record { sets = c ∷ h.sets; end_block = h.end_block; end_bit = h.end_bit; leads = (e, x, l, k, h.leads); done = h.done; kept = refl })
+      inl (
+        kept_blocks s count i (stream_blocks s i (c ∷ h.sets)),
+        record { sets = c ∷ h.sets; end_block = h.end_block; end_bit = h.end_bit; leads = (e, x, l, k, h.leads); done = h.done; kept = refl },
+      )
   before i b c e x l k (inr r) =
       let h = r.1 in
       inr (r.0, record { sets = c ∷ h.sets; block = h.block; bit = h.bit; leads = (e, x, l, k, h.leads); wanted = h.wanted; wrong = h.wrong })
@@ -92,11 +101,11 @@ module _ (s : Settings) (a : IsAllowed s) (count : Option ℕ) (limit : ℕ) (bi
       → Outcome (next_block s i c) (next_begin s bits i b c) → Outcome i b
   judged i b c e h later =
       ⊎_elim (λ small. ⊎_elim (λ within. ⊎_elim
-          (λ kept. before i b c e h.stands (record { shape = h.shape; small = small; within = within }) kept later)
-          (λ past. failed i b (TooManySamples limit) e (too_many c h (record { shape = h.shape; small = small; within = within }) past))
-          (cases_Bool (keeps_limit s count limit (next_block s i c))))
-        (λ long. failed i b (RunTooLong b) e (too_long c h small long))
-        (cases_Bool (stays_in_segment s (i % s.interval) c)))
+      (λ kept. before i b c e h.stands (record { shape = h.shape; small = small; within = within }) kept later)
+      (λ past. failed i b (TooManySamples limit) e (too_many c h (record { shape = h.shape; small = small; within = within }) past))
+      (cases_Bool (keeps_limit s count limit (next_block s i c))))
+      (λ long. failed i b (RunTooLong b) e (too_long c h small long))
+      (cases_Bool (stays_in_segment s (i % s.interval) c)))
       (λ large. failed i b (ValueTooLarge b) e (too_large c h large))
       (cases_Bool (has_small_values s c))
 

@@ -1,16 +1,15 @@
 -- Where coded data sets stand in a stream: those that cover an interval lead through it, with one skip at its end.
-use Rattle.std.proofs.Common.{◌≡◌, ℕ, zero, suc, ◌+◌, ◌-◌, ◌*◌, ◌%◌, ◌<◌, ◌≤◌, min, Bool, true, false, cond, Option, Some, None, List, [], ◌∷◌, ◌++◌, length, take, drop, replicate, refl, sym, ap, ap₂, ◌∙◌, subst, arith, rules, inl, inr, ◌⊎◌, ⊎_elim}
-use Rattle.std.specs.Prelude.{◌==◌, ◌&&◌, nat_lt, nat_le, if◌then◌else◌}
+use Rattle.std.proofs.Common.{◌≡◌, ℕ, ◌+◌, ◌-◌, ◌*◌, ◌%◌, ◌<◌, ◌≤◌, min, Bool, true, Option, Some, None, List, [], ◌∷◌, ◌++◌, length, refl, sym, ap, ap₂, ◌∙◌, subst, arith}
+use Rattle.std.specs.Prelude.{◌==◌, ◌&&◌, nat_lt, if◌then◌else◌}
 use Rattle.std.specs.List.{flat_map}
 use Rattle.std.specs.Int.{div_ceil, next_multiple_of}
 use Rattle.std.proofs.lemmas.List.{length-append, length-replicate, append_assoc, append-nil}
 use Rattle.std.proofs.Math.Seq.{drop-append_seam, drop-append-add}
 use Rattle.std.proofs.lemmas.Nat.{mod-mul-add}
-use Rattle.std.proofs.lemmas.Bool.{cases_lt, cond_both, cond-true, cond-false, leb-true, lt-ltb, ltb-true, ltb-false, and_right, ne_eqb, eqb-true}
+use Rattle.std.proofs.lemmas.Bool.{cond_both, cond-false, leb-true, lt-ltb, ltb-false, and_right, ne_eqb}
 use Rattle.aec_params.specs.declared.settings.Settings.{Settings}
-use Rattle.aec_params.specs.Blocks.{Block}
 use Rattle.aec_params.specs.CodedDataSets.{Body, plain_values, value_pairs, split_values, zero_blocks, CodedDataSet, cds_bits}
-use Rattle.aec_params.specs.Places.{block_count, body_blocks, run_len, segment_left, stays_in_segment, IsLawful, cds_blocks, blocks_in, zero_block}
+use Rattle.aec_params.specs.Places.{block_count, body_blocks, run_len, segment_left, IsLawful, cds_blocks, blocks_in, zero_block}
 use Rattle.aec_params.specs.Reading.{Covers, covered_blocks, StandsAt, begin_of, next_block, next_begin, LeadsTo, stream_blocks}
 
 -- ---- how far coded data sets reach
@@ -121,30 +120,39 @@ first_at s count p k i b pre c rest bits inside need lawful e f spelled =
       stands = subst (λ x. StandsAt s x b c) (sym spelled) (subst (λ x. StandsAt s (pre ++ (cds_bits s c ++ rest)) x c) (sym f) (StandsAt-front s pre c rest));
       lawful = subst (λ q. IsLawful s q c) (sym place) lawful;
       next = omega (arith, ap (λ q. block_count s q c) place);
-      end = omega (arith, length-append pre (cds_bits s c)) }
+      end = omega (arith, length-append pre (cds_bits s c));
+    }
 
 pub LeadsTo-interval : (s : Settings) (count limit n p k i b : ℕ) (pre : List Bool) (sets : List CodedDataSet) (rest bits : List Bool)
     → Covers s n p sets → p < n → n ≤ s.interval → k * s.interval + n ≤ div_ceil count s.block_size → i ≡ k * s.interval + p → b ≡ length pre
     → bits ≡ pre ++ (flat_map (cds_bits s) sets ++ rest)
     → LeadsTo s (Some count) limit bits i b sets (k * s.interval + end_of s p sets)
-        (begin_of s bits (k * s.interval + end_of s p sets) (length pre + length (flat_map (cds_bits s) sets)))
+    (begin_of s bits (k * s.interval + end_of s p sets) (length pre + length (flat_map (cds_bits s) sets)))
 LeadsTo-interval s count limit n p k i b pre [] rest bits h some few need e f spelled = absurd (omega (arith, leb-true n p h))
 LeadsTo-interval s count limit n p k i b pre (c ∷ []) rest bits h some few need e f spelled =
     let d = first_at s count p k i b pre c ([] ++ rest) bits (omega arith) (omega arith) h.1 e f (spelled ∙ ap (◌++◌ pre) (append_assoc (cds_bits s c) [] rest)) in
-    let one : length (cds_bits s c ++ []) ≡ length (cds_bits s c) = ap length (append-nil (cds_bits s c)) in
-    (d.wanted, d.stands, d.lawful, refl,
-     (sym d.next, ap₂ (begin_of s bits) (sym d.next) (omega arith)))
+    let one : length (cds_bits s c ++ []) ≡ length (cds_bits s c) = ap length (append-nil (cds_bits s c)) in (
+      d.wanted,
+      d.stands,
+      d.lawful,
+      refl,
+      (sym d.next, ap₂ (begin_of s bits) (sym d.next) (omega arith)),
+    )
 LeadsTo-interval s count limit n p k i b pre (c ∷ (d ∷ sets)) rest bits h some few need e f spelled =
     let first = first_at s count p k i b pre c (flat_map (cds_bits s) (d ∷ sets) ++ rest) bits (omega arith) (omega arith) h.1 e f
-        (spelled ∙ ap (◌++◌ pre) (append_assoc (cds_bits s c) (flat_map (cds_bits s) (d ∷ sets)) rest)) in
+    (spelled ∙ ap (◌++◌ pre) (append_assoc (cds_bits s c) (flat_map (cds_bits s) (d ∷ sets)) rest)) in
     let inside : p + block_count s p c < s.interval = omega (arith, h.2.0) in
     let unskipped : next_begin s bits i b c ≡ b + length (cds_bits s c) =
-        begin_of-inside s bits (next_block s i c) (b + length (cds_bits s c))
-        (omega (arith, ap (λ q. q % s.interval) first.next ∙ place-in k s.interval (p + block_count s p c) inside, block_count-positive s p c (omega arith))) in
-    (first.wanted, first.stands, first.lawful, refl,
-     subst (λ q. LeadsTo s (Some count) limit bits (next_block s i c) (next_begin s bits i b c) (d ∷ sets) (k * s.interval + end_of s p (c ∷ (d ∷ sets)))
-         (begin_of s bits (k * s.interval + end_of s p (c ∷ (d ∷ sets))) q))
-     (omega (arith, length-append pre (cds_bits s c), length-append (cds_bits s c) (flat_map (cds_bits s) (d ∷ sets))))
-     (LeadsTo-interval s count limit n (p + block_count s p c) k (next_block s i c) (next_begin s bits i b c) (pre ++ cds_bits s c) (d ∷ sets) rest bits
-         h.2 h.2.0 few need first.next (unskipped ∙ first.end)
-         (spelled ∙ ap (◌++◌ pre) (append_assoc (cds_bits s c) (flat_map (cds_bits s) (d ∷ sets)) rest) ∙ sym (append_assoc pre (cds_bits s c) (flat_map (cds_bits s) (d ∷ sets) ++ rest)))))
+    begin_of-inside s bits (next_block s i c) (b + length (cds_bits s c))
+    (omega (arith, ap (λ q. q % s.interval) first.next ∙ place-in k s.interval (p + block_count s p c) inside, block_count-positive s p c (omega arith))) in (
+      first.wanted,
+      first.stands,
+      first.lawful,
+      refl,
+      subst (λ q. LeadsTo s (Some count) limit bits (next_block s i c) (next_begin s bits i b c) (d ∷ sets) (k * s.interval + end_of s p (c ∷ (d ∷ sets)))
+          (begin_of s bits (k * s.interval + end_of s p (c ∷ (d ∷ sets))) q))
+          (omega (arith, length-append pre (cds_bits s c), length-append (cds_bits s c) (flat_map (cds_bits s) (d ∷ sets))))
+          (LeadsTo-interval s count limit n (p + block_count s p c) k (next_block s i c) (next_begin s bits i b c) (pre ++ cds_bits s c) (d ∷ sets) rest bits
+          h.2 h.2.0 few need first.next (unskipped ∙ first.end)
+          (spelled ∙ ap (◌++◌ pre) (append_assoc (cds_bits s c) (flat_map (cds_bits s) (d ∷ sets)) rest) ∙ sym (append_assoc pre (cds_bits s c) (flat_map (cds_bits s) (d ∷ sets) ++ rest)))),
+    )

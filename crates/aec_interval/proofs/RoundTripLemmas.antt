@@ -1,22 +1,22 @@
 -- Reading the code of samples with their count gives the samples.
-use Rattle.std.proofs.Common.{◌≡◌, ℕ, zero, suc, ◌+◌, ◌-◌, ◌*◌, ◌/◌, ◌%◌, ◌<◌, ◌≤◌, min, Bool, true, false, Option, Some, None, List, [], ◌∷◌, ◌++◌, length, take, drop, replicate, refl, sym, ap, ap₂, ◌∙◌, subst, arith, rules, inl, inr, ◌⊎◌, ⊎_elim}
+use Rattle.std.proofs.Common.{◌≡◌, ℕ, ◌+◌, ◌-◌, ◌*◌, ◌%◌, ◌<◌, ◌≤◌, Option, Some, None, List, [], ◌∷◌, ◌++◌, length, replicate, refl, sym, ap, ap₂, ◌∙◌, subst, arith}
 use Rattle.std.specs.Prelude.{ℤ, pos, unwrap_or}
 use Rattle.std.specs.List.{AllByRecursion, flat_map, last_or}
 use Rattle.std.specs.Int.{div_ceil}
 use Rattle.std.proofs.Math.Nat.{add-mul-mod_self_left, mul-mod_left, mod_self, mul-le-mul_right}
 use Rattle.std.proofs.lemmas.List.{length-append, append_assoc, append-nil, take_at}
-use Rattle.std.proofs.lemmas.Bool.{cases_lt, le-ltb}
+use Rattle.std.proofs.lemmas.Bool.{le-ltb}
 use Rattle.aec_params.specs.declared.settings.Settings.{Settings}
 use Rattle.aec_params.specs.Params.{IsAllowed, IsHeld, interval_len}
 use Rattle.aec_params.specs.Cutting.{pieces_of, up_to_multiple}
 use Rattle.aec_params.specs.Mapping.{mapped_values}
-use Rattle.aec_params.specs.Blocks.{Block, filled_samples, reference_of, with_reference, blocks_of, all_blocks_of}
+use Rattle.aec_params.specs.Blocks.{filled_samples, reference_of, with_reference, blocks_of, all_blocks_of}
 use Rattle.aec_params.specs.Streams.{stream_of}
 use Rattle.aec_params.specs.Reading.{IsBlockReading, FillBlocks, IsReading}
-use Rattle.aec_interval.proofs.CuttingLemmas.{IsPieceBefore, by_pieces, pieces_of-one, div_ceil-zero, div_ceil-bounds, div_ceil-times}
+use Rattle.aec_interval.proofs.CuttingLemmas.{IsPieceBefore, by_pieces, pieces_of-one, div_ceil-zero, div_ceil-times}
 use Rattle.aec_interval.proofs.BlockLemmas.{all-filled_samples, length-filled_samples, length-blocks_of, block_size-positive}
 use Rattle.aec_interval.proofs.IntervalLemmas.{blocks-few}
-use Rattle.aec_interval.proofs.StreamLemmas.{IsWalk, walk_of, interval_len-positive, interval-positive, div_ceil-add, all_blocks_of-nil, all_blocks_of-cons}
+use Rattle.aec_interval.proofs.StreamLemmas.{walk_of, interval_len-positive, div_ceil-add, all_blocks_of-nil, all_blocks_of-cons}
 
 -- ---- how many blocks there are
 
@@ -38,6 +38,7 @@ length-all_blocks_of s a = by_pieces Counted (interval_len s) (interval_len-posi
   where
     Counted : List ℤ → Type 0
     Counted xs = length (all_blocks_of s xs) ≡ div_ceil (length xs) s.block_size
+
     step : (front rest : List ℤ) → IsPieceBefore (interval_len s) front rest → Counted rest → Counted (front ++ rest)
     step front [] piece ih = subst Counted (sym (append-nil front)) (ap length (all_blocks_of-one s front piece.some piece.fits) ∙ length-blocks_of s front a)
     step front (x ∷ rest) piece ih =
@@ -91,10 +92,12 @@ all_blocks_of-filled s a = by_pieces Same (interval_len s) (interval_len-positiv
   where
     Same : List ℤ → Type 0
     Same xs = all_blocks_of s (filled_samples s xs) ≡ all_blocks_of s xs
+
     last : (v : List ℤ) → 0 < length v → length v ≤ interval_len s → Same v
     last [] some few = absurd (omega arith)
     last (x ∷ v) some few =
         all_blocks_of-one s (filled_samples s (x ∷ v)) (omega arith) (filled-fits s (x ∷ v) a few) ∙ blocks_of-filled s x v a ∙ sym (all_blocks_of-one s (x ∷ v) some few)
+
     step : (front rest : List ℤ) → IsPieceBefore (interval_len s) front rest → Same rest → Same (front ++ rest)
     step front [] piece ih = subst Same (sym (append-nil front)) (last front piece.some piece.fits)
     step front (x ∷ rest) piece ih =
@@ -110,22 +113,29 @@ all_filled s (x ∷ xs) a held = all-filled_samples s x xs held
 
 pub FillBlocks-all_blocks_of : (s : Settings) (xs : List ℤ) → IsAllowed s → AllByRecursion (IsHeld s) xs → FillBlocks s (filled_samples s xs) (all_blocks_of s xs)
 FillBlocks-all_blocks_of s xs a held = record {
-    held = all_filled s xs a held;
-    whole = length-filled_samples s xs (block_size-positive s a) ∙ ap (λ m. m * s.block_size) (sym (length-all_blocks_of s a xs));
-    mapped = all_blocks_of-filled s a xs }
+  held = all_filled s xs a held;
+  whole = length-filled_samples s xs (block_size-positive s a) ∙ ap (λ m. m * s.block_size) (sym (length-all_blocks_of s a xs));
+  mapped = all_blocks_of-filled s a xs;
+}
 
 pub IsBlockReading-stream_of : (s : Settings) (limit : ℕ) (xs : List ℤ) → IsAllowed s → AllByRecursion (IsHeld s) xs
     → IsBlockReading s (Some (length xs)) limit (stream_of s xs) 0 0 (all_blocks_of s xs)
 IsBlockReading-stream_of s limit xs a held =
     let walk = walk_of s (length xs) limit a xs 0 0 0 [] (stream_of s xs) held (λ _. refl) (omega arith) refl refl (omega arith) in
-    record { sets = walk.sets; end_block = walk.end_block; end_bit = walk.end_bit; leads = walk.leads;
+    record {
+      sets = walk.sets;
+      end_block = walk.end_block;
+      end_bit = walk.end_bit;
+      leads = walk.leads;
       done = le-ltb walk.end_block (div_ceil (length xs) s.block_size) walk.enough;
-      kept = sym walk.blocks }
+      kept = sym walk.blocks;
+    }
 
 pub IsReading-stream_of : (s : Settings) (limit : ℕ) (xs : List ℤ) → IsAllowed s → AllByRecursion (IsHeld s) xs → IsReading s (Some (length xs)) limit (stream_of s xs) xs
 IsReading-stream_of s limit xs a held = record {
-    blocks = all_blocks_of s xs;
-    read = IsBlockReading-stream_of s limit xs a held;
-    all_samples = filled_samples s xs;
-    filled = FillBlocks-all_blocks_of s xs a held;
-    counted = sym (take_at xs (replicate (up_to_multiple s.block_size (length xs)) (unwrap_or (last_or None xs) (pos 0))) (length xs) refl) }
+  blocks = all_blocks_of s xs;
+  read = IsBlockReading-stream_of s limit xs a held;
+  all_samples = filled_samples s xs;
+  filled = FillBlocks-all_blocks_of s xs a held;
+  counted = sym (take_at xs (replicate (up_to_multiple s.block_size (length xs)) (unwrap_or (last_or None xs) (pos 0))) (length xs) refl);
+}

@@ -1,23 +1,22 @@
 -- The code of all samples is read as the samples.
-use Rattle.std.proofs.Common.{◌≡◌, ℕ, zero, suc, ◌+◌, ◌-◌, ◌*◌, ◌/◌, ◌%◌, ◌<◌, ◌≤◌, min, Bool, true, false, cond, Option, Some, None, List, [], ◌∷◌, ◌++◌, length, take, drop, replicate, refl, sym, ap, ap₂, ◌∙◌, subst, arith, rules, inl, inr, ◌⊎◌, ⊎_elim, mul-pos}
-use Rattle.std.specs.Prelude.{ℤ, pos, ◌==◌, ◌&&◌, nat_lt, nat_le, if◌then◌else◌, unwrap_or}
-use Rattle.std.specs.List.{AllByRecursion, flat_map, last_or}
+use Rattle.std.proofs.Common.{◌≡◌, ℕ, ◌+◌, ◌-◌, ◌*◌, ◌/◌, ◌%◌, ◌<◌, ◌≤◌, min, Bool, true, false, Some, List, [], ◌∷◌, ◌++◌, length, take, replicate, refl, sym, ap, ap₂, ◌∙◌, subst, arith, ⊎_elim, mul-pos}
+use Rattle.std.specs.Prelude.{ℤ, ◌==◌, ◌&&◌, if◌then◌else◌}
+use Rattle.std.specs.List.{AllByRecursion, flat_map}
 use Rattle.std.specs.Int.{div_ceil, next_multiple_of}
 use Rattle.std.proofs.Math.Nat.{add-mul-div_right, add-mul-mod_self_right, mul-mod_left}
-use Rattle.std.proofs.lemmas.List.{length-append, length-replicate, append_assoc, append-nil, take_all, take_at, nil_from_length}
+use Rattle.std.proofs.lemmas.List.{length-append, length-replicate, append_assoc, append-nil, take_all}
 use Rattle.std.proofs.Math.Seq.{take-append-add}
-use Rattle.std.proofs.lemmas.Bool.{cases_lt, cases_Bool, cond-true, cond-false, and_from, and_left, eq-eqb, le-ltb}
+use Rattle.std.proofs.lemmas.Bool.{cases_Bool, cond-true, cond-false, and_from, and_left, eq-eqb}
 use Rattle.aec_params.specs.declared.settings.Settings.{Settings}
 use Rattle.aec_params.specs.Params.{IsAllowed, IsHeld, interval_len}
-use Rattle.aec_params.specs.Cutting.{pieces_of, up_to_multiple}
-use Rattle.aec_params.specs.Codewords.{padded_to_byte}
-use Rattle.aec_params.specs.Blocks.{Block, intervals_of, filled_samples, reference_of, blocks_of, all_blocks_of}
+use Rattle.aec_params.specs.Cutting.{up_to_multiple}
+use Rattle.aec_params.specs.Blocks.{blocks_of, all_blocks_of}
 use Rattle.aec_params.specs.CodedDataSets.{CodedDataSet, cds_bits}
 use Rattle.aec_params.specs.Intervals.{plain_bits, interval_bits}
 use Rattle.aec_params.specs.Streams.{stream_of}
-use Rattle.aec_params.specs.Reading.{Covers, covered_blocks, ReadsBlocks, begin_of, is_wanted, LeadsTo, stream_blocks, IsBlockReading, FillBlocks, IsReading}
+use Rattle.aec_params.specs.Reading.{covered_blocks, begin_of, LeadsTo, stream_blocks}
 use Rattle.aec_interval.proofs.CuttingLemmas.{IsPieceBefore, by_pieces, pieces_of-nil, pieces_of-cons, pieces_of-one, div_ceil-zero, div_ceil-positive, div_ceil-times}
-use Rattle.aec_interval.proofs.BlockLemmas.{all_left, all_right, all-filled_samples, length-filled_samples, length-blocks_of, block_size-positive}
+use Rattle.aec_interval.proofs.BlockLemmas.{all_left, all_right, length-blocks_of, block_size-positive}
 use Rattle.aec_interval.proofs.IntervalLemmas.{ReadsBlocks-plain_bits, blocks-few}
 use Rattle.aec_interval.proofs.PlaceLemmas.{end_of, end_of-reaches, end_of-within, length-covered_blocks, stream_blocks-covered, LeadsTo-append, stream_blocks-append, LeadsTo-interval}
 
@@ -79,17 +78,23 @@ begin_of-interval s v pre rest k aligned = ⊎_elim padded plain (cases_Bool s.p
   where
     bits : List Bool
     bits = pre ++ (interval_bits s v ++ rest)
+
     i : ℕ
     i = k * s.interval
+
     b : ℕ
     b = length pre + length (plain_bits s v)
+
     len : length (pre ++ interval_bits s v) ≡ b + length (padding_of s v)
     len = length-append pre (interval_bits s v) ∙ ap (λ x. length pre + x) (ap length (interval_bits-padded s v) ∙ length-append (plain_bits s v) (padding_of s v)) ∙ omega arith
+
     enough : length (pre ++ interval_bits s v) ≤ length bits
     enough = omega (arith, length-append pre (interval_bits s v), length-append pre (interval_bits s v ++ rest), length-append (interval_bits s v) rest)
+
     plain : s.pad ≡ false → begin_of s bits i b ≡ length (pre ++ interval_bits s v)
     plain t = cond-false (s.pad && (i % s.interval == 0)) (min (next_multiple_of b 8) (length bits)) b (and_left s.pad (i % s.interval == 0) t)
         ∙ omega (arith, len, no_padding s v t)
+
     padded : s.pad ≡ true → begin_of s bits i b ≡ length (pre ++ interval_bits s v)
     padded t =
         cond-true (s.pad && (i % s.interval == 0)) (min (next_multiple_of b 8) (length bits)) b
@@ -118,8 +123,14 @@ HasWalk s count limit xs = (k i b : ℕ) (pre bits : List Bool) → AllByRecursi
 no_walk : (s : Settings) (count limit : ℕ) → IsAllowed s → HasWalk s count limit []
 no_walk s count limit a k i b pre bits held aligned e f spelled need =
     let z : div_ceil count s.block_size - i ≡ 0 = omega (arith, div_ceil-zero s.block_size (block_size-positive s a)) in
-    record { sets = []; end_block = i; end_bit = b; leads = (refl, refl); enough = omega arith;
-      blocks = ap (λ n. take n []) z ∙ sym (all_blocks_of-nil s a) }
+    record {
+      sets = [];
+      end_block = i;
+      end_bit = b;
+      leads = (refl, refl);
+      enough = omega arith;
+      blocks = ap (λ n. take n []) z ∙ sym (all_blocks_of-nil s a);
+    }
 
 -- an interval's code before a rest, as its coded data sets
 interval-spelled : (s : Settings) (v : List ℤ) (sets : List CodedDataSet) (pre after rest bits : List Bool) → plain_bits s v ≡ flat_map (cds_bits s) sets
@@ -151,12 +162,13 @@ part_of s count limit k i b pre after rest bits v a some few held e f spelled on
       leads = subst (λ x. LeadsTo s (Some count) limit bits i b r.sets (k * s.interval + end_of s 0 r.sets) (begin_of s bits (k * s.interval + end_of s 0 r.sets) (length pre + length x)))
           (sym r.spelled)
           (LeadsTo-interval s count limit n 0 k i b pre r.sets (padding_of s v ++ rest) bits r.covers positive within (omega arith) (omega arith) f
-              (interval-spelled s v r.sets pre after rest bits r.spelled spelled one));
+          (interval-spelled s v r.sets pre after rest bits r.spelled spelled one));
       reaches = end_of-reaches s n 0 r.sets r.covers;
       within = end_of-within s n 0 r.sets r.covers within (omega arith);
       len = omega (arith, length-covered_blocks s n 0 r.sets r.covers within);
       covered = stream_blocks-covered s n 0 k i r.sets r.covers within (omega arith);
-      stand_for = r.stand_for }
+      stand_for = r.stand_for;
+    }
 
 last_walk : (s : Settings) (count limit : ℕ) → IsAllowed s → (v : List ℤ) → 0 < length v → length v ≤ interval_len s → HasWalk s count limit v
 last_walk s count limit a v some few k i b pre bits held aligned e f spelled need =
@@ -170,7 +182,8 @@ last_walk s count limit a v some few k i b pre bits held aligned e f spelled nee
       leads = part.leads;
       enough = omega (arith, part.reaches);
       blocks = ap₂ take needed part.covered ∙ part.stand_for
-          ∙ sym (append-nil (blocks_of s v)) ∙ sym (ap (flat_map (blocks_of s)) (pieces_of-one (interval_len s) v some few)) }
+          ∙ sym (append-nil (blocks_of s v)) ∙ sym (ap (flat_map (blocks_of s)) (pieces_of-one (interval_len s) v some few));
+    }
 
 -- the walk through a full interval, and on
 walk_on : (s : Settings) (count limit : ℕ) → IsAllowed s → (front rest : List ℤ) → IsPieceBefore (interval_len s) front rest → 0 < length rest
@@ -184,33 +197,45 @@ walk_on s count limit a front rest piece more ih k i b pre bits held aligned e f
       enough = later.enough;
       blocks = ap₂ take all_needed (stream_blocks-append s (Some count) limit bits i b part.sets j g later.sets part.leads ∙ ap (λ x. x ++ stream_blocks s j later.sets) part.covered)
           ∙ take-append-add (covered_blocks s 0 part.sets) (stream_blocks s j later.sets) (div_ceil count s.block_size - j)
-          ∙ ap₂ ◌++◌ here later.blocks ∙ sym (all_blocks_of-cons s front rest piece) }
+          ∙ ap₂ ◌++◌ here later.blocks ∙ sym (all_blocks_of-cons s front rest piece);
+    }
   where
     full : length front ≡ s.block_size * s.interval
     full = piece.full more
+
     counted : div_ceil (length (front ++ rest)) s.block_size ≡ s.interval + div_ceil (length rest) s.block_size
     counted = ap (λ m. div_ceil m s.block_size) (length-append front rest ∙ ap (λ m. m + length rest) full)
         ∙ div_ceil-add s.interval (length rest) s.block_size (block_size-positive s a)
+
     n : length (blocks_of s front) ≡ s.interval
     n = length-blocks_of s front a ∙ ap (λ m. div_ceil m s.block_size) (full ∙ omega arith) ∙ div_ceil-times s.interval s.block_size (block_size-positive s a)
+
     part : IsPart s count limit k i b pre bits front
     part = part_of s count limit k i b pre (stream_of s (front ++ rest)) (stream_of s rest) bits front a piece.some piece.fits (all_left (IsHeld s) front rest held) e f spelled
         (stream_of-cons s front rest piece) (omega (arith, n, length-blocks_of s front a, counted, need))
+
     j : ℕ
     j = k * s.interval + end_of s 0 part.sets
+
     g : ℕ
     g = begin_of s bits j (length pre + length (plain_bits s front))
+
     next : j ≡ (k + 1) * s.interval
     next = omega (arith, part.reaches, part.within, n)
+
     behind : bits ≡ pre ++ (interval_bits s front ++ stream_of s rest)
     behind = spelled ∙ ap (◌++◌ pre) (stream_of-cons s front rest piece)
+
     start : g ≡ length (pre ++ interval_bits s front)
     start = ap₂ (λ x q. begin_of s x q (length pre + length (plain_bits s front))) behind next ∙ begin_of-interval s front pre (stream_of s rest) (k + 1) aligned
+
     later : IsWalk s count limit bits j g rest
     later = ih (k + 1) j g (pre ++ interval_bits s front) bits (all_right (IsHeld s) front rest held) (IsAligned-interval s front pre aligned) next start
         (behind ∙ sym (append_assoc pre (interval_bits s front) (stream_of s rest))) (omega (arith, counted, need, e, next))
+
     all_needed : div_ceil count s.block_size - i ≡ length (covered_blocks s 0 part.sets) + (div_ceil count s.block_size - j)
     all_needed = omega (arith, part.len, part.reaches, part.within, n, counted, need, e)
+
     here : covered_blocks s 0 part.sets ≡ blocks_of s front
     here = sym (take_all (length (blocks_of s front)) (covered_blocks s 0 part.sets) (omega (arith, part.len, part.within, n))) ∙ part.stand_for
 

@@ -1,9 +1,8 @@
 -- From one place there is one walk at most: readings are unique, so are faults, and no bits have both.
-use Rattle.std.proofs.Common.{◌≡◌, ℕ, zero, suc, ◌+◌, ◌-◌, ◌*◌, ◌%◌, ◌<◌, ◌≤◌, Bool, true, false, Option, Some, None, List, [], ◌∷◌, ◌++◌, length, take, drop, refl, sym, ap, ap₂, ◌∙◌, subst, arith, rules, inl, inr, ◌⊎◌, ⊎_elim}
+use Rattle.std.proofs.Common.{◌≡◌, ℕ, ◌+◌, ◌%◌, Bool, true, false, Option, List, [], ◌∷◌, length, drop, refl, sym, ap, ap₂, ◌∙◌, subst}
 use Rattle.std.proofs.lemmas.Bool.{both_ways}
 use Rattle.aec_params.specs.declared.settings.Settings.{Settings}
 use Rattle.aec_params.specs.declared.fault.Fault.{Fault}
-use Rattle.aec_params.specs.declared.fault.Fault.TheVariants.{Truncated, ValueTooLarge, RunTooLong, TooManySamples}
 use Rattle.aec_params.specs.Params.{IsAllowed}
 use Rattle.aec_params.specs.Blocks.{Block}
 use Rattle.aec_params.specs.CodedDataSets.{CodedDataSet, cds_bits, HasShape, has_small_values}
