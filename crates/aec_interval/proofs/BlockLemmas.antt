@@ -64,14 +64,18 @@ pub last_or-held : {X : Type 0} (P : X → Type 0) (x d : X) (xs : List X) → P
 last_or-held P x d [] h k = h
 last_or-held P x d (y ∷ xs) h k = last_or-held P y d xs k.0 k.1
 
-pub all-mapped_after : (s : Settings) (p : ℤ) (xs : List ℤ) → IsAllowed s → IsHeld s p → AllByRecursion (IsHeld s) xs → AllByRecursion (λ v. v < 2 ^ s.bits) (mapped_after s p xs)
+pub all-mapped_after : (s : Settings) (p : ℤ) (xs : List ℤ) → IsAllowed s → IsHeld s p → AllByRecursion (IsHeld s) xs
+    → AllByRecursion (λ v. v < 2 ^ s.bits) (mapped_after s p xs)
 all-mapped_after s p [] a h k = tt
 all-mapped_after s p (x ∷ xs) a h k = (mapped_value-fits s p x a h k.0, all-mapped_after s x xs a k.0 k.1)
 
-pub all-mapped_values : (s : Settings) (xs : List ℤ) → IsAllowed s → AllByRecursion (IsHeld s) xs → AllByRecursion (λ v. v < 2 ^ s.bits) (mapped_values s xs)
+pub all-mapped_values : (s : Settings) (xs : List ℤ) → IsAllowed s → AllByRecursion (IsHeld s) xs
+    → AllByRecursion (λ v. v < 2 ^ s.bits) (mapped_values s xs)
 all-mapped_values s [] a h = tt
-all-mapped_values s (x ∷ xs) a h =
-    (cond_both s.preprocess 0 (sample_pattern s x) (λ v. v < 2 ^ s.bits) (λ _. pow_pos s.bits) (λ _. pattern-fits s x a h.0), all-mapped_after s x xs a h.0 h.1)
+all-mapped_values s (x ∷ xs) a h = (
+  cond_both s.preprocess 0 (sample_pattern s x) (λ v. v < 2 ^ s.bits) (λ _. pow_pos s.bits) (λ _. pattern-fits s x a h.0),
+  all-mapped_after s x xs a h.0 h.1,
+)
 
 pub length-mapped_after : (s : Settings) (p : ℤ) (xs : List ℤ) → length (mapped_after s p xs) ≡ length xs
 length-mapped_after s p [] = refl
@@ -90,7 +94,8 @@ length-filled_samples s v h =
 pub all-filled_samples : (s : Settings) (x : ℤ) (v : List ℤ) → AllByRecursion (IsHeld s) (x ∷ v) → AllByRecursion (IsHeld s) (filled_samples s (x ∷ v))
 all-filled_samples s x v h =
     all-append (IsHeld s) (x ∷ v) (replicate (up_to_multiple s.block_size (length (x ∷ v))) (unwrap_or (last_or (Some x) v) (pos 0))) h
-    (all-replicate (IsHeld s) (up_to_multiple s.block_size (length (x ∷ v))) (unwrap_or (last_or (Some x) v) (pos 0)) (last_or-held (IsHeld s) x (pos 0) v h.0 h.1))
+    (all-replicate (IsHeld s) (up_to_multiple s.block_size (length (x ∷ v))) (unwrap_or (last_or (Some x) v) (pos 0))
+    (last_or-held (IsHeld s) x (pos 0) v h.0 h.1))
 
 -- ---- blocks
 
@@ -113,7 +118,8 @@ pub later_reference : (s : Settings) (p : ℕ) → is_reference_block s (suc p) 
 later_reference s p = and_right s.preprocess (suc p == 0) (ne_eqb (suc p) 0 (λ e. omega arith))
 
 later_blocks : (s : Settings) (p : ℕ) (groups : List (List ℕ)) → AllByRecursion (λ piece. length piece ≡ s.block_size) groups
-    → AllByRecursion (AllByRecursion (λ v. v < 2 ^ s.bits)) groups → AreBlocksFrom s (suc p) (map (λ values. record { reference = None; values = values }) groups)
+    → AllByRecursion (AllByRecursion (λ v. v < 2 ^ s.bits)) groups
+    → AreBlocksFrom s (suc p) (map (λ values. record { reference = None; values = values }) groups)
 later_blocks s p [] h k = tt
 later_blocks s p (g ∷ groups) h k = (
   record { has_reference = subst (λ t. HasReference s t None) (sym (later_reference s p)) tt; count = h.0; small = k.0; placed = refl },
@@ -154,12 +160,15 @@ first_piece n h x xs =
       full = λ l. omega (arith, length-take (n - 1) xs, length-drop (n - 1) xs);
     })
 
-pub AreBlocksFrom-blocks_of : (s : Settings) (x : ℤ) (v : List ℤ) → IsAllowed s → AllByRecursion (IsHeld s) (x ∷ v) → AreBlocksFrom s 0 (blocks_of s (x ∷ v))
+pub AreBlocksFrom-blocks_of : (s : Settings) (x : ℤ) (v : List ℤ) → IsAllowed s → AllByRecursion (IsHeld s) (x ∷ v)
+    → AreBlocksFrom s 0 (blocks_of s (x ∷ v))
 AreBlocksFrom-blocks_of s x v a h =
     subst (λ groups. AreBlocksFrom s 0 (with_reference (reference_of s (x ∷ v)) groups)) (sym e)
-    (blocks_from_groups s x v (sample_pattern s x) (take (s.block_size - 1) behind) (pieces_of s.block_size (drop (s.block_size - 1) behind)) (pattern-fits s x a h.0)
+    (blocks_from_groups s x v (sample_pattern s x) (take (s.block_size - 1) behind) (pieces_of s.block_size (drop (s.block_size - 1) behind))
+    (pattern-fits s x a h.0)
     (subst (AllByRecursion (λ piece. length piece ≡ s.block_size)) e
-    (whole_pieces s.block_size positive values (div_ceil (length (x ∷ v)) s.block_size) (length-mapped_values s filled ∙ length-filled_samples s (x ∷ v) positive)))
+    (whole_pieces s.block_size positive values (div_ceil (length (x ∷ v)) s.block_size)
+    (length-mapped_values s filled ∙ length-filled_samples s (x ∷ v) positive)))
     (subst (AllByRecursion (AllByRecursion (λ u. u < 2 ^ s.bits))) e
     (all-pieces_of (λ u. u < 2 ^ s.bits) s.block_size positive values (all-mapped_values s filled a (all-filled_samples s x v h)))))
   where
@@ -175,7 +184,8 @@ AreBlocksFrom-blocks_of s x v a h =
     behind : List ℕ
     behind = mapped_after s x (v ++ replicate (up_to_multiple s.block_size (length (x ∷ v))) (unwrap_or (last_or (Some x) v) (pos 0)))
 
-    e : pieces_of s.block_size values ≡ ((if s.preprocess then 0 else sample_pattern s x) ∷ take (s.block_size - 1) behind) ∷ pieces_of s.block_size (drop (s.block_size - 1) behind)
+    e : pieces_of s.block_size values ≡ ((if s.preprocess then 0 else sample_pattern s x) ∷ take (s.block_size - 1) behind) ∷ pieces_of s.block_size
+        (drop (s.block_size - 1) behind)
     e = first_piece s.block_size positive (if s.preprocess then 0 else sample_pattern s x) behind
 
 length-with_reference : (reference : Option ℕ) (groups : List (List ℕ)) → length (with_reference reference groups) ≡ length groups

@@ -80,7 +80,8 @@ SpellsRun-run_code s p z is_last h =
     (λ t. SpellsRun-short s p z is_last h (leb-true z 4 t))
     (λ t. SpellsRun-long s p z is_last (leb-false z 4 t))
 
-run_written : (s : Settings) (p z m : ℕ) (reference : Option ℕ) → HasReference s (is_reference_block s p) reference → z ≤ segment_left s p → run_len s p m ≡ z
+run_written : (s : Settings) (p z m : ℕ) (reference : Option ℕ) → HasReference s (is_reference_block s p) reference → z ≤ segment_left s p
+    → run_len s p m ≡ z
     → IsWrittenFor s p (zero_run reference z) (record { reference = reference; body = zero_blocks m })
 run_written s p z m reference h k e = record {
   lawful = run_lawful s p reference m h (omega arith);
@@ -93,7 +94,12 @@ block_written : (s : Settings) (p : ℕ) (b : Block) → IsBlockFor s (is_refere
 block_written s p b h k =
     let w = Spells-shortest_spelling s (is_reference_block s p) b h in
     record {
-      lawful = record { shape = w.shape; small = w.small; within = le-leb (block_count s p (shortest_spelling s b)) (segment_left s p) (omega (arith, w.single p)) };
+      lawful = record {
+        shape = w.shape;
+        small = w.small;
+        within =
+            le-leb (block_count s p (shortest_spelling s b)) (segment_left s p) (omega (arith, w.single p));
+      };
       blocks = w.blocks p;
       count = w.single p;
     }
@@ -138,7 +144,8 @@ IsCovering-last_run : (s : Settings) (n p z : ℕ) (reference : Option ℕ) (gro
     → IsCovering s n p (group_set s (zero_run reference z) (is_empty groups) ∷ (group_sets s groups ++ sets))
     (group_blocks s (zero_run reference z) ++ (flat_map (group_blocks s) groups ++ behind))
 IsCovering-last_run s n p z reference [] [] [] h l f g e most reach =
-    subst (IsCovering s n p (record { reference = reference; body = zero_blocks (run_code z true) } ∷ [])) (sym (append-nil (group_blocks s (zero_run reference z))))
+    subst (IsCovering s n p (record { reference = reference; body = zero_blocks (run_code z true) } ∷ []))
+    (sym (append-nil (group_blocks s (zero_run reference z))))
     (IsCovering-overhang s n p z (run_code z true) reference h e most (omega arith))
 IsCovering-last_run s n p z reference [] [] (b ∷ behind) h l f g e most reach = absurd (cc)
 IsCovering-last_run s n p z reference [] (c ∷ sets) behind h l f g e most reach = absurd (cc)
@@ -185,7 +192,8 @@ record LeftAfter (s : Settings) (n p left : ℕ) (g : Group) (groups : List Grou
   later_ends : EndsWell (length (flat_map (group_blocks s) groups)) (left - group_len g) sets behind
   later_covered : IsCovering s n (p + group_len g + length (flat_map (group_blocks s) groups)) sets behind
 
-left_after : (s : Settings) (n p left : ℕ) (g : Group) (groups : List Group) (sets : List CodedDataSet) (behind : List Block) → AreGroupsFrom s p (g ∷ groups)
+left_after : (s : Settings) (n p left : ℕ) (g : Group) (groups : List Group) (sets : List CodedDataSet) (behind : List Block)
+    → AreGroupsFrom s p (g ∷ groups)
     → (0 < length (flat_map (group_blocks s) (g ∷ groups)) → segment_left s p ≡ left) → length (flat_map (group_blocks s) (g ∷ groups)) ≤ left
     → EndsWell (length (flat_map (group_blocks s) (g ∷ groups))) left sets behind
     → IsCovering s n (p + length (flat_map (group_blocks s) (g ∷ groups))) sets behind → LeftAfter s n p left g groups sets behind

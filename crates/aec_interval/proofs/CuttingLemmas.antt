@@ -57,13 +57,15 @@ pub record IsPieceBefore {X : Type 0} (n : ℕ) (front rest : List X) : Type 0 w
 
 pub pieces_of-cons : {X : Type 0} (n : ℕ) (front rest : List X) → IsPieceBefore n front rest → pieces_of n (front ++ rest) ≡ front ∷ pieces_of n rest
 pieces_of-cons n front rest h =
-    ap (λ k. first_chunks n k (front ++ rest)) count ∙ ap₂ ◌∷◌ (take_front n front rest h.fits h.full) (ap (first_chunks n (div_ceil (length rest) n)) (drop_front n front rest h.fits h.full))
+    ap (λ k. first_chunks n k (front ++ rest)) count
+    ∙ ap₂ ◌∷◌ (take_front n front rest h.fits h.full) (ap (first_chunks n (div_ceil (length rest) n)) (drop_front n front rest h.fits h.full))
   where
     left : length (front ++ rest) - n ≡ length rest
     left = ⊎_elim (λ l. omega (arith, length-append front rest, h.full l)) (λ l. omega (arith, length-append front rest, h.fits)) (cases_lt 0 (length rest))
 
     count : div_ceil (length (front ++ rest)) n ≡ suc (div_ceil (length rest) n)
-    count = div_ceil-more (length (front ++ rest)) n (omega (arith, h.some, h.fits)) (omega (arith, length-append front rest, h.some)) ∙ ap (λ x. suc (div_ceil x n)) left
+    count = div_ceil-more (length (front ++ rest)) n (omega (arith, h.some, h.fits)) (omega (arith, length-append front rest, h.some))
+        ∙ ap (λ x. suc (div_ceil x n)) left
 
 pub pieces_of-one : {X : Type 0} (n : ℕ) (front : List X) → 0 < length front → length front ≤ n → pieces_of n front ≡ front ∷ []
 pieces_of-one n front h k =
@@ -71,7 +73,8 @@ pieces_of-one n front h k =
     ∙ ap (◌∷◌ front) (pieces_of-nil n (omega arith))
 
 -- what holds of no elements, and of a piece and more when it holds of the rest, holds of each list
-module _ {X : Type 0} (P : List X → Type 0) (n : ℕ) (positive : 0 < n) (nothing : P []) (piece : (front rest : List X) → IsPieceBefore n front rest → P rest → P (front ++ rest)) where
+module _ {X : Type 0} (P : List X → Type 0) (n : ℕ) (positive : 0 < n) (nothing : P [])
+    (piece : (front rest : List X) → IsPieceBefore n front rest → P rest → P (front ++ rest)) where
   by_pieces_within : (fuel : ℕ) (xs : List X) → length xs ≤ fuel → P xs
   by_pieces_within fuel [] h = nothing
   by_pieces_within zero (x ∷ xs) h = absurd (omega arith)

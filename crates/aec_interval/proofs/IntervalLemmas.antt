@@ -29,12 +29,14 @@ AreBlocksFrom_right s p (b ∷ front) rest h = subst (λ q. AreBlocksFrom s q re
 block_sets-nil : (s : Settings) → block_sets s [] ≡ []
 block_sets-nil s = ap (flat_map (λ segment. group_sets s (groups_of segment))) (pieces_of-nil 64 (omega arith))
 
-block_sets-cons : (s : Settings) (front rest : List Block) → IsPieceBefore 64 front rest → block_sets s (front ++ rest) ≡ group_sets s (groups_of front) ++ block_sets s rest
+block_sets-cons : (s : Settings) (front rest : List Block) → IsPieceBefore 64 front rest
+    → block_sets s (front ++ rest) ≡ group_sets s (groups_of front) ++ block_sets s rest
 block_sets-cons s front rest h = ap (flat_map (λ segment. group_sets s (groups_of segment))) (pieces_of-cons 64 front rest h)
 
 -- blocks from the start of a segment on are covered, segment by segment
 abbrev AreCovered : Settings → ℕ → List Block → Type 0
-AreCovered s n blocks = (p : ℕ) → AreBlocksFrom s p blocks → p % 64 ≡ 0 → p + length blocks ≡ n → n ≤ s.interval → IsCovering s n p (block_sets s blocks) blocks
+AreCovered s n blocks = (p : ℕ) → AreBlocksFrom s p blocks → p % 64 ≡ 0 → p + length blocks ≡ n → n ≤ s.interval
+    → IsCovering s n p (block_sets s blocks) blocks
 
 IsCovering-no_blocks : (s : Settings) (n p : ℕ) (rest : List Block) → rest ≡ [] → p ≡ n → IsCovering s n p (block_sets s rest) rest
 IsCovering-no_blocks s n p [] z e = subst (λ sets. IsCovering s n p sets []) (sym (block_sets-nil s)) (IsCovering-nil s n p e)
@@ -72,7 +74,8 @@ AreCovered-segment s n front rest piece ih p h aligned reach within =
         (λ l. IsCovering-no_blocks s n (p + length front) rest (nil_from_length rest (omega arith)) (omega (arith, length-append front rest)))
         (cases_lt 0 (length rest))
 
-pub IsCovering-block_sets : (s : Settings) (blocks : List Block) → AreBlocksFrom s 0 blocks → length blocks ≤ s.interval → IsCovering s (length blocks) 0 (block_sets s blocks) blocks
+pub IsCovering-block_sets : (s : Settings) (blocks : List Block) → AreBlocksFrom s 0 blocks → length blocks ≤ s.interval
+    → IsCovering s (length blocks) 0 (block_sets s blocks) blocks
 IsCovering-block_sets s blocks h few =
     by_pieces (AreCovered s (length blocks)) 64 (omega arith)
     (λ p _ _ reach _. subst (λ sets. IsCovering s (length blocks) p sets []) (sym (block_sets-nil s)) (IsCovering-nil s (length blocks) p (omega arith)))

@@ -27,7 +27,11 @@ identifier-positive s (split_values k values) = omega (arith, length-binary (id_
 identifier-positive s (zero_blocks m) = omega (arith, length-binary (id_len s + 1) 0)
 
 pub length-cds_bits-positive : (s : Settings) (c : CodedDataSet) → 0 < length (cds_bits s c)
-length-cds_bits-positive s c = omega (arith, length-append (identifier s c.body) (reference_bits s c.reference ++ body_bits s c.body), identifier-positive s c.body)
+length-cds_bits-positive s c = omega (
+  arith,
+  length-append (identifier s c.body) (reference_bits s c.reference ++ body_bits s c.body),
+  identifier-positive s c.body,
+)
 
 -- one that stands there ends within the bits
 pub stands-within : (s : Settings) (bits : List Bool) (b : ℕ) (c : CodedDataSet) → StandsAt s bits b c → b + length (cds_bits s c) ≤ length bits
@@ -45,7 +49,8 @@ begin_of-ahead : (s : Settings) (bits : List Bool) (i b : ℕ) → b ≤ length 
 begin_of-ahead s bits i b h =
     cond_both (s.pad && (i % s.interval == 0)) (min (next_multiple_of b 8) (length bits)) b (λ e. b ≤ e) (λ _. omega arith) (λ _. omega arith)
 
-pub next_begin-ahead : (s : Settings) (bits : List Bool) (i b : ℕ) (c : CodedDataSet) → StandsAt s bits b c → (b < next_begin s bits i b c) × (b < length bits)
+pub next_begin-ahead : (s : Settings) (bits : List Bool) (i b : ℕ) (c : CodedDataSet) → StandsAt s bits b c
+    → (b < next_begin s bits i b c) × (b < length bits)
 next_begin-ahead s bits i b c h =
     let within = stands-within s bits b c h in
     let some = length-cds_bits-positive s c in
@@ -54,14 +59,16 @@ next_begin-ahead s bits i b c h =
 
 -- ---- whether a coded data set begins at a place
 
-pub set_or_none : (s : Settings) (bits : List Bool) (p b : ℕ) → IsAllowed s → ((c : CodedDataSet) × HasSetAt s bits p b c) ⊎ ((c : CodedDataSet) → HasSetAt s bits p b c → ⊥)
+pub set_or_none : (s : Settings) (bits : List Bool) (p b : ℕ) → IsAllowed s
+    → ((c : CodedDataSet) × HasSetAt s bits p b c) ⊎ ((c : CodedDataSet) → HasSetAt s bits p b c → ⊥)
 set_or_none s bits p b a = ⊎_elim none (λ t. some t.0 t.1.0 t.1.1) (cases_taken (cds_at s (is_reference_block s p) (drop b bits)))
   where
     Answer : Type 0
     Answer = ((c : CodedDataSet) × HasSetAt s bits p b c) ⊎ ((c : CodedDataSet) → HasSetAt s bits p b c → ⊥)
 
     none : cds_at s (is_reference_block s p) (drop b bits) ≡ nothing → Answer
-    none e = inr (λ c h. (nothing_is_read_where_none_begins s a (is_reference_block s p) (drop b bits)).0 e c (drop (b + length (cds_bits s c)) bits) h.shape h.stands)
+    none e = inr (λ c h. (nothing_is_read_where_none_begins s a (is_reference_block s p) (drop b bits)).0 e c
+        (drop (b + length (cds_bits s c)) bits) h.shape h.stands)
 
     some : (c : CodedDataSet) (rest : List Bool) → cds_at s (is_reference_block s p) (drop b bits) ≡ taken c rest → Answer
     some c rest e =
@@ -114,7 +121,8 @@ module _ (s : Settings) (a : IsAllowed s) (count : Option ℕ) (limit : ℕ) (bi
   step i b later = ⊎_elim wanted (finished i b) (cases_Bool (is_wanted s count bits i b))
     where
       wanted : is_wanted s count bits i b ≡ true → Outcome i b
-      wanted e = ⊎_elim (λ h. judged i b h.0 e h.1 (later h.0 h.1)) (λ none. failed i b (Truncated b) e (cut_short none)) (set_or_none s bits (i % s.interval) b a)
+      wanted e = ⊎_elim (λ h. judged i b h.0 e h.1 (later h.0 h.1)) (λ none. failed i b (Truncated b) e (cut_short none))
+          (set_or_none s bits (i % s.interval) b a)
 
   outcome_within : (fuel i b : ℕ) → length bits < b + fuel → Outcome i b
   outcome_within zero i b h = step i b (λ c at. absurd (omega (arith, next_begin-ahead s bits i b c at.stands)))

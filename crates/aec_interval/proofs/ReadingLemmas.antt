@@ -26,7 +26,8 @@ module _ (s : Settings) (a : IsAllowed s) (count : Option ℕ) (limit : ℕ) (bi
   one_reading : (xs ys : List ℤ) → IsReading s count limit bits xs → IsReading s count limit bits ys → xs ≡ ys
   one_reading xs ys x y =
       let same = same_blocks s a count limit bits 0 0 x.blocks y.blocks x.read y.read in
-      x.counted ∙ ap (counted_samples count) (FillBlocks-one_to_one s x.all_samples y.all_samples y.blocks a (subst (FillBlocks s x.all_samples) same x.filled) y.filled) ∙ sym y.counted
+      x.counted ∙ ap (counted_samples count) (FillBlocks-one_to_one s x.all_samples y.all_samples y.blocks a
+      (subst (FillBlocks s x.all_samples) same x.filled) y.filled) ∙ sym y.counted
 
   either : ((samples : List ℤ) × IsReading s count limit bits samples) ⊎ ((fault : Fault) × IsFault s count limit bits 0 0 fault)
   either = ⊎_elim (λ r. inl (IsReading-of_blocks s count limit bits r.0 a r.1)) (λ f. inr f) (outcome s a count limit bits 0 0)
@@ -43,7 +44,8 @@ bits_are_read_in_one_way s count limit bits a = record {
 
 all-counted : (s : Settings) (count : Option ℕ) (xs : List ℤ) → AllByRecursion (IsHeld s) xs → AllByRecursion (IsHeld s) (counted_samples count xs)
 all-counted s None xs h = h
-all-counted s (Some count) xs h = all_left (IsHeld s) (take count xs) (drop count xs) (subst (AllByRecursion (IsHeld s)) (sym (take-append-drop count xs)) h)
+all-counted s (Some count) xs h = all_left (IsHeld s) (take count xs) (drop count xs)
+    (subst (AllByRecursion (IsHeld s)) (sym (take-append-drop count xs)) h)
 
 -- a walk from block i to block j stands for the blocks between them
 pub length-stream_blocks : (s : Settings) (count : Option ℕ) (limit : ℕ) (bits : List Bool) (i b : ℕ) (sets : List CodedDataSet) (j e : ℕ) → IsAllowed s
@@ -54,7 +56,8 @@ length-stream_blocks s count limit bits i b (c ∷ sets) j e a h =
     let here = length-cds_blocks s (i % s.interval) c (mod_below i s.interval (interval-positive s a)) in
     omega (arith, length-append (cds_blocks s (i % s.interval) c) (stream_blocks s (next_block s i c) sets))
 
-counted_length : (s : Settings) (limit : ℕ) (bits : List Bool) (count : ℕ) (samples : List ℤ) → IsAllowed s → IsReading s (Some count) limit bits samples → length samples ≡ count
+counted_length : (s : Settings) (limit : ℕ) (bits : List Bool) (count : ℕ) (samples : List ℤ) → IsAllowed s → IsReading s (Some count) limit bits samples
+    → length samples ≡ count
 counted_length s limit bits count samples a h =
     let needed = div_ceil count s.block_size in
     let r = h.read in

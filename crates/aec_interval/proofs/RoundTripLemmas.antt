@@ -27,20 +27,23 @@ all_blocks_of-one s v some few = ap (flat_map (blocks_of s)) (pieces_of-one (int
 pub div_ceil-interval : (s : Settings) (front rest : List ℤ) → IsAllowed s → length front ≡ interval_len s
     → div_ceil (length (front ++ rest)) s.block_size ≡ s.interval + div_ceil (length rest) s.block_size
 div_ceil-interval s front rest a full =
-    ap (λ m. div_ceil m s.block_size) (length-append front rest ∙ ap (λ m. m + length rest) full) ∙ div_ceil-add s.interval (length rest) s.block_size (block_size-positive s a)
+    ap (λ m. div_ceil m s.block_size) (length-append front rest ∙ ap (λ m. m + length rest) full)
+    ∙ div_ceil-add s.interval (length rest) s.block_size (block_size-positive s a)
 
 pub length-full_blocks : (s : Settings) (front : List ℤ) → IsAllowed s → length front ≡ interval_len s → length (blocks_of s front) ≡ s.interval
 length-full_blocks s front a full =
     length-blocks_of s front a ∙ ap (λ m. div_ceil m s.block_size) (full ∙ omega arith) ∙ div_ceil-times s.interval s.block_size (block_size-positive s a)
 
 pub length-all_blocks_of : (s : Settings) → IsAllowed s → (xs : List ℤ) → length (all_blocks_of s xs) ≡ div_ceil (length xs) s.block_size
-length-all_blocks_of s a = by_pieces Counted (interval_len s) (interval_len-positive s a) (ap length (all_blocks_of-nil s a) ∙ sym (div_ceil-zero s.block_size (block_size-positive s a))) step
+length-all_blocks_of s a = by_pieces Counted (interval_len s) (interval_len-positive s a)
+    (ap length (all_blocks_of-nil s a) ∙ sym (div_ceil-zero s.block_size (block_size-positive s a))) step
   where
     Counted : List ℤ → Type 0
     Counted xs = length (all_blocks_of s xs) ≡ div_ceil (length xs) s.block_size
 
     step : (front rest : List ℤ) → IsPieceBefore (interval_len s) front rest → Counted rest → Counted (front ++ rest)
-    step front [] piece ih = subst Counted (sym (append-nil front)) (ap length (all_blocks_of-one s front piece.some piece.fits) ∙ length-blocks_of s front a)
+    step front [] piece ih = subst Counted (sym (append-nil front))
+        (ap length (all_blocks_of-one s front piece.some piece.fits) ∙ length-blocks_of s front a)
     step front (x ∷ rest) piece ih =
         ap length (all_blocks_of-cons s front (x ∷ rest) piece) ∙ length-append (blocks_of s front) (all_blocks_of s (x ∷ rest))
         ∙ ap₂ ◌+◌ (length-full_blocks s front a (piece.full (omega arith))) ih ∙ sym (div_ceil-interval s front (x ∷ rest) a (piece.full (omega arith)))
@@ -55,12 +58,14 @@ last_or-append o (y ∷ front) x rest = last_or-append (Some y) front x rest
 filled_samples-append : (s : Settings) (front : List ℤ) (x : ℤ) (rest : List ℤ) → length front ≡ interval_len s
     → filled_samples s (front ++ (x ∷ rest)) ≡ front ++ filled_samples s (x ∷ rest)
 filled_samples-append s front x rest full =
-    append_assoc front (x ∷ rest) (replicate (up_to_multiple s.block_size (length (front ++ (x ∷ rest)))) (unwrap_or (last_or None (front ++ (x ∷ rest))) (pos 0)))
+    append_assoc front (x ∷ rest) (replicate (up_to_multiple s.block_size (length (front ++ (x ∷ rest))))
+    (unwrap_or (last_or None (front ++ (x ∷ rest))) (pos 0)))
     ∙ ap₂ (λ m o. front ++ ((x ∷ rest) ++ replicate m (unwrap_or o (pos 0)))) missing (last_or-append None front x rest)
   where
     missing : up_to_multiple s.block_size (length (front ++ (x ∷ rest))) ≡ up_to_multiple s.block_size (length (x ∷ rest))
     missing = ap (λ m. (s.block_size - m) % s.block_size)
-        (ap (λ m. m % s.block_size) (length-append front (x ∷ rest) ∙ omega (arith, full)) ∙ add-mul-mod_self_left (length (x ∷ rest)) s.block_size s.interval)
+        (ap (λ m. m % s.block_size) (length-append front (x ∷ rest) ∙ omega (arith, full))
+        ∙ add-mul-mod_self_left (length (x ∷ rest)) s.block_size s.interval)
 
 -- whole blocks need no filler
 filled_samples-whole : (s : Settings) (v : List ℤ) (k : ℕ) → IsAllowed s → length v ≡ k * s.block_size → filled_samples s v ≡ v
@@ -77,7 +82,8 @@ filled_samples-nil s a = filled_samples-whole s [] 0 a (omega arith)
 blocks_of-filled : (s : Settings) (x : ℤ) (v : List ℤ) → IsAllowed s → blocks_of s (filled_samples s (x ∷ v)) ≡ blocks_of s (x ∷ v)
 blocks_of-filled s x v a =
     ap (λ w. with_reference (reference_of s (x ∷ v)) (pieces_of s.block_size (mapped_values s w)))
-    (filled_samples-whole s (filled_samples s (x ∷ v)) (div_ceil (length (x ∷ v)) s.block_size) a (length-filled_samples s (x ∷ v) (block_size-positive s a)))
+    (filled_samples-whole s (filled_samples s (x ∷ v)) (div_ceil (length (x ∷ v)) s.block_size) a
+    (length-filled_samples s (x ∷ v) (block_size-positive s a)))
 
 -- the filler stays within the interval
 filled-fits : (s : Settings) (v : List ℤ) → IsAllowed s → length v ≤ interval_len s → length (filled_samples s v) ≤ interval_len s
@@ -96,7 +102,8 @@ all_blocks_of-filled s a = by_pieces Same (interval_len s) (interval_len-positiv
     last : (v : List ℤ) → 0 < length v → length v ≤ interval_len s → Same v
     last [] some few = absurd (omega arith)
     last (x ∷ v) some few =
-        all_blocks_of-one s (filled_samples s (x ∷ v)) (omega arith) (filled-fits s (x ∷ v) a few) ∙ blocks_of-filled s x v a ∙ sym (all_blocks_of-one s (x ∷ v) some few)
+        all_blocks_of-one s (filled_samples s (x ∷ v)) (omega arith) (filled-fits s (x ∷ v) a few) ∙ blocks_of-filled s x v a
+        ∙ sym (all_blocks_of-one s (x ∷ v) some few)
 
     step : (front rest : List ℤ) → IsPieceBefore (interval_len s) front rest → Same rest → Same (front ++ rest)
     step front [] piece ih = subst Same (sym (append-nil front)) (last front piece.some piece.fits)
@@ -111,7 +118,8 @@ all_filled s (x ∷ xs) a held = all-filled_samples s x xs held
 
 -- ---- the round trip
 
-pub FillBlocks-all_blocks_of : (s : Settings) (xs : List ℤ) → IsAllowed s → AllByRecursion (IsHeld s) xs → FillBlocks s (filled_samples s xs) (all_blocks_of s xs)
+pub FillBlocks-all_blocks_of : (s : Settings) (xs : List ℤ) → IsAllowed s → AllByRecursion (IsHeld s) xs
+    → FillBlocks s (filled_samples s xs) (all_blocks_of s xs)
 FillBlocks-all_blocks_of s xs a held = record {
   held = all_filled s xs a held;
   whole = length-filled_samples s xs (block_size-positive s a) ∙ ap (λ m. m * s.block_size) (sym (length-all_blocks_of s a xs));
@@ -131,7 +139,8 @@ IsBlockReading-stream_of s limit xs a held =
       kept = sym walk.blocks;
     }
 
-pub IsReading-stream_of : (s : Settings) (limit : ℕ) (xs : List ℤ) → IsAllowed s → AllByRecursion (IsHeld s) xs → IsReading s (Some (length xs)) limit (stream_of s xs) xs
+pub IsReading-stream_of : (s : Settings) (limit : ℕ) (xs : List ℤ) → IsAllowed s → AllByRecursion (IsHeld s) xs
+    → IsReading s (Some (length xs)) limit (stream_of s xs) xs
 IsReading-stream_of s limit xs a held = record {
   blocks = all_blocks_of s xs;
   read = IsBlockReading-stream_of s limit xs a held;

@@ -39,7 +39,8 @@ all-drop P zero xs h = h
 all-drop P (suc n) [] h = tt
 all-drop P (suc n) (x ∷ xs) h = all-drop P n xs h.1
 
-pub all-written_values : (P : ℕ → Type 0) (reference : Option ℕ) (values : List ℕ) → AllByRecursion P values → AllByRecursion P (after_reference reference values)
+pub all-written_values : (P : ℕ → Type 0) (reference : Option ℕ) (values : List ℕ) → AllByRecursion P values
+    → AllByRecursion P (after_reference reference values)
 all-written_values P None values h = h
 all-written_values P (Some r) values h = all-drop P 1 values h
 
@@ -48,7 +49,8 @@ list_all-from_all m [] h = refl
 list_all-from_all m (v ∷ values) h = and_from (nat_lt v m) (list_all (λ v. nat_lt v m) values) (lt-ltb v m h.0) (list_all-from_all m values h.1)
 
 -- with 0 in the reference place, members are placed as values are
-members-placed : (reference : Option ℕ) (values : List ℕ) → placed_values reference (after_reference reference values) ≡ values → placed_members reference values ≡ values
+members-placed : (reference : Option ℕ) (values : List ℕ) → placed_values reference (after_reference reference values) ≡ values
+    → placed_members reference values ≡ values
 members-placed None values e = refl
 members-placed (Some r) values e = e
 

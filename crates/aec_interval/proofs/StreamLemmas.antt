@@ -39,13 +39,15 @@ div_ceil-add k m n h =
 pub stream_of-nil : (s : Settings) → IsAllowed s → stream_of s [] ≡ []
 stream_of-nil s a = ap (flat_map (interval_bits s)) (pieces_of-nil (interval_len s) (interval_len-positive s a))
 
-pub stream_of-cons : (s : Settings) (front rest : List ℤ) → IsPieceBefore (interval_len s) front rest → stream_of s (front ++ rest) ≡ interval_bits s front ++ stream_of s rest
+pub stream_of-cons : (s : Settings) (front rest : List ℤ) → IsPieceBefore (interval_len s) front rest
+    → stream_of s (front ++ rest) ≡ interval_bits s front ++ stream_of s rest
 stream_of-cons s front rest h = ap (flat_map (interval_bits s)) (pieces_of-cons (interval_len s) front rest h)
 
 pub all_blocks_of-nil : (s : Settings) → IsAllowed s → all_blocks_of s [] ≡ []
 all_blocks_of-nil s a = ap (flat_map (blocks_of s)) (pieces_of-nil (interval_len s) (interval_len-positive s a))
 
-pub all_blocks_of-cons : (s : Settings) (front rest : List ℤ) → IsPieceBefore (interval_len s) front rest → all_blocks_of s (front ++ rest) ≡ blocks_of s front ++ all_blocks_of s rest
+pub all_blocks_of-cons : (s : Settings) (front rest : List ℤ) → IsPieceBefore (interval_len s) front rest
+    → all_blocks_of s (front ++ rest) ≡ blocks_of s front ++ all_blocks_of s rest
 all_blocks_of-cons s front rest h = ap (flat_map (blocks_of s)) (pieces_of-cons (interval_len s) front rest h)
 
 -- ---- what padding adds
@@ -62,7 +64,8 @@ interval_bits-padded s v = padded s.pad (plain_bits s v) (replicate (up_to_multi
 
 pub length-padding_of : (s : Settings) (v : List ℤ) → s.pad ≡ true → length (padding_of s v) ≡ up_to_multiple 8 (length (plain_bits s v))
 length-padding_of s v t =
-    ap length (cond-true s.pad (replicate (up_to_multiple 8 (length (plain_bits s v))) false) [] t) ∙ length-replicate (up_to_multiple 8 (length (plain_bits s v))) false
+    ap length (cond-true s.pad (replicate (up_to_multiple 8 (length (plain_bits s v))) false) [] t)
+    ∙ length-replicate (up_to_multiple 8 (length (plain_bits s v))) false
 
 pub no_padding : (s : Settings) (v : List ℤ) → s.pad ≡ false → length (padding_of s v) ≡ 0
 no_padding s v t = ap length (cond-false s.pad (replicate (up_to_multiple 8 (length (plain_bits s v))) false) [] t)
@@ -86,7 +89,8 @@ begin_of-interval s v pre rest k aligned = ⊎_elim padded plain (cases_Bool s.p
     b = length pre + length (plain_bits s v)
 
     len : length (pre ++ interval_bits s v) ≡ b + length (padding_of s v)
-    len = length-append pre (interval_bits s v) ∙ ap (λ x. length pre + x) (ap length (interval_bits-padded s v) ∙ length-append (plain_bits s v) (padding_of s v)) ∙ omega arith
+    len = length-append pre (interval_bits s v)
+        ∙ ap (λ x. length pre + x) (ap length (interval_bits-padded s v) ∙ length-append (plain_bits s v) (padding_of s v)) ∙ omega arith
 
     enough : length (pre ++ interval_bits s v) ≤ length bits
     enough = omega (arith, length-append pre (interval_bits s v), length-append pre (interval_bits s v ++ rest), length-append (interval_bits s v) rest)
@@ -103,7 +107,14 @@ begin_of-interval s v pre rest k aligned = ⊎_elim padded plain (cases_Bool s.p
 
 pub IsAligned-interval : (s : Settings) (v : List ℤ) (pre : List Bool) → IsAligned s pre → IsAligned s (pre ++ interval_bits s v)
 IsAligned-interval s v pre aligned t =
-    omega (arith, length-append pre (interval_bits s v), ap length (interval_bits-padded s v), length-append (plain_bits s v) (padding_of s v), length-padding_of s v t, aligned t)
+    omega (
+      arith,
+      length-append pre (interval_bits s v),
+      ap length (interval_bits-padded s v),
+      length-append (plain_bits s v) (padding_of s v),
+      length-padding_of s v t,
+      aligned t,
+    )
 
 -- ---- from interval to interval
 
@@ -136,20 +147,24 @@ no_walk s count limit a k i b pre bits held aligned e f spelled need =
 interval-spelled : (s : Settings) (v : List ℤ) (sets : List CodedDataSet) (pre after rest bits : List Bool) → plain_bits s v ≡ flat_map (cds_bits s) sets
     → bits ≡ pre ++ after → after ≡ interval_bits s v ++ rest → bits ≡ pre ++ (flat_map (cds_bits s) sets ++ (padding_of s v ++ rest))
 interval-spelled s v sets pre after rest bits e spelled one =
-    spelled ∙ ap (◌++◌ pre) (one ∙ ap (λ x. x ++ rest) (interval_bits-padded s v ∙ ap (λ x. x ++ padding_of s v) e) ∙ append_assoc (flat_map (cds_bits s) sets) (padding_of s v) rest)
+    spelled ∙ ap (◌++◌ pre) (one ∙ ap (λ x. x ++ rest) (interval_bits-padded s v ∙ ap (λ x. x ++ padding_of s v) e)
+    ∙ append_assoc (flat_map (cds_bits s) sets) (padding_of s v) rest)
 
 -- the walk through one interval
 record IsPart (s : Settings) (count limit k i b : ℕ) (pre bits : List Bool) (v : List ℤ) : Type 0 where
   sets : List CodedDataSet
-  leads : LeadsTo s (Some count) limit bits i b sets (k * s.interval + end_of s 0 sets) (begin_of s bits (k * s.interval + end_of s 0 sets) (length pre + length (plain_bits s v)))
+  leads : LeadsTo s (Some count) limit bits i b sets (k * s.interval + end_of s 0 sets)
+      (begin_of s bits (k * s.interval + end_of s 0 sets) (length pre + length (plain_bits s v)))
   reaches : length (blocks_of s v) ≤ end_of s 0 sets
   within : end_of s 0 sets ≤ s.interval
   len : length (covered_blocks s 0 sets) ≡ end_of s 0 sets
   covered : stream_blocks s i sets ≡ covered_blocks s 0 sets
   stand_for : take (length (blocks_of s v)) (covered_blocks s 0 sets) ≡ blocks_of s v
 
-part_of : (s : Settings) (count limit k i b : ℕ) (pre after rest bits : List Bool) (v : List ℤ) → IsAllowed s → 0 < length v → length v ≤ interval_len s → AllByRecursion (IsHeld s) v
-    → i ≡ k * s.interval → b ≡ length pre → bits ≡ pre ++ after → after ≡ interval_bits s v ++ rest → i + div_ceil (length v) s.block_size ≤ div_ceil count s.block_size
+part_of : (s : Settings) (count limit k i b : ℕ) (pre after rest bits : List Bool) (v : List ℤ) → IsAllowed s → 0 < length v → length v ≤ interval_len s
+    → AllByRecursion (IsHeld s) v
+    → i ≡ k * s.interval → b ≡ length pre → bits ≡ pre ++ after → after ≡ interval_bits s v ++ rest
+    → i + div_ceil (length v) s.block_size ≤ div_ceil count s.block_size
     → IsPart s count limit k i b pre bits v
 part_of s count limit k i b pre after rest bits v a some few held e f spelled one need =
     let r = ReadsBlocks-plain_bits s v a held some few in
@@ -159,7 +174,8 @@ part_of s count limit k i b pre after rest bits v a some few held e f spelled on
     let positive : 0 < n = omega (arith, div_ceil-positive (length v) s.block_size (block_size-positive s a) some) in
     record {
       sets = r.sets;
-      leads = subst (λ x. LeadsTo s (Some count) limit bits i b r.sets (k * s.interval + end_of s 0 r.sets) (begin_of s bits (k * s.interval + end_of s 0 r.sets) (length pre + length x)))
+      leads = subst (λ x. LeadsTo s (Some count) limit bits i b r.sets (k * s.interval + end_of s 0 r.sets)
+          (begin_of s bits (k * s.interval + end_of s 0 r.sets) (length pre + length x)))
           (sym r.spelled)
           (LeadsTo-interval s count limit n 0 k i b pre r.sets (padding_of s v ++ rest) bits r.covers positive within (omega arith) (omega arith) f
           (interval-spelled s v r.sets pre after rest bits r.spelled spelled one));
@@ -172,7 +188,8 @@ part_of s count limit k i b pre after rest bits v a some few held e f spelled on
 
 last_walk : (s : Settings) (count limit : ℕ) → IsAllowed s → (v : List ℤ) → 0 < length v → length v ≤ interval_len s → HasWalk s count limit v
 last_walk s count limit a v some few k i b pre bits held aligned e f spelled need =
-    let part = part_of s count limit k i b pre (stream_of s v) [] bits v a some few held e f spelled (ap (flat_map (interval_bits s)) (pieces_of-one (interval_len s) v some few)) (omega arith) in
+    let part = part_of s count limit k i b pre (stream_of s v) [] bits v a some few held e f spelled
+    (ap (flat_map (interval_bits s)) (pieces_of-one (interval_len s) v some few)) (omega arith) in
     let len = length-blocks_of s v a in
     let needed : div_ceil count s.block_size - i ≡ length (blocks_of s v) = omega arith in
     record {
@@ -195,7 +212,8 @@ walk_on s count limit a front rest piece more ih k i b pre bits held aligned e f
       end_bit = later.end_bit;
       leads = LeadsTo-append s (Some count) limit bits i b part.sets j g later.sets later.end_block later.end_bit part.leads later.leads;
       enough = later.enough;
-      blocks = ap₂ take all_needed (stream_blocks-append s (Some count) limit bits i b part.sets j g later.sets part.leads ∙ ap (λ x. x ++ stream_blocks s j later.sets) part.covered)
+      blocks = ap₂ take all_needed (stream_blocks-append s (Some count) limit bits i b part.sets j g later.sets part.leads
+          ∙ ap (λ x. x ++ stream_blocks s j later.sets) part.covered)
           ∙ take-append-add (covered_blocks s 0 part.sets) (stream_blocks s j later.sets) (div_ceil count s.block_size - j)
           ∙ ap₂ ◌++◌ here later.blocks ∙ sym (all_blocks_of-cons s front rest piece);
     }
@@ -208,10 +226,12 @@ walk_on s count limit a front rest piece more ih k i b pre bits held aligned e f
         ∙ div_ceil-add s.interval (length rest) s.block_size (block_size-positive s a)
 
     n : length (blocks_of s front) ≡ s.interval
-    n = length-blocks_of s front a ∙ ap (λ m. div_ceil m s.block_size) (full ∙ omega arith) ∙ div_ceil-times s.interval s.block_size (block_size-positive s a)
+    n = length-blocks_of s front a ∙ ap (λ m. div_ceil m s.block_size) (full ∙ omega arith)
+        ∙ div_ceil-times s.interval s.block_size (block_size-positive s a)
 
     part : IsPart s count limit k i b pre bits front
-    part = part_of s count limit k i b pre (stream_of s (front ++ rest)) (stream_of s rest) bits front a piece.some piece.fits (all_left (IsHeld s) front rest held) e f spelled
+    part = part_of s count limit k i b pre (stream_of s (front ++ rest)) (stream_of s rest) bits front a piece.some piece.fits
+        (all_left (IsHeld s) front rest held) e f spelled
         (stream_of-cons s front rest piece) (omega (arith, n, length-blocks_of s front a, counted, need))
 
     j : ℕ
@@ -227,7 +247,8 @@ walk_on s count limit a front rest piece more ih k i b pre bits held aligned e f
     behind = spelled ∙ ap (◌++◌ pre) (stream_of-cons s front rest piece)
 
     start : g ≡ length (pre ++ interval_bits s front)
-    start = ap₂ (λ x q. begin_of s x q (length pre + length (plain_bits s front))) behind next ∙ begin_of-interval s front pre (stream_of s rest) (k + 1) aligned
+    start = ap₂ (λ x q. begin_of s x q (length pre + length (plain_bits s front))) behind next
+        ∙ begin_of-interval s front pre (stream_of s rest) (k + 1) aligned
 
     later : IsWalk s count limit bits j g rest
     later = ih (k + 1) j g (pre ++ interval_bits s front) bits (all_right (IsHeld s) front rest held) (IsAligned-interval s front pre aligned) next start
@@ -239,7 +260,8 @@ walk_on s count limit a front rest piece more ih k i b pre bits held aligned e f
     here : covered_blocks s 0 part.sets ≡ blocks_of s front
     here = sym (take_all (length (blocks_of s front)) (covered_blocks s 0 part.sets) (omega (arith, part.len, part.within, n))) ∙ part.stand_for
 
-step : (s : Settings) (count limit : ℕ) → IsAllowed s → (front rest : List ℤ) → IsPieceBefore (interval_len s) front rest → HasWalk s count limit rest → HasWalk s count limit (front ++ rest)
+step : (s : Settings) (count limit : ℕ) → IsAllowed s → (front rest : List ℤ) → IsPieceBefore (interval_len s) front rest → HasWalk s count limit rest
+    → HasWalk s count limit (front ++ rest)
 step s count limit a front [] piece ih = subst (HasWalk s count limit) (sym (append-nil front)) (last_walk s count limit a front piece.some piece.fits)
 step s count limit a front (x ∷ rest) piece ih = walk_on s count limit a front (x ∷ rest) piece (omega arith) ih
 

@@ -25,16 +25,19 @@ pub record SameWalk (one other : List CodedDataSet) (j e k f : ℕ) : Type 0 whe
   pub block : j ≡ k
   pub bit : e ≡ f
 
-wanted-back : (s : Settings) (count : Option ℕ) (bits : List Bool) (i b j e : ℕ) (t : Bool) → (j ≡ i) × (e ≡ b) → is_wanted s count bits j e ≡ t → is_wanted s count bits i b ≡ t
+wanted-back : (s : Settings) (count : Option ℕ) (bits : List Bool) (i b j e : ℕ) (t : Bool) → (j ≡ i) × (e ≡ b) → is_wanted s count bits j e ≡ t
+    → is_wanted s count bits i b ≡ t
 wanted-back s count bits i b j e t h w = ap₂ (is_wanted s count bits) (sym h.0) (sym h.1) ∙ w
 
 module _ (s : Settings) (a : IsAllowed s) (count : Option ℕ) (limit : ℕ) (bits : List Bool) where
   -- the walk behind a coded data set is the walk behind an equal one
   leads-from_same : (i b : ℕ) (c d : CodedDataSet) (sets : List CodedDataSet) (j e : ℕ) → c ≡ d
-      → LeadsTo s count limit bits (next_block s i d) (next_begin s bits i b d) sets j e → LeadsTo s count limit bits (next_block s i c) (next_begin s bits i b c) sets j e
+      → LeadsTo s count limit bits (next_block s i d) (next_begin s bits i b d) sets j e
+      → LeadsTo s count limit bits (next_block s i c) (next_begin s bits i b c) sets j e
   leads-from_same i b c d sets j e p h = subst (λ x. LeadsTo s count limit bits (next_block s i x) (next_begin s bits i b x) sets j e) (sym p) h
 
-  pub same_walk : (i b : ℕ) (sets later : List CodedDataSet) (j e k f : ℕ) → LeadsTo s count limit bits i b sets j e → LeadsTo s count limit bits i b later k f
+  pub same_walk : (i b : ℕ) (sets later : List CodedDataSet) (j e k f : ℕ) → LeadsTo s count limit bits i b sets j e
+      → LeadsTo s count limit bits i b later k f
       → is_wanted s count bits j e ≡ false → is_wanted s count bits k f ≡ false → SameWalk sets later j e k f
   same_walk i b [] [] j e k f h t w v = record { sets = refl; block = h.0 ∙ sym t.0; bit = h.1 ∙ sym t.1 }
   same_walk i b [] (d ∷ later) j e k f h t w v = absurd (both_ways (is_wanted s count bits i b) (wanted-back s count bits i b j e false h w) t.0)
@@ -50,7 +53,8 @@ module _ (s : Settings) (a : IsAllowed s) (count : Option ℕ) (limit : ℕ) (bi
       x.kept ∙ ap (λ sets. kept_blocks s count i (stream_blocks s i sets)) r.sets ∙ sym y.kept
 
   -- where a lawful coded data set stands, within the limit, nothing is wrong
-  pub not_wrong : (i b : ℕ) (c : CodedDataSet) (fault : Fault) → StandsAt s bits b c → IsLawful s (i % s.interval) c → keeps_limit s count limit (next_block s i c) ≡ true
+  pub not_wrong : (i b : ℕ) (c : CodedDataSet) (fault : Fault) → StandsAt s bits b c → IsLawful s (i % s.interval) c
+      → keeps_limit s count limit (next_block s i c) ≡ true
       → IsWrongAt s count limit bits i b fault → ⊥
   not_wrong i b c fault x l within (cut_short none) = none c (record { shape = l.shape; stands = x })
   not_wrong i b c fault x l within (too_large d at large) =
@@ -61,13 +65,15 @@ module _ (s : Settings) (a : IsAllowed s) (count : Option ℕ) (limit : ℕ) (bi
       (ap (stays_in_segment s (i % s.interval)) (same_set s bits b (is_reference_block s (i % s.interval)) d c a at.shape l.shape at.stands x) ∙ l.within)
   not_wrong i b c fault x l within (too_many d at lawful past) =
       both_ways (keeps_limit s count limit (next_block s i d)) past
-      (ap (λ c. keeps_limit s count limit (next_block s i c)) (same_set s bits b (is_reference_block s (i % s.interval)) d c a at.shape l.shape at.stands x) ∙ within)
+      (ap (λ c. keeps_limit s count limit (next_block s i c))
+      (same_set s bits b (is_reference_block s (i % s.interval)) d c a at.shape l.shape at.stands x) ∙ within)
 
   wrong-back : (i b j e : ℕ) (fault : Fault) → (j ≡ i) × (e ≡ b) → IsWrongAt s count limit bits j e fault → IsWrongAt s count limit bits i b fault
   wrong-back i b j e fault h w = subst (λ x. IsWrongAt s count limit bits x b fault) h.0 (subst (λ x. IsWrongAt s count limit bits j x fault) h.1 w)
 
   -- a walk that is done and one that ends in a fault
-  pub not_both : (i b : ℕ) (sets later : List CodedDataSet) (j e k f : ℕ) (fault : Fault) → LeadsTo s count limit bits i b sets j e → LeadsTo s count limit bits i b later k f
+  pub not_both : (i b : ℕ) (sets later : List CodedDataSet) (j e k f : ℕ) (fault : Fault) → LeadsTo s count limit bits i b sets j e
+      → LeadsTo s count limit bits i b later k f
       → is_wanted s count bits j e ≡ false → is_wanted s count bits k f ≡ true → IsWrongAt s count limit bits k f fault → ⊥
   not_both i b [] [] j e k f fault h t w v wrong =
       both_ways (is_wanted s count bits i b) (wanted-back s count bits i b j e false h w) (wanted-back s count bits i b k f true t v)
@@ -83,13 +89,15 @@ module _ (s : Settings) (a : IsAllowed s) (count : Option ℕ) (limit : ℕ) (bi
   different_small : (i b : ℕ) (c d : CodedDataSet) → HasSetAt s bits (i % s.interval) b c → HasSetAt s bits (i % s.interval) b d
       → has_small_values s c ≡ false → has_small_values s d ≡ true → ⊥
   different_small i b c d x y large small =
-      both_ways (has_small_values s c) large (ap (has_small_values s) (same_set s bits b (is_reference_block s (i % s.interval)) c d a x.shape y.shape x.stands y.stands) ∙ small)
+      both_ways (has_small_values s c) large (ap (has_small_values s)
+      (same_set s bits b (is_reference_block s (i % s.interval)) c d a x.shape y.shape x.stands y.stands) ∙ small)
 
   different_long : (i b : ℕ) (c d : CodedDataSet) → HasSetAt s bits (i % s.interval) b c → HasSetAt s bits (i % s.interval) b d
       → stays_in_segment s (i % s.interval) c ≡ false → stays_in_segment s (i % s.interval) d ≡ true → ⊥
   different_long i b c d x y long within =
       both_ways (stays_in_segment s (i % s.interval) c) long
-      (ap (stays_in_segment s (i % s.interval)) (same_set s bits b (is_reference_block s (i % s.interval)) c d a x.shape y.shape x.stands y.stands) ∙ within)
+      (ap (stays_in_segment s (i % s.interval)) (same_set s bits b (is_reference_block s (i % s.interval)) c d a x.shape y.shape x.stands y.stands)
+      ∙ within)
 
   pub same_wrong : (i b : ℕ) (fault other : Fault) → IsWrongAt s count limit bits i b fault → IsWrongAt s count limit bits i b other → fault ≡ other
   same_wrong i b fault other (cut_short none) (cut_short n) = refl
@@ -109,7 +117,8 @@ module _ (s : Settings) (a : IsAllowed s) (count : Option ℕ) (limit : ℕ) (bi
   same_wrong i b fault other (too_many c at lawful past) (too_long d at' small long) = absurd (different_long i b d c at' at long lawful.within)
   same_wrong i b fault other (too_many c at lawful past) (too_many d at' lawful' past') = refl
 
-  pub same_fault : (i b : ℕ) (sets later : List CodedDataSet) (j e k f : ℕ) (fault other : Fault) → LeadsTo s count limit bits i b sets j e → LeadsTo s count limit bits i b later k f
+  pub same_fault : (i b : ℕ) (sets later : List CodedDataSet) (j e k f : ℕ) (fault other : Fault) → LeadsTo s count limit bits i b sets j e
+      → LeadsTo s count limit bits i b later k f
       → IsWrongAt s count limit bits j e fault → IsWrongAt s count limit bits k f other → fault ≡ other
   same_fault i b [] [] j e k f fault other h t x y = same_wrong i b fault other (wrong-back i b j e fault h x) (wrong-back i b k f other t y)
   same_fault i b [] (d ∷ later) j e k f fault other h t x y = absurd (not_wrong i b d fault t.1 t.2 t.3 (wrong-back i b j e fault h x))
@@ -121,5 +130,6 @@ module _ (s : Settings) (a : IsAllowed s) (count : Option ℕ) (limit : ℕ) (bi
   pub one_fault : (i b : ℕ) (fault other : Fault) → IsFault s count limit bits i b fault → IsFault s count limit bits i b other → fault ≡ other
   one_fault i b fault other x y = same_fault i b x.sets y.sets x.block x.bit y.block y.bit fault other x.leads y.leads x.wrong y.wrong
 
-  pub no_reading_and_fault : (i b : ℕ) (blocks : List Block) (fault : Fault) → IsBlockReading s count limit bits i b blocks → IsFault s count limit bits i b fault → ⊥
+  pub no_reading_and_fault : (i b : ℕ) (blocks : List Block) (fault : Fault) → IsBlockReading s count limit bits i b blocks
+      → IsFault s count limit bits i b fault → ⊥
   no_reading_and_fault i b blocks fault x y = not_both i b x.sets y.sets x.end_block x.end_bit y.block y.bit fault x.leads y.leads x.done y.wanted y.wrong
