@@ -11,3 +11,6 @@ pub mod WalkLemmas
 pub mod EqualLengthLemmas
 pub mod OutcomeLemmas
 pub mod ReadingLemmas
+pub mod ShortestLemmas
+pub mod CostLemmas
+pub mod OptimalityLemmas
