@@ -1,0 +1,16 @@
+pub mod CuttingLemmas
+pub mod BlockLemmas
+pub mod SpellingLemmas
+pub mod GroupLemmas
+pub mod CoveringLemmas
+pub mod IntervalLemmas
+pub mod PlaceLemmas
+pub mod StreamLemmas
+pub mod RoundTripLemmas
+pub mod WalkLemmas
+pub mod EqualLengthLemmas
+pub mod OutcomeLemmas
+pub mod ReadingLemmas
+pub mod ShortestLemmas
+pub mod CostLemmas
+pub mod OptimalityLemmas
