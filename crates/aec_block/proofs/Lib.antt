@@ -1,5 +1,9 @@
 pub mod MappingLemmas
-pub mod PatternLemmas
 pub mod LengthLemmas
 pub mod BlockLemmas
 pub mod ChoiceLemmas
+pub mod CodewordLemmas
+pub mod PairLemmas
+pub mod SplitLemmas
+pub mod KindLemmas
+pub mod SetLemmas

@@ -2,3 +2,5 @@ pub mod Offsets
 pub mod BlockShape
 pub mod Lengths
 pub mod Choices
+pub mod ReadAt
+pub mod Laws

@@ -1,10 +1,13 @@
-//! Blocks of mapped values: prediction and mapping, the choice of the shortest option, and what is written.
+//! Blocks of mapped values: prediction and mapping, the choice of the shortest option, and one coded data set, written
+//! and read.
 #![tactic(auto)]
 
 mod block;
 mod choice;
+pub mod laws;
 mod lengths;
 mod mapping;
+mod reading;
 
 pub use block::Block;
 pub use choice::{Choice, Coding, choose};

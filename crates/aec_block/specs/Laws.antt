@@ -1,0 +1,26 @@
+-- The laws of coded data sets: in allowed settings their bits and their place tell which they are.
+use Rattle.std.specs.Prelude.{◌≡◌, Bool, ◌↔◌, List, ◌++◌}
+use Rattle.aec_params.specs.declared.settings.Settings.{Settings}
+use Rattle.aec_params.specs.Params.{IsAllowed}
+use Rattle.aec_params.specs.CodedDataSets.{CodedDataSet, cds_bits, HasShape}
+use Rattle.aec_block.specs.ReadAt.{nothing, taken, cds_at}
+
+-- a coded data set is read back from its bits, whatever stands behind them
+abbrev pub WhatIsSpelledIsRead : Type 0
+WhatIsSpelledIsRead = (s : Settings) → IsAllowed s → (is_reference : Bool) (c : CodedDataSet) (rest : List Bool) → HasShape s is_reference c
+    → cds_at s is_reference (cds_bits s c ++ rest) ≡ taken c rest
+
+-- what is read has the shape of a coded data set, and its bits are those that were taken
+abbrev pub WhatIsReadIsSpelled : Type 0
+WhatIsReadIsSpelled = (s : Settings) → IsAllowed s → (is_reference : Bool) (bits : List Bool) (c : CodedDataSet) (rest : List Bool)
+    → cds_at s is_reference bits ≡ taken c rest → HasShape s is_reference c × (bits ≡ cds_bits s c ++ rest)
+
+-- nothing is read exactly where no coded data set begins the bits
+abbrev pub NothingIsReadWhereNoneBegins : Type 0
+NothingIsReadWhereNoneBegins = (s : Settings) → IsAllowed s → (is_reference : Bool) (bits : List Bool)
+    → (cds_at s is_reference bits ≡ nothing) ↔ ((c : CodedDataSet) (rest : List Bool) → HasShape s is_reference c → bits ≡ cds_bits s c ++ rest → ⊥)
+
+-- no coded data set is a prefix of another, where both are of reference blocks or neither is
+abbrev pub NoSetIsAPrefix : Type 0
+NoSetIsAPrefix = (s : Settings) → IsAllowed s → (is_reference : Bool) (c d : CodedDataSet) (x y : List Bool)
+    → HasShape s is_reference c → HasShape s is_reference d → cds_bits s c ++ x ≡ cds_bits s d ++ y → (c ≡ d) × (x ≡ y)

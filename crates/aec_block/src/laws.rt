@@ -1,0 +1,23 @@
+//! Laws of coded data sets: the contract of each function is a law, and its body is empty.
+
+ghost use Rattle.aec_block.specs.Laws.{WhatIsSpelledIsRead, WhatIsReadIsSpelled, NothingIsReadWhereNoneBegins, NoSetIsAPrefix};
+
+/// A coded data set is read back from its bits, whatever stands behind them.
+pub fn what_is_spelled_is_read()
+    ensures { WhatIsSpelledIsRead }
+{}
+
+/// What is read has the shape of a coded data set, and its bits are those that were taken.
+pub fn what_is_read_is_spelled()
+    ensures { WhatIsReadIsSpelled }
+{}
+
+/// Nothing is read exactly where no coded data set begins.
+pub fn nothing_is_read_where_none_begins()
+    ensures { NothingIsReadWhereNoneBegins }
+{}
+
+/// No coded data set is a prefix of another, where both are of reference blocks or neither is.
+pub fn no_set_is_a_prefix()
+    ensures { NoSetIsAPrefix }
+{}
