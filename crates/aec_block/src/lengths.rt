@@ -35,7 +35,7 @@ fn shifted_sum(values: &[u32], k: u32) -> u128
 }
 
 /// The codeword of a pair.
-fn pair_len(a: u32, b: u32) -> u128
+pub(crate) fn pair_len(a: u32, b: u32) -> u128
     ensures len { result ≡ pair_number a b + 1 }
     ensures bound { result ≤ 2 ^ 66 }
 {

@@ -8,6 +8,7 @@ pub mod laws;
 mod lengths;
 mod mapping;
 mod reading;
+mod writing;
 
 pub use block::Block;
 pub use choice::{Choice, Coding, choose};
