@@ -1,10 +1,15 @@
 -- Codewords appended one after another into reserved room.
 use Rattle.std.proofs.Common.{◌≡◌, ℕ, zero, suc, ◌+◌, ◌-◌, ◌*◌, ◌/◌, ◌%◌, ◌^◌, ◌<◌, ◌≤◌, refl, ap, ◌∙◌, sym, arith, Bool, Option, Some, None, List, [], ◌∷◌, ◌++◌, length, take, drop, get_or, drop-cons, append_assoc, append-nil, length-append, length-drop}
-use Rattle.std.specs.List.{flat_map}
+use Rattle.std.specs.List.{flat_map, AllByRecursion}
 use Rattle.aec_params.specs.Codewords.{fs, binary}
 use Rattle.aec_params.specs.CodedDataSets.{pair_number, pair_bits}
+use Rattle.aec_params.specs.declared.settings.Settings.{Settings}
+use Rattle.aec_params.specs.Blocks.{Block}
+use Rattle.aec_params.specs.Spellings.{after_reference, written_values}
+use Rattle.std.proofs.Math.Nat.{mod-eq_of_lt}
+use Rattle.aec_block.specs.Choices.{IsFull}
 use Rattle.aec_block.specs.Written.{high_parts, low_parts}
-use Rattle.aec_block.proofs.LengthLemmas.{length-fs, length-binary}
+use Rattle.aec_block.proofs.LengthLemmas.{length-fs, length-binary, length-reference_bits}
 
 -- what stands in a list so far, with what is still to be appended, makes a whole; and there is room for what is still to come
 pub record Appending (old new done todo : List Bool) (before after : ℕ) : Type 0 where
@@ -76,3 +81,22 @@ pair_bits-short (a ∷ (b ∷ values)) few = absurd (omega arith)
 
 pub pair_bits-drop_end : (values : List ℕ) (i : ℕ) → length values ≤ i + 1 → pair_bits (drop i values) ≡ []
 pair_bits-drop_end values i few = pair_bits-short (drop i values) (omega (arith, length-drop i values))
+
+-- ---- a coded data set in parts
+low_parts-plain : (n : ℕ) (values : List ℕ) → AllByRecursion (λ v. v < 2 ^ n) values → low_parts n values ≡ flat_map (binary n) values
+low_parts-plain n [] small = refl
+low_parts-plain n (v ∷ values) small =
+    ap (λ (low : ℕ). binary n low ++ low_parts n values) (mod-eq_of_lt small.0)
+    ∙ ap (λ (bits : List Bool). binary n v ++ bits) (low_parts-plain n values small.1)
+
+after_reference-small : (n : ℕ) (reference : Option ℕ) (values : List ℕ) → AllByRecursion (λ v. v < 2 ^ n) values
+    → AllByRecursion (λ v. v < 2 ^ n) (after_reference reference values)
+after_reference-small n None values small = small
+after_reference-small n (Some r) [] small = tt
+after_reference-small n (Some r) (v ∷ values) small = small.1
+
+pub low_parts-written : (s : Settings) (b : Block) → IsFull s b
+    → low_parts s.bits (written_values b) ≡ flat_map (binary s.bits) (written_values b)
+low_parts-written s b full = low_parts-plain s.bits (written_values b) (after_reference-small s.bits b.reference b.values full.values)
+
+pub ruleset parts = (append_assoc, length-append, length-binary, length-fs, length-reference_bits, low_parts-written)

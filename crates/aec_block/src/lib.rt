@@ -13,3 +13,4 @@ mod writing;
 pub use block::Block;
 pub use choice::{Choice, Coding, choose};
 pub use mapping::{map, unmap};
+pub use writing::{write_block, write_run};

@@ -1,6 +1,6 @@
 //! What is written for one block, and for a run of zero blocks.
 
-ghost use Rattle.std.specs.Prelude.{◌≡◌, ◌+◌, ◌<◌, ◌≤◌, ◌^◌, ◌++◌, false, length, OnOk, OnErr, IfErr};
+ghost use Rattle.std.specs.Prelude.{◌≡◌, ◌+◌, ◌<◌, ◌≤◌, ◌^◌, ◌++◌, false, length, if◌then◌else◌, OnOk, OnErr, IfErr};
 ghost use Rattle.aec_params.specs.declared.fault.Fault.TheVariants.{Memory};
 ghost use Rattle.aec_params.specs.Params.{IsAllowed, split_count};
 ghost use Rattle.aec_params.specs.Codewords.{fs, binary};
@@ -13,7 +13,7 @@ ghost use Rattle.aec_block.specs.Written.{high_parts, low_parts, shortest_bits, 
 
 use crate::block::Block;
 use crate::choice::{Choice, Coding};
-use crate::lengths::pair_len;
+use crate::lengths::{head_len, pair_len};
 use aec_bits::BitBuf;
 use aec_params::{Fault, Params};
 
@@ -87,4 +87,110 @@ fn put_pairs(values: &[u32], out: &mut BitBuf)
         let number = pair_len(values[2 * i], values[2 * i + 1]) - 1;
         put_fs(out, number as u64);
     }
+}
+
+/// Appends a block as it is, for which there is room.
+#[tactic(auto, using(crate::proofs::WritingLemmas::parts))]
+fn put_uncompressed(params: &Params, block: &Block, out: &mut BitBuf)
+    requires full { IsFull params.now block.now }
+    requires room { length (cds_bits params.now (uncompressed block.now)) ≤ out.old.room }
+    ensures list { out.new.list ≡ out.old.list ++ cds_bits params.now (uncompressed block.now) }
+    ensures room { out.old.room ≤ out.new.room + length (cds_bits params.now (uncompressed block.now)) }
+{
+    let width = params.id_len();
+    put_head(params, block.reference(), (1 << width) - 1, width, out);
+    put_low_parts(block.written_values(), params.bits(), out);
+}
+
+/// Appends a block by the second extension, for which there is room.
+#[tactic(auto, using(crate::proofs::WritingLemmas::parts))]
+fn put_paired(params: &Params, block: &Block, out: &mut BitBuf)
+    requires full { IsFull params.now block.now }
+    requires fits { length (cds_bits params.now (paired block.now)) < 2 ^ 64 }
+    requires room { length (cds_bits params.now (paired block.now)) ≤ out.old.room }
+    ensures list { out.new.list ≡ out.old.list ++ cds_bits params.now (paired block.now) }
+    ensures room { out.old.room ≤ out.new.room + length (cds_bits params.now (paired block.now)) }
+{
+    put_head(params, block.reference(), 1, params.id_len() + 1, out);
+    put_pairs(block.values(), out);
+}
+
+/// Appends a block by splitting with `k`, for which there is room.
+#[tactic(auto, using(crate::proofs::WritingLemmas::parts))]
+fn put_split(params: &Params, block: &Block, k: u32, out: &mut BitBuf)
+    requires full { IsFull params.now block.now }
+    requires k { k < split_count params.now }
+    requires room { length (cds_bits params.now (split block.now k)) ≤ out.old.room }
+    ensures list { out.new.list ≡ out.old.list ++ cds_bits params.now (split block.now k) }
+    ensures room { out.old.room ≤ out.new.room + length (cds_bits params.now (split block.now k)) }
+{
+    put_head(params, block.reference(), k + 1, params.id_len(), out);
+    put_high_parts(block.written_values(), k, out);
+    put_low_parts(block.written_values(), k, out);
+}
+
+/// Appends the coded data set of a block that is in no run, by the option of `choose`. `Memory` where a growth was
+/// refused, and nothing has changed then; it is not where there is room for the coded data set.
+pub fn write_block(
+    params: &Params,
+    block: &Block,
+    choice: Choice,
+    out: &mut BitBuf,
+) -> Result<(), Fault>
+    requires full { IsFull params.now block.now }
+    requires choice { IsChoice params.now block.now choice }
+    ensures ok { OnOk result (out.new.list ≡ out.old.list ++ shortest_bits params.now block.now) }
+    ensures room { OnOk result (out.old.room ≤ out.new.room + length (shortest_bits params.now block.now)) }
+    ensures err { OnErr result (out.new ≡ out.old) }
+    ensures full { OnErr result (out.old.room < length (shortest_bits params.now block.now)) }
+    ensures fault { IfErr result (λ e. e ≡ Memory) }
+{
+    out.reserve(choice.bits)?;
+    match choice.coding {
+        Coding::NoCompression => put_uncompressed(params, block, out),
+        Coding::SecondExtension => put_paired(params, block, out),
+        Coding::Split(k) => put_split(params, block, k, out),
+    }
+    Ok(())
+}
+
+/// The number that the code of a run of `z` blocks spells.
+fn run_code(z: u32, to_end: bool) -> u32
+    requires { 1 ≤ z }
+    ensures { result ≡ code_of_run z to_end }
+{
+    if z <= 4 {
+        z - 1
+    } else if to_end {
+        4
+    } else {
+        z
+    }
+}
+
+/// Appends the coded data set of a run of `z` zero blocks, of which the first has the reference where there is one, and
+/// which ends its segment or not. `Memory` where a growth was refused, and nothing has changed then; it is not where
+/// there is room for the coded data set.
+#[tactic(auto, using(crate::proofs::WritingLemmas::parts))]
+pub fn write_run(
+    params: &Params,
+    reference: Option<u32>,
+    z: u32,
+    to_end: bool,
+    out: &mut BitBuf,
+) -> Result<(), Fault>
+    requires reference { FitsReference params.now reference }
+    requires least { 1 ≤ z }
+    requires most { z ≤ (if to_end then 64 else 63) }
+    ensures ok { OnOk result (out.new.list ≡ out.old.list ++ run_bits params.now reference z to_end) }
+    ensures room { OnOk result (out.old.room ≤ out.new.room + length (run_bits params.now reference z to_end)) }
+    ensures err { OnErr result (out.new ≡ out.old) }
+    ensures full { OnErr result (out.old.room < length (run_bits params.now reference z to_end)) }
+    ensures fault { IfErr result (λ e. e ≡ Memory) }
+{
+    let code = run_code(z, to_end);
+    out.reserve(u64::from(head_len(params, reference) + 1 + (code + 1)))?;
+    put_head(params, reference, 0, params.id_len() + 1, out);
+    put_fs(out, u64::from(code));
+    Ok(())
 }

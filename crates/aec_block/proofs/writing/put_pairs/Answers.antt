@@ -10,8 +10,8 @@ overflow_cast-number c =
     let within : 2 * c.loop-i.i + 1 < length c.args.values.now = omega arith in
     let number = pair_number (get_or c.args.values.now (2 * c.loop-i.i) 0) (get_or c.args.values.now (2 * c.loop-i.i + 1) 0) in
     let next =
-        length-next _ _ _ _ _ _ _ _ (number + 1) c.loop-i.invariant
-            (pair_bits-drop c.args.values.now (2 * c.loop-i.i) (2 * c.loop-i.i + 1) (2 * c.loop-i.i + 2) refl refl within) (length-fs number) in
+    length-next _ _ _ _ _ _ _ _ (number + 1) c.loop-i.invariant
+    (pair_bits-drop c.args.values.now (2 * c.loop-i.i) (2 * c.loop-i.i + 1) (2 * c.loop-i.i + 2) refl refl within) (length-fs number) in
     let few = c.requires.fits in
     search (rules, arith)
 
@@ -22,9 +22,9 @@ loop-i-preserved c =
     let number = pair_number (get_or c.args.values.now (2 * c.loop-i.i) 0) (get_or c.args.values.now (2 * c.loop-i.i + 1) 0) in
     let is : c.pair_len-number.result - 1 ≡ number = omega (arith, c.pair_len-number.ensures.len) in
     appending-more _ _ _ _ _ _ _ _ _ _ (number + 1) c.loop-i.invariant
-        (pair_bits-drop c.args.values.now (2 * c.loop-i.i) (2 * c.loop-i.i + 1) (2 * (c.loop-i.i + 1)) refl after within)
-        (c.put_fs.ensures.list ∙ ap (λ (v : ℕ). c.loop-i.out.list ++ fs v) is) (length-fs number)
-        (omega (arith, is, c.put_fs.ensures.room))
+    (pair_bits-drop c.args.values.now (2 * c.loop-i.i) (2 * c.loop-i.i + 1) (2 * (c.loop-i.i + 1)) refl after within)
+    (c.put_fs.ensures.list ∙ ap (λ (v : ℕ). c.loop-i.out.list ++ fs v) is) (length-fs number)
+    (omega (arith, is, c.put_fs.ensures.room))
 
 pub returns-clause-list : goal.returns-clause-list
 returns-clause-list c =
