@@ -14,3 +14,6 @@ pub use block::Block;
 pub use choice::{Choice, Coding, choose};
 pub use mapping::{map, unmap};
 pub use writing::{write_block, write_run};
+
+#[cfg(test)]
+mod tests;
