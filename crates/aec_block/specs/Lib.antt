@@ -4,3 +4,4 @@ pub mod Lengths
 pub mod ReadAt
 pub mod Laws
 pub mod Choices
+pub mod Written

@@ -8,7 +8,12 @@ mod choice;
 mod lengths;
 mod mapping;
 mod reading;
+mod writing;
 
 pub use block::Block;
 pub use choice::{Choice, Coding, choose};
 pub use mapping::{map, unmap};
+pub use writing::{write_block, write_run};
+
+#[cfg(test)]
+mod tests;
