@@ -3,3 +3,4 @@ pub mod PairLemmas
 pub mod SplitLemmas
 pub mod KindLemmas
 pub mod SetLemmas
+pub mod CursorLemmas

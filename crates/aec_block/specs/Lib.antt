@@ -1,2 +1,3 @@
 pub mod ReadAt
 pub mod Laws
+pub mod Gathering

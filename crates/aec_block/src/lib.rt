@@ -3,3 +3,4 @@
 
 pub mod laws;
 mod reading;
+mod reading_codewords;
