@@ -22,10 +22,10 @@ fs_at-missing (false ∷ bits) none = rw (fs_at-missing bits none) refl
 pub number_taken : (w : ℕ) (old new : Cursor) (result : Result ℕ Fault)
     → IfOk result (λ v. (v < 2 ^ w) × (drop old.pos old.list ≡ binary w v ++ drop (old.pos + w) old.list) × (new.pos ≡ old.pos + w))
     → MatchResult result (λ v. old.pos + w ≤ length old.list) (λ e. (length old.list < old.pos + w) × (e ≡ Truncated old.pos))
-    → new.list ≡ old.list → binary_at w (bits_at old) ≡ as_taken result (bits_at new)
-number_taken w old new (Ok v) ok refuses same =
+    → old.pos ≤ length old.list → new.list ≡ old.list → binary_at w (bits_at old) ≡ as_taken result (bits_at new)
+number_taken w old new (Ok v) ok refuses inside same =
     rw (same, ok.2) (ap (binary_at w) ok.1 ∙ binary_at-binary w v (drop (old.pos + w) old.list) ok.0)
-number_taken w old new (Err e) ok refuses same =
+number_taken w old new (Err e) ok refuses inside same =
     binary_at-missing w (bits_at old) (omega (arith, length-drop old.pos old.list, refuses.0))
 
 pub sequence_taken : (old new : Cursor) (result : Result ℕ Fault)

@@ -1,6 +1,9 @@
+pub mod MappingLemmas
+pub mod PatternLemmas
 pub mod CodewordLemmas
 pub mod PairLemmas
 pub mod SplitLemmas
 pub mod KindLemmas
 pub mod SetLemmas
 pub mod CursorLemmas
+pub mod GatheringLemmas

@@ -1,5 +1,5 @@
 -- Pair numbers, and the codewords of pairs: each number is that of one pair.
-use Rattle.std.proofs.Common.{◌≡◌, ℕ, zero, suc, ◌+◌, ◌*◌, ◌≤◌, Bool, refl, sym, ap, ◌∙◌, add-one, zero-add, append_assoc, List, [], ◌∷◌, ◌++◌, length, arith}
+use Rattle.std.proofs.Common.{◌≡◌, ℕ, zero, suc, ◌+◌, ◌-◌, ◌*◌, ◌≤◌, Bool, refl, sym, ap, ◌∙◌, add-one, zero-add, append_assoc, List, [], ◌∷◌, ◌++◌, length, arith}
 use Rattle.aec_params.specs.Codewords.{fs}
 use Rattle.aec_params.specs.CodedDataSets.{pair_number, pair_bits}
 use Rattle.aec_block.specs.ReadAt.{taken, map_taken, fs_at, next_pair, pair_of, before_members, members_at}

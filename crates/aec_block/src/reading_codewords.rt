@@ -1,6 +1,6 @@
 //! Reads the codewords of a coded data set.
 
-ghost use Rattle.std.specs.Prelude.{◌≡◌, ◌≤◌, length};
+ghost use Rattle.std.specs.Prelude.{◌≡◌, ◌≤◌, ◌<◌, ◌^◌, length, IfOk};
 ghost use Rattle.aec_block.specs.ReadAt.{fs_at, binary_at, pair_of as pair_with_number};
 ghost use Rattle.aec_block.specs.Gathering.{bits_at, as_taken};
 
@@ -9,10 +9,12 @@ use aec_params::Fault;
 
 /// The number that the next `width` bits spell.
 pub(crate) fn read_number(reader: &mut BitReader, width: u32) -> Result<u64, Fault>
-    requires { width ≤ 64 }
+    requires width { width ≤ 64 }
+    requires within { reader.old.pos ≤ length reader.old.list }
     ensures taken { binary_at width (bits_at reader.old) ≡ as_taken result (bits_at reader.new) }
     ensures list { reader.new.list ≡ reader.old.list }
-    ensures within { reader.old.pos ≤ length reader.old.list → reader.new.pos ≤ length reader.new.list }
+    ensures within { reader.new.pos ≤ length reader.new.list }
+    ensures bound { IfOk result (λ v. v < 2 ^ width) }
 {
     reader.read(width)
 }

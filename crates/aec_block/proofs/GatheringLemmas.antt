@@ -1,0 +1,2 @@
+-- Values that are gathered one after another while they are small enough.
+use Rattle.std.proofs.Common.{◌≡◌, ℕ}

@@ -1,0 +1,86 @@
+//! The mapped values of one block.
+
+use smallvec::SmallVec;
+use std::alloc::Global;
+use std::marker::Model;
+
+/// The most values of a block.
+const MOST_VALUES: usize = 64;
+
+/// A block of at most 64 mapped values, and the reference sample's pattern where it has one; then 0 stands in the
+/// reference place, which is the first. The values lie in the block itself, so no call takes memory.
+#[derive(Debug, Drop)]
+pub struct Block {
+    reference: Option<u32>,
+    values: SmallVec<u32, MOST_VALUES>,
+}
+
+impl Model for Block {
+    ghost use Rattle.std.specs.Prelude.{◌≡◌};
+    ghost use Rattle.aec_params.specs.Blocks.{Block as Values};
+    ghost use Rattle.aec_block.specs.BlockShape.{IsSound};
+
+    ghost Value = { Values };
+
+    ghost view = { λ b. record { reference = b.reference; values = b.values.items } };
+
+    ghost invariant = { λ b. (b.values.capacity ≡ 64) × IsSound (record { reference = b.reference; values = b.values.items }) };
+}
+
+impl Block {
+    ghost use Rattle.std.specs.Prelude.{◌≡◌, ◌<◌, [], ◌∷◌, ◌++◌, length};
+    ghost use Rattle.aec_params.specs.Blocks.{Block as Values, is_zero_block};
+    ghost use Rattle.aec_params.specs.Places.{placed_values};
+    ghost use Rattle.aec_block.specs.BlockShape.{IsSound};
+
+    /// A block with no values but the 0 in the reference place, where there is a reference.
+    pub fn new(alloc: Global, reference: Option<u32>) -> Block
+        ensures reference { result.reference ≡ reference }
+        ensures values { result.values ≡ placed_values reference [] }
+    {
+        let mut values = SmallVec::new(alloc);
+        if reference.is_some() {
+            values.push_reserved(0);
+        }
+        Block { reference, values }
+    }
+
+    /// Appends a value.
+    pub fn push(&mut self, m: u32)
+        requires { length self.old.values < 64 }
+        ensures { self.new ≡ record self.old { values = self.old.values ++ m ∷ [] } }
+    {
+        self.values.push_reserved(m);
+    }
+
+    /// The number of values, with the one in the reference place.
+    pub fn len(&self) -> usize
+        ensures value { result ≡ length self.now.values }
+        ensures sound { IsSound self.now }
+    {
+        self.values.len()
+    }
+
+    /// The values, with the one in the reference place.
+    pub fn values(&self) -> &[u32]
+        ensures value { result.now ≡ self.now.values }
+        ensures sound { IsSound self.now }
+    {
+        self.values.as_slice()
+    }
+
+    /// The pattern of the reference sample, where the block has one.
+    pub fn reference(&self) -> Option<u32>
+        ensures value { result ≡ self.now.reference }
+        ensures sound { IsSound self.now }
+    {
+        self.reference
+    }
+
+    /// Whether all values are 0.
+    pub fn is_zero(&self) -> bool
+        ensures { result ≡ is_zero_block self.now }
+    {
+        self.values.as_slice().iter().all(|v| *v == 0)
+    }
+}

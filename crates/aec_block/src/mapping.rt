@@ -1,0 +1,121 @@
+//! Prediction and mapping: a sample and its prediction as one number without sign, and back.
+
+ghost use Rattle.std.specs.Prelude.{◌≡◌, ℕ, ◌<◌, ◌≤◌, ◌^◌, ℤ};
+ghost use Rattle.aec_params.specs.Params.{IsAllowed, IsHeld, sample_pattern, pattern_value};
+ghost use Rattle.aec_params.specs.Mapping.{mapped_value};
+ghost use Rattle.aec_block.specs.Offsets.{sample_offset, top_offset, mapped_offset};
+
+use aec_params::Params;
+
+/// What is coded for the offset `x` at the prediction `p`: differences within the room on both sides of `p` count in
+/// turn on both sides, those beyond it go on from there.
+fn map_offset(top: u32, p: u32, x: u32) -> u32
+    requires prediction { p ≤ top }
+    requires offset { x ≤ top }
+    ensures value { result ≡ mapped_offset top p x }
+    ensures fits { result ≤ top }
+{
+    let room = p.min(top - p);
+    if p <= x && x - p <= room {
+        2 * (x - p)
+    } else if x < p && p - x <= room {
+        2 * (p - x) - 1
+    } else {
+        room + x.abs_diff(p)
+    }
+}
+
+/// The offset for which `m` is coded at the prediction `p`.
+fn unmap_offset(top: u32, p: u32, m: u32) -> u32
+    requires prediction { p ≤ top }
+    requires mapped { m ≤ top }
+    ensures held { result ≤ top }
+    ensures undone { mapped_offset top p result ≡ m }
+    ensures only { (x : ℕ) → x ≤ top → mapped_offset top p x ≡ m → x ≡ result }
+{
+    let room = p.min(top - p);
+    if m > 2 * room {
+        if p <= top - p { m } else { top - m }
+    } else if m % 2 == 0 {
+        p + m / 2
+    } else {
+        p - (m / 2 + 1)
+    }
+}
+
+/// The offset of the greatest sample.
+#[tactic(auto, using(crate::proofs::MappingLemmas::offsets))]
+fn greatest_offset(params: &Params) -> u32
+    ensures value { result ≡ top_offset params.now }
+    ensures allowed { IsAllowed params.now }
+{
+    ((1u64 << params.bits()) - 1) as u32
+}
+
+/// How far a sample lies above the least one.
+#[tactic(auto, using(crate::proofs::MappingLemmas::offsets))]
+fn offset_of(params: &Params, x: i64) -> u32
+    requires { IsHeld params.now x }
+    ensures value { result ≡ sample_offset params.now x }
+    ensures within { result ≤ top_offset params.now }
+{
+    x.abs_diff(params.x_min()) as u32
+}
+
+/// The sample that lies so far above the least one.
+#[tactic(auto, using(crate::proofs::MappingLemmas::offsets))]
+fn sample_at(params: &Params, offset: u32) -> i64
+    requires { offset ≤ top_offset params.now }
+    ensures held { IsHeld params.now result }
+    ensures value { sample_offset params.now result ≡ offset }
+{
+    params.x_min() + i64::from(offset)
+}
+
+/// The pattern of a sample: its two's complement in n bits, as an unsigned number.
+#[tactic(auto, using(crate::proofs::PatternLemmas::patterns))]
+fn pattern_of(params: &Params, x: i64) -> u32
+    requires { IsHeld params.now x }
+    ensures value { result ≡ sample_pattern params.now x }
+    ensures fits { result < 2 ^ params.now.bits }
+    ensures undone { pattern_value params.now result ≡ x }
+{
+    (x.cast_unsigned() % (1u64 << params.bits())) as u32
+}
+
+/// What is coded for the sample `x` at the prediction `p`; without preprocessing the sample's pattern. Below `2^n`.
+#[tactic(auto, using(crate::proofs::MappingLemmas::mapping))]
+pub fn map(params: &Params, p: i64, x: i64) -> u32
+    requires prediction { IsHeld params.now p }
+    requires sample { IsHeld params.now x }
+    ensures value { result ≡ mapped_value params.now p x }
+    ensures fits { result < 2 ^ params.now.bits }
+{
+    if params.preprocess() {
+        map_offset(
+            greatest_offset(params),
+            offset_of(params, p),
+            offset_of(params, x),
+        )
+    } else {
+        pattern_of(params, x)
+    }
+}
+
+/// The one sample for which `m` is coded at the prediction `p`.
+#[tactic(auto, using(crate::proofs::MappingLemmas::mapping))]
+pub fn unmap(params: &Params, p: i64, m: u32) -> i64
+    requires prediction { IsHeld params.now p }
+    requires mapped { m < 2 ^ params.now.bits }
+    ensures held { IsHeld params.now result }
+    ensures undone { mapped_value params.now p result ≡ m }
+    ensures only { (x : ℤ) → IsHeld params.now x → mapped_value params.now p x ≡ m → x ≡ result }
+{
+    let top = greatest_offset(params);
+    if params.preprocess() {
+        let offset = unmap_offset(top, offset_of(params, p), m);
+        sample_at(params, offset)
+    } else {
+        params.value(m)
+    }
+}
