@@ -17,8 +17,5 @@ pub enum Cds {
     /// One block, by any option.
     Single(Block),
     /// A run of zero blocks, of which the first has the reference sample where there is one.
-    Zeros {
-        reference: Option<u32>,
-        len: RunLen,
-    },
+    Zeros { reference: Option<u32>, len: RunLen },
 }

@@ -12,4 +12,3 @@ mod reading_values;
 pub use block::Block;
 pub use cds::{Cds, RunLen};
 pub use mapping::{map, unmap};
-

@@ -1,6 +1,6 @@
 //! Reads the values of a block. A value above the greatest that the width has is noted, and reading goes on behind it.
 
-ghost use Rattle.std.specs.Prelude.{◌≡◌, ◌≤◌, ◌<◌, ◌+◌, ◌-◌, ◌/◌, ◌^◌, ◌++◌, [], ◌∷◌, true, nat_lt, length};
+ghost use Rattle.std.specs.Prelude.{◌≡◌, ◌≤◌, ◌<◌, ◌+◌, ◌-◌, ◌*◌, ◌/◌, ◌^◌, ◌++◌, [], ◌∷◌, true, nat_lt, length};
 ghost use Rattle.aec_params.specs.Places.{placed_values};
 ghost use Rattle.aec_block.specs.ReadAt.{map_taken, fs_at, binary_at, values_at, members_at, split_at};
 ghost use Rattle.aec_block.specs.Gathering.{bits_at, as_taken, as_taken_by, when, gathered, lows_gathered, with_value, plain_block, small_block, pair_block};
@@ -21,6 +21,7 @@ fn push_value(block: &mut Block, value: u64, limit: u64) -> bool
     ensures fits { result ≡ nat_lt value limit }
     ensures reference { block.new.reference ≡ block.old.reference }
     ensures values { block.new.values ≡ with_value limit block.old.values value }
+    ensures len { length block.new.values ≤ length block.old.values + 1 }
 {
     if value >= limit {
         return false;
@@ -30,7 +31,13 @@ fn push_value(block: &mut Block, value: u64, limit: u64) -> bool
 }
 
 /// A block of the next `count` numbers, each in as many bits as a sample has.
-pub(crate) fn read_plain(alloc: Global, params: &Params, reader: &mut BitReader, reference: Option<u32>, count: u32) -> Result<Block, Fault>
+pub(crate) fn read_plain(
+    alloc: Global,
+    params: &Params,
+    reader: &mut BitReader,
+    reference: Option<u32>,
+    count: u32,
+) -> Result<Block, Fault>
     requires within { reader.old.pos ≤ length reader.old.list }
     requires room { length (placed_values reference []) + count ≤ 64 }
     ensures taken { map_taken (plain_block reference) (values_at (binary_at params.now.bits) count (bits_at reader.old)) ≡ as_taken result (bits_at reader.new) }
@@ -46,7 +53,12 @@ pub(crate) fn read_plain(alloc: Global, params: &Params, reader: &mut BitReader,
 }
 
 /// Appends both members of the next `count` pairs. Whether all are below `limit`; else some are left out.
-fn read_later_pairs(reader: &mut BitReader, block: &mut Block, count: u32, limit: u64) -> Result<bool, Fault>
+fn read_later_pairs(
+    reader: &mut BitReader,
+    block: &mut Block,
+    count: u32,
+    limit: u64,
+) -> Result<bool, Fault>
     requires within { reader.old.pos ≤ length reader.old.list }
     requires room { length block.old.values + 2 * count ≤ 64 }
     requires limit { limit ≤ 2 ^ 32 }
@@ -59,9 +71,8 @@ fn read_later_pairs(reader: &mut BitReader, block: &mut Block, count: u32, limit
     let mut fit = true;
     for i in 0..count {
         let (first, second) = pair_of(read_sequence(reader)?);
-        let first_fits = push_value(block, first, limit);
-        let second_fits = push_value(block, second, limit);
-        fit = fit && first_fits && second_fits;
+        fit &= push_value(block, first, limit);
+        fit &= push_value(block, second, limit);
     }
     Ok(fit)
 }
@@ -78,18 +89,24 @@ fn read_highs(reader: &mut BitReader, highs: &mut [u32], limit: u64) -> Result<b
     let mut fit = true;
     for high in highs.iter_mut() {
         let number = read_sequence(reader)?;
-        if number < limit {
+        let fits = number < limit;
+        if fits {
             *high = number as u32;
-        } else {
-            fit = false;
         }
+        fit &= fits;
     }
     Ok(fit)
 }
 
 /// Appends the values of the high parts, each with its next `k` bits. Whether all are below `limit`; else some are left
 /// out.
-fn read_lows(reader: &mut BitReader, block: &mut Block, highs: &[u32], k: u32, limit: u64) -> Result<bool, Fault>
+fn read_lows(
+    reader: &mut BitReader,
+    block: &mut Block,
+    highs: &[u32],
+    k: u32,
+    limit: u64,
+) -> Result<bool, Fault>
     requires within { reader.old.pos ≤ length reader.old.list }
     requires room { length block.old.values + length highs.now ≤ 64 }
     requires shift { k < 32 }
@@ -103,8 +120,7 @@ fn read_lows(reader: &mut BitReader, block: &mut Block, highs: &[u32], k: u32, l
     let mut fit = true;
     for high in highs {
         let low = read_number(reader, k)?;
-        let fits = push_value(block, (u64::from(*high) << k) + low, limit);
-        fit = fit && fits;
+        fit &= push_value(block, (u64::from(*high) << k) + low, limit);
     }
     Ok(fit)
 }
