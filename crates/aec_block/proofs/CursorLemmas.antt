@@ -1,13 +1,13 @@
 -- What a reader of bits answers, as what is taken from the bits that are left.
-use Rattle.std.proofs.Common.{◌≡◌, ℕ, ◌+◌, ◌^◌, ◌<◌, ◌≤◌, Bool, true, false, Result, Ok, Err, List, [], ◌∷◌, ◌++◌, length, drop, refl, sym, ap, ◌∙◌, arith}
-use Rattle.std.specs.Prelude.{IfOk, IfErr, OnErr, MatchResult}
+use Rattle.std.proofs.Common.{◌≡◌, ℕ, ◌+◌, ◌^◌, ◌<◌, ◌≤◌, Bool, true, false, Result, Ok, Err, List, [], ◌∷◌, ◌++◌, length, drop, refl, ap, ◌∙◌, arith}
+use Rattle.std.specs.Prelude.{IfOk, IfErr, MatchResult}
 use Rattle.std.proofs.lemmas.Bool.{lt-leb}
 use Rattle.std.proofs.lemmas.List.{length-drop}
 use Rattle.aec_params.specs.declared.fault.Fault.{Fault}
 use Rattle.aec_params.specs.declared.fault.Fault.TheVariants.{Truncated}
 use Rattle.aec_params.specs.Codewords.{fs, binary}
 use Rattle.aec_bits.specs.BitReader.{Cursor, has_one}
-use Rattle.aec_block.specs.ReadAt.{nothing, taken, map_taken, fs_at, binary_at}
+use Rattle.aec_block.specs.ReadAt.{nothing, fs_at, binary_at}
 use Rattle.aec_block.specs.Gathering.{bits_at, as_taken}
 use Rattle.aec_block.proofs.CodewordLemmas.{fs_at-fs, binary_at-binary}
 

@@ -1,12 +1,11 @@
 -- Values that are gathered one after another while they are small enough.
-use Rattle.std.proofs.Common.{◌≡◌, ℕ, zero, suc, ◌+◌, ◌*◌, ◌^◌, ◌<◌, ◌≤◌, Bool, true, false, ◌&&◌, nat_lt, Option, Some, None, List, [], ◌∷◌, ◌++◌, ◌-◌, length, take, drop, refl, sym, ap, ◌∙◌, append_assoc, append-nil, inl, inr, arith}
+use Rattle.std.proofs.Common.{◌≡◌, ℕ, suc, ◌+◌, ◌*◌, ◌^◌, ◌<◌, ◌≤◌, Bool, true, false, ◌&&◌, nat_lt, Option, Some, None, List, [], ◌∷◌, ◌++◌, ◌-◌, length, take, drop, refl, sym, ap, ◌∙◌, append_assoc, append-nil, inl, inr, arith}
 use Rattle.std.proofs.lemmas.Bool.{cases_Bool}
 use Rattle.std.proofs.lemmas.List.{take_all, drop_all, length-append}
-use Rattle.aec_params.specs.Blocks.{Block}
 use Rattle.aec_params.specs.Places.{placed_values}
 use Rattle.aec_bits.specs.BitReader.{Cursor}
-use Rattle.aec_block.specs.ReadAt.{Taken, nothing, taken, then_at, map_taken, fs_at, binary_at, values_at, members_at, Pair, pair_of, before_members, joined_values}
-use Rattle.aec_block.specs.Gathering.{when, gathered, lows_gathered, with_value, plain_block}
+use Rattle.aec_block.specs.ReadAt.{Taken, nothing, taken, map_taken, fs_at, binary_at, values_at, members_at, pair_of, before_members, joined_values}
+use Rattle.aec_block.specs.Gathering.{when, gathered, lows_gathered, with_value}
 
 -- a reader that has moved in its list
 pub record HasMoved (start now : Cursor) : Type 0 where

@@ -7,3 +7,5 @@ pub mod KindLemmas
 pub mod SetLemmas
 pub mod CursorLemmas
 pub mod GatheringLemmas
+pub mod ReadCdsLemmas
+pub mod StandingLemmas

@@ -1,5 +1,5 @@
 -- What holds of every block.
-use Rattle.std.specs.Prelude.{◌≡◌, ℕ, ◌≤◌, length}
+use Rattle.std.specs.Prelude.{◌≡◌, ◌≤◌, length}
 use Rattle.aec_params.specs.Blocks.{Block}
 use Rattle.aec_params.specs.Places.{placed_values}
 use Rattle.aec_params.specs.Spellings.{written_values}

@@ -1,6 +1,6 @@
 -- How the private functions of reading answer: what was taken, in the place of a result, and values that are gathered while
 -- they are small enough.
-use Rattle.std.specs.Prelude.{ℕ, ◌*◌, ◌+◌, ◌^◌, Bool, true, ◌&&◌, nat_lt, if◌then◌else◌, Option, Some, None, Result, Ok, Err, List, [], ◌∷◌, ◌++◌, drop}
+use Rattle.std.specs.Prelude.{ℕ, Bool, ◌&&◌, nat_lt, if◌then◌else◌, Option, Some, None, Result, Ok, Err, List, [], ◌∷◌, ◌++◌, drop}
 use Rattle.std.specs.List.{list_all}
 use Rattle.aec_bits.specs.BitReader.{Cursor}
 use Rattle.aec_params.specs.Blocks.{Block}

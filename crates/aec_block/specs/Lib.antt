@@ -1,5 +1,6 @@
 pub mod Offsets
 pub mod BlockShape
 pub mod ReadAt
-pub mod Laws
 pub mod Gathering
+pub mod ReadCds
+pub mod Laws

@@ -12,3 +12,4 @@ mod reading_values;
 pub use block::Block;
 pub use cds::{Cds, RunLen};
 pub use mapping::{map, unmap};
+pub use reading::read_cds;

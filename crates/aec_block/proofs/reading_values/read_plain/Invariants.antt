@@ -1,4 +1,4 @@
-use Rattle.std.proofs.Common.{◌≡◌, ◌≤◌, ◌+◌, ◌-◌, ◌++◌, [], length}
+use Rattle.std.proofs.Common.{◌≡◌, ◌+◌, ◌-◌, [], length}
 use Rattle.aec_params.specs.Places.{placed_values}
 use Rattle.aec_block.specs.ReadAt.{map_taken, binary_at, values_at}
 use Rattle.aec_block.specs.Gathering.{bits_at}
