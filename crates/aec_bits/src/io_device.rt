@@ -1,0 +1,139 @@
+//! Sources and sinks over readers and writers.
+
+use crate::device::{Sink, Source};
+use aec_params::Fault;
+use std::io::{Read, Write};
+
+/// The bytes of a reader. Any error of a read is a failure, also an interrupted one; after it the reader isn't called
+/// again.
+#[derive(Drop)]
+pub struct ReadSource<R> {
+    inner: R,
+    failed: bool,
+}
+
+impl<R: Read> ReadSource<R> {
+    ghost use Rattle.std.specs.Prelude.{◌≡◌};
+
+    /// A source of what the reader gives from here on. Takes no memory.
+    pub fn new(inner: R) -> ReadSource<R>
+        ensures left { ⟦<ReadSource<R> as Source>⟧.left result ≡ R.remaining inner }
+        ensures failed { ⟦<ReadSource<R> as Source>⟧.failed result ≡ 0 }
+    {
+        ReadSource {
+            inner,
+            failed: false,
+        }
+    }
+
+    /// The reader.
+    pub fn into_inner(self) -> R
+        ensures { ⟦<ReadSource<R> as Source>⟧.left self ≡ R.remaining result }
+    {
+        let ReadSource { inner, failed: _ } = self;
+        inner
+    }
+}
+
+impl<R: Read> Source for ReadSource<R> {
+    ghost use Rattle.std.specs.Prelude.{if◌then◌else◌};
+
+    ghost left = { λ s. R.remaining s.inner };
+
+    ghost failed = { λ s. if s.failed then 1 else 0 };
+
+    fn take(&mut self, buf: &mut [u8]) -> Result<usize, Fault> {
+        if self.failed {
+            return Err(Fault::Read);
+        }
+        match self.inner.read(buf) {
+            Ok(count) => Ok(count),
+            Err(_error) => {
+                self.failed = true;
+                Err(Fault::Read)
+            }
+        }
+    }
+
+    fn failures(&self) -> u64 {
+        u64::from(self.failed)
+    }
+}
+
+/// Takes bytes into a writer. Any error of a write is a failure, also an interrupted one, and so is a write that takes
+/// nothing of a piece that isn't empty; after it the writer isn't called again.
+#[derive(Drop)]
+pub struct WriteSink<W> {
+    inner: W,
+    failed: bool,
+    begins: u64,
+}
+
+impl<W: Write> WriteSink<W> {
+    ghost use Rattle.std.specs.Prelude.{◌≡◌};
+
+    /// A sink into the writer, behind what it holds. Takes no memory.
+    pub fn new(inner: W) -> WriteSink<W>
+        ensures taken { ⟦<WriteSink<W> as Sink>⟧.taken result ≡ W.contents inner }
+        ensures failed { ⟦<WriteSink<W> as Sink>⟧.failed result ≡ 0 }
+        ensures begun { ⟦<WriteSink<W> as Sink>⟧.begun result ≡ 0 }
+    {
+        WriteSink {
+            inner,
+            failed: false,
+            begins: 0,
+        }
+    }
+
+    /// The writer.
+    pub fn into_inner(self) -> W
+        ensures { ⟦<WriteSink<W> as Sink>⟧.taken self ≡ W.contents result }
+    {
+        let WriteSink {
+            inner,
+            failed: _,
+            begins: _,
+        } = self;
+        inner
+    }
+}
+
+impl<W: Write> Sink for WriteSink<W> {
+    ghost use Rattle.std.specs.Prelude.{if◌then◌else◌};
+
+    ghost taken = { λ s. W.contents s.inner };
+
+    ghost failed = { λ s. if s.failed then 1 else 0 };
+
+    ghost begun = { λ s. s.begins };
+
+    fn begin(&mut self) -> Result<(), Fault> {
+        self.begins = self.begins.saturating_add(1);
+        if self.failed {
+            Err(Fault::Write)
+        } else {
+            Ok(())
+        }
+    }
+
+    fn put(&mut self, piece: &[u8]) -> Result<usize, Fault> {
+        if self.failed {
+            return Err(Fault::Write);
+        }
+        match self.inner.write(piece) {
+            Ok(count) if count > 0 || piece.is_empty() => Ok(count),
+            _ => {
+                self.failed = true;
+                Err(Fault::Write)
+            }
+        }
+    }
+
+    fn failures(&self) -> u64 {
+        u64::from(self.failed)
+    }
+
+    fn begins(&self) -> u64 {
+        self.begins
+    }
+}
