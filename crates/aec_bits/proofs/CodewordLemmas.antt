@@ -1,17 +1,14 @@
 -- Laws of the codewords, and of the bytes that bits fill.
-use Rattle.std.proofs.Common.{◌≡◌, ℕ, zero, suc, ◌+◌, ◌-◌, ◌*◌, ◌/◌, ◌%◌, ◌^◌, ◌<◌, ◌≤◌, Bool, true, false, cond, eqb, List, [], ◌∷◌, ◌++◌, length, take, drop, replicate, map, get_or, refl, sym, ap, ◌∙◌, subst, arith, rules, append_assoc, length-append, div-one, pow-suc, mod-eq_of_lt, inl, inr, ◌⊎◌}
+use Rattle.std.proofs.Common.{◌≡◌, ℕ, zero, suc, ◌+◌, ◌-◌, ◌*◌, ◌/◌, ◌%◌, ◌^◌, ◌<◌, ◌≤◌, Bool, true, false, cond, List, [], ◌∷◌, ◌++◌, length, take, drop, replicate, get_or, refl, sym, ap, ◌∙◌, arith, append_assoc, length-append, div-one, pow-suc, mod-eq_of_lt, inl, inr}
 use Rattle.std.specs.Prelude.{◌==◌, bit_and, min}
 use Rattle.std.proofs.Math.Numerals.{one-add}
 use mir.Val.{bool_byte}
 use Rattle.std.specs.Int.{div_ceil}
 use Rattle.std.specs.Simd.{first_chunks}
-use Rattle.std.proofs.lemmas.Grind.{common_steps}
 use Rattle.std.proofs.lemmas.Nat.{and_mask, shr-shr, shl_below}
 use Rattle.std.proofs.lemmas.Bool.{cases_lt}
-use Rattle.std.proofs.lemmas.List.{take_more, append-nil, take-append-le, take-take, drop_at, take_at, length-take-le, drop-append-le, length-drop, length-replicate, length-map, get_or-map, drop_more, drop-drop, drop_all, take_all, replicate_more}
-use Rattle.std.proofs.lemmas.List.Edits.{take-paste}
-use lib.Seq.{paste}
-use Rattle.aec_params.specs.Codewords.{fs, binary, bits_number, bytes_of, padded_to_byte, bits_of_bytes}
+use Rattle.std.proofs.lemmas.List.{take_more, append-nil, take_at, drop-append-le, length-replicate, length-map, get_or-map, drop_more, drop-drop, drop_all, take_all, replicate_more}
+use Rattle.aec_params.specs.Codewords.{binary, bits_number, bytes_of, padded_to_byte, bits_of_bytes}
 use Rattle.aec_params.specs.Cutting.{pieces_of, up_to_multiple}
 use Rattle.aec_bits.specs.BitReader.{has_one}
 use Rattle.aec_bits.specs.CodewordLaws.{length-binary, bits_number-append, bits_number-zeros, bits_number-binary}

@@ -1,5 +1,5 @@
 -- What several calls of a sink do together.
-use Rattle.std.proofs.Common.{◌≡◌, ℕ, ◌+◌, ◌-◌, ◌≤◌, List, ◌++◌, Option, Some, None, Result, Ok, Err, length, take, drop, subst, sym, ap, ◌∙◌, arith, take-add, inl, inr}
+use Rattle.std.proofs.Common.{ℕ, ◌+◌, List, Option, Result, Ok, Err, take, drop, subst, sym, arith, take-add, inl, inr}
 use Rattle.std.specs.Result.{OnErr}
 use Rattle.std.specs.Io.KnownBytes.{Appends}
 use Rattle.std.proofs.KnownBytes.{Appends-trans}

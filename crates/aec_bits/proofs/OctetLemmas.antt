@@ -1,11 +1,11 @@
 -- What the coder of octets meets as it goes.
-use Rattle.std.proofs.Common.{◌≡◌, ℕ, zero, suc, ◌+◌, ◌*◌, ◌<◌, ◌≤◌, ◌^◌, Bool, true, List, [], ◌∷◌, ◌++◌, length, take, drop, get_or, ℤ, pos, nat_abs, refl, sym, ap, ◌∙◌, subst, arith, append_assoc, length-append}
+use Rattle.std.proofs.Common.{◌≡◌, ℕ, zero, suc, ◌+◌, ◌*◌, ◌<◌, ◌≤◌, ◌^◌, Bool, true, List, [], ◌∷◌, ◌++◌, length, take, drop, get_or, ℤ, pos, nat_abs, refl, sym, ap, ◌∙◌, arith, append_assoc, length-append}
 use Rattle.std.proofs.lemmas.Bool.{and_parts}
 use Rattle.std.specs.List.{list_all, flat_map}
 use Rattle.std.proofs.lemmas.List.{take_more, drop_more, drop-drop, length-drop, append-nil, take_at, drop_at}
 use Rattle.std.proofs.lemmas.List.Concat.{flat_map-append}
 use Rattle.aec_params.specs.Codewords.{binary}
-use Rattle.aec_bits.specs.Codec.{IsInterval, BeginsAt}
+use Rattle.aec_bits.specs.Codec.{BeginsAt}
 use Rattle.aec_bits.specs.Octets.{octet_bits, is_octet, octets}
 use Rattle.aec_bits.specs.OctetsLaw.{octet_number, same_number}
 use Rattle.aec_bits.specs.CodewordLaws.{length-binary}

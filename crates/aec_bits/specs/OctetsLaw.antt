@@ -1,5 +1,5 @@
 -- Octets are told apart by their bits.
-use Rattle.std.proofs.Common.{◌≡◌, ℕ, zero, suc, ◌<◌, ◌^◌, ◌%◌, Bool, true, false, ◌&&◌, List, [], ◌∷◌, ◌++◌, length, take, drop, ℤ, pos, negsuc, nat_abs, refl, sym, ap, ◌∙◌, arith, rules, append_assoc, mod-eq_of_lt, lit≤, subst, ltb}
+use Rattle.std.proofs.Common.{◌≡◌, ℕ, ◌<◌, Bool, true, List, [], ◌∷◌, ◌++◌, length, take, drop, ℤ, pos, negsuc, nat_abs, refl, sym, ap, ◌∙◌, arith, append_assoc, mod-eq_of_lt, lit≤, subst, ltb}
 use Rattle.std.specs.Prelude.{int_le, int_lt}
 use Rattle.std.specs.Int.{w64}
 use Rattle.std.specs.Int.RustNames.{FitsSigned}
@@ -9,7 +9,7 @@ use Rattle.std.proofs.lemmas.List.{take_at, drop_at}
 use Rattle.std.proofs.lemmas.Bool.{and_parts}
 use Rattle.std.proofs.lemmas.Int.{ints}
 use Rattle.aec_params.specs.Codewords.{binary, bits_number}
-use Rattle.aec_bits.specs.Codec.{Format, IsInterval, IsLawful}
+use Rattle.aec_bits.specs.Codec.{IsLawful}
 use Rattle.aec_bits.specs.Octets.{octet_bits, is_octet, octets}
 use Rattle.aec_bits.specs.CodewordLaws.{length-binary, bits_number-binary}
 

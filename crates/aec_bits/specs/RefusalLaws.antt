@@ -1,14 +1,12 @@
 -- Laws of refusals.
-use Rattle.std.proofs.Common.{◌≡◌, ℕ, zero, suc, ◌+◌, ◌<◌, ◌≤◌, Bool, true, false, ◌&&◌, cond, ltb, Option, Some, None, List, [], ◌∷◌, length, take, drop, get_or, ℤ, refl, sym, ap, ◌∙◌, arith}
+use Rattle.std.proofs.Common.{◌≡◌, ℕ, zero, suc, ◌+◌, ◌<◌, ◌≤◌, Bool, true, false, ltb, Some, None, List, [], ◌∷◌, length, take, drop, get_or, ℤ, refl, ap, ◌∙◌, arith}
 use Rattle.std.proofs.lemmas.Bool.{and_parts}
 use Rattle.std.specs.List.{list_all}
-use Rattle.std.specs.Option.{option_map}
 use Rattle.std.proofs.lemmas.Bool.Decides.{nat_tests}
-use Rattle.aec_params.specs.declared.fault.Fault.{Fault}
 use Rattle.aec_params.specs.declared.fault.Fault.TheVariants.{SampleRange, TooManySamples, OutOfRange}
 use Rattle.aec_params.specs.declared.edit.Edit.TheVariants.{Overwrite, Append, Truncate}
 use Rattle.aec_bits.specs.Codec.{Format, AreHeld}
-use Rattle.aec_bits.specs.Refusals.{first_unheld, values_refusal, refusal_of}
+use Rattle.aec_bits.specs.Refusals.{first_unheld, refusal_of}
 
 -- nothing is found in a list that is held
 pub first_unheld-held : (holds : ℤ → Bool) (i : ℕ) (s : List ℤ) → list_all holds s ≡ true → first_unheld holds i s ≡ None

@@ -16,3 +16,4 @@ pub use bit_reader::BitReader;
 pub use codec::Codec;
 pub use device::{Sink, Source};
 pub use io_device::{ReadSource, WriteSink};
+pub use writing::put_all;

@@ -51,7 +51,7 @@ fn fill(buf: &BitBuf, first: u64, piece: &mut [u8]) -> usize
 }
 
 /// Puts all bytes of a piece to a sink, in as many calls as it needs.
-fn put_all<W: Sink>(out: &mut W, piece: &[u8]) -> Result<(), Fault>
+pub fn put_all<W: Sink>(out: &mut W, piece: &[u8]) -> Result<(), Fault>
     ensures ok { OnOk result (Appends (W.taken out.old) (W.taken out.new) piece.now) }
     ensures front { OnErr result (AppendsFront (W.taken out.old) (W.taken out.new) piece.now) }
     ensures begun { W.begun out.new ≡ W.begun out.old }

@@ -5,3 +5,5 @@ pub mod ReadAt
 pub mod Laws
 pub mod Choices
 pub mod Written
+pub mod Gathering
+pub mod ReadCds

@@ -3,17 +3,21 @@
 #![tactic(auto)]
 
 mod block;
-pub mod laws;
+mod cds;
 mod choice;
+pub mod laws;
 mod lengths;
 mod mapping;
 mod reading;
+mod reading_codewords;
+mod reading_values;
+#[cfg(test)]
+mod tests;
 mod writing;
 
 pub use block::Block;
+pub use cds::{Cds, RunLen};
 pub use choice::{Choice, Coding, choose};
 pub use mapping::{map, unmap};
+pub use reading::read_cds;
 pub use writing::{write_block, write_run};
-
-#[cfg(test)]
-mod tests;

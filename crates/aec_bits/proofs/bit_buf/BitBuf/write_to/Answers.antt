@@ -1,4 +1,4 @@
-use Rattle.std.proofs.Common.{◌≡◌, ◌<◌, length, arith, sym, ◌∙◌, subst}
+use Rattle.std.proofs.Common.{arith, sym, ◌∙◌}
 use Rattle.std.proofs.lemmas.List.{length-take, length-drop}
 use Rattle.aec_params.specs.Codewords.{bytes_of}
 use Rattle.aec_bits.proofs.DeviceLemmas.{Appends_more, AppendsFront_more, on_err}

@@ -1,4 +1,4 @@
-use Rattle.std.proofs.Common.{◌≡◌, ◌+◌, ◌*◌, ◌≤◌, ◌<◌, length, drop, ◌++◌, arith, ap, sym, ◌∙◌, refl}
+use Rattle.std.proofs.Common.{length, arith, ap, ◌∙◌}
 use mir.Val.{to_z}
 use mir.Syntax.{w64}
 use Rattle.std.proofs.lemmas.Int.{to_z_pos}
