@@ -108,7 +108,9 @@ fn numbers_follow_from_settings(rt: HostRuntime) -> Result<(), Fail> {
         );
         assert_eq!(rt; params.storage(), storage, "at {settings:?}");
         assert!(rt; params.holds(x_min) && params.holds(x_max));
-        assert!(rt; !params.holds(x_min.saturating_sub(1)) && !params.holds(x_max.saturating_add(1)));
+        assert!(rt;
+            !params.holds(x_min.saturating_sub(1)) && !params.holds(x_max.saturating_add(1))
+        );
     }
     Ok(())
 }
