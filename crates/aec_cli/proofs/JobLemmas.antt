@@ -1,5 +1,5 @@
 -- How the number of an option is read.
-use Rattle.std.proofs.Common.{◌≡◌, ap, Bool, true, false, List, [], ◌∷◌, ℕ, length, ◌&&◌, ◌^◌, nat_lt, refl, sym, Option, Some, None}
+use Rattle.std.proofs.Common.{◌≡◌, ap, Bool, true, false, List, [], ◌∷◌, ℕ, length, ◌&&◌, ◌^◌, nat_lt, refl, Option, Some, None}
 use Rattle.std.specs.Prelude.{Ok, Err, Result, unwrap_or, option_and_then}
 use Rattle.std.specs.Str.Parse.{AllDigits, ParsesUnsigned, digits_value, without_leading_plus}
 use Rattle.std.specs.Char.{digit_value}

@@ -1,5 +1,5 @@
 -- The job that the words of a command ask for: a function of what a parse found.
-use Rattle.std.specs.Prelude.{ℕ, ◌^◌, Bool, false, not, ◌&&◌, nat_lt, if◌then◌else◌, List, [], Option, Some, None, unwrap_or, option_and_then, Result, Ok, Err, codes}
+use Rattle.std.specs.Prelude.{ℕ, ◌^◌, Bool, false, not, ◌&&◌, nat_lt, if◌then◌else◌, [], Option, Some, None, unwrap_or, option_and_then, Result, Ok, Err, codes}
 use Rattle.std.specs.Option.{option_map_or}
 use Rattle.std.specs.Str.{bytes_eq}
 use Rattle.std.specs.Str.Parse.{digits_value, without_leading_plus}
