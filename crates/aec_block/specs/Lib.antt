@@ -1,5 +1,8 @@
 pub mod Offsets
 pub mod BlockShape
+pub mod Lengths
+pub mod Choices
+pub mod Written
 pub mod ReadAt
 pub mod Gathering
 pub mod ReadCds

@@ -1,5 +1,14 @@
+pub mod ParamsLemmas
+pub mod StoredLemmas
 pub mod WorkedSettings
 pub mod WorkedStreams
 pub mod WorkedBlocks
 pub mod WorkedEdits
 pub mod WorkedReadings
+pub mod WorkedRests
+pub mod ListLaws
+pub mod CodewordLaws
+pub mod PairLaws
+pub mod MappingLaws
+pub mod PatternLaws
+pub mod ValueLaws

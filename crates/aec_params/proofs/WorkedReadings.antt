@@ -1,11 +1,19 @@
 -- Small streams read back, and the faults of others, worked out against the definitions of a reading and a fault.
 use Rattle.std.proofs.Common.{rules, lit<, ◌≡◌, ℕ, true, false, ℤ, pos, Option, Some, None, List, [], ◌∷◌, ◌++◌, map, replicate, refl}
 use Rattle.aec_params.specs.declared.settings.Settings.{Settings}
+use Rattle.aec_params.specs.declared.fault.Fault.TheVariants.{ValueTooLarge, RunTooLong, TooManySamples}
 use Rattle.aec_params.specs.Codewords.{bits_of_bytes}
 use Rattle.aec_params.specs.CodedDataSets.{CodedDataSet, plain_values, value_pairs, split_values, zero_blocks}
 use Rattle.aec_params.specs.Blocks.{Block}
+use Rattle.aec_params.specs.Places.{zero_block}
 use Rattle.aec_params.specs.Reading.{IsReading}
+use Rattle.aec_params.specs.Faults.{IsFault, too_large, too_long, too_many}
 use Rattle.aec_params.proofs.WorkedSettings.{usual, with_interval, unprocessed, padded}
+
+-- ---- a ramp
+
+abbrev ramp_bytes : List ℕ
+ramp_bytes = 0x20 ∷ 0x09 ∷ 0x24 ∷ 0x92 ∷ []
 
 abbrev ramp : List ℤ
 ramp = map pos (0 ∷ 1 ∷ 2 ∷ 3 ∷ 4 ∷ 5 ∷ 6 ∷ 7 ∷ [])
@@ -13,19 +21,90 @@ ramp = map pos (0 ∷ 1 ∷ 2 ∷ 3 ∷ 4 ∷ 5 ∷ 6 ∷ 7 ∷ [])
 abbrev ramp_set : CodedDataSet
 ramp_set = record { reference = Some 0; body = split_values 0 (1 ∷ 2 ∷ 2 ∷ 2 ∷ 2 ∷ 2 ∷ 2 ∷ []) }
 
--- the ramp's bytes, read with a count of 8
-pub ramp_read : IsReading usual (Some 8) 4096 (bits_of_bytes (0x20 ∷ 0x09 ∷ 0x24 ∷ 0x92 ∷ [])) ramp
-ramp_read = record {
-  blocks = record { reference = Some 0; values = 0 ∷ 1 ∷ 2 ∷ 2 ∷ 2 ∷ 2 ∷ 2 ∷ 2 ∷ [] } ∷ [];
+abbrev ramp_block : Block
+ramp_block = record { reference = Some 0; values = 0 ∷ 1 ∷ 2 ∷ 2 ∷ 2 ∷ 2 ∷ 2 ∷ 2 ∷ [] }
+
+pub ramp_with_count : IsReading usual (Some 8) 4096 (bits_of_bytes ramp_bytes) ramp
+ramp_with_count = record {
+  blocks = ramp_block ∷ [];
   read = record {
-    sets = ramp_set ∷ [];
-    end_block = 1;
-    end_bit = 31;
+    sets = ramp_set ∷ []; end_block = 1; end_bit = 31;
     leads = (refl, refl, record { shape = record { reference = lit< tt; body = (lit< tt, refl) }; small = refl; within = refl }, refl, (refl, refl));
-    done = refl;
-    kept = refl
-  };
+    done = refl; kept = refl };
   all_samples = ramp;
   filled = record { held = search rules; whole = refl; mapped = refl };
-  counted = refl
-}
+  counted = refl }
+
+pub ramp_without_count : IsReading usual None 4096 (bits_of_bytes ramp_bytes) ramp
+ramp_without_count = record {
+  blocks = ramp_block ∷ [];
+  read = record {
+    sets = ramp_set ∷ []; end_block = 1; end_bit = 31;
+    leads = (refl, refl, record { shape = record { reference = lit< tt; body = (lit< tt, refl) }; small = refl; within = refl }, refl, (refl, refl));
+    done = refl; kept = refl };
+  all_samples = ramp;
+  filled = record { held = search rules; whole = refl; mapped = refl };
+  counted = refl }
+
+-- ---- five sevens: with the count of five, and the whole block without one
+
+abbrev sevens : ℕ → List ℤ
+sevens n = map pos (replicate n 7)
+
+abbrev sevens_set : CodedDataSet
+sevens_set = record { reference = Some 7; body = zero_blocks 0 }
+
+pub five_sevens : IsReading usual (Some 5) 4096 (bits_of_bytes (0x00 ∷ 0x78 ∷ [])) (sevens 5)
+five_sevens = record {
+  blocks = zero_block usual (Some 7) ∷ [];
+  read = record {
+    sets = sevens_set ∷ []; end_block = 1; end_bit = 13;
+    leads = (refl, refl, record { shape = record { reference = lit< tt; body = tt }; small = refl; within = refl }, refl, (refl, refl));
+    done = refl; kept = refl };
+  all_samples = sevens 8;
+  filled = record { held = search rules; whole = refl; mapped = refl };
+  counted = refl }
+
+pub eight_sevens : IsReading usual None 4096 (bits_of_bytes (0x00 ∷ 0x78 ∷ [])) (sevens 8)
+eight_sevens = record {
+  blocks = zero_block usual (Some 7) ∷ [];
+  read = record {
+    sets = sevens_set ∷ []; end_block = 1; end_bit = 13;
+    leads = (refl, refl, record { shape = record { reference = lit< tt; body = tt }; small = refl; within = refl }, refl, (refl, refl));
+    done = refl; kept = refl };
+  all_samples = sevens 8;
+  filled = record { held = search rules; whole = refl; mapped = refl };
+  counted = refl }
+
+-- ---- zeros in two intervals, and with padding
+
+abbrev zeros : ℕ → List ℤ
+zeros n = map pos (replicate n 0)
+
+abbrev run_from_the_start : ℕ → CodedDataSet
+run_from_the_start m = record { reference = Some 0; body = zero_blocks m }
+
+pub seventeen_zeros : IsReading usual (Some 17) 4096 (bits_of_bytes (0x00 ∷ 0x04 ∷ 0x00 ∷ 0x20 ∷ [])) (zeros 17)
+seventeen_zeros = record {
+  blocks = zero_block usual (Some 0) ∷ zero_block usual None ∷ zero_block usual (Some 0) ∷ [];
+  read = record {
+    sets = run_from_the_start 1 ∷ run_from_the_start 0 ∷ []; end_block = 3; end_bit = 27;
+    leads = (refl, refl, record { shape = record { reference = lit< tt; body = tt }; small = refl; within = refl }, refl,
+            (refl, refl, record { shape = record { reference = lit< tt; body = tt }; small = refl; within = refl }, refl, (refl, refl)));
+    done = refl; kept = refl };
+  all_samples = zeros 24;
+  filled = record { held = search rules; whole = refl; mapped = refl };
+  counted = refl }
+
+-- the second interval begins behind the padding, and a rest of zero bits ends the stream
+pub padded_zeros : IsReading padded None 4096 (bits_of_bytes (0x00 ∷ 0x04 ∷ 0x00 ∷ 0x08 ∷ [])) (zeros 24)
+padded_zeros = record {
+  blocks = zero_block usual (Some 0) ∷ zero_block usual None ∷ zero_block usual (Some 0) ∷ [];
+  read = record {
+    sets = run_from_the_start 1 ∷ run_from_the_start 0 ∷ []; end_block = 3; end_bit = 29;
+    leads = (refl, refl, record { shape = record { reference = lit< tt; body = tt }; small = refl; within = refl }, refl,
+            (refl, refl, record { shape = record { reference = lit< tt; body = tt }; small = refl; within = refl }, refl, (refl, refl)));
+    done = refl; kept = refl };
+  all_samples = zeros 24;
+  filled = record { held = search rules; whole = refl; mapped = refl };
+  counted = refl }

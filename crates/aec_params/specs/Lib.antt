@@ -14,3 +14,4 @@ pub mod Streams
 pub mod Reading
 pub mod Faults
 pub mod Edits
+pub mod Laws

@@ -3,10 +3,12 @@
 
 mod edit;
 mod fault;
+pub mod laws;
 mod limits;
 mod params;
 mod samples;
 mod settings;
+mod stored;
 
 pub use edit::Edit;
 pub use fault::Fault;
@@ -14,3 +16,4 @@ pub use limits::Limits;
 pub use params::Params;
 pub use samples::Samples;
 pub use settings::Settings;
+pub use stored::{put_sample, read_samples};

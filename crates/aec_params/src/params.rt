@@ -180,6 +180,17 @@ impl Params {
         self.x_min() <= x && x <= self.x_max()
     }
 
+    /// The pattern of a sample: its two's complement in n bits, as an unsigned number.
+    #[tactic(auto, using(crate::proofs::ParamsLemmas::patterns))]
+    pub fn pattern(&self, x: i64) -> u32
+        requires { IsHeld self.now x }
+        ensures value { result ≡ sample_pattern self.now x }
+        ensures fits { result < 2 ^ self.now.bits }
+        ensures undone { pattern_value self.now result ≡ x }
+    {
+        (x.cast_unsigned() % (1u64 << self.bits())) as u32
+    }
+
     /// The sample of a pattern.
     pub fn value(&self, pattern: u32) -> i64
         requires { pattern < 2 ^ self.now.bits }

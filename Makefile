@@ -1,0 +1,30 @@
+# What a user and a developer run. The toolchain's command `rt` has to be on the path.
+PREFIX ?= /usr/local
+
+.PHONY: all example test install bench clean
+
+# Proves the program and everything that it stands on, builds it, and leaves it in bin/aec.
+all: bin/aec
+
+bin/aec: FORCE
+	@mkdir -p bin
+	cd crates/aec && rt run -- --help > /dev/null
+	cp crates/aec/out/aec bin/aec
+
+FORCE:
+
+# The main job on the files of examples/.
+example: bin/aec
+	sh examples/run.sh bin/aec
+
+# The gate, and then every other test.
+test:
+	sh tests/run.sh
+
+install: bin/aec
+	install -d $(DESTDIR)$(PREFIX)/bin $(DESTDIR)$(PREFIX)/share/man/man1
+	install -m 755 bin/aec $(DESTDIR)$(PREFIX)/bin/aec
+	install -m 644 man/aec.1 $(DESTDIR)$(PREFIX)/share/man/man1/aec.1
+
+clean:
+	rm -rf bin crates/*/out

@@ -1,0 +1,97 @@
+-- The lengths of spellings are the sums.
+use Rattle.std.proofs.Common.{◌≡◌, ℕ, zero, suc, ◌+◌, ◌-◌, ◌*◌, ◌/◌, ◌%◌, ◌^◌, ◌<◌, ◌≤◌, refl, ap, ◌∙◌, arith, Option, Some, None, List, [], ◌∷◌, length, length-append, length-drop, drop-cons, drop, get_or}
+use Rattle.std.specs.List.{flat_map}
+use Rattle.std.proofs.lemmas.List.{length-replicate}
+use Rattle.std.proofs.lemmas.List.Sums.{sum_by-cons}
+use Rattle.aec_params.specs.declared.settings.Settings.{Settings}
+use Rattle.aec_params.specs.Params.{id_len}
+use Rattle.aec_params.specs.Codewords.{fs, binary}
+use Rattle.aec_params.specs.Blocks.{Block}
+use Rattle.aec_params.specs.CodedDataSets.{pair_number, pair_bits, reference_bits, cds_bits}
+use Rattle.aec_params.specs.Spellings.{written_values, uncompressed, paired, split}
+use Rattle.aec_block.specs.Lengths.{reference_len, shifted_sum, pairs_len, uncompressed_len, paired_len, split_len}
+
+pub length-binary : (w v : ℕ) → length (binary w v) ≡ w
+length-binary zero v = refl
+length-binary (suc w) v = omega (arith, length-binary w v)
+
+pub length-fs : (v : ℕ) → length (fs v) ≡ v + 1
+length-fs v = simp (length-append, length-replicate)
+
+pub length-reference_bits : (s : Settings) (reference : Option ℕ) → length (reference_bits s reference) ≡ reference_len s reference
+length-reference_bits s None = refl
+length-reference_bits s (Some r) = length-binary s.bits r
+
+-- codewords of one width
+length-binaries : (w : ℕ) (values : List ℕ) → length (flat_map (binary w) values) ≡ length values * w
+length-binaries w [] = omega arith
+length-binaries w (v ∷ values) =
+    let rest = length-binaries w values in
+    let here = length-binary w v in
+    simp length-append (omega arith)
+
+-- the high parts and the low parts of values that are split
+length-high_parts : (k : ℕ) (values : List ℕ) → length (flat_map (λ v. fs (v / 2 ^ k)) values) ≡ shifted_sum k values + length values
+length-high_parts k [] = refl
+length-high_parts k (v ∷ values) =
+    let rest = length-high_parts k values in
+    let added = sum_by-cons (λ (u : ℕ). u / 2 ^ k) v values in
+    simp (length-append, length-replicate) (omega arith)
+
+length-low_parts : (k : ℕ) (values : List ℕ) → length (flat_map (λ v. binary k (v % 2 ^ k)) values) ≡ length values * k
+length-low_parts k [] = omega arith
+length-low_parts k (v ∷ values) =
+    let rest = length-low_parts k values in
+    let here = length-binary k (v % 2 ^ k) in
+    simp length-append (omega arith)
+
+pub length-pair_bits : (values : List ℕ) → length (pair_bits values) ≡ pairs_len values
+length-pair_bits [] = refl
+length-pair_bits (a ∷ []) = refl
+length-pair_bits (a ∷ (b ∷ values)) =
+    let rest = length-pair_bits values in
+    simp (length-append, length-replicate) (omega arith)
+
+pub length-uncompressed : (s : Settings) (b : Block) → length (cds_bits s (uncompressed b)) ≡ uncompressed_len s b
+length-uncompressed s b =
+    let head = length-binary (id_len s) (2 ^ id_len s - 1) in
+    let reference = length-reference_bits s b.reference in
+    let body = length-binaries s.bits (written_values b) in
+    simp length-append (omega arith)
+
+pub length-paired : (s : Settings) (b : Block) → length (cds_bits s (paired b)) ≡ paired_len s b
+length-paired s b =
+    let head = length-binary (id_len s + 1) 1 in
+    let reference = length-reference_bits s b.reference in
+    let body = length-pair_bits b.values in
+    simp length-append (omega arith)
+
+pub length-split : (s : Settings) (b : Block) (k : ℕ) → length (cds_bits s (split b k)) ≡ split_len s b k
+length-split s b k =
+    let head = length-binary (id_len s) (k + 1) in
+    let reference = length-reference_bits s b.reference in
+    let high = length-high_parts k (written_values b) in
+    let low = length-low_parts k (written_values b) in
+    simp length-append (omega arith)
+
+-- the next pair of values, and the end
+pub pairs_len-drop : (values : List ℕ) (i j k : ℕ) → j ≡ i + 1 → k ≡ i + 2 → j < length values
+    → pairs_len (drop i values) ≡ pair_number (get_or values i 0) (get_or values j 0) + 1 + pairs_len (drop k values)
+pairs_len-drop values i j k next after within =
+    let here : i < length values = omega arith in
+    let there : suc i < length values = omega arith in
+    let first = drop-cons values i 0 here in
+    let second = drop-cons values (suc i) 0 there in
+    let at_j : j ≡ suc i = omega arith in
+    let at_k : k ≡ suc (suc i) = omega arith in
+    rw (at_j, at_k) (ap pairs_len first ∙ ap (λ (rest : List ℕ). pairs_len (get_or values i 0 ∷ rest)) second)
+
+pairs_len-short : (values : List ℕ) → length values ≤ 1 → pairs_len values ≡ 0
+pairs_len-short [] few = refl
+pairs_len-short (a ∷ []) few = refl
+pairs_len-short (a ∷ (b ∷ values)) few = absurd (omega arith)
+
+pub pairs_len-drop_end : (values : List ℕ) (i : ℕ) → length values ≤ i + 1 → pairs_len (drop i values) ≡ 0
+pairs_len-drop_end values i few = pairs_len-short (drop i values) (omega (arith, length-drop i values))
+
+pub ruleset pair_steps = (pairs_len-drop, pairs_len-drop_end)

@@ -1,0 +1,36 @@
+-- The choice of a block's coding: which spelling each names, and the one that is made.
+use Rattle.std.specs.Prelude.{◌≡◌, ℕ, ◌^◌, ◌<◌, ⊤, Option, Some, None, length}
+use Rattle.std.specs.List.{AllByRecursion}
+use Rattle.aec_params.specs.declared.settings.Settings.{Settings}
+use Rattle.aec_params.specs.Blocks.{Block}
+use Rattle.aec_params.specs.CodedDataSets.{CodedDataSet, cds_bits}
+use Rattle.aec_params.specs.Spellings.{uncompressed, paired, split, shortest_spelling}
+use Rattle.aec_block.specs.declared.choice.Coding.{Coding}
+use Rattle.aec_block.specs.declared.choice.Coding.TheVariants.{NoCompression, SecondExtension, Split}
+use Rattle.aec_block.specs.declared.choice.Choice.{Choice}
+
+-- a reference sample's pattern fits n bits, where there is one
+abbrev pub FitsReference : Settings → Option ℕ → Type 0
+FitsReference s None = ⊤
+FitsReference s (Some r) = r < 2 ^ s.bits
+
+-- a block that these settings have: J values and a reference, all of n bits
+pub record IsFull (s : Settings) (b : Block) : Type 0 where
+  pub len : length b.values ≡ s.block_size
+  pub values : AllByRecursion (λ v. v < 2 ^ s.bits) b.values
+  pub reference : FitsReference s b.reference
+
+-- the block by a coding
+abbrev pub spelling_by : Block → Coding → CodedDataSet
+spelling_by b NoCompression = uncompressed b
+spelling_by b SecondExtension = paired b
+spelling_by b (Split k) = split b k
+
+-- a choice that names a spelling of the block, and its whole length
+pub record Names (s : Settings) (b : Block) (c : CodedDataSet) (choice : Choice) : Type 0 where
+  pub coding : spelling_by b choice.coding ≡ c
+  pub bits : choice.bits ≡ length (cds_bits s c)
+
+-- the choice of the shortest spelling, and of equal ones the first
+abbrev pub IsChoice : Settings → Block → Choice → Type 0
+IsChoice s b choice = Names s b (shortest_spelling s b) choice

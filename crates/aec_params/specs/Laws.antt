@@ -1,0 +1,64 @@
+-- What the definitions of the format were meant to say: codewords tell numbers apart, values and pieces give back what they came from.
+use Rattle.std.specs.Prelude.{◌≡◌, ℕ, ◌+◌, ◌^◌, ◌<◌, Bool, true, ℤ, List, ◌++◌, length, map}
+use Rattle.std.specs.List.{flat_map, list_all}
+use Rattle.aec_params.specs.Codewords.{fs, binary, bits_number}
+use Rattle.aec_params.specs.CodedDataSets.{pair_number}
+use Rattle.aec_params.specs.declared.settings.Settings.{Settings}
+use Rattle.aec_params.specs.Params.{IsAllowed, IsHeld, sample_pattern}
+use Rattle.aec_params.specs.Mapping.{mapped_value}
+
+-- ---- codewords
+
+abbrev pub FundamentalSequencesDiffer : Type 0
+FundamentalSequencesDiffer = (a b : ℕ) (u v : List Bool) → fs a ++ u ≡ fs b ++ v → (a ≡ b) × (u ≡ v)
+
+abbrev pub BinaryNumbersDiffer : Type 0
+BinaryNumbersDiffer = (w a b : ℕ) (u v : List Bool) → a < 2 ^ w → b < 2 ^ w → binary w a ++ u ≡ binary w b ++ v → (a ≡ b) × (u ≡ v)
+
+-- codewords have the lengths that their names say
+pub record CodewordLengths : Type 0 where
+  pub of_fs : (v : ℕ) → length (fs v) ≡ v + 1
+  pub of_binary : (w v : ℕ) → length (binary w v) ≡ w
+
+-- numbers of w bits are read back, and bits are spelled again
+pub record BinaryNumbersAreReadBack : Type 0 where
+  pub number : (w v : ℕ) → v < 2 ^ w → bits_number (binary w v) ≡ v
+  pub below : (bits : List Bool) → bits_number bits < 2 ^ length bits
+  pub bits : (bits : List Bool) → binary (length bits) (bits_number bits) ≡ bits
+
+-- whatever follows its words, a code tells the keys of what it codes, of what passes the test
+abbrev pub TellsKeys : {X K : Type 0} → (X → Bool) → (X → List Bool) → (X → K) → Type 0
+TellsKeys {X} test code key =
+    (a b : X) (u v : List Bool) → test a ≡ true → test b ≡ true → code a ++ u ≡ code b ++ v → (key a ≡ key b) × (u ≡ v)
+
+-- such a code tells the keys of lists of one length
+abbrev pub ListsAreTold : Type 0 → Type 0 → Type 0
+ListsAreTold X K = (test : X → Bool) (code : X → List Bool) (key : X → K) → TellsKeys test code key
+    → (xs ys : List X) (u v : List Bool) → length xs ≡ length ys → list_all test xs ≡ true → list_all test ys ≡ true
+    → flat_map code xs ++ u ≡ flat_map code ys ++ v → (map key xs ≡ map key ys) × (u ≡ v)
+
+-- ---- pairs
+
+-- each number is the number of exactly one pair
+pub record EachNumberIsOnePair : Type 0 where
+  pub one_to_one : (a b c d : ℕ) → pair_number a b ≡ pair_number c d → (a ≡ c) × (b ≡ d)
+  pub onto : (m : ℕ) → (a : ℕ) × (b : ℕ) × (pair_number a b ≡ m)
+
+-- ---- samples and values
+
+-- at the prediction p, the samples and the values below 2^n stand for one another
+pub record EachValueIsOneSample (s : Settings) (p : ℤ) : Type 0 where
+  pub fits : (x : ℤ) → IsHeld s x → mapped_value s p x < 2 ^ s.bits
+  pub one_to_one : (x y : ℤ) → IsHeld s x → IsHeld s y → mapped_value s p x ≡ mapped_value s p y → x ≡ y
+  pub onto : (m : ℕ) → m < 2 ^ s.bits → (x : ℤ) × IsHeld s x × (mapped_value s p x ≡ m)
+
+-- the samples and their patterns of n bits stand for one another
+pub record EachPatternIsOneSample (s : Settings) : Type 0 where
+  pub fits : (x : ℤ) → IsHeld s x → sample_pattern s x < 2 ^ s.bits
+  pub one_to_one : (x y : ℤ) → IsHeld s x → IsHeld s y → sample_pattern s x ≡ sample_pattern s y → x ≡ y
+  pub onto : (m : ℕ) → m < 2 ^ s.bits → (x : ℤ) × IsHeld s x × (sample_pattern s x ≡ m)
+
+-- both, at any settings of the format and any prediction that is a sample
+pub record SamplesAreValues : Type 0 where
+  pub values : (s : Settings) (p : ℤ) → IsAllowed s → IsHeld s p → EachValueIsOneSample s p
+  pub patterns : (s : Settings) → IsAllowed s → EachPatternIsOneSample s

@@ -1,0 +1,38 @@
+//! Laws of the format's definitions. Their functions do nothing: what each one's contract says is proved.
+
+ghost use Rattle.aec_params.specs.Laws.{FundamentalSequencesDiffer, BinaryNumbersDiffer, CodewordLengths, BinaryNumbersAreReadBack, ListsAreTold, EachNumberIsOnePair, SamplesAreValues};
+
+/// Fundamental sequences of two numbers differ, whatever bits follow them.
+pub fn fundamental_sequences_differ()
+    ensures { FundamentalSequencesDiffer }
+{}
+
+/// Binary numbers of one length differ, whatever bits follow them.
+pub fn binary_numbers_differ()
+    ensures { BinaryNumbersDiffer }
+{}
+
+/// How long codewords are.
+pub fn codewords_have_their_lengths()
+    ensures { CodewordLengths }
+{}
+
+/// Numbers in binary are read back, and bits are spelled again from their number.
+pub fn binary_numbers_are_read_back()
+    ensures { BinaryNumbersAreReadBack }
+{}
+
+/// Lists of codewords differ as their codewords do, whatever bits follow them.
+pub fn lists_of_codewords_differ<X, K>()
+    ensures { ListsAreTold X K }
+{}
+
+/// Each number is the number of exactly one pair.
+pub fn each_number_is_one_pair()
+    ensures { EachNumberIsOnePair }
+{}
+
+/// At each prediction, and without preprocessing, samples and values below 2^n stand for one another.
+pub fn samples_are_values()
+    ensures { SamplesAreValues }
+{}

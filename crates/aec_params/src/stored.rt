@@ -1,0 +1,119 @@
+//! Samples as they are stored: bytes into samples, and a sample into its bytes.
+
+ghost use Rattle.std.specs.Prelude.{None, Ok, IfOk, IfErr, ◌≡◌, ◌<◌, ◌^◌, ◌*◌, ◌%◌, ◌++◌, drop, length};
+ghost use Rattle.aec_params.specs.declared.fault.Fault.TheVariants.{Memory};
+ghost use Rattle.aec_params.specs.Params.{IsHeld, pattern_value, storage_len};
+ghost use Rattle.std.specs.Result.{result_err};
+ghost use Rattle.aec_params.specs.Stored.{samples_of_bytes, stored_bytes, stored_number, AnswersSamples, is_sign_extended, number_in, sample_of_number};
+
+use crate::fault::Fault;
+use crate::params::Params;
+use byteorder::{BigEndian, ByteOrder, LittleEndian};
+use std::alloc::Global;
+
+/// The samples that bytes hold, `storage` bytes each; bytes at the end that form no whole sample are ignored.
+///
+/// `SampleRange` with the index of the first sample whose unused bits are not what its width allows, which is judged
+/// for the whole input before any memory is taken; then `Memory`.
+pub fn read_samples(alloc: Global, params: &Params, bytes: &[u8]) -> Result<Vec<i64>, Fault>
+    ensures { AnswersSamples (λ v. v.items) (samples_of_bytes params.now bytes.now) result }
+{
+    if let Some(index) = first_bad(params, bytes) {
+        return Err(Fault::SampleRange { index });
+    }
+    collect_samples(alloc, params, bytes)
+}
+
+/// The samples of bytes that hold no bad one; `Memory` where a growth is refused.
+fn collect_samples(alloc: Global, params: &Params, bytes: &[u8]) -> Result<Vec<i64>, Fault>
+    requires { result_err (samples_of_bytes params.now bytes.now) ≡ None }
+    ensures ok { IfOk result (λ v. samples_of_bytes params.now bytes.now ≡ Ok v.items) }
+    ensures err { IfErr result (λ e. e ≡ Memory) }
+{
+    let width = params.storage();
+    let mut samples = Vec::with_capacity(alloc, bytes.len() / width)?;
+    for group in bytes.chunks_exact(width) {
+        samples.push(low_value(params, number_of(params, group)))?;
+    }
+    Ok(samples)
+}
+
+/// The index of the first sample whose unused bits are not what its width allows.
+fn first_bad(params: &Params, bytes: &[u8]) -> Option<u64>
+    ensures { result ≡ result_err (samples_of_bytes params.now bytes.now) }
+{
+    for (index, group) in bytes.chunks_exact(params.storage()).enumerate() {
+        if sample_of(params, group).is_none() {
+            return Some(index as u64);
+        }
+    }
+    None
+}
+
+/// The sample that the bytes of one sample are; `None` where its unused bits are not what its width allows.
+fn sample_of(params: &Params, group: &[u8]) -> Option<i64>
+    requires { length group.now ≡ storage_len params.now }
+    ensures { result ≡ sample_of_number params.now (number_in params.now group.now) }
+{
+    let number = number_of(params, group);
+    if number < 1u64 << params.bits() {
+        return Some(params.value(number as u32));
+    }
+    if params.signed() && has_sign_bits(params, number) {
+        return Some(low_value(params, number));
+    }
+    None
+}
+
+/// The number in the bytes of one sample.
+fn number_of(params: &Params, group: &[u8]) -> u64
+    requires { length group.now ≡ storage_len params.now }
+    ensures { result ≡ number_in params.now group.now }
+{
+    if params.msb_first() {
+        BigEndian::read_uint(group, params.storage())
+    } else {
+        LittleEndian::read_uint(group, params.storage())
+    }
+}
+
+/// Whether the bits of a stored number from its sign bit on are all set.
+fn has_sign_bits(params: &Params, number: u64) -> bool
+    ensures { result ≡ is_sign_extended params.now number }
+{
+    let low = params.bits() - 1;
+    let high = 8 * params.storage() as u32 - low;
+    number >> low == (1u64 << high) - 1
+}
+
+/// The sample whose pattern is the low n bits of a number.
+fn low_value(params: &Params, number: u64) -> i64
+    ensures { result ≡ pattern_value params.now (number % 2 ^ params.now.bits) }
+{
+    params.value((number % (1u64 << params.bits())) as u32)
+}
+
+/// A sample in all bits of its bytes, as an unsigned number.
+fn full_width(params: &Params, x: i64) -> u64
+    requires { IsHeld params.now x }
+    ensures value { result ≡ stored_number params.now x }
+    ensures fits { result < 256 ^ storage_len params.now }
+{
+    x.cast_unsigned() % (1u64 << (8 * params.storage()))
+}
+
+/// Writes the bytes of a sample to the front of `out` and leaves the others. The number of them, `storage`.
+pub fn put_sample(params: &Params, x: i64, out: &mut [u8; 4]) -> usize
+    requires { IsHeld params.now x }
+    ensures bytes { out.new ≡ stored_bytes params.now x ++ drop (storage_len params.now) out.old }
+    ensures len { result ≡ storage_len params.now }
+{
+    let width = params.storage();
+    let number = full_width(params, x);
+    if params.msb_first() {
+        BigEndian::write_uint(out, number, width);
+    } else {
+        LittleEndian::write_uint(out, number, width);
+    }
+    width
+}
