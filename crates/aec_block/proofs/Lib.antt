@@ -2,7 +2,6 @@ pub mod MappingLemmas
 pub mod LengthLemmas
 pub mod BlockLemmas
 pub mod ChoiceLemmas
-pub mod PatternLemmas
 pub mod CodewordLemmas
 pub mod PairLemmas
 pub mod SplitLemmas

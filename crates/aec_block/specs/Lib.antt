@@ -1,9 +1,9 @@
 pub mod Offsets
 pub mod BlockShape
 pub mod Lengths
-pub mod ReadAt
-pub mod Laws
 pub mod Choices
 pub mod Written
+pub mod ReadAt
 pub mod Gathering
 pub mod ReadCds
+pub mod Laws

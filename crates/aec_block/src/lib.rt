@@ -11,8 +11,6 @@ mod mapping;
 mod reading;
 mod reading_codewords;
 mod reading_values;
-#[cfg(test)]
-mod tests;
 mod writing;
 
 pub use block::Block;
@@ -21,3 +19,8 @@ pub use choice::{Choice, Coding, choose};
 pub use mapping::{map, unmap};
 pub use reading::read_cds;
 pub use writing::{write_block, write_run};
+
+#[cfg(test)]
+mod reading_tests;
+#[cfg(test)]
+mod tests;
