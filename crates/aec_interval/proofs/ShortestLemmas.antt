@@ -1,20 +1,19 @@
 -- The shortest spelling is no longer than any coded data set that stands for the block, and what adding zero blocks costs.
-use Rattle.std.proofs.Common.{◌≡◌, ℕ, zero, suc, ◌+◌, ◌-◌, ◌*◌, ◌/◌, ◌%◌, ◌^◌, ◌<◌, ◌≤◌, Bool, true, false, cond, Option, Some, None, List, [], ◌∷◌, ◌++◌, length, map, take, drop, replicate, refl, sym, ap, ap₂, ◌∙◌, subst, arith, rules, inl, inr, ◌⊎◌, ⊎_elim}
-use Rattle.std.specs.Prelude.{nat_lt, nat_le, if◌then◌else◌}
+use Rattle.std.proofs.Common.{◌≡◌, ℕ, zero, suc, ◌+◌, ◌-◌, ◌*◌, ◌/◌, ◌%◌, ◌^◌, ◌<◌, ◌≤◌, Bool, true, false, cond, Option, Some, None, List, [], ◌∷◌, ◌++◌, length, map, refl, subst, arith, ⊎_elim}
+use Rattle.std.specs.Prelude.{nat_lt}
 use Rattle.std.specs.List.{AllByRecursion, range_with_len, best_of, flat_map}
-use Rattle.std.proofs.lemmas.List.{length-append, length-replicate}
-use Rattle.std.proofs.lemmas.Bool.{cases_lt, cond_both, cond-true, cond-false, ltb-true, ltb-false, leb-true, leb-false, le-leb, lt-leb}
+use Rattle.std.proofs.lemmas.List.{length-append}
+use Rattle.std.proofs.lemmas.Bool.{cases_lt, cond_both, ltb-true, ltb-false}
 use Rattle.std.proofs.lemmas.Nat.{mul-le}
 use Rattle.std.proofs.lemmas.Bool.Decides.{nat_tests}
 use Rattle.aec_params.specs.declared.settings.Settings.{Settings}
 use Rattle.aec_params.specs.Params.{IsAllowed, id_len, split_count}
 use Rattle.aec_params.specs.Codewords.{fs, binary}
 use Rattle.aec_params.specs.Blocks.{Block}
-use Rattle.aec_params.specs.CodedDataSets.{Body, plain_values, value_pairs, split_values, zero_blocks, CodedDataSet, pair_number, pair_bits, identifier, reference_bits, body_bits, cds_bits, HasReference, HasBody, HasShape, written_count}
-use Rattle.aec_params.specs.Places.{placed_values, placed_members, cds_blocks, block_count}
-use Rattle.aec_params.specs.Spellings.{after_reference, uncompressed, paired, split, compressed_spellings, shortest_spelling, is_shorter}
-use Rattle.aec_params.specs.Runs.{Group, zero_run, single_block, run_code}
-use Rattle.aec_params.specs.Intervals.{group_set, group_sets, is_empty}
+use Rattle.aec_params.specs.CodedDataSets.{plain_values, value_pairs, split_values, zero_blocks, pair_number, pair_bits, reference_bits, cds_bits, written_count}
+use Rattle.aec_params.specs.Places.{placed_values, placed_members}
+use Rattle.aec_params.specs.Spellings.{after_reference, uncompressed, split, compressed_spellings, shortest_spelling}
+use Rattle.aec_params.specs.Runs.{run_code}
 use Rattle.aec_params.proofs.SettingLaws.{at_least_one_bit}
 use Rattle.aec_params.proofs.CodewordLaws.{length-binary, length-fs}
 
@@ -30,10 +29,11 @@ best_of-least f a (x ∷ xs) =
     let next = cond (nat_lt (f x) (f a)) x a in
     let rest = best_of-least f next xs in
     let below : (f next ≤ f a) × (f next ≤ f x) = cond_both (nat_lt (f x) (f a)) x a (λ n. (f n ≤ f a) × (f n ≤ f x))
-        (λ t. let l = ltb-true (f x) (f a) t in (omega arith, omega arith)) (λ t. let l = ltb-false (f x) (f a) t in (omega arith, omega arith)) in
+    (λ t. let l = ltb-true (f x) (f a) t in (omega arith, omega arith)) (λ t. let l = ltb-false (f x) (f a) t in (omega arith, omega arith)) in
     record { first = omega (arith, rest.first); others = (omega (arith, rest.first), rest.others) }
 
-all_range : {X : Type 0} (P : X → Type 0) (f : ℕ → X) (first count k : ℕ) → AllByRecursion P (map f (range_with_len first count)) → first ≤ k → k < first + count → P (f k)
+all_range : {X : Type 0} (P : X → Type 0) (f : ℕ → X) (first count k : ℕ) → AllByRecursion P (map f (range_with_len first count)) → first ≤ k
+    → k < first + count → P (f k)
 all_range P f first zero k h l m = absurd (omega arith)
 all_range P f first (suc count) k h l m = ⊎_elim
     (λ e. all_range P f (first + 1) count k h.1 (omega arith) (omega arith))
@@ -48,13 +48,20 @@ pair_number-least a b = half ((0 + b) * (0 + b + 1)) ((a + b) * (a + b + 1)) (mu
     half : (x y : ℕ) → x ≤ y → x / 2 + b ≤ y / 2 + b
     half x y h = omega arith
 
-members-least : (reference : Option ℕ) (members : List ℕ) → 2 ≤ length members → length (pair_bits (placed_members reference members)) ≤ length (pair_bits members)
+members-least : (reference : Option ℕ) (members : List ℕ) → 2 ≤ length members
+    → length (pair_bits (placed_members reference members)) ≤ length (pair_bits members)
 members-least None members h = omega arith
 members-least (Some r) [] h = absurd (omega arith)
 members-least (Some r) (a ∷ []) h = absurd (omega arith)
 members-least (Some r) (a ∷ (b ∷ members)) h =
-    omega (arith, length-append (fs (pair_number 0 b)) (pair_bits members), length-append (fs (pair_number a b)) (pair_bits members),
-        length-fs (pair_number 0 b), length-fs (pair_number a b), pair_number-least a b)
+    omega (
+      arith,
+      length-append (fs (pair_number 0 b)) (pair_bits members),
+      length-append (fs (pair_number a b)) (pair_bits members),
+      length-fs (pair_number 0 b),
+      length-fs (pair_number a b),
+      pair_number-least a b,
+    )
 
 -- ---- runs
 
@@ -88,7 +95,8 @@ shortest-split_values s reference k values h =
     let b : Block = record { reference = reference; values = placed_values reference values } in
     subst (λ v. length (cds_bits s (shortest_spelling s b)) ≤ length (cds_bits s (record { reference = reference; body = split_values k v })))
     (written_again reference values)
-    (all_range (λ c. length (cds_bits s (shortest_spelling s b)) ≤ length (cds_bits s c)) (split b) 0 (split_count s) k (least_of s b).others.1 (omega arith) (omega arith))
+    (all_range (λ c. length (cds_bits s (shortest_spelling s b)) ≤ length (cds_bits s c)) (split b) 0 (split_count s) k (least_of s b).others.1
+    (omega arith) (omega arith))
 
 pub shortest-value_pairs : (s : Settings) (reference : Option ℕ) (members : List ℕ) → 2 ≤ length members
     → length (cds_bits s (shortest_spelling s (record { reference = reference; values = placed_members reference members })))
@@ -97,9 +105,15 @@ shortest-value_pairs s reference members h =
     let b : Block = record { reference = reference; values = placed_members reference members } in
     let head = binary (id_len s + 1) 1 in
     let r = reference_bits s reference in
-    omega (arith, (least_of s b).others.0, members-least reference members h,
-        length-append head (r ++ pair_bits (placed_members reference members)), length-append r (pair_bits (placed_members reference members)),
-        length-append head (r ++ pair_bits members), length-append r (pair_bits members))
+    omega (
+      arith,
+      (least_of s b).others.0,
+      members-least reference members h,
+      length-append head (r ++ pair_bits (placed_members reference members)),
+      length-append r (pair_bits (placed_members reference members)),
+      length-append head (r ++ pair_bits members),
+      length-append r (pair_bits members),
+    )
 
 -- ---- a block by itself has at least so many bits
 
@@ -107,8 +121,13 @@ shortest-value_pairs s reference members h =
 pub length-run : (s : Settings) (reference : Option ℕ) (m : ℕ)
     → length (cds_bits s (record { reference = reference; body = zero_blocks m })) ≡ id_len s + length (reference_bits s reference) + m + 2
 length-run s reference m =
-    omega (arith, length-append (binary (id_len s + 1) 0) (reference_bits s reference ++ fs m), length-append (reference_bits s reference) (fs m),
-        length-binary (id_len s + 1) 0, length-fs m)
+    omega (
+      arith,
+      length-append (binary (id_len s + 1) 0) (reference_bits s reference ++ fs m),
+      length-append (reference_bits s reference) (fs m),
+      length-binary (id_len s + 1) 0,
+      length-fs m,
+    )
 
 length-flat_map-least : {X : Type 0} (code : X → List Bool) (xs : List X) → ((x : X) → 0 < length (code x)) → length xs ≤ length (flat_map code xs)
 length-flat_map-least code [] h = omega arith
@@ -128,8 +147,14 @@ plain-longer s t reference values a h =
     let head = binary (id_len s) (2 ^ id_len s - 1) in
     let r = reference_bits s reference in
     let body = flat_map (binary s.bits) values in
-    omega (arith, length-append head (r ++ body), length-append r body, length-binary (id_len s) (2 ^ id_len s - 1), written_count-least s t a,
-        length-flat_map-least (binary s.bits) values (λ v. omega (arith, length-binary s.bits v, at_least_one_bit s a)))
+    omega (
+      arith,
+      length-append head (r ++ body),
+      length-append r body,
+      length-binary (id_len s) (2 ^ id_len s - 1),
+      written_count-least s t a,
+      length-flat_map-least (binary s.bits) values (λ v. omega (arith, length-binary s.bits v, at_least_one_bit s a)),
+    )
 
 pub split-longer : (s : Settings) (t : Bool) (reference : Option ℕ) (k : ℕ) (values : List ℕ) → IsAllowed s → length values ≡ written_count s t
     → id_len s + length (reference_bits s reference) + 2 ≤ length (cds_bits s (record { reference = reference; body = split_values k values }))
@@ -138,8 +163,15 @@ split-longer s t reference k values a h =
     let r = reference_bits s reference in
     let high = flat_map (λ v. fs (v / 2 ^ k)) values in
     let low = flat_map (λ v. binary k (v % 2 ^ k)) values in
-    omega (arith, length-append head (r ++ (high ++ low)), length-append r (high ++ low), length-append high low, length-binary (id_len s) (k + 1), written_count-least s t a,
-        length-flat_map-least (λ v. fs (v / 2 ^ k)) values (λ v. omega (arith, length-fs (v / 2 ^ k))))
+    omega (
+      arith,
+      length-append head (r ++ (high ++ low)),
+      length-append r (high ++ low),
+      length-append high low,
+      length-binary (id_len s) (k + 1),
+      written_count-least s t a,
+      length-flat_map-least (λ v. fs (v / 2 ^ k)) values (λ v. omega (arith, length-fs (v / 2 ^ k))),
+    )
 
 pub pairs-longer : (s : Settings) (reference : Option ℕ) (members : List ℕ) → 2 ≤ length members
     → id_len s + length (reference_bits s reference) + 2 ≤ length (cds_bits s (record { reference = reference; body = value_pairs members }))
@@ -149,5 +181,11 @@ pairs-longer s reference (a ∷ (b ∷ members)) h =
     let head = binary (id_len s + 1) 1 in
     let r = reference_bits s reference in
     let first = fs (pair_number a b) in
-    omega (arith, length-append head (r ++ (first ++ pair_bits members)), length-append r (first ++ pair_bits members), length-append first (pair_bits members),
-        length-binary (id_len s + 1) 1, length-fs (pair_number a b))
+    omega (
+      arith,
+      length-append head (r ++ (first ++ pair_bits members)),
+      length-append r (first ++ pair_bits members),
+      length-append first (pair_bits members),
+      length-binary (id_len s + 1) 1,
+      length-fs (pair_number a b),
+    )
