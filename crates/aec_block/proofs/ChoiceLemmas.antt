@@ -1,5 +1,5 @@
 -- The best of the options tried so far.
-use Rattle.std.proofs.Common.{◌≡◌, ℕ, ◌+◌, refl, ap, ◌∙◌, sym, subst, arith, Bool, true, false, cond, List, ◌∷◌, length, map}
+use Rattle.std.proofs.Common.{◌≡◌, ℕ, ◌+◌, ◌<◌, zero, suc, refl, ap, ◌∙◌, sym, subst, arith, Bool, true, false, cond, List, ◌∷◌, length, map}
 use Rattle.std.specs.List.{best_of, range_with_len}
 use Rattle.std.specs.Prelude.{nat_lt, if◌then◌else◌}
 use Rattle.std.proofs.lemmas.List.FromFn.{map-range_with_len_more}
@@ -68,3 +68,28 @@ pub names-last : (s : Settings) (b : Block) (k : ℕ) (best : Choice) → Names 
 names-last s b k best named is =
     let P : ℕ → Type 0 = λ count. Names s b (best_among s b count) best in
     subst P is named
+
+-- a splitting option that is the best among so many is one of them
+same-k : (b : Block) (j k : ℕ) → split b j ≡ split b k → j ≡ k
+same-k b j k e = let body = ap (λ (c : CodedDataSet). c.body) e in cc
+
+split-first : (s : Settings) (b : Block) (k : ℕ) (test : Bool) → cond test (paired b) (uncompressed b) ≡ split b k → ⊥
+split-first s b k true e = let body = ap (λ (c : CodedDataSet). c.body) e in cc
+split-first s b k false e = let body = ap (λ (c : CodedDataSet). c.body) e in cc
+
+split-next : (b : Block) (c : CodedDataSet) (j k : ℕ) (test : Bool) → (c ≡ split b k → k < j) → cond test (split b j) c ≡ split b k → k < j + 1
+split-next b c j k true before e = let same = same-k b j k e in omega arith
+split-next b c j k false before e = let below = before e in omega arith
+
+best_among-split : (s : Settings) (b : Block) (count k : ℕ) → best_among s b count ≡ split b k → k < count
+best_among-split s b zero k e = absurd (split-first s b k (is_shorter s (paired b) (uncompressed b)) e)
+best_among-split s b (suc j) k e =
+    let count : suc j ≡ j + 1 = omega arith in
+    let more = ap (best_among s b) count ∙ best_among-more s b j in
+    let below =
+    split-next b (best_among s b j) j k (is_shorter s (split b j) (best_among s b j)) (best_among-split s b j k) (sym more ∙ e) in
+    omega arith
+
+pub split-within : (s : Settings) (b : Block) (choice : Choice) (k : ℕ) → IsChoice s b choice → choice.coding ≡ Split k → k < split_count s
+split-within s b choice k chosen is =
+    best_among-split s b (split_count s) k (sym chosen.coding ∙ ap (spelling_by b) is)

@@ -1,10 +1,10 @@
 pub mod MappingLemmas
-pub mod PatternLemmas
 pub mod LengthLemmas
+pub mod BlockLemmas
+pub mod ChoiceLemmas
 pub mod CodewordLemmas
 pub mod PairLemmas
 pub mod SplitLemmas
 pub mod KindLemmas
 pub mod SetLemmas
-pub mod BlockLemmas
-pub mod ChoiceLemmas
+pub mod WritingLemmas

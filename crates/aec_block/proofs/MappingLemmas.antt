@@ -1,8 +1,7 @@
 -- The mapping table over integers is that over offsets from the least sample.
 use Rattle.std.proofs.Common.{◌≡◌, ℕ, zero, suc, ◌+◌, ◌-◌, ◌*◌, ◌^◌, ◌<◌, ◌≤◌, min, ap, ◌∙◌, sym, inl, inr, arith, Bool, true, false}
 use Rattle.std.proofs.lemmas.Bool.{and_parts, and_from, cases_lt, cond-true, cond-false}
-use Rattle.std.proofs.lemmas.Nat.{pow-add, pow_pos}
-use Rattle.std.proofs.Math.Nat.{pow-le-pow_right}
+use Rattle.std.proofs.lemmas.Nat.{pow_pos}
 use Rattle.std.proofs.lemmas.Bool.Decides.{nat_tests}
 use Rattle.std.proofs.lemmas.Int.{ints, clamps}
 use Rattle.std.specs.Prelude.{ℤ, pos, negsuc, neg_ℤ, ◌+ℤ◌, ◌-ℤ◌, ◌≤ℤ◌, unsigned_abs, int_le, nat_le, if◌then◌else◌}
@@ -10,7 +9,7 @@ use Rattle.std.specs.Int.{int_min}
 use Rattle.aec_params.specs.declared.settings.Settings.{Settings}
 use Rattle.aec_params.specs.Params.{IsAllowed, IsHeld, x_min, x_max, sample_pattern, pattern_value}
 use Rattle.aec_params.specs.Mapping.{room_around, mapped_error, mapped_value}
-use Rattle.aec_block.proofs.PatternLemmas.{value-pattern}
+use Rattle.aec_params.proofs.ParamsLemmas.{pow-halves, bits-least, values-most, value-pattern}
 use Rattle.aec_block.specs.Offsets.{sample_offset, top_offset, offset_room, mapped_offset}
 
 -- the room around the prediction
@@ -51,14 +50,6 @@ mapped_error-offsets lo hi p x a b top at_a at_b at_top below =
 at-offset : (lo x : ℤ) → lo ≤ℤ x → x ≡ lo +ℤ pos (unsigned_abs (x -ℤ lo))
 at-offset lo x h = grind (arith, ints)
 
--- two halves of n bits
-pow-halves : (n : ℕ) → 1 ≤ n → 2 ^ n ≡ 2 ^ (n - 1) + 2 ^ (n - 1)
-pow-halves n h =
-    let e : 1 + (n - 1) ≡ n = omega arith in
-    let p = pow-add 2 1 (n - 1) in
-    let q : 2 ^ (1 + (n - 1)) ≡ 2 ^ n = ap (λ (k : ℕ). 2 ^ k) e in
-    omega (arith, p, q)
-
 -- the greatest sample above the least, where t is the number of values and k half of it
 greatest-offset : (signed : Bool) (k t : ℕ) → 0 < k → t ≡ k + k
     → (if signed then pos (k - 1) else pos (t - 1)) ≡ (if signed then neg_ℤ (pos k) else pos 0) +ℤ pos (t - 1)
@@ -67,9 +58,7 @@ greatest-offset true k t some e = omega (arith, ints)
 
 x_max-offset : (s : Settings) → IsAllowed s → x_max s ≡ x_min s +ℤ pos (top_offset s)
 x_max-offset s a =
-    let b = a.bits in
-    let least : 1 ≤ s.bits = grind arith in
-    greatest-offset s.signed (2 ^ (s.bits - 1)) (2 ^ s.bits) (pow_pos (s.bits - 1)) (pow-halves s.bits least)
+    greatest-offset s.signed (2 ^ (s.bits - 1)) (2 ^ s.bits) (pow_pos (s.bits - 1)) (pow-halves s.bits (bits-least s a))
 
 -- a held sample lies between the least and the greatest
 held-between : (s : Settings) (x : ℤ) → IsHeld s x → (x_min s ≤ℤ x) × (x ≤ℤ x_max s)
@@ -95,13 +84,6 @@ mapped_value-offsets s p x a on held_p held_x =
     ∙ mapped_error-offsets (x_min s) (x_max s) p x (sample_offset s p) (sample_offset s x) (top_offset s) (sample-offset s p held_p)
     (sample-offset s x held_x) (x_max-offset s a) (sample_offset-le s p a held_p)
 
--- offsets fit 32 bits
-pub values-most : (s : Settings) → IsAllowed s → 2 ^ s.bits ≤ 2 ^ 32
-values-most s a =
-    let b = a.bits in
-    let most : s.bits ≤ 32 = grind arith in
-    pow-le-pow_right {n = 2} (omega arith) {i = s.bits} {j = 32} most
-
 -- what lies between the least and the greatest is held
 held-from_between : (s : Settings) (x : ℤ) → x_min s ≤ℤ x → x ≤ℤ x_max s → IsHeld s x
 held-from_between s x low high = and_from (int_le (x_min s) x) (int_le x (x_max s)) (grind (arith, ints)) (grind (arith, ints))
@@ -111,7 +93,7 @@ held-offset s x k a below is =
     let at_top = x_max-offset s a in
     held-from_between s x (omega (arith, ints)) (omega (arith, ints))
 
-pub ruleset offsets = (sample-offset, sample_offset-le, values-most)
+pub ruleset offsets = (sample-offset, sample_offset-le, values-most, held-offset)
 
 pub values-some : (s : Settings) → 0 < 2 ^ s.bits
 values-some s = pow_pos s.bits

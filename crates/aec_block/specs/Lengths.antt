@@ -13,8 +13,8 @@ reference_len s None = 0
 reference_len s (Some r) = s.bits
 
 -- bits of an identifier of the usual length and the reference sample
-abbrev pub head_len : Settings → Block → ℕ
-head_len s b = id_len s + reference_len s b.reference
+abbrev pub head_len : Settings → Option ℕ → ℕ
+head_len s reference = id_len s + reference_len s reference
 
 -- the values without their k low bits, added up
 abbrev pub shifted_sum : ℕ → List ℕ → ℕ
@@ -28,10 +28,10 @@ pairs_len (a ∷ (b ∷ values)) = pair_number a b + 1 + pairs_len values
 
 -- bits of the spelling by no compression, by second extension, and by splitting with k
 abbrev pub uncompressed_len : Settings → Block → ℕ
-uncompressed_len s b = head_len s b + length (written_values b) * s.bits
+uncompressed_len s b = head_len s b.reference + length (written_values b) * s.bits
 
 abbrev pub paired_len : Settings → Block → ℕ
-paired_len s b = head_len s b + 1 + pairs_len b.values
+paired_len s b = head_len s b.reference + 1 + pairs_len b.values
 
 abbrev pub split_len : Settings → Block → ℕ → ℕ
-split_len s b k = head_len s b + (shifted_sum k (written_values b) + length (written_values b) * (k + 1))
+split_len s b k = head_len s b.reference + (shifted_sum k (written_values b) + length (written_values b) * (k + 1))

@@ -1,6 +1,7 @@
 pub mod Offsets
 pub mod BlockShape
 pub mod Lengths
+pub mod Choices
+pub mod Written
 pub mod ReadAt
 pub mod Laws
-pub mod Choices

@@ -10,11 +10,11 @@ use crate::block::Block;
 use aec_params::Params;
 
 /// An identifier of the usual length, and the reference sample where there is one.
-fn head_len(params: &Params, block: &Block) -> u32
-    ensures len { result ≡ head_length params.now block.now }
+pub(crate) fn head_len(params: &Params, reference: Option<u32>) -> u32
+    ensures len { result ≡ head_length params.now reference }
     ensures bound { result ≤ 37 }
 {
-    match block.reference() {
+    match reference {
         None => params.id_len(),
         Some(_) => params.id_len() + params.bits(),
     }
@@ -35,7 +35,7 @@ fn shifted_sum(values: &[u32], k: u32) -> u128
 }
 
 /// The codeword of a pair.
-fn pair_len(a: u32, b: u32) -> u128
+pub(crate) fn pair_len(a: u32, b: u32) -> u128
     ensures len { result ≡ pair_number a b + 1 }
     ensures bound { result ≤ 2 ^ 66 }
 {
@@ -61,7 +61,7 @@ fn pairs_len(values: &[u32]) -> u128
 pub(crate) fn uncompressed_len(params: &Params, block: &Block) -> u64
     ensures { result ≡ uncompressed_length params.now block.now }
 {
-    u64::from(head_len(params, block))
+    u64::from(head_len(params, block.reference()))
         + block.written_values().len() as u64 * u64::from(params.bits())
 }
 
@@ -69,7 +69,7 @@ pub(crate) fn uncompressed_len(params: &Params, block: &Block) -> u64
 pub(crate) fn paired_len(params: &Params, block: &Block) -> u128
     ensures { result ≡ paired_length params.now block.now }
 {
-    u128::from(head_len(params, block)) + 1 + pairs_len(block.values())
+    u128::from(head_len(params, block.reference())) + 1 + pairs_len(block.values())
 }
 
 /// The length by splitting with `k`.
@@ -78,6 +78,6 @@ pub(crate) fn split_len(params: &Params, block: &Block, k: u32) -> u128
     ensures { result ≡ split_length params.now block.now k }
 {
     let values = block.written_values();
-    u128::from(head_len(params, block))
+    u128::from(head_len(params, block.reference()))
         + (shifted_sum(values, k) + values.len() as u128 * u128::from(k + 1))
 }

@@ -3,12 +3,14 @@
 #![tactic(auto)]
 
 mod block;
-pub mod laws;
 mod choice;
+pub mod laws;
 mod lengths;
 mod mapping;
 mod reading;
+mod writing;
 
 pub use block::Block;
 pub use choice::{Choice, Coding, choose};
 pub use mapping::{map, unmap};
+pub use writing::{write_block, write_run};

@@ -1,7 +1,7 @@
 //! Prediction and mapping: a sample and its prediction as one number without sign, and back.
 
 ghost use Rattle.std.specs.Prelude.{◌≡◌, ℕ, ◌<◌, ◌≤◌, ◌^◌, ℤ};
-ghost use Rattle.aec_params.specs.Params.{IsAllowed, IsHeld, sample_pattern, pattern_value};
+ghost use Rattle.aec_params.specs.Params.{IsAllowed, IsHeld};
 ghost use Rattle.aec_params.specs.Mapping.{mapped_value};
 ghost use Rattle.aec_block.specs.Offsets.{sample_offset, top_offset, mapped_offset};
 
@@ -72,17 +72,6 @@ fn sample_at(params: &Params, offset: u32) -> i64
     params.x_min() + i64::from(offset)
 }
 
-/// The pattern of a sample: its two's complement in n bits, as an unsigned number.
-#[tactic(auto, using(crate::proofs::PatternLemmas::patterns))]
-fn pattern_of(params: &Params, x: i64) -> u32
-    requires { IsHeld params.now x }
-    ensures value { result ≡ sample_pattern params.now x }
-    ensures fits { result < 2 ^ params.now.bits }
-    ensures undone { pattern_value params.now result ≡ x }
-{
-    (x.cast_unsigned() % (1u64 << params.bits())) as u32
-}
-
 /// What is coded for the sample `x` at the prediction `p`; without preprocessing the sample's pattern. Below `2^n`.
 #[tactic(auto, using(crate::proofs::MappingLemmas::mapping))]
 pub fn map(params: &Params, p: i64, x: i64) -> u32
@@ -98,7 +87,7 @@ pub fn map(params: &Params, p: i64, x: i64) -> u32
             offset_of(params, x),
         )
     } else {
-        pattern_of(params, x)
+        params.pattern(x)
     }
 }
 

@@ -1,0 +1,102 @@
+-- Codewords appended one after another into reserved room.
+use Rattle.std.proofs.Common.{◌≡◌, ℕ, zero, suc, ◌+◌, ◌-◌, ◌*◌, ◌/◌, ◌%◌, ◌^◌, ◌<◌, ◌≤◌, refl, ap, ◌∙◌, sym, arith, Bool, Option, Some, None, List, [], ◌∷◌, ◌++◌, length, take, drop, get_or, drop-cons, append_assoc, append-nil, length-append, length-drop}
+use Rattle.std.specs.List.{flat_map, AllByRecursion}
+use Rattle.aec_params.specs.Codewords.{fs, binary}
+use Rattle.aec_params.specs.CodedDataSets.{pair_number, pair_bits}
+use Rattle.aec_params.specs.declared.settings.Settings.{Settings}
+use Rattle.aec_params.specs.Blocks.{Block}
+use Rattle.aec_params.specs.Spellings.{after_reference, written_values}
+use Rattle.std.proofs.Math.Nat.{mod-eq_of_lt}
+use Rattle.aec_block.specs.Choices.{IsFull}
+use Rattle.aec_block.specs.Written.{high_parts, low_parts}
+use Rattle.aec_block.proofs.LengthLemmas.{length-fs, length-binary, length-reference_bits}
+
+-- what stands in a list so far, with what is still to be appended, makes a whole; and there is room for what is still to come
+pub record Appending (old new done todo : List Bool) (before after : ℕ) : Type 0 where
+  pub list : new ++ todo ≡ old ++ done
+  pub grown : length old ≤ length new
+  pub room : before + length todo ≤ after + length done
+
+-- the next codeword
+pub appending-more : (old new next done todo codeword rest : List Bool) (before after later n : ℕ) → Appending old new done todo before after
+    → todo ≡ codeword ++ rest → next ≡ new ++ codeword → length codeword ≡ n → after ≤ later + n → Appending old next done rest before later
+appending-more old new next done todo codeword rest before after later n so_far split is len room = record {
+  list = ap (λ (bits : List Bool). bits ++ rest) is ∙ append_assoc new codeword rest ∙ sym (ap (λ (bits : List Bool). new ++ bits) split) ∙ so_far.list;
+  grown = let longer = ap (length {A = Bool}) is ∙ length-append new codeword in let held = so_far.grown in omega arith;
+  room =
+      let total = ap (length {A = Bool}) split ∙ length-append codeword rest in
+      let held = so_far.room in
+      omega arith;
+}
+
+flat_map-drop : (f : ℕ → List Bool) (values : List ℕ) (i j : ℕ) → j ≡ i + 1 → i < length values
+    → flat_map f (drop i values) ≡ f (get_or values i 0) ++ flat_map f (drop j values)
+flat_map-drop f values i j next within =
+    let at_j : j ≡ suc i = omega arith in
+    rw at_j (ap (flat_map f) (drop-cons values i 0 within))
+
+pub low_parts-drop : (k : ℕ) (values : List ℕ) (i j : ℕ) → j ≡ i + 1 → i < length values
+    → low_parts k (drop i values) ≡ binary k (get_or values i 0 % 2 ^ k) ++ low_parts k (drop j values)
+low_parts-drop k values i j next within = flat_map-drop (λ v. binary k (v % 2 ^ k)) values i j next within
+
+pub high_parts-drop : (k : ℕ) (values : List ℕ) (i j : ℕ) → j ≡ i + 1 → i < length values
+    → high_parts k (drop i values) ≡ fs (get_or values i 0 / 2 ^ k) ++ high_parts k (drop j values)
+high_parts-drop k values i j next within = flat_map-drop (λ v. fs (v / 2 ^ k)) values i j next within
+
+pub pair_bits-drop : (values : List ℕ) (i j k : ℕ) → j ≡ i + 1 → k ≡ i + 2 → j < length values
+    → pair_bits (drop i values) ≡ fs (pair_number (get_or values i 0) (get_or values j 0)) ++ pair_bits (drop k values)
+pair_bits-drop values i j k next after within =
+    let here : i < length values = omega arith in
+    let there : suc i < length values = omega arith in
+    let at_j : j ≡ suc i = omega arith in
+    let at_k : k ≡ suc (suc i) = omega arith in
+    rw (at_j, at_k) (ap pair_bits (drop-cons values i 0 here)
+    ∙ ap (λ (rest : List ℕ). pair_bits (get_or values i 0 ∷ rest)) (drop-cons values (suc i) 0 there))
+
+pub room-for_next : (old new done todo codeword rest : List Bool) (before after n : ℕ) → Appending old new done todo before after
+    → length done ≤ before → todo ≡ codeword ++ rest → length codeword ≡ n → n ≤ after
+room-for_next old new done todo codeword rest before after n so_far reserved split is =
+    let total = ap (length {A = Bool}) split ∙ length-append codeword rest in
+    let held = so_far.room in
+    omega arith
+
+-- what is still to come is no longer than the whole
+pub length-next : (old new done todo codeword rest : List Bool) (before after n : ℕ) → Appending old new done todo before after
+    → todo ≡ codeword ++ rest → length codeword ≡ n → n ≤ length done
+length-next old new done todo codeword rest before after n so_far split is =
+    let total = ap (length {A = Bool}) split ∙ length-append codeword rest in
+    let whole = sym (length-append new todo) ∙ ap (length {A = Bool}) so_far.list ∙ length-append old done in
+    let held = so_far.grown in
+    omega arith
+
+-- nothing is left
+pub appending-all : (old new done todo : List Bool) (before after : ℕ) → Appending old new done todo before after → todo ≡ [] → new ≡ old ++ done
+appending-all old new done todo before after so_far none =
+    sym (append-nil new) ∙ sym (ap (λ (bits : List Bool). new ++ bits) none) ∙ so_far.list
+
+pair_bits-short : (values : List ℕ) → length values ≤ 1 → pair_bits values ≡ []
+pair_bits-short [] few = refl
+pair_bits-short (a ∷ []) few = refl
+pair_bits-short (a ∷ (b ∷ values)) few = absurd (omega arith)
+
+pub pair_bits-drop_end : (values : List ℕ) (i : ℕ) → length values ≤ i + 1 → pair_bits (drop i values) ≡ []
+pair_bits-drop_end values i few = pair_bits-short (drop i values) (omega (arith, length-drop i values))
+
+-- ---- a coded data set in parts
+low_parts-plain : (n : ℕ) (values : List ℕ) → AllByRecursion (λ v. v < 2 ^ n) values → low_parts n values ≡ flat_map (binary n) values
+low_parts-plain n [] small = refl
+low_parts-plain n (v ∷ values) small =
+    ap (λ (low : ℕ). binary n low ++ low_parts n values) (mod-eq_of_lt small.0)
+    ∙ ap (λ (bits : List Bool). binary n v ++ bits) (low_parts-plain n values small.1)
+
+after_reference-small : (n : ℕ) (reference : Option ℕ) (values : List ℕ) → AllByRecursion (λ v. v < 2 ^ n) values
+    → AllByRecursion (λ v. v < 2 ^ n) (after_reference reference values)
+after_reference-small n None values small = small
+after_reference-small n (Some r) [] small = tt
+after_reference-small n (Some r) (v ∷ values) small = small.1
+
+pub low_parts-written : (s : Settings) (b : Block) → IsFull s b
+    → low_parts s.bits (written_values b) ≡ flat_map (binary s.bits) (written_values b)
+low_parts-written s b full = low_parts-plain s.bits (written_values b) (after_reference-small s.bits b.reference b.values full.values)
+
+pub ruleset parts = (append_assoc, length-append, length-binary, length-fs, length-reference_bits, low_parts-written)

@@ -1,0 +1,24 @@
+-- What is written for a block's values and for a run, in parts.
+use Rattle.std.specs.Prelude.{ℕ, ◌/◌, ◌%◌, ◌^◌, Bool, Option, List}
+use Rattle.std.specs.List.{flat_map}
+use Rattle.aec_params.specs.declared.settings.Settings.{Settings}
+use Rattle.aec_params.specs.Codewords.{fs, binary}
+use Rattle.aec_params.specs.Blocks.{Block}
+use Rattle.aec_params.specs.CodedDataSets.{CodedDataSet, zero_blocks, cds_bits}
+use Rattle.aec_params.specs.Spellings.{shortest_spelling}
+use Rattle.aec_params.specs.Runs.{run_code}
+
+-- the values without their k low bits, and these bits
+abbrev pub high_parts : ℕ → List ℕ → List Bool
+high_parts k values = flat_map (λ v. fs (v / 2 ^ k)) values
+
+abbrev pub low_parts : ℕ → List ℕ → List Bool
+low_parts k values = flat_map (λ v. binary k (v % 2 ^ k)) values
+
+-- the bits of the shortest spelling of a block
+abbrev pub shortest_bits : Settings → Block → List Bool
+shortest_bits s b = cds_bits s (shortest_spelling s b)
+
+-- the bits of a run of z zero blocks, which ends its segment or not
+abbrev pub run_bits : Settings → Option ℕ → ℕ → Bool → List Bool
+run_bits s reference z is_last = cds_bits s (record { reference = reference; body = zero_blocks (run_code z is_last) })
