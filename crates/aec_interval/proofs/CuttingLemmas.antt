@@ -1,5 +1,5 @@
 -- Lists cut into pieces: one piece before the others, an induction over the pieces, and whole multiples.
-use Rattle.std.proofs.Common.{◌≡◌, ℕ, zero, suc, ◌+◌, ◌-◌, ◌*◌, ◌/◌, ◌%◌, ◌<◌, ◌≤◌, min, List, [], ◌∷◌, ◌++◌, length, take, drop, refl, sym, ap, ap₂, append-nil, ◌∙◌, subst, arith, rules, inl, inr, ⊎_elim}
+use Rattle.std.proofs.Common.{◌≡◌, ℕ, zero, suc, ◌+◌, ◌-◌, ◌*◌, ◌/◌, ◌%◌, ◌<◌, ◌≤◌, List, [], ◌∷◌, ◌++◌, length, take, drop, refl, sym, ap, ap₂, append-nil, ◌∙◌, subst, arith, ⊎_elim}
 use Rattle.std.proofs.Math.Nat.{div-eq-sub-div, mod-eq-sub-mod, div-eq_of_lt, mod-eq_of_lt, zero-div, mod_self, mul-div_cancel, mul-mod_left}
 use Rattle.std.proofs.lemmas.List.{take_at, drop_at, take-append-drop, length-take, length-drop, length-append, take_all, drop_all}
 use Rattle.std.proofs.lemmas.Nat.{div-add-mod', mod_below}
@@ -24,6 +24,7 @@ div_ceil-more m n h k = ⊎_elim short long (cases_lt m n)
         let q = div-eq_of_lt l in
         let t = mod-eq_of_lt l in
         omega arith
+
     long : n ≤ m → div_ceil m n ≡ suc (div_ceil (m - n) n)
     long l = omega (arith, div-eq-sub-div h l, mod-eq-sub-mod l)
 
@@ -32,6 +33,9 @@ div_ceil-one m n h k =
     let e : m - n ≡ 0 = omega arith in
     let d : div_ceil (m - n) n ≡ 0 = ap (λ x. div_ceil x n) e ∙ div_ceil-zero n (omega arith) in
     omega (arith, div_ceil-more m n (omega arith) h)
+
+pub div_ceil-positive : (m n : ℕ) → 0 < n → 0 < m → 0 < div_ceil m n
+div_ceil-positive m n h k = omega (arith, div_ceil-more m n h k)
 
 pub pieces_of-nil : {X : Type 0} (n : ℕ) → 0 < n → pieces_of {X = X} n [] ≡ []
 pieces_of-nil n h = ap (λ k. first_chunks n k []) (div_ceil-zero n h)
@@ -53,12 +57,15 @@ pub record IsPieceBefore {X : Type 0} (n : ℕ) (front rest : List X) : Type 0 w
 
 pub pieces_of-cons : {X : Type 0} (n : ℕ) (front rest : List X) → IsPieceBefore n front rest → pieces_of n (front ++ rest) ≡ front ∷ pieces_of n rest
 pieces_of-cons n front rest h =
-    ap (λ k. first_chunks n k (front ++ rest)) count ∙ ap₂ ◌∷◌ (take_front n front rest h.fits h.full) (ap (first_chunks n (div_ceil (length rest) n)) (drop_front n front rest h.fits h.full))
+    ap (λ k. first_chunks n k (front ++ rest)) count
+    ∙ ap₂ ◌∷◌ (take_front n front rest h.fits h.full) (ap (first_chunks n (div_ceil (length rest) n)) (drop_front n front rest h.fits h.full))
   where
     left : length (front ++ rest) - n ≡ length rest
     left = ⊎_elim (λ l. omega (arith, length-append front rest, h.full l)) (λ l. omega (arith, length-append front rest, h.fits)) (cases_lt 0 (length rest))
+
     count : div_ceil (length (front ++ rest)) n ≡ suc (div_ceil (length rest) n)
-    count = div_ceil-more (length (front ++ rest)) n (omega (arith, h.some, h.fits)) (omega (arith, length-append front rest, h.some)) ∙ ap (λ x. suc (div_ceil x n)) left
+    count = div_ceil-more (length (front ++ rest)) n (omega (arith, h.some, h.fits)) (omega (arith, length-append front rest, h.some))
+        ∙ ap (λ x. suc (div_ceil x n)) left
 
 pub pieces_of-one : {X : Type 0} (n : ℕ) (front : List X) → 0 < length front → length front ≤ n → pieces_of n front ≡ front ∷ []
 pieces_of-one n front h k =
@@ -66,7 +73,8 @@ pieces_of-one n front h k =
     ∙ ap (◌∷◌ front) (pieces_of-nil n (omega arith))
 
 -- what holds of no elements, and of a piece and more when it holds of the rest, holds of each list
-module _ {X : Type 0} (P : List X → Type 0) (n : ℕ) (positive : 0 < n) (nothing : P []) (piece : (front rest : List X) → IsPieceBefore n front rest → P rest → P (front ++ rest)) where
+module _ {X : Type 0} (P : List X → Type 0) (n : ℕ) (positive : 0 < n) (nothing : P [])
+    (piece : (front rest : List X) → IsPieceBefore n front rest → P rest → P (front ++ rest)) where
   by_pieces_within : (fuel : ℕ) (xs : List X) → length xs ≤ fuel → P xs
   by_pieces_within fuel [] h = nothing
   by_pieces_within zero (x ∷ xs) h = absurd (omega arith)
@@ -75,8 +83,9 @@ module _ {X : Type 0} (P : List X → Type 0) (n : ℕ) (positive : 0 < n) (noth
       subst P (take-append-drop n whole) (piece (take n whole) (drop n whole) (record {
         some = omega (arith, length-take n whole, positive);
         fits = omega (arith, length-take n whole);
-        full = λ l. omega (arith, length-take n whole, length-drop n whole, l) })
-        (by_pieces_within fuel (drop n whole) (omega (arith, length-drop n whole, h, positive))))
+        full = λ l. omega (arith, length-take n whole, length-drop n whole, l);
+      })
+      (by_pieces_within fuel (drop n whole) (omega (arith, length-drop n whole, h, positive))))
 
   pub by_pieces : (xs : List X) → P xs
   by_pieces xs = by_pieces_within (length xs) xs (omega arith)
@@ -103,6 +112,7 @@ up_to_multiple-fills n m h = ⊎_elim part whole (cases_lt 0 (m % n))
         let e : up_to_multiple n m ≡ 0 = ap (λ x. x % n) z ∙ mod_self n in
         let c : div_ceil m n ≡ m / n = omega arith in
         omega (arith, div-add-mod' m n, ap (λ x. x * n) c)
+
     part : 0 < m % n → m + up_to_multiple n m ≡ div_ceil m n * n
     part l =
         let below = mod_below m n h in

@@ -1,9 +1,9 @@
 -- The groups of a segment stand for its blocks, one behind the other.
-use Rattle.std.proofs.Common.{◌≡◌, ℕ, zero, suc, ◌+◌, ◌-◌, ◌*◌, ◌^◌, ◌<◌, ◌≤◌, Bool, true, false, cond, IsTrue, Option, Some, None, List, [], ◌∷◌, ◌++◌, length, map, take, drop, replicate, refl, sym, ap, ap₂, ◌∙◌, subst, arith, rules, inl, inr, ⊎_elim}
-use Rattle.std.specs.Prelude.{⊤, ◌&&◌, ◌==◌, if◌then◌else◌}
-use Rattle.std.specs.List.{AllByRecursion, flat_map, list_all}
+use Rattle.std.proofs.Common.{◌≡◌, ℕ, suc, ◌+◌, ◌-◌, ◌<◌, Bool, true, false, Option, Some, None, List, [], ◌∷◌, ◌++◌, length, replicate, refl, sym, ap, ap₂, ◌∙◌, subst, arith}
+use Rattle.std.specs.Prelude.{⊤, ◌==◌}
+use Rattle.std.specs.List.{flat_map, list_all}
 use Rattle.std.proofs.lemmas.List.{length-replicate}
-use Rattle.std.proofs.lemmas.Bool.{cond_both, and_right, and_parts, eqb-true, ne_eqb}
+use Rattle.std.proofs.lemmas.Bool.{cond_both, and_parts, eqb-true}
 use Rattle.aec_params.specs.declared.settings.Settings.{Settings}
 use Rattle.aec_params.specs.Blocks.{Block, is_zero_block}
 use Rattle.aec_params.specs.CodedDataSets.{HasReference}
@@ -76,7 +76,8 @@ blocks-with_zero_block : (s : Settings) (p : ℕ) (reference : Option ℕ) (grou
 blocks-with_zero_block s p reference [] h = refl
 blocks-with_zero_block s p reference (single_block b ∷ groups) h = refl
 blocks-with_zero_block s p reference (zero_run later z ∷ groups) h =
-    ap (λ blocks. zero_block s reference ∷ (blocks ++ flat_map (group_blocks s) groups)) (longer z h.0.0 ∙ ap (λ r. zero_block s r ∷ replicate (z - 1) (zero_block s None)) (sym (no_reference s p later h.0.1)))
+    ap (λ blocks. zero_block s reference ∷ (blocks ++ flat_map (group_blocks s) groups))
+    (longer z h.0.0 ∙ ap (λ r. zero_block s r ∷ replicate (z - 1) (zero_block s None)) (sym (no_reference s p later h.0.1)))
   where
     longer : (z : ℕ) → 0 < z → replicate (z + 1 - 1) (zero_block s None) ≡ zero_block s None ∷ replicate (z - 1) (zero_block s None)
     longer z h = let e : z + 1 - 1 ≡ suc (z - 1) = omega arith in ap (λ n. replicate n (zero_block s None)) e
@@ -85,7 +86,8 @@ pub flat_map-groups_of : (s : Settings) (p : ℕ) (blocks : List Block) → AreB
 flat_map-groups_of s p [] h = refl
 flat_map-groups_of s p (b ∷ blocks) h =
     let later = flat_map-groups_of s (suc p) blocks h.1 in
-    cond_both (is_zero_block b) (with_zero_block b.reference (groups_of blocks)) (single_block b ∷ groups_of blocks) (λ groups. flat_map (group_blocks s) groups ≡ b ∷ blocks)
+    cond_both (is_zero_block b) (with_zero_block b.reference (groups_of blocks)) (single_block b ∷ groups_of blocks)
+    (λ groups. flat_map (group_blocks s) groups ≡ b ∷ blocks)
     (λ z. blocks-with_zero_block s p b.reference (groups_of blocks) (AreGroupsFrom-groups_of s (suc p) blocks h.1)
-        ∙ ap₂ ◌∷◌ (zero_block-is s (is_reference_block s p) b h.0 z) later)
+    ∙ ap₂ ◌∷◌ (zero_block-is s (is_reference_block s p) b h.0 z) later)
     (λ _. ap (◌∷◌ b) later)

@@ -6,3 +6,8 @@ pub mod CoveringLemmas
 pub mod IntervalLemmas
 pub mod PlaceLemmas
 pub mod StreamLemmas
+pub mod RoundTripLemmas
+pub mod WalkLemmas
+pub mod EqualLengthLemmas
+pub mod OutcomeLemmas
+pub mod ReadingLemmas

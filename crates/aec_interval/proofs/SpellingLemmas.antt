@@ -1,14 +1,14 @@
 -- The shortest spelling of a block is one of its spellings: a lawful coded data set that stands for the block.
-use Rattle.std.proofs.Common.{◌≡◌, ℕ, zero, suc, ◌+◌, ◌-◌, ◌*◌, ◌^◌, ◌<◌, ◌≤◌, Bool, true, false, cond, IsTrue, Option, Some, None, List, [], ◌∷◌, ◌++◌, length, map, take, drop, refl, sym, ap, ◌∙◌, subst, arith, rules, inl, inr, ⊎_elim}
-use Rattle.std.specs.Prelude.{⊤, ◌&&◌, ◌%◌, nat_lt, nat_le, min, if◌then◌else◌}
+use Rattle.std.proofs.Common.{◌≡◌, ℕ, zero, suc, ◌+◌, ◌-◌, ◌^◌, ◌<◌, ◌≤◌, Bool, true, false, cond, Option, Some, None, List, [], ◌∷◌, length, map, drop, refl, ap, ◌∙◌, arith}
+use Rattle.std.specs.Prelude.{nat_lt}
 use Rattle.std.specs.List.{AllByRecursion, range_with_len, best_of, list_all}
 use Rattle.std.proofs.lemmas.List.{length-drop}
-use Rattle.std.proofs.lemmas.Bool.{cond_both, lt-ltb, and_from, le-leb}
+use Rattle.std.proofs.lemmas.Bool.{cond_both, lt-ltb, and_from}
 use Rattle.aec_params.specs.declared.settings.Settings.{Settings}
-use Rattle.aec_params.specs.Params.{IsAllowed, split_count}
+use Rattle.aec_params.specs.Params.{split_count}
 use Rattle.aec_params.specs.Blocks.{Block}
-use Rattle.aec_params.specs.CodedDataSets.{Body, plain_values, value_pairs, split_values, zero_blocks, CodedDataSet, HasReference, HasShape, has_small_values, written_count}
-use Rattle.aec_params.specs.Places.{is_reference_block, placed_values, placed_members, block_count, body_blocks, cds_blocks, blocks_in, segment_left, stays_in_segment, IsLawful}
+use Rattle.aec_params.specs.CodedDataSets.{value_pairs, CodedDataSet, HasReference, HasShape, has_small_values, written_count}
+use Rattle.aec_params.specs.Places.{placed_values, placed_members, block_count, cds_blocks}
 use Rattle.aec_params.specs.Spellings.{written_values, after_reference, uncompressed, paired, split, compressed_spellings, shortest_spelling, is_shorter}
 use Rattle.aec_interval.proofs.BlockLemmas.{IsBlockFor}
 
@@ -39,7 +39,8 @@ all-drop P zero xs h = h
 all-drop P (suc n) [] h = tt
 all-drop P (suc n) (x ∷ xs) h = all-drop P n xs h.1
 
-pub all-written_values : (P : ℕ → Type 0) (reference : Option ℕ) (values : List ℕ) → AllByRecursion P values → AllByRecursion P (after_reference reference values)
+pub all-written_values : (P : ℕ → Type 0) (reference : Option ℕ) (values : List ℕ) → AllByRecursion P values
+    → AllByRecursion P (after_reference reference values)
 all-written_values P None values h = h
 all-written_values P (Some r) values h = all-drop P 1 values h
 
@@ -48,7 +49,8 @@ list_all-from_all m [] h = refl
 list_all-from_all m (v ∷ values) h = and_from (nat_lt v m) (list_all (λ v. nat_lt v m) values) (lt-ltb v m h.0) (list_all-from_all m values h.1)
 
 -- with 0 in the reference place, members are placed as values are
-members-placed : (reference : Option ℕ) (values : List ℕ) → placed_values reference (after_reference reference values) ≡ values → placed_members reference values ≡ values
+members-placed : (reference : Option ℕ) (values : List ℕ) → placed_values reference (after_reference reference values) ≡ values
+    → placed_members reference values ≡ values
 members-placed None values e = refl
 members-placed (Some r) values e = e
 
@@ -64,25 +66,30 @@ block-again b values e = ap (λ values. record { reference = b.reference; values
 
 pub Spells-uncompressed : (s : Settings) (t : Bool) (b : Block) → IsBlockFor s t b → Spells s t b (uncompressed b)
 Spells-uncompressed s t b h = record {
-    shape = record { reference = h.has_reference;
-      body = (length-written_values s t b.reference b.values h.has_reference h.count, all-written_values (λ v. v < 2 ^ s.bits) b.reference b.values h.small) };
-    small = list_all-from_all (2 ^ s.bits) (written_values b) (all-written_values (λ v. v < 2 ^ s.bits) b.reference b.values h.small);
-    single = λ p. refl;
-    blocks = λ p. ap (λ b. b ∷ []) (block-again b (placed_values b.reference (written_values b)) h.placed) }
+  shape = record {
+    reference = h.has_reference;
+    body = (length-written_values s t b.reference b.values h.has_reference h.count, all-written_values (λ v. v < 2 ^ s.bits) b.reference b.values h.small);
+  };
+  small = list_all-from_all (2 ^ s.bits) (written_values b) (all-written_values (λ v. v < 2 ^ s.bits) b.reference b.values h.small);
+  single = λ p. refl;
+  blocks = λ p. ap (λ b. b ∷ []) (block-again b (placed_values b.reference (written_values b)) h.placed);
+}
 
 pub Spells-paired : (s : Settings) (t : Bool) (b : Block) → IsBlockFor s t b → Spells s t b (paired b)
 Spells-paired s t b h = record {
-    shape = record { reference = h.has_reference; body = h.count };
-    small = judged_members s b.reference b.values h.small;
-    single = λ p. refl;
-    blocks = λ p. ap (λ b. b ∷ []) (block-again b (placed_members b.reference b.values) (members-placed b.reference b.values h.placed)) }
+  shape = record { reference = h.has_reference; body = h.count };
+  small = judged_members s b.reference b.values h.small;
+  single = λ p. refl;
+  blocks = λ p. ap (λ b. b ∷ []) (block-again b (placed_members b.reference b.values) (members-placed b.reference b.values h.placed));
+}
 
 pub Spells-split : (s : Settings) (t : Bool) (b : Block) (k : ℕ) → IsBlockFor s t b → k < split_count s → Spells s t b (split b k)
 Spells-split s t b k h few = record {
-    shape = record { reference = h.has_reference; body = (few, length-written_values s t b.reference b.values h.has_reference h.count) };
-    small = list_all-from_all (2 ^ s.bits) (written_values b) (all-written_values (λ v. v < 2 ^ s.bits) b.reference b.values h.small);
-    single = λ p. refl;
-    blocks = λ p. ap (λ b. b ∷ []) (block-again b (placed_values b.reference (written_values b)) h.placed) }
+  shape = record { reference = h.has_reference; body = (few, length-written_values s t b.reference b.values h.has_reference h.count) };
+  small = list_all-from_all (2 ^ s.bits) (written_values b) (all-written_values (λ v. v < 2 ^ s.bits) b.reference b.values h.small);
+  single = λ p. refl;
+  blocks = λ p. ap (λ b. b ∷ []) (block-again b (placed_values b.reference (written_values b)) h.placed);
+}
 
 all-splits : (s : Settings) (t : Bool) (b : Block) → IsBlockFor s t b → (first count : ℕ) → first + count ≤ split_count s
     → AllByRecursion (Spells s t b) (map (split b) (range_with_len first count))

@@ -7,8 +7,16 @@ pub mod WorkedEdits
 pub mod WorkedReadings
 pub mod WorkedRests
 pub mod ListLaws
+pub mod SettingLaws
 pub mod CodewordLaws
 pub mod PairLaws
 pub mod MappingLaws
 pub mod PatternLaws
 pub mod ValueLaws
+pub mod CuttingLaws
+pub mod ByteLaws
+pub mod SampleLaws
+pub mod BlockShapeLaws
+pub mod FillLaws
+pub mod StreamLaws
+pub mod ReadingLaws
