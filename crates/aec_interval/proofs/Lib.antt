@@ -11,3 +11,7 @@ pub mod WalkLemmas
 pub mod EqualLengthLemmas
 pub mod OutcomeLemmas
 pub mod ReadingLemmas
+pub mod PendingLemmas
+pub mod ChunkLemmas
+pub mod MappedLemmas
+pub mod FillLemmas

@@ -2,3 +2,6 @@
 #![tactic(auto)]
 
 pub mod laws;
+mod chunks;
+mod interval;
+mod runs;
