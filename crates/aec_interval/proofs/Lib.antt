@@ -15,3 +15,5 @@ pub mod PendingLemmas
 pub mod ChunkLemmas
 pub mod MappedLemmas
 pub mod FillLemmas
+pub mod SegmentLemmas
+pub mod PaddingLemmas

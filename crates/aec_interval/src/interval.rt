@@ -30,12 +30,12 @@ fn write_segment(
     ensures kept { IsKept out.old.list out.new.list }
     ensures fault { IfErr result (λ e. e ≡ Memory) }
 {
-    let mut before = previous;
+    let mut preceding = previous;
     let mut run = NO_RUN;
     for chunk in samples.chunks(params.block_size() as usize) {
-        let block = block_of(alloc, params, before, chunk);
+        let block = block_of(alloc, params, preceding, chunk);
         run = write_next(params, run, &block, out)?;
-        before = chunk.last().copied();
+        preceding = chunk.last().copied();
     }
     run.write(params, true, out)
 }
@@ -52,10 +52,10 @@ fn write_segments(
     ensures kept { IsKept out.old.list out.new.list }
     ensures fault { IfErr result (λ e. e ≡ Memory) }
 {
-    let mut before = None;
+    let mut preceding = None;
     for segment in samples.chunks(SEGMENT_BLOCKS * params.block_size() as usize) {
-        write_segment(alloc, params, before, segment, out)?;
-        before = segment.last().copied();
+        write_segment(alloc, params, preceding, segment, out)?;
+        preceding = segment.last().copied();
     }
     Ok(())
 }
