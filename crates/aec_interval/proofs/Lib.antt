@@ -17,3 +17,4 @@ pub mod MappedLemmas
 pub mod FillLemmas
 pub mod SegmentLemmas
 pub mod PaddingLemmas
+pub mod WholeLemmas

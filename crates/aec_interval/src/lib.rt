@@ -5,3 +5,6 @@ pub mod laws;
 mod chunks;
 mod interval;
 mod runs;
+mod whole;
+
+pub use whole::encode_all;
