@@ -14,3 +14,10 @@ pub mod ReadingLemmas
 pub mod ShortestLemmas
 pub mod CostLemmas
 pub mod OptimalityLemmas
+pub mod PendingLemmas
+pub mod ChunkLemmas
+pub mod MappedLemmas
+pub mod FillLemmas
+pub mod SegmentLemmas
+pub mod PaddingLemmas
+pub mod WholeLemmas

@@ -2,3 +2,9 @@
 #![tactic(auto)]
 
 pub mod laws;
+mod chunks;
+mod interval;
+mod runs;
+mod whole;
+
+pub use whole::encode_all;
