@@ -27,12 +27,14 @@ binary_more front whole w v h e = rw append_assoc (ap (λ l. front ++ l) (sym (b
 
 pub bits_of_bytes-append : (xs ys : List ℕ) → bits_of_bytes (xs ++ ys) ≡ bits_of_bytes xs ++ bits_of_bytes ys
 bits_of_bytes-append [] ys = refl
-bits_of_bytes-append (x ∷ xs) ys = ap (λ l. binary 8 x ++ l) (bits_of_bytes-append xs ys) ∙ sym (append_assoc (binary 8 x) (bits_of_bytes xs) (bits_of_bytes ys))
+bits_of_bytes-append (x ∷ xs) ys =
+    ap (λ l. binary 8 x ++ l) (bits_of_bytes-append xs ys) ∙ sym (append_assoc (binary 8 x) (bits_of_bytes xs) (bits_of_bytes ys))
 
 pub bits_of_bytes_more : (front : List Bool) (xs : List ℕ) (i d : ℕ) → i < length xs
     → (front ++ bits_of_bytes (take i xs)) ++ binary 8 (get_or xs i d) ≡ front ++ bits_of_bytes (take (i + 1) xs)
 bits_of_bytes_more front xs i d h =
-    rw (append_assoc, take_more xs i d h, bits_of_bytes-append) (ap (λ l. front ++ (bits_of_bytes (take i xs) ++ l)) (sym (append-nil (binary 8 (get_or xs i d)))))
+    rw (append_assoc, take_more xs i d h, bits_of_bytes-append)
+    (ap (λ l. front ++ (bits_of_bytes (take i xs) ++ l)) (sym (append-nil (binary 8 (get_or xs i d)))))
 
 low_bit : (v : ℕ) (b : Bool) → ((2 * v + cond b 1 0) % 2 == 1) ≡ b
 low_bit v true = let e : (2 * v + 1) % 2 ≡ 1 = omega arith in rw e refl
@@ -124,7 +126,8 @@ eight_of bits i w v within width stands =
           let missing : up_to_multiple 8 (length bits) ≡ 8 - w = omega arith in
           let whole : binary w v ++ (rest ++ zs) ≡ binary w v ++ replicate (8 - w) false = rw (none, missing) refl in
           ap (take 8) (from_there ∙ whole)
-          ∙ take_all 8 (binary w v ++ replicate (8 - w) false) (omega (arith, length-append (binary w v) (replicate (8 - w) false), length-binary w v, length-replicate (8 - w) false))
+          ∙ take_all 8 (binary w v ++ replicate (8 - w) false)
+          (omega (arith, length-append (binary w v) (replicate (8 - w) false), length-binary w v, length-replicate (8 - w) false))
       | inr long ↦
           let none : 8 - w ≡ 0 = omega arith in
           ap (take 8) from_there ∙ take_at (binary w v) (rest ++ zs) 8 (length-binary w v ∙ omega arith)
@@ -167,6 +170,8 @@ has_one-zeros zero = refl
 has_one-zeros (suc n) = has_one-zeros n
 
 -- nothing but zeros up to the end
-pub zeros_all : (bits : List Bool) (start i : ℕ) → length bits ≤ i → drop start bits ≡ replicate (i - start) false ++ drop i bits → has_one (drop start bits) ≡ false
+pub zeros_all : (bits : List Bool) (start i : ℕ) → length bits ≤ i
+    → drop start bits ≡ replicate (i - start) false ++ drop i bits → has_one (drop start bits) ≡ false
 zeros_all bits start i past so_far =
-    ap has_one (so_far ∙ ap (λ l. replicate (i - start) false ++ l) (drop_all i bits past) ∙ append-nil (replicate (i - start) false)) ∙ has_one-zeros (i - start)
+    ap has_one (so_far ∙ ap (λ l. replicate (i - start) false ++ l) (drop_all i bits past) ∙ append-nil (replicate (i - start) false))
+    ∙ has_one-zeros (i - start)

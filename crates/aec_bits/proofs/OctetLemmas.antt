@@ -20,7 +20,8 @@ held_at (x ∷ s) (suc k) d held within = held_at s k d (and_parts (is_octet x) 
 pub octets_more : (front : List Bool) (s : List ℤ) (k : ℕ) (d : ℤ) → k < length s
     → (front ++ flat_map octet_bits (take k s)) ++ octet_bits (get_or s k d) ≡ front ++ flat_map octet_bits (take (k + 1) s)
 octets_more front s k d within =
-    rw (append_assoc, take_more s k d within, flat_map-append) (ap (λ l. front ++ (flat_map octet_bits (take k s) ++ l)) (sym (append-nil (octet_bits (get_or s k d)))))
+    rw (append_assoc, take_more s k d within, flat_map-append)
+    (ap (λ l. front ++ (flat_map octet_bits (take k s) ++ l)) (sym (append-nil (octet_bits (get_or s k d)))))
 
 length-octets : (s : List ℤ) → length (flat_map octet_bits s) ≡ 8 * length s
 length-octets [] = refl
@@ -58,11 +59,13 @@ octet_next bits place count k v s d begins within fits stands =
     ∙ ap (λ l. flat_map octet_bits l ++ begins.stands.0) (drop_more s k d inside)
     ∙ append_assoc (octet_bits x) (flat_map octet_bits (drop (k + 1) s)) begins.stands.0 in
     let same : binary 8 v ≡ octet_bits x =
-    sym (take_at (binary 8 v) (drop (place + 8 * k + 8) bits) 8 (length-binary 8 v)) ∙ ap (take 8) (sym stands ∙ there) ∙ take_at (octet_bits x) rest 8 (length-binary 8 (nat_abs x)) in
+    sym (take_at (binary 8 v) (drop (place + 8 * k + 8) bits) 8 (length-binary 8 v))
+    ∙ ap (take 8) (sym stands ∙ there) ∙ take_at (octet_bits x) rest 8 (length-binary 8 (nat_abs x)) in
     number.1 ∙ ap pos (same_number number.0 v number.2 fits (ap octet_bits (sym number.1) ∙ sym same))
 
 -- one more sample decoded: y, read as the number v at `at` from `list`
-pub decoded_more : (front items : List ℤ) (bits list : List Bool) (place count k v at : ℕ) (y : ℤ) → k < count → v < 2 ^ 8 → y ≡ pos v → list ≡ bits → at ≡ place + 8 * k
+pub decoded_more : (front items : List ℤ) (bits list : List Bool) (place count k v at : ℕ) (y : ℤ)
+    → k < count → v < 2 ^ 8 → y ≡ pos v → list ≡ bits → at ≡ place + 8 * k
     → drop at list ≡ binary 8 v ++ drop (at + 8) list
     → ((s : List ℤ) → BeginsAt octets bits place count s → items ≡ front ++ take k s)
     → (s : List ℤ) → BeginsAt octets bits place count s → items ++ y ∷ [] ≡ front ++ take (k + 1) s

@@ -72,7 +72,8 @@ code_of_interval f s some few =
 
 -- samples cut at the end of an interval
 pub code_of-append : (f : Format) (k : ℕ) (a b : List ℤ) → 1 ≤ f.most → length a ≡ k * f.most → code_of f (a ++ b) ≡ code_of f a ++ code_of f b
-code_of-append f k a b h whole = ap (flat_map f.bits_of) (pieces_of-append f.most k a b h whole) ∙ flat_map-append f.bits_of (pieces_of f.most a) (pieces_of f.most b)
+code_of-append f k a b h whole =
+    ap (flat_map f.bits_of) (pieces_of-append f.most k a b h whole) ∙ flat_map-append f.bits_of (pieces_of f.most a) (pieces_of f.most b)
 
 -- the code up to an interval, and from there on
 pub code_of_split : (f : Format) (k : ℕ) (s : List ℤ) → 1 ≤ f.most → k * f.most ≤ length s
@@ -123,7 +124,8 @@ same_within f (suc k) (u ∷ a) (v ∷ b) x y lawful held kept len fits e =
     sym (append_assoc (f.bits_of (take n s)) (code_of f (drop n s)) x) ∙ ap (λ l. l ++ x) (sym (code_of_first f s h some))
     ∙ e ∙ ap (λ l. l ++ y) (code_of_first f t h (omega arith)) ∙ append_assoc (f.bits_of (take n t)) (code_of f (drop n t)) y in
     let first = lawful.equal_lengths (take n s) (take n t) _ _ s_first t_first (omega (arith, length-take n s, length-take n t)) split in
-    let rest = same_within f k (drop n s) (drop n t) x y lawful s_parts.1 t_parts.1 (omega (arith, length-drop n s, length-drop n t)) (omega (arith, length-drop n s)) first.1 in
+    let rest = same_within f k (drop n s) (drop n t) x y lawful s_parts.1 t_parts.1
+    (omega (arith, length-drop n s, length-drop n t)) (omega (arith, length-drop n s)) first.1 in
     (sym (take-append-drop n s) ∙ ap (λ l. l ++ drop n s) first.0 ∙ ap (λ l. take n t ++ l) rest.0 ∙ take-append-drop n t, rest.1)
 
 pub same_samples_follow : (f : Format) (a b : List ℤ) (x y : List Bool) → IsLawful f → AreHeld f a → AreHeld f b → length a ≡ length b

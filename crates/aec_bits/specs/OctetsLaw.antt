@@ -14,7 +14,9 @@ use Rattle.aec_bits.specs.Octets.{octet_bits, is_octet, octets}
 use Rattle.aec_bits.specs.CodewordLaws.{length-binary, bits_number-binary}
 
 pub octet_number : (x : ℤ) → is_octet x ≡ true → (n : ℕ) × (x ≡ pos n) × (n < 256)
-octet_number (pos n) h = let small : ltb n 256 ≡ true = (and_parts (int_le (pos 0) (pos n)) (int_lt (pos n) (pos 256)) h).1 in (n, refl, omega (arith, ltb-true n 256 small))
+octet_number (pos n) h =
+    let small : ltb n 256 ≡ true = (and_parts (int_le (pos 0) (pos n)) (int_lt (pos n) (pos 256)) h).1 in
+    (n, refl, omega (arith, ltb-true n 256 small))
 octet_number (negsuc n) h = absurd (cc)
 
 pub same_number : (m n : ℕ) → m < 256 → n < 256 → binary 8 m ≡ binary 8 n → m ≡ n
@@ -40,7 +42,8 @@ same_octets [] [] x y held kept len e = (refl, e)
 same_octets [] (v ∷ b) x y held kept len e = absurd (omega arith)
 same_octets (u ∷ a) [] x y held kept len e = absurd (omega arith)
 same_octets (u ∷ a) (v ∷ b) x y held kept len e =
-    let first = octet_first u v (flat_map octet_bits a ++ x) (flat_map octet_bits b ++ y) (sym (append_assoc (octet_bits u) _ x) ∙ e ∙ append_assoc (octet_bits v) _ y) in
+    let first = octet_first u v (flat_map octet_bits a ++ x) (flat_map octet_bits b ++ y)
+    (sym (append_assoc (octet_bits u) _ x) ∙ e ∙ append_assoc (octet_bits v) _ y) in
     let here = and_parts (is_octet u) (list_all is_octet a) held in
     let there = and_parts (is_octet v) (list_all is_octet b) kept in
     let rest = same_octets a b x y here.1 there.1 (omega arith) first.1 in

@@ -8,15 +8,18 @@ pub returns-in_err-put_all-clause-front : goal.returns-in_err-put_all-clause-fro
 returns-in_err-put_all-clause-front g c =
     let bytes = bytes_of c.args.self.now.list in
     on_err c.from_residual.result _
-    (AppendsFront_more _ _ _ bytes c.loop-done.done c.fill-count.result c.loop-done.invariant.bytes (rw c.fill-count.ensures.bytes at c.in_err-put_all.ensures.front))
+    (AppendsFront_more _ _ _ bytes c.loop-done.done c.fill-count.result c.loop-done.invariant.bytes
+    (rw c.fill-count.ensures.bytes at c.in_err-put_all.ensures.front))
 
 pub loop-done-preserved : goal.loop-done-preserved
 loop-done-preserved g c =
     let bytes = bytes_of c.args.self.now.list in
     record {
       within = omega arith;
-      bytes = Appends_more _ _ _ bytes c.loop-done.done c.fill-count.result c.loop-done.invariant.bytes (rw c.fill-count.ensures.bytes at c.in_ok-put_all.ensures.ok);
+      bytes = Appends_more _ _ _ bytes c.loop-done.done c.fill-count.result c.loop-done.invariant.bytes
+          (rw c.fill-count.ensures.bytes at c.in_ok-put_all.ensures.ok);
       begun = c.in_ok-put_all.ensures.begun ∙ c.loop-done.invariant.begun;
       failures = c.in_ok-put_all.ensures.failures ∙ c.loop-done.invariant.failures;
-      refuses = λ _. sym c.loop-done.invariant.failures ∙ c.in_ok-put_all.ensures.refuses (rw (c.fill-count.ensures.bytes, length-take, length-drop) (omega arith));
+      refuses = λ _. sym c.loop-done.invariant.failures
+          ∙ c.in_ok-put_all.ensures.refuses (rw (c.fill-count.ensures.bytes, length-take, length-drop) (omega arith));
     }

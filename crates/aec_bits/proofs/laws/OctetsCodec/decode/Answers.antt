@@ -24,6 +24,7 @@ loop-place-preserved c =
       items =
           rw c.in_ok-push.ensures.items
           (decoded_more c.args.out.now.items c.loop-place.out.items c.args.stream.now.list c.loop-place.reader.list c.args.pos c.args.count c.loop-place._place
-          c.in_ok-read.field-0 c.loop-place.reader.pos (to_z w64 c.in_ok-read.field-0) (omega arith) c.in_ok-read.ensures.fits (to_z_pos w64 c.in_ok-read.field-0 (omega (arith, c.in_ok-read.ensures.fits)))
+          c.in_ok-read.field-0 c.loop-place.reader.pos (to_z w64 c.in_ok-read.field-0) (omega arith) c.in_ok-read.ensures.fits
+          (to_z_pos w64 c.in_ok-read.field-0 (omega (arith, c.in_ok-read.ensures.fits)))
           c.loop-place.invariant.list c.loop-place.invariant.place c.in_ok-read.ensures.bits c.loop-place.invariant.items);
     }
