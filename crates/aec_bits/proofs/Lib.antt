@@ -1,2 +1,3 @@
 pub mod CodewordLemmas
 pub mod DeviceLemmas
+pub mod OctetLemmas

@@ -1,12 +1,13 @@
 -- The samples and the values below 2^n stand for one another, at each prediction.
 use Rattle.std.proofs.Common.{◌≡◌, ℕ, zero, suc, ◌+◌, ◌-◌, ◌*◌, ◌/◌, ◌%◌, ◌^◌, ◌<◌, ◌≤◌, min, Bool, true, false, cond, leb, ltb, ◌&&◌, ℤ, pos, negsuc, refl, ap, sym, ◌∙◌, subst, arith, inl, inr, ⊎_elim, ◌⊎◌}
 use Rattle.std.specs.Prelude.{◌-ℤ◌, ◌+ℤ◌, neg_ℤ, nat_abs, int_le, if◌then◌else◌}
-use Rattle.std.proofs.lemmas.Bool.{cases_lt, and_parts, and_from, le-leb, le-ltb, and_right, leb-true}
+use Rattle.std.proofs.lemmas.Bool.{cases_lt, and_parts, and_from, le-leb, le-ltb, and_right}
 use Rattle.std.proofs.lemmas.Bool.Decides.{nat_tests}
 use Rattle.std.proofs.lemmas.Nat.{pow_pos}
 use Rattle.std.proofs.Math.Nat.{pow-suc}
 use Rattle.std.proofs.lemmas.Int.{ints, clamps}
 use Rattle.std.specs.Int.{int_min}
+use Rattle.aec_params.proofs.SettingLaws.{at_least_one_bit}
 use Rattle.aec_params.specs.declared.settings.Settings.{Settings}
 use Rattle.aec_params.specs.Params.{IsAllowed, IsHeld, x_min, x_max}
 use Rattle.aec_params.specs.Mapping.{room_around, mapped_error}
@@ -110,9 +111,6 @@ error-onto low high m h =
 
 -- ---- the room around a prediction
 
-pub at_least_one_bit : (s : Settings) → IsAllowed s → 1 ≤ s.bits
-at_least_one_bit s allowed = leb-true 1 s.bits (and_parts (leb 1 s.bits) (leb s.bits 32) allowed.bits).0
-
 pub pow-half : (n : ℕ) → 1 ≤ n → 2 ^ n ≡ 2 ^ (n - 1) + 2 ^ (n - 1)
 pow-half zero h = omega arith
 pow-half (suc n) h = let e : suc n - 1 ≡ n = omega arith in rw e (omega (arith, pow-suc 2 n))
@@ -201,7 +199,8 @@ error-one_to_one s p x y allowed held held_x held_y e =
     let h = places s p allowed held in
     let w = within_places s p x low high h held_x (x -ℤ p) refl in
     let v = within_places s p y low high h held_y (y -ℤ p) refl in
-    same_from_difference x y p (error_apart low high (x -ℤ p) (y -ℤ p) w v (ap (λ (t : ℤ). mapped_error t (x -ℤ p)) (sym (room s p low high h)) ∙ (e ∙ ap (λ (t : ℤ). mapped_error t (y -ℤ p)) (room s p low high h))))
+    same_from_difference x y p (error_apart low high (x -ℤ p) (y -ℤ p) w v
+    (ap (λ (t : ℤ). mapped_error t (x -ℤ p)) (sym (room s p low high h)) ∙ (e ∙ ap (λ (t : ℤ). mapped_error t (y -ℤ p)) (room s p low high h))))
 
 pub error-reaches : (s : Settings) (p : ℤ) (m : ℕ) → IsAllowed s → IsHeld s p → m < 2 ^ s.bits
     → (x : ℤ) × IsHeld s x × (mapped_error (room_around s p) (x -ℤ p) ≡ m)
@@ -209,5 +208,9 @@ error-reaches s p m allowed held l =
     let low = gap (x_min s) p in let high = gap p (x_max s) in
     let h = places s p allowed held in
     let r = error-onto low high m (subst (λ (t : ℕ). m < t) (sym h.all) l) in
-    let back : (p +ℤ r.0) -ℤ p ≡ r.0 = omega (arith, ints) in
-    (p +ℤ r.0, held_from_difference s p low high h r.0 r.1, ap (λ (t : ℤ). mapped_error t ((p +ℤ r.0) -ℤ p)) (room s p low high h) ∙ (ap (λ (t : ℤ). mapped_error (pos (min low high)) t) back ∙ r.2))
+    let back : (p +ℤ r.0) -ℤ p ≡ r.0 = omega (arith, ints) in (
+      p +ℤ r.0,
+      held_from_difference s p low high h r.0 r.1,
+      ap (λ (t : ℤ). mapped_error t ((p +ℤ r.0) -ℤ p)) (room s p low high h)
+          ∙ (ap (λ (t : ℤ). mapped_error (pos (min low high)) t) back ∙ r.2),
+    )

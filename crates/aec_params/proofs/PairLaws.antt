@@ -21,7 +21,10 @@ top_or_below s t h = grind arith
 
 triangle-le : (s t : ℕ) → s ≤ t → triangle s ≤ triangle t
 triangle-le s zero h = let e : s ≡ 0 = omega arith in rw e (omega arith)
-triangle-le s (suc t) h = ⊎_elim (λ (l : s ≤ t). let k = triangle-le s t l in omega arith) (λ (e : s ≡ suc t). omega (arith, ap triangle e)) (top_or_below s t h)
+triangle-le s (suc t) h =
+    ⊎_elim (λ (l : s ≤ t). let k = triangle-le s t l in omega arith)
+    (λ (e : s ≡ suc t). omega (arith, ap triangle e))
+    (top_or_below s t h)
 
 triangle-lt : (s t b d : ℕ) → b ≤ s → s < t → triangle s + b < triangle t + d
 triangle-lt s t b d h l = let k = triangle-le (suc s) t (omega arith) in omega arith

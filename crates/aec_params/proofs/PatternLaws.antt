@@ -5,7 +5,8 @@ use Rattle.std.proofs.lemmas.Bool.{cases_lt, and_parts, and_from, le-leb, leb-tr
 use Rattle.std.proofs.lemmas.Nat.{pow_pos}
 use Rattle.aec_params.specs.declared.settings.Settings.{Settings}
 use Rattle.aec_params.specs.Params.{IsAllowed, IsHeld, x_min, x_max, sample_pattern}
-use Rattle.aec_params.proofs.MappingLaws.{at_least_one_bit, pow-half}
+use Rattle.aec_params.proofs.SettingLaws.{at_least_one_bit}
+use Rattle.aec_params.proofs.MappingLaws.{pow-half}
 
 -- ---- held numbers by sign
 
@@ -43,7 +44,8 @@ held_from : (b : Bool) (n : ℕ) (x : ℤ) → HeldAs b n x → int_le (lowest b
 held_from true n (pos m) h =
     and_from (int_le (lowest true n) (pos m)) (int_le (pos m) (highest true n)) (natural_above (2 ^ (n - 1)) m) (le-leb m (2 ^ (n - 1) - 1) (omega arith))
 held_from true n (negsuc m) h = and_from (int_le (lowest true n) (negsuc m)) true (negative_above (2 ^ (n - 1)) m h) refl
-held_from false n (pos m) h = and_from (int_le (pos 0) (pos m)) (int_le (pos m) (highest false n)) (le-leb 0 m (omega arith)) (le-leb m (2 ^ n - 1) (omega arith))
+held_from false n (pos m) h =
+    and_from (int_le (pos 0) (pos m)) (int_le (pos m) (highest false n)) (le-leb 0 m (omega arith)) (le-leb m (2 ^ n - 1) (omega arith))
 held_from false n (negsuc m) h = absurd h
 
 pub HeldAs-from_held : (s : Settings) (x : ℤ) → IsHeld s x → HeldAs s.signed s.bits x

@@ -1,11 +1,20 @@
 -- What the definitions of the format were meant to say: codewords tell numbers apart, values and pieces give back what they came from.
-use Rattle.std.specs.Prelude.{◌≡◌, ℕ, ◌+◌, ◌^◌, ◌<◌, Bool, true, ℤ, List, ◌++◌, length, map}
-use Rattle.std.specs.List.{flat_map, list_all}
-use Rattle.aec_params.specs.Codewords.{fs, binary, bits_number}
+use Rattle.std.specs.Prelude.{◌≡◌, ℕ, ◌+◌, ◌-◌, ◌/◌, ◌^◌, ◌<◌, ◌≤◌, Bool, true, ℤ, Option, ⊤, List, [], ◌∷◌, ◌++◌, length, map}
+use Rattle.std.specs.List.{range_with_len, flat_map, list_all, AllByRecursion}
+use Rattle.aec_params.specs.Codewords.{fs, binary, bits_number, padded_to_byte, bytes_of, bits_of_bytes}
+use Rattle.aec_params.specs.Cutting.{pieces_of}
+use Rattle.std.specs.Int.{div_ceil, next_multiple_of}
 use Rattle.aec_params.specs.CodedDataSets.{pair_number}
 use Rattle.aec_params.specs.declared.settings.Settings.{Settings}
 use Rattle.aec_params.specs.Params.{IsAllowed, IsHeld, sample_pattern}
 use Rattle.aec_params.specs.Mapping.{mapped_value}
+use Rattle.aec_params.specs.Blocks.{Block, blocks_of, all_blocks_of}
+use Rattle.aec_params.specs.Reading.{FillBlocks, IsBlockReading}
+use Rattle.aec_params.specs.declared.edit.Edit.{Edit}
+use Rattle.aec_params.specs.declared.edit.Edit.TheVariants.{Append}
+use Rattle.aec_params.specs.declared.samples.Samples.{Samples}
+use Rattle.aec_params.specs.Edits.{touched_intervals, opened_intervals, needed_calls}
+use Rattle.aec_params.specs.BlockShapes.{AreBlocksFrom}
 
 -- ---- codewords
 
@@ -62,3 +71,64 @@ pub record EachPatternIsOneSample (s : Settings) : Type 0 where
 pub record SamplesAreValues : Type 0 where
   pub values : (s : Settings) (p : ℤ) → IsAllowed s → IsHeld s p → EachValueIsOneSample s p
   pub patterns : (s : Settings) → IsAllowed s → EachPatternIsOneSample s
+
+-- ---- pieces
+
+-- lists of n members each, but for the last, which may be shorter and is not empty
+abbrev pub AreCut : {X : Type 0} → ℕ → List (List X) → Type 0
+AreCut n [] = ⊤
+AreCut n (piece ∷ []) = (0 < length piece) × (length piece ≤ n)
+AreCut n (piece ∷ (next ∷ pieces)) = (length piece ≡ n) × AreCut n (next ∷ pieces)
+
+-- the pieces of a list are the only lists that are cut so and join to it
+pub record PiecesAreTheCut (X : Type 0) : Type 0 where
+  pub join : (n : ℕ) (xs : List X) → 0 < n → flat_map (λ (piece : List X). piece) (pieces_of n xs) ≡ xs
+  pub cut : (n : ℕ) (xs : List X) → 0 < n → AreCut n (pieces_of n xs)
+  pub count : (n : ℕ) (xs : List X) → 0 < n → length (pieces_of n xs) ≡ div_ceil (length xs) n
+  pub unique : (n : ℕ) (pieces : List (List X)) → 0 < n → AreCut n pieces → pieces_of n (flat_map (λ (piece : List X). piece) pieces) ≡ pieces
+
+-- whole pieces in front of a list are its first pieces
+abbrev pub WholePiecesComeFirst : Type 0 → Type 0
+WholePiecesComeFirst X = (n : ℕ) (pieces : List (List X)) (xs : List X) → 0 < n → AllByRecursion (λ (piece : List X). length piece ≡ n) pieces
+    → pieces_of n (flat_map (λ (piece : List X). piece) pieces ++ xs) ≡ pieces ++ pieces_of n xs
+
+-- ---- bytes
+
+-- bytes are the bits filled up to a whole byte, and bytes are the bytes of their bits
+pub record BytesAreBits : Type 0 where
+  pub filled : (bits : List Bool) → length (padded_to_byte bits) ≡ next_multiple_of (length bits) 8
+  pub bits : (bits : List Bool) → bits_of_bytes (bytes_of bits) ≡ padded_to_byte bits
+  pub count : (bits : List Bool) → length (bytes_of bits) ≡ div_ceil (length bits) 8
+  pub below : (bits : List Bool) → AllByRecursion (λ (byte : ℕ). byte < 256) (bytes_of bits)
+  pub bytes : (bytes : List ℕ) → AllByRecursion (λ (byte : ℕ). byte < 256) bytes → bytes_of (bits_of_bytes bytes) ≡ bytes
+
+-- ---- samples and blocks
+
+-- held samples are known from their number and their blocks, those of one interval and all
+pub record BlocksTellSamples : Type 0 where
+  pub interval : (s : Settings) (xs ys : List ℤ) → IsAllowed s → AllByRecursion (IsHeld s) xs → AllByRecursion (IsHeld s) ys
+      → length xs ≡ length ys → blocks_of s xs ≡ blocks_of s ys → xs ≡ ys
+  pub all : (s : Settings) (xs ys : List ℤ) → IsAllowed s → AllByRecursion (IsHeld s) xs → AllByRecursion (IsHeld s) ys
+      → length xs ≡ length ys → all_blocks_of s xs ≡ all_blocks_of s ys → xs ≡ ys
+
+-- the blocks of held samples are those in the format's shape, and no others
+pub record SamplesAreBlocks : Type 0 where
+  pub shape : (s : Settings) (xs : List ℤ) → IsAllowed s → AllByRecursion (IsHeld s) xs → AreBlocksFrom s 0 (all_blocks_of s xs)
+  pub onto : (s : Settings) (blocks : List Block) → IsAllowed s → AreBlocksFrom s 0 blocks → (samples : List ℤ) × FillBlocks s samples blocks
+
+-- each reading of blocks is one of samples, and of one list alone
+pub record ReadingsHaveSamples : Type 0 where
+  pub samples : (s : Settings) (count : Option ℕ) (limit : ℕ) (bits : List Bool) (blocks : List Block) → IsAllowed s
+      → IsBlockReading s count limit bits 0 0 blocks → (samples : List ℤ) × FillBlocks s samples blocks
+  pub unique : (s : Settings) (xs ys : List ℤ) (blocks : List Block) → IsAllowed s → FillBlocks s xs blocks → FillBlocks s ys blocks → xs ≡ ys
+
+-- ---- edits
+
+-- the intervals that an edit touches are consecutive, and it opens at most two of those that it codes
+pub record EditsTouchFew : Type 0 where
+  pub touched : (n first len : ℕ) → 0 < n → 0 < len
+      → touched_intervals n first len ≡ range_with_len (first / n) ((first + len - 1) / n - first / n + 1)
+  pub count : (n first len : ℕ) → 0 < n → 0 < len → length (touched_intervals n first len) ≡ (first + len - 1) / n - first / n + 1
+  pub none : (n first : ℕ) → touched_intervals n first 0 ≡ []
+  pub appended : (n old : ℕ) (values : Samples) → 0 < n → needed_calls n old (Append values) ≡ length (touched_intervals n old (length values))
+  pub opened : (n old : ℕ) (edit : Edit) → 0 < n → (opened_intervals n old edit ≤ 2) × (opened_intervals n old edit ≤ needed_calls n old edit)

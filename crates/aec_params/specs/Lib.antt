@@ -14,4 +14,5 @@ pub mod Streams
 pub mod Reading
 pub mod Faults
 pub mod Edits
+pub mod BlockShapes
 pub mod Laws

@@ -1,6 +1,6 @@
 //! Laws of the format's definitions. Their functions do nothing: what each one's contract says is proved.
 
-ghost use Rattle.aec_params.specs.Laws.{FundamentalSequencesDiffer, BinaryNumbersDiffer, CodewordLengths, BinaryNumbersAreReadBack, ListsAreTold, EachNumberIsOnePair, SamplesAreValues};
+ghost use Rattle.aec_params.specs.Laws.{FundamentalSequencesDiffer, BinaryNumbersDiffer, CodewordLengths, BinaryNumbersAreReadBack, ListsAreTold, EachNumberIsOnePair, SamplesAreValues, PiecesAreTheCut, WholePiecesComeFirst, BytesAreBits, BlocksTellSamples, SamplesAreBlocks, ReadingsHaveSamples, EditsTouchFew};
 
 /// Fundamental sequences of two numbers differ, whatever bits follow them.
 pub fn fundamental_sequences_differ()
@@ -35,4 +35,39 @@ pub fn each_number_is_one_pair()
 /// At each prediction, and without preprocessing, samples and values below 2^n stand for one another.
 pub fn samples_are_values()
     ensures { SamplesAreValues }
+{}
+
+/// The pieces of a list join to it, are cut as they are meant to be, and are the only ones.
+pub fn pieces_are_the_cut<X>()
+    ensures { PiecesAreTheCut X }
+{}
+
+/// Whole pieces in front of a list are its first pieces.
+pub fn whole_pieces_come_first<X>()
+    ensures { WholePiecesComeFirst X }
+{}
+
+/// Bits as bytes and back.
+pub fn bytes_are_bits()
+    ensures { BytesAreBits }
+{}
+
+/// Held samples are known from their number and their blocks.
+pub fn blocks_tell_samples()
+    ensures { BlocksTellSamples }
+{}
+
+/// The blocks of held samples are those in the shape that the format has, and no others.
+pub fn samples_are_blocks()
+    ensures { SamplesAreBlocks }
+{}
+
+/// Each reading of blocks is one of samples, and of one list alone.
+pub fn readings_have_samples()
+    ensures { ReadingsHaveSamples }
+{}
+
+/// Which intervals an edit touches, and that it opens at most two of those that it codes.
+pub fn edits_touch_few()
+    ensures { EditsTouchFew }
 {}

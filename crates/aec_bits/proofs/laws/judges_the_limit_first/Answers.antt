@@ -1,0 +1,5 @@
+use Rattle.aec_bits.specs.RefusalLaws.{append_past}
+use Rattle.aec_bits.proofs.laws.judges_the_limit_first.Goals as goal
+
+pub returns : goal.returns
+returns c = append_past

@@ -1,0 +1,204 @@
+-- Blocks: each has J values below 2^n, and a reference with 0 in its place exactly where one is due.
+use Rattle.std.proofs.Common.{◌≡◌, ℕ, zero, suc, ◌+◌, ◌-◌, ◌*◌, ◌^◌, ◌<◌, Bool, true, false, Option, Some, None, ℤ, pos, List, [], ◌∷◌, ◌++◌, length, map, take, drop, replicate, refl, sym, ap, ◌∙◌, subst, arith, ⊎_elim}
+use Rattle.std.specs.Prelude.{⊤, ◌==◌, ◌&&◌, if◌then◌else◌, unwrap_or}
+use Rattle.std.specs.List.{AllByRecursion, last_or}
+use Rattle.std.specs.Int.{div_ceil}
+use Rattle.std.proofs.lemmas.List.{length-append, length-replicate, length-take, length-drop, length-map, take-append-drop}
+use Rattle.std.proofs.lemmas.Bool.{cases_lt, cond_both, and_right, ne_eqb}
+use Rattle.std.proofs.lemmas.Nat.{pow_pos}
+use Rattle.aec_params.specs.declared.settings.Settings.{Settings}
+use Rattle.aec_params.specs.Params.{IsAllowed, IsHeld, sample_pattern}
+use Rattle.aec_params.specs.Cutting.{pieces_of, up_to_multiple}
+use Rattle.aec_params.specs.Mapping.{mapped_after, mapped_values}
+use Rattle.aec_params.specs.Blocks.{Block, filled_samples, reference_of, with_reference, blocks_of}
+use Rattle.aec_params.specs.CodedDataSets.{HasReference}
+use Rattle.aec_params.specs.Places.{is_reference_block, placed_values}
+use Rattle.aec_params.specs.Spellings.{written_values, after_reference}
+use Rattle.aec_interval.proofs.CuttingLemmas.{IsPieceBefore, by_pieces, pieces_of-nil, pieces_of-cons, length-pieces_of, up_to_multiple-fills, div_ceil-times}
+use Rattle.aec_params.proofs.ValueLaws.{mapped_value-fits}
+use Rattle.aec_params.proofs.PatternLaws.{pattern-fits}
+pub use Rattle.aec_params.proofs.SettingLaws.{block_size-positive}
+
+-- ---- what holds of each element
+
+pub all-append : {X : Type 0} (P : X → Type 0) (xs ys : List X) → AllByRecursion P xs → AllByRecursion P ys → AllByRecursion P (xs ++ ys)
+all-append P [] ys h k = k
+all-append P (x ∷ xs) ys h k = (h.0, all-append P xs ys h.1 k)
+
+pub all_left : {X : Type 0} (P : X → Type 0) (xs ys : List X) → AllByRecursion P (xs ++ ys) → AllByRecursion P xs
+all_left P [] ys h = tt
+all_left P (x ∷ xs) ys h = (h.0, all_left P xs ys h.1)
+
+pub all_right : {X : Type 0} (P : X → Type 0) (xs ys : List X) → AllByRecursion P (xs ++ ys) → AllByRecursion P ys
+all_right P [] ys h = h
+all_right P (x ∷ xs) ys h = all_right P xs ys h.1
+
+pub all-replicate : {X : Type 0} (P : X → Type 0) (n : ℕ) (x : X) → P x → AllByRecursion P (replicate n x)
+all-replicate P zero x h = tt
+all-replicate P (suc n) x h = (h, all-replicate P n x h)
+
+pub all-pieces_of : {X : Type 0} (P : X → Type 0) (n : ℕ) → 0 < n → (xs : List X) → AllByRecursion P xs → AllByRecursion (AllByRecursion P) (pieces_of n xs)
+all-pieces_of P n h = by_pieces (λ xs. AllByRecursion P xs → AllByRecursion (AllByRecursion P) (pieces_of n xs)) n h
+    (λ _. subst (AllByRecursion (AllByRecursion P)) (sym (pieces_of-nil n h)) tt)
+    (λ front rest piece ih all. subst (AllByRecursion (AllByRecursion P)) (sym (pieces_of-cons n front rest piece))
+    (all_left P front rest all, ih (all_right P front rest all)))
+
+-- pieces of a whole multiple are full
+pub whole_pieces : {X : Type 0} (n : ℕ) → 0 < n → (xs : List X) (k : ℕ) → length xs ≡ k * n → AllByRecursion (λ piece. length piece ≡ n) (pieces_of n xs)
+whole_pieces n h = by_pieces (λ xs. (k : ℕ) → length xs ≡ k * n → AllByRecursion (λ piece. length piece ≡ n) (pieces_of n xs)) n h
+    (λ k e. subst (AllByRecursion (λ piece. length piece ≡ n)) (sym (pieces_of-nil n h)) tt)
+    (λ front rest piece ih k e. subst (AllByRecursion (λ piece. length piece ≡ n)) (sym (pieces_of-cons n front rest piece))
+    (let f = full front rest piece k e in (f, ih (k - 1) (less front rest f k e))))
+  where
+    less : {X : Type 0} (front rest : List X) → length front ≡ n → (k : ℕ) → length (front ++ rest) ≡ k * n → length rest ≡ (k - 1) * n
+    less front rest f zero e = omega (arith, length-append front rest)
+    less front rest f (suc k) e = let z : suc k - 1 ≡ k = omega arith in omega (arith, length-append front rest, ap (λ j. j * n) z)
+
+    full : {X : Type 0} (front rest : List X) → IsPieceBefore n front rest → (k : ℕ) → length (front ++ rest) ≡ k * n → length front ≡ n
+    full front rest piece zero e = absurd (omega (arith, length-append front rest, piece.some))
+    full front rest piece (suc k) e =
+        ⊎_elim (λ l. piece.full l) (λ l. omega (arith, length-append front rest, piece.fits)) (cases_lt 0 (length rest))
+
+-- ---- an interval's values
+
+pub last_or-held : {X : Type 0} (P : X → Type 0) (x d : X) (xs : List X) → P x → AllByRecursion P xs → P (unwrap_or (last_or (Some x) xs) d)
+last_or-held P x d [] h k = h
+last_or-held P x d (y ∷ xs) h k = last_or-held P y d xs k.0 k.1
+
+pub all-mapped_after : (s : Settings) (p : ℤ) (xs : List ℤ) → IsAllowed s → IsHeld s p → AllByRecursion (IsHeld s) xs
+    → AllByRecursion (λ v. v < 2 ^ s.bits) (mapped_after s p xs)
+all-mapped_after s p [] a h k = tt
+all-mapped_after s p (x ∷ xs) a h k = (mapped_value-fits s p x a h k.0, all-mapped_after s x xs a k.0 k.1)
+
+pub all-mapped_values : (s : Settings) (xs : List ℤ) → IsAllowed s → AllByRecursion (IsHeld s) xs
+    → AllByRecursion (λ v. v < 2 ^ s.bits) (mapped_values s xs)
+all-mapped_values s [] a h = tt
+all-mapped_values s (x ∷ xs) a h = (
+  cond_both s.preprocess 0 (sample_pattern s x) (λ v. v < 2 ^ s.bits) (λ _. pow_pos s.bits) (λ _. pattern-fits s x a h.0),
+  all-mapped_after s x xs a h.0 h.1,
+)
+
+pub length-mapped_after : (s : Settings) (p : ℤ) (xs : List ℤ) → length (mapped_after s p xs) ≡ length xs
+length-mapped_after s p [] = refl
+length-mapped_after s p (x ∷ xs) = ap suc (length-mapped_after s x xs)
+
+pub length-mapped_values : (s : Settings) (xs : List ℤ) → length (mapped_values s xs) ≡ length xs
+length-mapped_values s [] = refl
+length-mapped_values s (x ∷ xs) = ap suc (length-mapped_after s x xs)
+
+pub length-filled_samples : (s : Settings) (v : List ℤ) → 0 < s.block_size → length (filled_samples s v) ≡ div_ceil (length v) s.block_size * s.block_size
+length-filled_samples s v h =
+    length-append v (replicate (up_to_multiple s.block_size (length v)) (unwrap_or (last_or None v) (pos 0)))
+    ∙ ap (λ k. length v + k) (length-replicate (up_to_multiple s.block_size (length v)) (unwrap_or (last_or None v) (pos 0)))
+    ∙ up_to_multiple-fills s.block_size (length v) h
+
+pub all-filled_samples : (s : Settings) (x : ℤ) (v : List ℤ) → AllByRecursion (IsHeld s) (x ∷ v) → AllByRecursion (IsHeld s) (filled_samples s (x ∷ v))
+all-filled_samples s x v h =
+    all-append (IsHeld s) (x ∷ v) (replicate (up_to_multiple s.block_size (length (x ∷ v))) (unwrap_or (last_or (Some x) v) (pos 0))) h
+    (all-replicate (IsHeld s) (up_to_multiple s.block_size (length (x ∷ v))) (unwrap_or (last_or (Some x) v) (pos 0))
+    (last_or-held (IsHeld s) x (pos 0) v h.0 h.1))
+
+-- ---- blocks
+
+-- a block as it is due at a place: with a reference or not, J values below 2^n, and 0 in the reference place
+pub record IsBlockFor (s : Settings) (is_reference : Bool) (b : Block) : Type 0 where
+  pub has_reference : HasReference s is_reference b.reference
+  pub count : length b.values ≡ s.block_size
+  pub small : AllByRecursion (λ v. v < 2 ^ s.bits) b.values
+  pub placed : placed_values b.reference (written_values b) ≡ b.values
+
+-- blocks as they are due from block p of an interval on
+abbrev pub AreBlocksFrom : Settings → ℕ → List Block → Type 0
+AreBlocksFrom s p [] = ⊤
+AreBlocksFrom s p (b ∷ blocks) = IsBlockFor s (is_reference_block s p) b × AreBlocksFrom s (suc p) blocks
+
+pub later_reference : (s : Settings) (p : ℕ) → is_reference_block s (suc p) ≡ false
+later_reference s p = and_right s.preprocess (suc p == 0) (ne_eqb (suc p) 0 (λ e. omega arith))
+
+later_blocks : (s : Settings) (p : ℕ) (groups : List (List ℕ)) → AllByRecursion (λ piece. length piece ≡ s.block_size) groups
+    → AllByRecursion (AllByRecursion (λ v. v < 2 ^ s.bits)) groups
+    → AreBlocksFrom s (suc p) (map (λ values. record { reference = None; values = values }) groups)
+later_blocks s p [] h k = tt
+later_blocks s p (g ∷ groups) h k = (
+  record { has_reference = subst (λ t. HasReference s t None) (sym (later_reference s p)) tt; count = h.0; small = k.0; placed = refl },
+  later_blocks s (suc p) groups h.1 k.1,
+)
+
+first_reference : (s : Settings) (t : Bool) (u : ℕ) → u < 2 ^ s.bits → HasReference s (t && true) (if t then Some u else None)
+first_reference s true u h = h
+first_reference s false u h = tt
+
+first_placed : (t : Bool) (u w : ℕ) (rest : List ℕ)
+    → placed_values (if t then Some u else None) (after_reference (if t then Some u else None) ((if t then 0 else w) ∷ rest)) ≡ (if t then 0 else w) ∷ rest
+first_placed true u w rest = refl
+first_placed false u w rest = refl
+
+-- the values of an interval in groups are its blocks
+blocks_from_groups : (s : Settings) (x : ℤ) (v : List ℤ) (w : ℕ) (rest : List ℕ) (groups : List (List ℕ)) → sample_pattern s x < 2 ^ s.bits
+    → AllByRecursion (λ piece. length piece ≡ s.block_size) (((if s.preprocess then 0 else w) ∷ rest) ∷ groups)
+    → AllByRecursion (AllByRecursion (λ u. u < 2 ^ s.bits)) (((if s.preprocess then 0 else w) ∷ rest) ∷ groups)
+    → AreBlocksFrom s 0 (with_reference (reference_of s (x ∷ v)) (((if s.preprocess then 0 else w) ∷ rest) ∷ groups))
+blocks_from_groups s x v w rest groups below h k = (
+  record {
+    has_reference = first_reference s s.preprocess (sample_pattern s x) below;
+    count = h.0;
+    small = k.0;
+    placed = first_placed s.preprocess (sample_pattern s x) w rest;
+  },
+  later_blocks s 0 groups h.1 k.1,
+)
+
+-- the first piece of a list that is not empty begins as the list does
+first_piece : {X : Type 0} (n : ℕ) → 0 < n → (x : X) (xs : List X) → pieces_of n (x ∷ xs) ≡ (x ∷ take (n - 1) xs) ∷ pieces_of n (drop (n - 1) xs)
+first_piece n h x xs =
+    ap (λ ys. pieces_of n (x ∷ ys)) (sym (take-append-drop (n - 1) xs))
+    ∙ pieces_of-cons n (x ∷ take (n - 1) xs) (drop (n - 1) xs) (record {
+      some = omega arith;
+      fits = omega (arith, length-take (n - 1) xs);
+      full = λ l. omega (arith, length-take (n - 1) xs, length-drop (n - 1) xs);
+    })
+
+pub AreBlocksFrom-blocks_of : (s : Settings) (x : ℤ) (v : List ℤ) → IsAllowed s → AllByRecursion (IsHeld s) (x ∷ v)
+    → AreBlocksFrom s 0 (blocks_of s (x ∷ v))
+AreBlocksFrom-blocks_of s x v a h =
+    subst (λ groups. AreBlocksFrom s 0 (with_reference (reference_of s (x ∷ v)) groups)) (sym e)
+    (blocks_from_groups s x v (sample_pattern s x) (take (s.block_size - 1) behind) (pieces_of s.block_size (drop (s.block_size - 1) behind))
+    (pattern-fits s x a h.0)
+    (subst (AllByRecursion (λ piece. length piece ≡ s.block_size)) e
+    (whole_pieces s.block_size positive values (div_ceil (length (x ∷ v)) s.block_size)
+    (length-mapped_values s filled ∙ length-filled_samples s (x ∷ v) positive)))
+    (subst (AllByRecursion (AllByRecursion (λ u. u < 2 ^ s.bits))) e
+    (all-pieces_of (λ u. u < 2 ^ s.bits) s.block_size positive values (all-mapped_values s filled a (all-filled_samples s x v h)))))
+  where
+    positive : 0 < s.block_size
+    positive = block_size-positive s a
+
+    filled : List ℤ
+    filled = filled_samples s (x ∷ v)
+
+    values : List ℕ
+    values = mapped_values s filled
+
+    behind : List ℕ
+    behind = mapped_after s x (v ++ replicate (up_to_multiple s.block_size (length (x ∷ v))) (unwrap_or (last_or (Some x) v) (pos 0)))
+
+    e : pieces_of s.block_size values ≡ ((if s.preprocess then 0 else sample_pattern s x) ∷ take (s.block_size - 1) behind) ∷ pieces_of s.block_size
+        (drop (s.block_size - 1) behind)
+    e = first_piece s.block_size positive (if s.preprocess then 0 else sample_pattern s x) behind
+
+length-with_reference : (reference : Option ℕ) (groups : List (List ℕ)) → length (with_reference reference groups) ≡ length groups
+length-with_reference reference [] = refl
+length-with_reference reference (g ∷ groups) = ap suc (length-map groups (λ values. record { reference = None; values = values }))
+
+-- so many blocks as the samples fill
+pub length-blocks_of : (s : Settings) (v : List ℤ) → IsAllowed s → length (blocks_of s v) ≡ div_ceil (length v) s.block_size
+length-blocks_of s v a =
+    length-with_reference (reference_of s v) (pieces_of s.block_size values) ∙ length-pieces_of s.block_size values
+    ∙ ap (λ k. div_ceil k s.block_size) (length-mapped_values s (filled_samples s v) ∙ length-filled_samples s v positive)
+    ∙ div_ceil-times (div_ceil (length v) s.block_size) s.block_size positive
+  where
+    positive : 0 < s.block_size
+    positive = block_size-positive s a
+
+    values : List ℕ
+    values = mapped_values s (filled_samples s v)

@@ -1,0 +1,223 @@
+-- Samples cut at the end of a block or a segment: the blocks of the front, and those of what is behind it.
+use Rattle.std.proofs.Common.{◌≡◌, ℕ, zero, suc, ◌+◌, ◌-◌, ◌*◌, ◌%◌, ◌^◌, ◌<◌, ◌≤◌, Bool, true, false, Option, Some, None, ℤ, pos, List, [], ◌∷◌, ◌++◌, length, map, take, drop, replicate, refl, sym, ap, ap₂, ◌∙◌, subst, arith, inl, inr, ⊎_elim}
+use Rattle.std.specs.Prelude.{⊤, unwrap_or, if◌then◌else◌}
+use Rattle.std.specs.List.{AllByRecursion, last_or, flat_map}
+use Rattle.std.specs.Int.{div_ceil}
+use Rattle.std.proofs.Math.Nat.{add-mod_right, mod_self, mod-eq_of_lt, lt_of_mul-lt-mul_right}
+use Rattle.std.proofs.lemmas.List.{append_assoc, append-nil, length-append, length-replicate, length-take, length-drop, length-map, take-append-drop, nil_from_length}
+use Rattle.std.proofs.lemmas.List.Concat.{flat_map-append}
+use Rattle.aec_params.specs.declared.settings.Settings.{Settings}
+use Rattle.aec_params.specs.Params.{IsAllowed, IsHeld, interval_len, sample_pattern}
+use Rattle.aec_params.specs.Cutting.{pieces_of, up_to_multiple}
+use Rattle.aec_params.specs.Mapping.{mapped_value, mapped_after, mapped_values}
+use Rattle.aec_params.specs.Blocks.{Block, filled_samples, reference_of, with_reference, blocks_of}
+use Rattle.aec_params.specs.CodedDataSets.{cds_bits}
+use Rattle.aec_params.specs.Runs.{groups_of}
+use Rattle.aec_params.specs.Intervals.{group_sets, block_sets, plain_bits}
+use Rattle.aec_interval.specs.Chunks.{values_after, reference_after, block_after, blocks_after}
+use Rattle.aec_interval.specs.Pending.{segment_bits}
+use Rattle.aec_interval.proofs.CuttingLemmas.{IsPieceBefore, pieces_of-nil, pieces_of-cons, length-pieces_of, div_ceil-zero, div_ceil-one, div_ceil-positive, div_ceil-bounds, div_ceil-times}
+use Rattle.aec_interval.proofs.BlockLemmas.{length-mapped_after, length-mapped_values, length-filled_samples}
+
+-- ---- the last sample
+
+pub last_or-append : {X : Type 0} (o : Option X) (xs ys : List X) → last_or o (xs ++ ys) ≡ last_or (last_or o xs) ys
+last_or-append o [] ys = refl
+last_or-append o (x ∷ xs) ys = last_or-append (Some x) xs ys
+
+pub last_or-some : {X : Type 0} (x : X) (xs : List X) → (y : X) × (last_or (Some x) xs ≡ Some y)
+last_or-some x [] = (x, refl)
+last_or-some x (y ∷ xs) = last_or-some y xs
+
+-- ---- filling
+
+pub filled_samples-nil : (s : Settings) → 0 < s.block_size → filled_samples s [] ≡ []
+filled_samples-nil s h =
+    let z : s.block_size - 0 % s.block_size ≡ s.block_size = omega (arith, mod-eq_of_lt h) in
+    ap (λ n. replicate n (pos 0)) (ap (λ n. n % s.block_size) z ∙ mod_self s.block_size)
+
+pub filled_samples-whole : (s : Settings) (v : List ℤ) → 0 < s.block_size → length v ≡ s.block_size → filled_samples s v ≡ v
+filled_samples-whole s v h e =
+    let z : s.block_size - length v % s.block_size ≡ s.block_size = omega (arith, ap (λ n. n % s.block_size) e, mod_self s.block_size) in
+    ap (λ n. v ++ replicate n (unwrap_or (last_or None v) (pos 0))) (ap (λ n. n % s.block_size) z ∙ mod_self s.block_size)
+    ∙ append-nil v
+
+up_to_multiple-add : (n m : ℕ) → up_to_multiple n (n + m) ≡ up_to_multiple n m
+up_to_multiple-add n m =
+    let e : n + m ≡ m + n = omega arith in
+    ap (λ k. (n - k) % n) (ap (λ k. k % n) e ∙ add-mod_right m n)
+
+pub filled_samples-append : (s : Settings) (front rest : List ℤ) → 0 < s.block_size → IsPieceBefore s.block_size front rest
+    → filled_samples s (front ++ rest) ≡ filled_samples s front ++ filled_samples s rest
+filled_samples-append s front [] h piece =
+    ap (filled_samples s) (append-nil front) ∙ sym (append-nil (filled_samples s front)) ∙ ap (λ l. filled_samples s front ++ l) (sym (filled_samples-nil s h))
+filled_samples-append s front (y ∷ rest) h piece =
+    let whole : length front ≡ s.block_size = piece.full (omega arith) in
+    let last : last_or None (front ++ y ∷ rest) ≡ last_or (Some y) rest = last_or-append None front (y ∷ rest) in
+    let missing : up_to_multiple s.block_size (length (front ++ y ∷ rest)) ≡ up_to_multiple s.block_size (length (y ∷ rest)) =
+        ap (up_to_multiple s.block_size) (length-append front (y ∷ rest) ∙ ap (λ n. n + length (y ∷ rest)) whole) ∙ up_to_multiple-add s.block_size (length (y ∷ rest)) in
+    ap₂ (λ n o. (front ++ y ∷ rest) ++ replicate n (unwrap_or o (pos 0))) missing last
+    ∙ append_assoc front (y ∷ rest) (replicate (up_to_multiple s.block_size (length (y ∷ rest))) (unwrap_or (last_or (Some y) rest) (pos 0)))
+    ∙ ap (λ l. l ++ filled_samples s (y ∷ rest)) (sym (filled_samples-whole s front h whole))
+
+last_or-replicate : (y : ℤ) (n : ℕ) → last_or (Some y) (replicate n y) ≡ Some y
+last_or-replicate y zero = refl
+last_or-replicate y (suc n) = last_or-replicate y n
+
+-- the filler repeats the last sample
+last_or-filled : (s : Settings) (o : Option ℤ) (x : ℤ) (xs : List ℤ) → last_or o (filled_samples s (x ∷ xs)) ≡ last_or o (x ∷ xs)
+last_or-filled s o x xs =
+    let last = last_or-some x xs in
+    let n = up_to_multiple s.block_size (length (x ∷ xs)) in
+    last_or-append (Some x) xs (replicate n (unwrap_or (last_or (Some x) xs) (pos 0)))
+    ∙ ap (λ l. last_or l (replicate n (unwrap_or l (pos 0)))) last.1
+    ∙ last_or-replicate last.0 n ∙ sym last.1
+
+-- one block is filled up to J samples
+pub length-filled_block : (s : Settings) (v : List ℤ) → 0 < length v → length v ≤ s.block_size → length (filled_samples s v) ≡ s.block_size
+length-filled_block s v some few =
+    let one = div_ceil-one (length v) s.block_size some few in
+    length-filled_samples s v (omega arith) ∙ ap (λ k. k * s.block_size) one ∙ omega arith
+
+-- ---- values
+
+pub values_after-append : (s : Settings) (o : Option ℤ) (xs ys : List ℤ) → values_after s o (xs ++ ys) ≡ values_after s o xs ++ values_after s (last_or o xs) ys
+values_after-append s None [] ys = refl
+values_after-append s (Some p) [] ys = refl
+values_after-append s None (x ∷ xs) ys = ap (λ l. (if s.preprocess then 0 else sample_pattern s x) ∷ l) (values_after-append s (Some x) xs ys)
+values_after-append s (Some p) (x ∷ xs) ys = ap (λ l. mapped_value s p x ∷ l) (values_after-append s (Some x) xs ys)
+
+pub length-values_after : (s : Settings) (o : Option ℤ) (v : List ℤ) → length (values_after s o v) ≡ length v
+length-values_after s None v = length-mapped_values s v
+length-values_after s (Some p) v = length-mapped_after s p v
+
+-- ---- blocks
+
+length-with_reference : (reference : Option ℕ) (groups : List (List ℕ)) → length (with_reference reference groups) ≡ length groups
+length-with_reference reference [] = refl
+length-with_reference reference (g ∷ groups) = ap suc (length-map groups (λ values. record { reference = None; values = values }))
+
+pub length-blocks_after : (s : Settings) (o : Option ℤ) (v : List ℤ) → 0 < s.block_size → length (blocks_after s o v) ≡ div_ceil (length v) s.block_size
+length-blocks_after s o v h =
+    let values = values_after s o (filled_samples s v) in
+    length-with_reference (reference_after s o v) (pieces_of s.block_size values)
+    ∙ length-pieces_of s.block_size values
+    ∙ ap (λ k. div_ceil k s.block_size) (length-values_after s o (filled_samples s v) ∙ length-filled_samples s v h)
+    ∙ div_ceil-times (div_ceil (length v) s.block_size) s.block_size h
+
+no_values : (s : Settings) (o : Option ℤ) → values_after s o [] ≡ []
+no_values s None = refl
+no_values s (Some p) = refl
+
+pub blocks_after-nil : (s : Settings) (o : Option ℤ) → 0 < s.block_size → blocks_after s o [] ≡ []
+blocks_after-nil s o h =
+    ap (with_reference (reference_after s o [])) (ap (pieces_of s.block_size) (ap (values_after s o) (filled_samples-nil s h) ∙ no_values s o) ∙ pieces_of-nil s.block_size h)
+
+reference_after-some : (s : Settings) (x : ℤ) (xs rest : List ℤ) → reference_after s (last_or (Some x) xs) rest ≡ None
+reference_after-some s x xs rest = ap (λ o. reference_after s o rest) (last_or-some x xs).1
+
+reference_after-front : (s : Settings) (o : Option ℤ) (x : ℤ) (xs ys : List ℤ) → reference_after s o (x ∷ xs) ≡ reference_after s o (x ∷ ys)
+reference_after-front s None x xs ys = refl
+reference_after-front s (Some p) x xs ys = refl
+
+with_no_reference : (groups : List (List ℕ)) → map (λ values. record { reference = None; values = values }) groups ≡ with_reference None groups
+with_no_reference [] = refl
+with_no_reference (g ∷ groups) = refl
+
+-- one block, and those behind it
+pub blocks_after-cons : (s : Settings) (o : Option ℤ) (front rest : List ℤ) → 0 < s.block_size → IsPieceBefore s.block_size front rest
+    → blocks_after s o (front ++ rest) ≡ block_after s o front ∷ blocks_after s (last_or o front) rest
+blocks_after-cons s o [] rest h piece = absurd (omega (arith, piece.some))
+blocks_after-cons s o (x ∷ xs) rest h piece =
+    ap₂ with_reference (reference_after-front s o x (xs ++ rest) xs) (ap (pieces_of s.block_size) values ∙ pieces_of-cons s.block_size first later one)
+    ∙ ap (λ l. record { reference = reference_after s o front; values = first } ∷ l)
+        (with_no_reference (pieces_of s.block_size later) ∙ ap (λ r. with_reference r (pieces_of s.block_size later)) (sym (reference_after-some s x xs rest)))
+  where
+    front : List ℤ
+    front = x ∷ xs
+    first : List ℕ
+    first = values_after s o (filled_samples s front)
+    later : List ℕ
+    later = values_after s (last_or o front) (filled_samples s rest)
+    values : values_after s o (filled_samples s (front ++ rest)) ≡ first ++ later
+    values =
+        ap (values_after s o) (filled_samples-append s front rest h piece) ∙ values_after-append s o (filled_samples s front) (filled_samples s rest)
+        ∙ ap (λ l. first ++ values_after s l (filled_samples s rest)) (last_or-filled s o x xs)
+    len : length first ≡ s.block_size
+    len = length-values_after s o (filled_samples s front) ∙ length-filled_block s front piece.some piece.fits
+    one : IsPieceBefore s.block_size first later
+    one = record { some = omega (arith, len); fits = omega (arith, len); full = λ _. len }
+
+pub full_piece : {X : Type 0} (n : ℕ) (front rest : List X) → 0 < n → length front ≡ n → IsPieceBefore n front rest
+full_piece n front rest h e = record { some = omega arith; fits = omega arith; full = λ _. e }
+
+-- whole blocks, and those behind them
+blocks_after-append : (s : Settings) (k : ℕ) (o : Option ℤ) (front rest : List ℤ) → 0 < s.block_size → length front ≡ k * s.block_size
+    → blocks_after s o (front ++ rest) ≡ blocks_after s o front ++ blocks_after s (last_or o front) rest
+blocks_after-append s zero o [] rest h e = ap (λ l. l ++ blocks_after s o rest) (sym (blocks_after-nil s o h))
+blocks_after-append s zero o (x ∷ front) rest h e = absurd (omega arith)
+blocks_after-append s (suc k) o front rest h e =
+    ap (λ l. blocks_after s o (l ++ rest)) (sym whole) ∙ ap (blocks_after s o) (append_assoc a b rest)
+    ∙ blocks_after-cons s o a (b ++ rest) h (full_piece s.block_size a (b ++ rest) h la)
+    ∙ ap (λ l. block_after s o a ∷ l) (blocks_after-append s k (last_or o a) b rest h lb)
+    ∙ ap₂ ◌++◌ (sym (blocks_after-cons s o a b h (full_piece s.block_size a b h la)) ∙ ap (blocks_after s o) whole)
+        (ap (λ l. blocks_after s l rest) (sym (last_or-append o a b) ∙ ap (last_or o) whole))
+  where
+    a : List ℤ
+    a = take s.block_size front
+    b : List ℤ
+    b = drop s.block_size front
+    whole : a ++ b ≡ front
+    whole = take-append-drop s.block_size front
+    la : length a ≡ s.block_size
+    la = omega (arith, length-take s.block_size front)
+    lb : length b ≡ k * s.block_size
+    lb = omega (arith, length-drop s.block_size front)
+
+-- ---- segments
+
+pub blocks_after-segment : (s : Settings) (o : Option ℤ) (front rest : List ℤ) → 0 < s.block_size → IsPieceBefore (s.block_size * 64) front rest
+    → blocks_after s o (front ++ rest) ≡ blocks_after s o front ++ blocks_after s (last_or o front) rest
+blocks_after-segment s o front [] h piece =
+    ap (blocks_after s o) (append-nil front) ∙ sym (append-nil (blocks_after s o front))
+    ∙ ap (λ l. blocks_after s o front ++ l) (sym (blocks_after-nil s (last_or o front) h))
+blocks_after-segment s o front (y ∷ rest) h piece =
+    blocks_after-append s 64 o front (y ∷ rest) h (piece.full (omega arith) ∙ omega arith)
+
+-- at most so many blocks
+pub few_blocks : (s : Settings) (o : Option ℤ) (v : List ℤ) (most : ℕ) → 0 < s.block_size → length v ≤ s.block_size * most → length (blocks_after s o v) ≤ most
+few_blocks s o v most h few =
+    let bound = (div_ceil-bounds (length v) s.block_size h).1 in
+    let len = length-blocks_after s o v h in
+    let k = lt_of_mul-lt-mul_right s.block_size {m = div_ceil (length v) s.block_size} {n = most + 1} (omega arith) in
+    omega arith
+
+segment_before : (s : Settings) (o : Option ℤ) (front rest : List ℤ) → 0 < s.block_size → IsPieceBefore (s.block_size * 64) front rest
+    → IsPieceBefore 64 (blocks_after s o front) (blocks_after s (last_or o front) rest)
+segment_before s o front rest h piece = record {
+    some = omega (arith, length-blocks_after s o front h, div_ceil-positive (length front) s.block_size h piece.some);
+    fits = few_blocks s o front 64 h piece.fits;
+    full = full rest piece.full }
+  where
+    full : (rest : List ℤ) → (0 < length rest → length front ≡ s.block_size * 64) → 0 < length (blocks_after s (last_or o front) rest) → length (blocks_after s o front) ≡ 64
+    full [] whole some = absurd (omega (arith, ap length (blocks_after-nil s (last_or o front) h)))
+    full (y ∷ rest) whole some =
+        length-blocks_after s o front h ∙ ap (λ n. div_ceil n s.block_size) (whole (omega arith) ∙ omega arith) ∙ div_ceil-times 64 s.block_size h
+
+-- the bits of samples from the start of a segment on
+abbrev pub bits_after : Settings → Option ℤ → List ℤ → List Bool
+bits_after s o v = flat_map (cds_bits s) (block_sets s (blocks_after s o v))
+
+pub bits_after-nil : (s : Settings) (o : Option ℤ) → 0 < s.block_size → bits_after s o [] ≡ []
+bits_after-nil s o h = ap (λ blocks. flat_map (cds_bits s) (block_sets s blocks)) (blocks_after-nil s o h)
+
+pub bits_after-segment : (s : Settings) (o : Option ℤ) (front rest : List ℤ) → 0 < s.block_size → IsPieceBefore (s.block_size * 64) front rest
+    → bits_after s o (front ++ rest) ≡ segment_bits s (blocks_after s o front) ++ bits_after s (last_or o front) rest
+bits_after-segment s o front rest h piece =
+    ap (λ blocks. flat_map (cds_bits s) (block_sets s blocks)) (blocks_after-segment s o front rest h piece)
+    ∙ ap (λ segments. flat_map (cds_bits s) (flat_map (λ segment. group_sets s (groups_of segment)) segments))
+        (pieces_of-cons 64 (blocks_after s o front) (blocks_after s (last_or o front) rest) (segment_before s o front rest h piece))
+    ∙ flat_map-append (cds_bits s) (group_sets s (groups_of (blocks_after s o front))) (block_sets s (blocks_after s (last_or o front) rest))
+
+pub bits_after-interval : (s : Settings) (v : List ℤ) → bits_after s None v ≡ plain_bits s v
+bits_after-interval s v = refl

@@ -1,0 +1,93 @@
+-- The groups of a segment stand for its blocks, one behind the other.
+use Rattle.std.proofs.Common.{◌≡◌, ℕ, suc, ◌+◌, ◌-◌, ◌<◌, Bool, true, false, Option, Some, None, List, [], ◌∷◌, ◌++◌, length, replicate, refl, sym, ap, ap₂, ◌∙◌, subst, arith}
+use Rattle.std.specs.Prelude.{⊤, ◌==◌}
+use Rattle.std.specs.List.{flat_map, list_all}
+use Rattle.std.proofs.lemmas.List.{length-replicate}
+use Rattle.std.proofs.lemmas.Bool.{cond_both, and_parts, eqb-true}
+use Rattle.aec_params.specs.declared.settings.Settings.{Settings}
+use Rattle.aec_params.specs.Blocks.{Block, is_zero_block}
+use Rattle.aec_params.specs.CodedDataSets.{HasReference}
+use Rattle.aec_params.specs.Places.{is_reference_block, zero_block}
+use Rattle.aec_params.specs.Runs.{Group, zero_run, single_block, with_zero_block, groups_of}
+use Rattle.aec_interval.proofs.BlockLemmas.{IsBlockFor, AreBlocksFrom, later_reference}
+
+-- the blocks that a group stands for, and how many they are
+abbrev pub group_blocks : Settings → Group → List Block
+group_blocks s (zero_run reference z) = zero_block s reference ∷ replicate (z - 1) (zero_block s None)
+group_blocks s (single_block b) = b ∷ []
+
+abbrev pub group_len : Group → ℕ
+group_len (zero_run reference z) = z
+group_len (single_block b) = 1
+
+-- a group as it is due at block p of an interval
+abbrev pub IsGroupAt : Settings → ℕ → Group → Type 0
+IsGroupAt s p (zero_run reference z) = (0 < z) × HasReference s (is_reference_block s p) reference
+IsGroupAt s p (single_block b) = IsBlockFor s (is_reference_block s p) b
+
+abbrev pub AreGroupsFrom : Settings → ℕ → List Group → Type 0
+AreGroupsFrom s p [] = ⊤
+AreGroupsFrom s p (g ∷ groups) = IsGroupAt s p g × AreGroupsFrom s (p + group_len g) groups
+
+pub length-group_blocks : (s : Settings) (p : ℕ) (g : Group) → IsGroupAt s p g → length (group_blocks s g) ≡ group_len g
+length-group_blocks s p (zero_run reference z) h = let e = length-replicate (z - 1) (zero_block s None) in omega (arith, h.0)
+length-group_blocks s p (single_block b) h = refl
+
+groups-from_next : (s : Settings) (p : ℕ) (groups : List Group) → AreGroupsFrom s (suc p) groups → AreGroupsFrom s (p + 1) groups
+groups-from_next s p groups h = subst (λ q. AreGroupsFrom s q groups) (omega arith) h
+
+groups-with_zero_block : (s : Settings) (p : ℕ) (reference : Option ℕ) (groups : List Group) → HasReference s (is_reference_block s p) reference
+    → AreGroupsFrom s (suc p) groups → AreGroupsFrom s p (with_zero_block reference groups)
+groups-with_zero_block s p reference [] h k = ((omega arith, h), tt)
+groups-with_zero_block s p reference (zero_run later z ∷ groups) h k = ((omega arith, h), subst (λ q. AreGroupsFrom s q groups) (omega arith) k.1)
+groups-with_zero_block s p reference (single_block b ∷ groups) h k = ((omega arith, h), groups-from_next s p (single_block b ∷ groups) k)
+
+pub AreGroupsFrom-groups_of : (s : Settings) (p : ℕ) (blocks : List Block) → AreBlocksFrom s p blocks → AreGroupsFrom s p (groups_of blocks)
+AreGroupsFrom-groups_of s p [] h = tt
+AreGroupsFrom-groups_of s p (b ∷ blocks) h =
+    let later = AreGroupsFrom-groups_of s (suc p) blocks h.1 in
+    cond_both (is_zero_block b) (with_zero_block b.reference (groups_of blocks)) (single_block b ∷ groups_of blocks) (AreGroupsFrom s p)
+    (λ _. groups-with_zero_block s p b.reference (groups_of blocks) h.0.has_reference later)
+    (λ _. (h.0, groups-from_next s p (groups_of blocks) later))
+
+-- ---- a segment's groups give its blocks back
+
+zeros-are : (values : List ℕ) → list_all (λ v. v == 0) values ≡ true → values ≡ replicate (length values) 0
+zeros-are [] h = refl
+zeros-are (v ∷ values) h =
+    let both = and_parts (v == 0) (list_all (λ v. v == 0) values) h in
+    let e : v ≡ 0 = eqb-true v 0 both.0 in
+    let r = zeros-are values both.1 in
+    cc
+
+zero_block-is : (s : Settings) (t : Bool) (b : Block) → IsBlockFor s t b → is_zero_block b ≡ true → zero_block s b.reference ≡ b
+zero_block-is s t b h z =
+    ap (λ values. record { reference = b.reference; values = values }) (sym (zeros-are b.values z ∙ ap (λ n. replicate n 0) h.count))
+
+no_reference : (s : Settings) (p : ℕ) (reference : Option ℕ) → HasReference s (is_reference_block s (suc p)) reference → reference ≡ None
+no_reference s p reference h = none reference (subst (λ t. HasReference s t reference) (later_reference s p) h)
+  where
+    none : (reference : Option ℕ) → HasReference s false reference → reference ≡ None
+    none None h = refl
+    none (Some r) h = absurd h
+
+blocks-with_zero_block : (s : Settings) (p : ℕ) (reference : Option ℕ) (groups : List Group) → AreGroupsFrom s (suc p) groups
+    → flat_map (group_blocks s) (with_zero_block reference groups) ≡ zero_block s reference ∷ flat_map (group_blocks s) groups
+blocks-with_zero_block s p reference [] h = refl
+blocks-with_zero_block s p reference (single_block b ∷ groups) h = refl
+blocks-with_zero_block s p reference (zero_run later z ∷ groups) h =
+    ap (λ blocks. zero_block s reference ∷ (blocks ++ flat_map (group_blocks s) groups))
+    (longer z h.0.0 ∙ ap (λ r. zero_block s r ∷ replicate (z - 1) (zero_block s None)) (sym (no_reference s p later h.0.1)))
+  where
+    longer : (z : ℕ) → 0 < z → replicate (z + 1 - 1) (zero_block s None) ≡ zero_block s None ∷ replicate (z - 1) (zero_block s None)
+    longer z h = let e : z + 1 - 1 ≡ suc (z - 1) = omega arith in ap (λ n. replicate n (zero_block s None)) e
+
+pub flat_map-groups_of : (s : Settings) (p : ℕ) (blocks : List Block) → AreBlocksFrom s p blocks → flat_map (group_blocks s) (groups_of blocks) ≡ blocks
+flat_map-groups_of s p [] h = refl
+flat_map-groups_of s p (b ∷ blocks) h =
+    let later = flat_map-groups_of s (suc p) blocks h.1 in
+    cond_both (is_zero_block b) (with_zero_block b.reference (groups_of blocks)) (single_block b ∷ groups_of blocks)
+    (λ groups. flat_map (group_blocks s) groups ≡ b ∷ blocks)
+    (λ z. blocks-with_zero_block s p b.reference (groups_of blocks) (AreGroupsFrom-groups_of s (suc p) blocks h.1)
+    ∙ ap₂ ◌∷◌ (zero_block-is s (is_reference_block s p) b h.0 z) later)
+    (λ _. ap (◌∷◌ b) later)

@@ -1,0 +1,134 @@
+-- A reading or a fault always stands: the walk goes on until no coded data set is wanted or something is wrong.
+use Rattle.std.proofs.Common.{◌≡◌, ℕ, zero, suc, ◌+◌, ◌-◌, ◌^◌, ◌%◌, ◌<◌, ◌≤◌, min, Bool, true, false, Option, List, [], ◌∷◌, ◌++◌, length, drop, refl, sym, ap, ◌∙◌, arith, inl, inr, ◌⊎◌, ⊎_elim}
+use Rattle.std.specs.Prelude.{◌==◌, ◌&&◌}
+use Rattle.std.specs.Int.{next_multiple_of}
+use Rattle.std.proofs.lemmas.List.{length-append, length-drop, drop_at, drop-drop}
+use Rattle.std.proofs.lemmas.Bool.{cases_Bool, cond_both}
+use Rattle.aec_params.specs.declared.settings.Settings.{Settings}
+use Rattle.aec_params.specs.declared.fault.Fault.{Fault}
+use Rattle.aec_params.specs.declared.fault.Fault.TheVariants.{Truncated, ValueTooLarge, RunTooLong, TooManySamples}
+use Rattle.aec_params.specs.Params.{IsAllowed, id_len}
+use Rattle.aec_params.specs.Blocks.{Block}
+use Rattle.aec_params.specs.CodedDataSets.{Body, plain_values, value_pairs, split_values, zero_blocks, CodedDataSet, cds_bits, identifier, reference_bits, body_bits, has_small_values}
+use Rattle.aec_params.specs.Places.{stays_in_segment, is_reference_block, IsLawful}
+use Rattle.aec_params.specs.Reading.{StandsAt, begin_of, next_block, next_begin, is_wanted, keeps_limit, stream_blocks, kept_blocks, IsBlockReading}
+use Rattle.aec_params.specs.Faults.{HasSetAt, IsWrongAt, cut_short, too_large, too_long, too_many, IsFault}
+use Rattle.aec_params.proofs.CodewordLaws.{length-binary}
+use Rattle.aec_block.specs.ReadAt.{nothing, taken, cds_at}
+use Rattle.aec_block.proofs.CodewordLemmas.{cases_taken}
+use Rattle.aec_block.proofs.SetLemmas.{id_len-positive, what_is_read_is_spelled, nothing_is_read_where_none_begins}
+
+-- ---- a coded data set has bits, so that the walk gets ahead
+
+identifier-positive : (s : Settings) (body : Body) → 0 < length (identifier s body)
+identifier-positive s (plain_values values) = omega (arith, length-binary (id_len s) (2 ^ id_len s - 1), id_len-positive s)
+identifier-positive s (value_pairs values) = omega (arith, length-binary (id_len s + 1) 1)
+identifier-positive s (split_values k values) = omega (arith, length-binary (id_len s) (k + 1), id_len-positive s)
+identifier-positive s (zero_blocks m) = omega (arith, length-binary (id_len s + 1) 0)
+
+pub length-cds_bits-positive : (s : Settings) (c : CodedDataSet) → 0 < length (cds_bits s c)
+length-cds_bits-positive s c = omega (
+  arith,
+  length-append (identifier s c.body) (reference_bits s c.reference ++ body_bits s c.body),
+  identifier-positive s c.body,
+)
+
+-- one that stands there ends within the bits
+pub stands-within : (s : Settings) (bits : List Bool) (b : ℕ) (c : CodedDataSet) → StandsAt s bits b c → b + length (cds_bits s c) ≤ length bits
+stands-within s bits b c h =
+    omega (
+      arith,
+      ap length h,
+      length-append (cds_bits s c) (drop (b + length (cds_bits s c)) bits),
+      length-drop b bits,
+      length-drop (b + length (cds_bits s c)) bits,
+      length-cds_bits-positive s c,
+    )
+
+begin_of-ahead : (s : Settings) (bits : List Bool) (i b : ℕ) → b ≤ length bits → b ≤ begin_of s bits i b
+begin_of-ahead s bits i b h =
+    cond_both (s.pad && (i % s.interval == 0)) (min (next_multiple_of b 8) (length bits)) b (λ e. b ≤ e) (λ _. omega arith) (λ _. omega arith)
+
+pub next_begin-ahead : (s : Settings) (bits : List Bool) (i b : ℕ) (c : CodedDataSet) → StandsAt s bits b c
+    → (b < next_begin s bits i b c) × (b < length bits)
+next_begin-ahead s bits i b c h =
+    let within = stands-within s bits b c h in
+    let some = length-cds_bits-positive s c in
+    let ahead = begin_of-ahead s bits (next_block s i c) (b + length (cds_bits s c)) within in
+    (omega arith, omega arith)
+
+-- ---- whether a coded data set begins at a place
+
+pub set_or_none : (s : Settings) (bits : List Bool) (p b : ℕ) → IsAllowed s
+    → ((c : CodedDataSet) × HasSetAt s bits p b c) ⊎ ((c : CodedDataSet) → HasSetAt s bits p b c → ⊥)
+set_or_none s bits p b a = ⊎_elim none (λ t. some t.0 t.1.0 t.1.1) (cases_taken (cds_at s (is_reference_block s p) (drop b bits)))
+  where
+    Answer : Type 0
+    Answer = ((c : CodedDataSet) × HasSetAt s bits p b c) ⊎ ((c : CodedDataSet) → HasSetAt s bits p b c → ⊥)
+
+    none : cds_at s (is_reference_block s p) (drop b bits) ≡ nothing → Answer
+    none e = inr (λ c h. (nothing_is_read_where_none_begins s a (is_reference_block s p) (drop b bits)).0 e c
+        (drop (b + length (cds_bits s c)) bits) h.shape h.stands)
+
+    some : (c : CodedDataSet) (rest : List Bool) → cds_at s (is_reference_block s p) (drop b bits) ≡ taken c rest → Answer
+    some c rest e =
+        let h = what_is_read_is_spelled s a (is_reference_block s p) (drop b bits) c rest e in
+        let behind : drop (b + length (cds_bits s c)) bits ≡ rest =
+        sym (drop-drop (length (cds_bits s c)) b bits) ∙ ap (drop (length (cds_bits s c))) h.1 ∙ drop_at (cds_bits s c) rest (length (cds_bits s c)) refl in
+        inl (c, record { shape = h.0; stands = h.1 ∙ ap (◌++◌ (cds_bits s c)) (sym behind) })
+
+-- ---- the walk
+
+module _ (s : Settings) (a : IsAllowed s) (count : Option ℕ) (limit : ℕ) (bits : List Bool) where
+  -- what the bits are from block i and position b on
+  abbrev pub Outcome : ℕ → ℕ → Type 0
+  Outcome i b = ((blocks : List Block) × IsBlockReading s count limit bits i b blocks) ⊎ ((fault : Fault) × IsFault s count limit bits i b fault)
+
+  finished : (i b : ℕ) → is_wanted s count bits i b ≡ false → Outcome i b
+  finished i b e = inl (kept_blocks s count i [], record { sets = []; end_block = i; end_bit = b; leads = (refl, refl); done = e; kept = refl })
+
+  failed : (i b : ℕ) (fault : Fault) → is_wanted s count bits i b ≡ true → IsWrongAt s count limit bits i b fault → Outcome i b
+  failed i b fault e w = inr (fault, record { sets = []; block = i; bit = b; leads = (refl, refl); wanted = e; wrong = w })
+
+  -- one coded data set before what is behind it
+  before : (i b : ℕ) (c : CodedDataSet) → is_wanted s count bits i b ≡ true → StandsAt s bits b c → IsLawful s (i % s.interval) c
+      → keeps_limit s count limit (next_block s i c) ≡ true → Outcome (next_block s i c) (next_begin s bits i b c) → Outcome i b
+  before i b c e x l k (inl r) =
+      let h = r.1 in
+      inl (
+        kept_blocks s count i (stream_blocks s i (c ∷ h.sets)),
+        record { sets = c ∷ h.sets; end_block = h.end_block; end_bit = h.end_bit; leads = (e, x, l, k, h.leads); done = h.done; kept = refl },
+      )
+  before i b c e x l k (inr r) =
+      let h = r.1 in
+      inr (r.0, record { sets = c ∷ h.sets; block = h.block; bit = h.bit; leads = (e, x, l, k, h.leads); wanted = h.wanted; wrong = h.wrong })
+
+  -- what a coded data set that stands there leads to
+  judged : (i b : ℕ) (c : CodedDataSet) → is_wanted s count bits i b ≡ true → HasSetAt s bits (i % s.interval) b c
+      → Outcome (next_block s i c) (next_begin s bits i b c) → Outcome i b
+  judged i b c e h later =
+      ⊎_elim (λ small. ⊎_elim (λ within. ⊎_elim
+      (λ kept. before i b c e h.stands (record { shape = h.shape; small = small; within = within }) kept later)
+      (λ past. failed i b (TooManySamples limit) e (too_many c h (record { shape = h.shape; small = small; within = within }) past))
+      (cases_Bool (keeps_limit s count limit (next_block s i c))))
+      (λ long. failed i b (RunTooLong b) e (too_long c h small long))
+      (cases_Bool (stays_in_segment s (i % s.interval) c)))
+      (λ large. failed i b (ValueTooLarge b) e (too_large c h large))
+      (cases_Bool (has_small_values s c))
+
+  -- the outcome at a place, from the outcomes behind what stands there
+  step : (i b : ℕ) → ((c : CodedDataSet) → HasSetAt s bits (i % s.interval) b c → Outcome (next_block s i c) (next_begin s bits i b c)) → Outcome i b
+  step i b later = ⊎_elim wanted (finished i b) (cases_Bool (is_wanted s count bits i b))
+    where
+      wanted : is_wanted s count bits i b ≡ true → Outcome i b
+      wanted e = ⊎_elim (λ h. judged i b h.0 e h.1 (later h.0 h.1)) (λ none. failed i b (Truncated b) e (cut_short none))
+          (set_or_none s bits (i % s.interval) b a)
+
+  outcome_within : (fuel i b : ℕ) → length bits < b + fuel → Outcome i b
+  outcome_within zero i b h = step i b (λ c at. absurd (omega (arith, next_begin-ahead s bits i b c at.stands)))
+  outcome_within (suc fuel) i b h =
+      step i b (λ c at. outcome_within fuel (next_block s i c) (next_begin s bits i b c) (omega (arith, next_begin-ahead s bits i b c at.stands)))
+
+  -- a reading or a fault stands
+  pub outcome : (i b : ℕ) → Outcome i b
+  outcome i b = outcome_within (suc (length bits)) i b (omega arith)

@@ -1,0 +1,150 @@
+-- Reading the code of samples with their count gives the samples.
+use Rattle.std.proofs.Common.{◌≡◌, ℕ, ◌+◌, ◌-◌, ◌*◌, ◌%◌, ◌<◌, ◌≤◌, Option, Some, None, List, [], ◌∷◌, ◌++◌, length, replicate, refl, sym, ap, ap₂, ◌∙◌, subst, arith}
+use Rattle.std.specs.Prelude.{ℤ, pos, unwrap_or}
+use Rattle.std.specs.List.{AllByRecursion, flat_map, last_or}
+use Rattle.std.specs.Int.{div_ceil}
+use Rattle.std.proofs.Math.Nat.{add-mul-mod_self_left, mul-mod_left, mod_self, mul-le-mul_right}
+use Rattle.std.proofs.lemmas.List.{length-append, append_assoc, append-nil, take_at}
+use Rattle.std.proofs.lemmas.Bool.{le-ltb}
+use Rattle.aec_params.specs.declared.settings.Settings.{Settings}
+use Rattle.aec_params.specs.Params.{IsAllowed, IsHeld, interval_len}
+use Rattle.aec_params.specs.Cutting.{pieces_of, up_to_multiple}
+use Rattle.aec_params.specs.Mapping.{mapped_values}
+use Rattle.aec_params.specs.Blocks.{filled_samples, reference_of, with_reference, blocks_of, all_blocks_of}
+use Rattle.aec_params.specs.Streams.{stream_of}
+use Rattle.aec_params.specs.Reading.{IsBlockReading, FillBlocks, IsReading}
+use Rattle.aec_interval.proofs.CuttingLemmas.{IsPieceBefore, by_pieces, pieces_of-one, div_ceil-zero, div_ceil-times}
+use Rattle.aec_interval.proofs.BlockLemmas.{all-filled_samples, length-filled_samples, length-blocks_of, block_size-positive}
+use Rattle.aec_interval.proofs.IntervalLemmas.{blocks-few}
+use Rattle.aec_interval.proofs.StreamLemmas.{walk_of, interval_len-positive, div_ceil-add, all_blocks_of-nil, all_blocks_of-cons}
+
+-- ---- how many blocks there are
+
+pub all_blocks_of-one : (s : Settings) (v : List ℤ) → 0 < length v → length v ≤ interval_len s → all_blocks_of s v ≡ blocks_of s v
+all_blocks_of-one s v some few = ap (flat_map (blocks_of s)) (pieces_of-one (interval_len s) v some few) ∙ append-nil (blocks_of s v)
+
+-- full intervals in front of samples
+pub div_ceil-interval : (s : Settings) (front rest : List ℤ) → IsAllowed s → length front ≡ interval_len s
+    → div_ceil (length (front ++ rest)) s.block_size ≡ s.interval + div_ceil (length rest) s.block_size
+div_ceil-interval s front rest a full =
+    ap (λ m. div_ceil m s.block_size) (length-append front rest ∙ ap (λ m. m + length rest) full)
+    ∙ div_ceil-add s.interval (length rest) s.block_size (block_size-positive s a)
+
+pub length-full_blocks : (s : Settings) (front : List ℤ) → IsAllowed s → length front ≡ interval_len s → length (blocks_of s front) ≡ s.interval
+length-full_blocks s front a full =
+    length-blocks_of s front a ∙ ap (λ m. div_ceil m s.block_size) (full ∙ omega arith) ∙ div_ceil-times s.interval s.block_size (block_size-positive s a)
+
+pub length-all_blocks_of : (s : Settings) → IsAllowed s → (xs : List ℤ) → length (all_blocks_of s xs) ≡ div_ceil (length xs) s.block_size
+length-all_blocks_of s a = by_pieces Counted (interval_len s) (interval_len-positive s a)
+    (ap length (all_blocks_of-nil s a) ∙ sym (div_ceil-zero s.block_size (block_size-positive s a))) step
+  where
+    Counted : List ℤ → Type 0
+    Counted xs = length (all_blocks_of s xs) ≡ div_ceil (length xs) s.block_size
+
+    step : (front rest : List ℤ) → IsPieceBefore (interval_len s) front rest → Counted rest → Counted (front ++ rest)
+    step front [] piece ih = subst Counted (sym (append-nil front))
+        (ap length (all_blocks_of-one s front piece.some piece.fits) ∙ length-blocks_of s front a)
+    step front (x ∷ rest) piece ih =
+        ap length (all_blocks_of-cons s front (x ∷ rest) piece) ∙ length-append (blocks_of s front) (all_blocks_of s (x ∷ rest))
+        ∙ ap₂ ◌+◌ (length-full_blocks s front a (piece.full (omega arith))) ih ∙ sym (div_ceil-interval s front (x ∷ rest) a (piece.full (omega arith)))
+
+-- ---- the filler belongs to the blocks
+
+last_or-append : {X : Type 0} (o : Option X) (front : List X) (x : X) (rest : List X) → last_or o (front ++ (x ∷ rest)) ≡ last_or (Some x) rest
+last_or-append o [] x rest = refl
+last_or-append o (y ∷ front) x rest = last_or-append (Some y) front x rest
+
+-- full intervals in front of samples need no filler
+filled_samples-append : (s : Settings) (front : List ℤ) (x : ℤ) (rest : List ℤ) → length front ≡ interval_len s
+    → filled_samples s (front ++ (x ∷ rest)) ≡ front ++ filled_samples s (x ∷ rest)
+filled_samples-append s front x rest full =
+    append_assoc front (x ∷ rest) (replicate (up_to_multiple s.block_size (length (front ++ (x ∷ rest))))
+    (unwrap_or (last_or None (front ++ (x ∷ rest))) (pos 0)))
+    ∙ ap₂ (λ m o. front ++ ((x ∷ rest) ++ replicate m (unwrap_or o (pos 0)))) missing (last_or-append None front x rest)
+  where
+    missing : up_to_multiple s.block_size (length (front ++ (x ∷ rest))) ≡ up_to_multiple s.block_size (length (x ∷ rest))
+    missing = ap (λ m. (s.block_size - m) % s.block_size)
+        (ap (λ m. m % s.block_size) (length-append front (x ∷ rest) ∙ omega (arith, full))
+        ∙ add-mul-mod_self_left (length (x ∷ rest)) s.block_size s.interval)
+
+-- whole blocks need no filler
+filled_samples-whole : (s : Settings) (v : List ℤ) (k : ℕ) → IsAllowed s → length v ≡ k * s.block_size → filled_samples s v ≡ v
+filled_samples-whole s v k a e = ap (λ m. v ++ replicate m (unwrap_or (last_or None v) (pos 0))) none ∙ append-nil v
+  where
+    none : up_to_multiple s.block_size (length v) ≡ 0
+    none =
+        let z : s.block_size - length v % s.block_size ≡ s.block_size = omega (arith, ap (λ m. m % s.block_size) e ∙ mul-mod_left k s.block_size) in
+        ap (λ m. m % s.block_size) z ∙ mod_self s.block_size
+
+filled_samples-nil : (s : Settings) → IsAllowed s → filled_samples s [] ≡ []
+filled_samples-nil s a = filled_samples-whole s [] 0 a (omega arith)
+
+blocks_of-filled : (s : Settings) (x : ℤ) (v : List ℤ) → IsAllowed s → blocks_of s (filled_samples s (x ∷ v)) ≡ blocks_of s (x ∷ v)
+blocks_of-filled s x v a =
+    ap (λ w. with_reference (reference_of s (x ∷ v)) (pieces_of s.block_size (mapped_values s w)))
+    (filled_samples-whole s (filled_samples s (x ∷ v)) (div_ceil (length (x ∷ v)) s.block_size) a
+    (length-filled_samples s (x ∷ v) (block_size-positive s a)))
+
+-- the filler stays within the interval
+filled-fits : (s : Settings) (v : List ℤ) → IsAllowed s → length v ≤ interval_len s → length (filled_samples s v) ≤ interval_len s
+filled-fits s v a few =
+    let n = length-blocks_of s v a in
+    let most = mul-le-mul_right s.block_size (blocks-few s v a few) in
+    omega (arith, length-filled_samples s v (block_size-positive s a), ap (λ m. m * s.block_size) n, most)
+
+-- the blocks of samples are those of the samples that fill them
+pub all_blocks_of-filled : (s : Settings) → IsAllowed s → (xs : List ℤ) → all_blocks_of s (filled_samples s xs) ≡ all_blocks_of s xs
+all_blocks_of-filled s a = by_pieces Same (interval_len s) (interval_len-positive s a) (ap (all_blocks_of s) (filled_samples-nil s a)) step
+  where
+    Same : List ℤ → Type 0
+    Same xs = all_blocks_of s (filled_samples s xs) ≡ all_blocks_of s xs
+
+    last : (v : List ℤ) → 0 < length v → length v ≤ interval_len s → Same v
+    last [] some few = absurd (omega arith)
+    last (x ∷ v) some few =
+        all_blocks_of-one s (filled_samples s (x ∷ v)) (omega arith) (filled-fits s (x ∷ v) a few) ∙ blocks_of-filled s x v a
+        ∙ sym (all_blocks_of-one s (x ∷ v) some few)
+
+    step : (front rest : List ℤ) → IsPieceBefore (interval_len s) front rest → Same rest → Same (front ++ rest)
+    step front [] piece ih = subst Same (sym (append-nil front)) (last front piece.some piece.fits)
+    step front (x ∷ rest) piece ih =
+        ap (all_blocks_of s) (filled_samples-append s front x rest (piece.full (omega arith)))
+        ∙ all_blocks_of-cons s front (filled_samples s (x ∷ rest)) (record { some = piece.some; fits = piece.fits; full = λ _. piece.full (omega arith) })
+        ∙ ap (◌++◌ (blocks_of s front)) ih ∙ sym (all_blocks_of-cons s front (x ∷ rest) piece)
+
+all_filled : (s : Settings) (xs : List ℤ) → IsAllowed s → AllByRecursion (IsHeld s) xs → AllByRecursion (IsHeld s) (filled_samples s xs)
+all_filled s [] a held = subst (AllByRecursion (IsHeld s)) (sym (filled_samples-nil s a)) tt
+all_filled s (x ∷ xs) a held = all-filled_samples s x xs held
+
+-- ---- the round trip
+
+pub FillBlocks-all_blocks_of : (s : Settings) (xs : List ℤ) → IsAllowed s → AllByRecursion (IsHeld s) xs
+    → FillBlocks s (filled_samples s xs) (all_blocks_of s xs)
+FillBlocks-all_blocks_of s xs a held = record {
+  held = all_filled s xs a held;
+  whole = length-filled_samples s xs (block_size-positive s a) ∙ ap (λ m. m * s.block_size) (sym (length-all_blocks_of s a xs));
+  mapped = all_blocks_of-filled s a xs;
+}
+
+pub IsBlockReading-stream_of : (s : Settings) (limit : ℕ) (xs : List ℤ) → IsAllowed s → AllByRecursion (IsHeld s) xs
+    → IsBlockReading s (Some (length xs)) limit (stream_of s xs) 0 0 (all_blocks_of s xs)
+IsBlockReading-stream_of s limit xs a held =
+    let walk = walk_of s (length xs) limit a xs 0 0 0 [] (stream_of s xs) held (λ _. refl) (omega arith) refl refl (omega arith) in
+    record {
+      sets = walk.sets;
+      end_block = walk.end_block;
+      end_bit = walk.end_bit;
+      leads = walk.leads;
+      done = le-ltb walk.end_block (div_ceil (length xs) s.block_size) walk.enough;
+      kept = sym walk.blocks;
+    }
+
+pub IsReading-stream_of : (s : Settings) (limit : ℕ) (xs : List ℤ) → IsAllowed s → AllByRecursion (IsHeld s) xs
+    → IsReading s (Some (length xs)) limit (stream_of s xs) xs
+IsReading-stream_of s limit xs a held = record {
+  blocks = all_blocks_of s xs;
+  read = IsBlockReading-stream_of s limit xs a held;
+  all_samples = filled_samples s xs;
+  filled = FillBlocks-all_blocks_of s xs a held;
+  counted = sym (take_at xs (replicate (up_to_multiple s.block_size (length xs)) (unwrap_or (last_or None xs) (pos 0))) (length xs) refl);
+}

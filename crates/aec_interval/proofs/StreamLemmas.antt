@@ -1,0 +1,262 @@
+-- The code of all samples is read as the samples.
+use Rattle.std.proofs.Common.{◌≡◌, ℕ, ◌+◌, ◌-◌, ◌*◌, ◌/◌, ◌%◌, ◌<◌, ◌≤◌, min, Bool, true, false, Some, List, [], ◌∷◌, ◌++◌, length, take, replicate, refl, sym, ap, ap₂, ◌∙◌, subst, arith, ⊎_elim}
+use Rattle.std.specs.Prelude.{ℤ, ◌==◌, ◌&&◌, if◌then◌else◌}
+use Rattle.std.specs.List.{AllByRecursion, flat_map}
+use Rattle.std.specs.Int.{div_ceil, next_multiple_of}
+use Rattle.std.proofs.Math.Nat.{add-mul-div_right, add-mul-mod_self_right, mul-mod_left}
+use Rattle.std.proofs.lemmas.List.{length-append, length-replicate, append_assoc, append-nil, take_all}
+use Rattle.std.proofs.Math.Seq.{take-append-add}
+use Rattle.std.proofs.lemmas.Bool.{cases_Bool, cond-true, cond-false, and_from, and_left, eq-eqb}
+use Rattle.aec_params.specs.declared.settings.Settings.{Settings}
+use Rattle.aec_params.specs.Params.{IsAllowed, IsHeld, interval_len}
+use Rattle.aec_params.specs.Cutting.{up_to_multiple}
+use Rattle.aec_params.specs.Blocks.{blocks_of, all_blocks_of}
+use Rattle.aec_params.specs.CodedDataSets.{CodedDataSet, cds_bits}
+use Rattle.aec_params.specs.Intervals.{plain_bits, interval_bits}
+use Rattle.aec_params.specs.Streams.{stream_of}
+use Rattle.aec_params.specs.Reading.{covered_blocks, begin_of, LeadsTo, stream_blocks}
+use Rattle.aec_interval.proofs.CuttingLemmas.{IsPieceBefore, by_pieces, pieces_of-nil, pieces_of-cons, pieces_of-one, div_ceil-zero, div_ceil-positive, div_ceil-times}
+use Rattle.aec_interval.proofs.BlockLemmas.{all_left, all_right, length-blocks_of, block_size-positive}
+use Rattle.aec_interval.proofs.IntervalLemmas.{ReadsBlocks-plain_bits, blocks-few}
+use Rattle.aec_interval.proofs.PlaceLemmas.{end_of, end_of-reaches, end_of-within, length-covered_blocks, stream_blocks-covered, LeadsTo-append, stream_blocks-append, LeadsTo-interval}
+pub use Rattle.aec_params.proofs.SettingLaws.{interval-positive}
+pub use Rattle.aec_params.proofs.SampleLaws.{interval_len-positive, all_blocks_of-nil}
+
+-- ---- whole intervals in front
+
+-- so many whole pieces more
+pub div_ceil-add : (k m n : ℕ) → 0 < n → div_ceil (n * k + m) n ≡ k + div_ceil m n
+div_ceil-add k m n h =
+    let e : n * k + m ≡ m + k * n = omega arith in
+    let q = ap (λ x. x / n) e ∙ add-mul-div_right m k h in
+    let r = ap (λ x. x % n) e ∙ add-mul-mod_self_right m k n in
+    omega (arith, ap (λ x. min 1 x) r)
+
+pub stream_of-nil : (s : Settings) → IsAllowed s → stream_of s [] ≡ []
+stream_of-nil s a = ap (flat_map (interval_bits s)) (pieces_of-nil (interval_len s) (interval_len-positive s a))
+
+pub stream_of-cons : (s : Settings) (front rest : List ℤ) → IsPieceBefore (interval_len s) front rest
+    → stream_of s (front ++ rest) ≡ interval_bits s front ++ stream_of s rest
+stream_of-cons s front rest h = ap (flat_map (interval_bits s)) (pieces_of-cons (interval_len s) front rest h)
+
+pub all_blocks_of-cons : (s : Settings) (front rest : List ℤ) → IsPieceBefore (interval_len s) front rest
+    → all_blocks_of s (front ++ rest) ≡ blocks_of s front ++ all_blocks_of s rest
+all_blocks_of-cons s front rest h = ap (flat_map (blocks_of s)) (pieces_of-cons (interval_len s) front rest h)
+
+-- ---- what padding adds
+
+abbrev pub padding_of : Settings → List ℤ → List Bool
+padding_of s v = if s.pad then replicate (up_to_multiple 8 (length (plain_bits s v))) false else []
+
+pub interval_bits-padded : (s : Settings) (v : List ℤ) → interval_bits s v ≡ plain_bits s v ++ padding_of s v
+interval_bits-padded s v = padded s.pad (plain_bits s v) (replicate (up_to_multiple 8 (length (plain_bits s v))) false)
+  where
+    padded : (t : Bool) (x z : List Bool) → (if t then x ++ z else x) ≡ x ++ (if t then z else [])
+    padded true x z = refl
+    padded false x z = sym (append-nil x)
+
+pub length-padding_of : (s : Settings) (v : List ℤ) → s.pad ≡ true → length (padding_of s v) ≡ up_to_multiple 8 (length (plain_bits s v))
+length-padding_of s v t =
+    ap length (cond-true s.pad (replicate (up_to_multiple 8 (length (plain_bits s v))) false) [] t)
+    ∙ length-replicate (up_to_multiple 8 (length (plain_bits s v))) false
+
+pub no_padding : (s : Settings) (v : List ℤ) → s.pad ≡ false → length (padding_of s v) ≡ 0
+no_padding s v t = ap length (cond-false s.pad (replicate (up_to_multiple 8 (length (plain_bits s v))) false) [] t)
+
+-- bits that begin an interval: with padding whole bytes stand before them
+abbrev pub IsAligned : Settings → List Bool → Type 0
+IsAligned s pre = s.pad ≡ true → length pre % 8 ≡ 0
+
+-- behind a full interval the next one begins behind the padding
+pub begin_of-interval : (s : Settings) (v : List ℤ) (pre rest : List Bool) (k : ℕ) → IsAligned s pre
+    → begin_of s (pre ++ (interval_bits s v ++ rest)) (k * s.interval) (length pre + length (plain_bits s v)) ≡ length (pre ++ interval_bits s v)
+begin_of-interval s v pre rest k aligned = ⊎_elim padded plain (cases_Bool s.pad)
+  where
+    bits : List Bool
+    bits = pre ++ (interval_bits s v ++ rest)
+
+    i : ℕ
+    i = k * s.interval
+
+    b : ℕ
+    b = length pre + length (plain_bits s v)
+
+    len : length (pre ++ interval_bits s v) ≡ b + length (padding_of s v)
+    len = length-append pre (interval_bits s v)
+        ∙ ap (λ x. length pre + x) (ap length (interval_bits-padded s v) ∙ length-append (plain_bits s v) (padding_of s v)) ∙ omega arith
+
+    enough : length (pre ++ interval_bits s v) ≤ length bits
+    enough = omega (arith, length-append pre (interval_bits s v), length-append pre (interval_bits s v ++ rest), length-append (interval_bits s v) rest)
+
+    plain : s.pad ≡ false → begin_of s bits i b ≡ length (pre ++ interval_bits s v)
+    plain t = cond-false (s.pad && (i % s.interval == 0)) (min (next_multiple_of b 8) (length bits)) b (and_left s.pad (i % s.interval == 0) t)
+        ∙ omega (arith, len, no_padding s v t)
+
+    padded : s.pad ≡ true → begin_of s bits i b ≡ length (pre ++ interval_bits s v)
+    padded t =
+        cond-true (s.pad && (i % s.interval == 0)) (min (next_multiple_of b 8) (length bits)) b
+        (and_from s.pad (i % s.interval == 0) t (eq-eqb (i % s.interval) 0 (mul-mod_left k s.interval)))
+        ∙ omega (arith, len, enough, length-padding_of s v t, aligned t)
+
+pub IsAligned-interval : (s : Settings) (v : List ℤ) (pre : List Bool) → IsAligned s pre → IsAligned s (pre ++ interval_bits s v)
+IsAligned-interval s v pre aligned t =
+    omega (
+      arith,
+      length-append pre (interval_bits s v),
+      ap length (interval_bits-padded s v),
+      length-append (plain_bits s v) (padding_of s v),
+      length-padding_of s v t,
+      aligned t,
+    )
+
+-- ---- from interval to interval
+
+-- a walk through the code of samples, of so many blocks in all, which stands for their blocks
+pub record IsWalk (s : Settings) (count limit : ℕ) (bits : List Bool) (i b : ℕ) (xs : List ℤ) : Type 0 where
+  pub sets : List CodedDataSet
+  pub end_block : ℕ
+  pub end_bit : ℕ
+  pub leads : LeadsTo s (Some count) limit bits i b sets end_block end_bit
+  pub enough : div_ceil count s.block_size ≤ end_block
+  pub blocks : take (div_ceil count s.block_size - i) (stream_blocks s i sets) ≡ all_blocks_of s xs
+
+abbrev HasWalk : Settings → ℕ → ℕ → List ℤ → Type 0
+HasWalk s count limit xs = (k i b : ℕ) (pre bits : List Bool) → AllByRecursion (IsHeld s) xs → IsAligned s pre → i ≡ k * s.interval → b ≡ length pre
+    → bits ≡ pre ++ stream_of s xs → i + div_ceil (length xs) s.block_size ≡ div_ceil count s.block_size → IsWalk s count limit bits i b xs
+
+no_walk : (s : Settings) (count limit : ℕ) → IsAllowed s → HasWalk s count limit []
+no_walk s count limit a k i b pre bits held aligned e f spelled need =
+    let z : div_ceil count s.block_size - i ≡ 0 = omega (arith, div_ceil-zero s.block_size (block_size-positive s a)) in
+    record {
+      sets = [];
+      end_block = i;
+      end_bit = b;
+      leads = (refl, refl);
+      enough = omega arith;
+      blocks = ap (λ n. take n []) z ∙ sym (all_blocks_of-nil s a);
+    }
+
+-- an interval's code before a rest, as its coded data sets
+interval-spelled : (s : Settings) (v : List ℤ) (sets : List CodedDataSet) (pre after rest bits : List Bool) → plain_bits s v ≡ flat_map (cds_bits s) sets
+    → bits ≡ pre ++ after → after ≡ interval_bits s v ++ rest → bits ≡ pre ++ (flat_map (cds_bits s) sets ++ (padding_of s v ++ rest))
+interval-spelled s v sets pre after rest bits e spelled one =
+    spelled ∙ ap (◌++◌ pre) (one ∙ ap (λ x. x ++ rest) (interval_bits-padded s v ∙ ap (λ x. x ++ padding_of s v) e)
+    ∙ append_assoc (flat_map (cds_bits s) sets) (padding_of s v) rest)
+
+-- the walk through one interval
+record IsPart (s : Settings) (count limit k i b : ℕ) (pre bits : List Bool) (v : List ℤ) : Type 0 where
+  sets : List CodedDataSet
+  leads : LeadsTo s (Some count) limit bits i b sets (k * s.interval + end_of s 0 sets)
+      (begin_of s bits (k * s.interval + end_of s 0 sets) (length pre + length (plain_bits s v)))
+  reaches : length (blocks_of s v) ≤ end_of s 0 sets
+  within : end_of s 0 sets ≤ s.interval
+  len : length (covered_blocks s 0 sets) ≡ end_of s 0 sets
+  covered : stream_blocks s i sets ≡ covered_blocks s 0 sets
+  stand_for : take (length (blocks_of s v)) (covered_blocks s 0 sets) ≡ blocks_of s v
+
+part_of : (s : Settings) (count limit k i b : ℕ) (pre after rest bits : List Bool) (v : List ℤ) → IsAllowed s → 0 < length v → length v ≤ interval_len s
+    → AllByRecursion (IsHeld s) v
+    → i ≡ k * s.interval → b ≡ length pre → bits ≡ pre ++ after → after ≡ interval_bits s v ++ rest
+    → i + div_ceil (length v) s.block_size ≤ div_ceil count s.block_size
+    → IsPart s count limit k i b pre bits v
+part_of s count limit k i b pre after rest bits v a some few held e f spelled one need =
+    let r = ReadsBlocks-plain_bits s v a held some few in
+    let n = length (blocks_of s v) in
+    let len : n ≡ div_ceil (length v) s.block_size = length-blocks_of s v a in
+    let within : n ≤ s.interval = blocks-few s v a few in
+    let positive : 0 < n = omega (arith, div_ceil-positive (length v) s.block_size (block_size-positive s a) some) in
+    record {
+      sets = r.sets;
+      leads = subst (λ x. LeadsTo s (Some count) limit bits i b r.sets (k * s.interval + end_of s 0 r.sets)
+          (begin_of s bits (k * s.interval + end_of s 0 r.sets) (length pre + length x)))
+          (sym r.spelled)
+          (LeadsTo-interval s count limit n 0 k i b pre r.sets (padding_of s v ++ rest) bits r.covers positive within (omega arith) (omega arith) f
+          (interval-spelled s v r.sets pre after rest bits r.spelled spelled one));
+      reaches = end_of-reaches s n 0 r.sets r.covers;
+      within = end_of-within s n 0 r.sets r.covers within (omega arith);
+      len = omega (arith, length-covered_blocks s n 0 r.sets r.covers within);
+      covered = stream_blocks-covered s n 0 k i r.sets r.covers within (omega arith);
+      stand_for = r.stand_for;
+    }
+
+last_walk : (s : Settings) (count limit : ℕ) → IsAllowed s → (v : List ℤ) → 0 < length v → length v ≤ interval_len s → HasWalk s count limit v
+last_walk s count limit a v some few k i b pre bits held aligned e f spelled need =
+    let part = part_of s count limit k i b pre (stream_of s v) [] bits v a some few held e f spelled
+    (ap (flat_map (interval_bits s)) (pieces_of-one (interval_len s) v some few)) (omega arith) in
+    let len = length-blocks_of s v a in
+    let needed : div_ceil count s.block_size - i ≡ length (blocks_of s v) = omega arith in
+    record {
+      sets = part.sets;
+      end_block = k * s.interval + end_of s 0 part.sets;
+      end_bit = begin_of s bits (k * s.interval + end_of s 0 part.sets) (length pre + length (plain_bits s v));
+      leads = part.leads;
+      enough = omega (arith, part.reaches);
+      blocks = ap₂ take needed part.covered ∙ part.stand_for
+          ∙ sym (append-nil (blocks_of s v)) ∙ sym (ap (flat_map (blocks_of s)) (pieces_of-one (interval_len s) v some few));
+    }
+
+-- the walk through a full interval, and on
+walk_on : (s : Settings) (count limit : ℕ) → IsAllowed s → (front rest : List ℤ) → IsPieceBefore (interval_len s) front rest → 0 < length rest
+    → HasWalk s count limit rest → HasWalk s count limit (front ++ rest)
+walk_on s count limit a front rest piece more ih k i b pre bits held aligned e f spelled need =
+    record {
+      sets = part.sets ++ later.sets;
+      end_block = later.end_block;
+      end_bit = later.end_bit;
+      leads = LeadsTo-append s (Some count) limit bits i b part.sets j g later.sets later.end_block later.end_bit part.leads later.leads;
+      enough = later.enough;
+      blocks = ap₂ take all_needed (stream_blocks-append s (Some count) limit bits i b part.sets j g later.sets part.leads
+          ∙ ap (λ x. x ++ stream_blocks s j later.sets) part.covered)
+          ∙ take-append-add (covered_blocks s 0 part.sets) (stream_blocks s j later.sets) (div_ceil count s.block_size - j)
+          ∙ ap₂ ◌++◌ here later.blocks ∙ sym (all_blocks_of-cons s front rest piece);
+    }
+  where
+    full : length front ≡ s.block_size * s.interval
+    full = piece.full more
+
+    counted : div_ceil (length (front ++ rest)) s.block_size ≡ s.interval + div_ceil (length rest) s.block_size
+    counted = ap (λ m. div_ceil m s.block_size) (length-append front rest ∙ ap (λ m. m + length rest) full)
+        ∙ div_ceil-add s.interval (length rest) s.block_size (block_size-positive s a)
+
+    n : length (blocks_of s front) ≡ s.interval
+    n = length-blocks_of s front a ∙ ap (λ m. div_ceil m s.block_size) (full ∙ omega arith)
+        ∙ div_ceil-times s.interval s.block_size (block_size-positive s a)
+
+    part : IsPart s count limit k i b pre bits front
+    part = part_of s count limit k i b pre (stream_of s (front ++ rest)) (stream_of s rest) bits front a piece.some piece.fits
+        (all_left (IsHeld s) front rest held) e f spelled
+        (stream_of-cons s front rest piece) (omega (arith, n, length-blocks_of s front a, counted, need))
+
+    j : ℕ
+    j = k * s.interval + end_of s 0 part.sets
+
+    g : ℕ
+    g = begin_of s bits j (length pre + length (plain_bits s front))
+
+    next : j ≡ (k + 1) * s.interval
+    next = omega (arith, part.reaches, part.within, n)
+
+    behind : bits ≡ pre ++ (interval_bits s front ++ stream_of s rest)
+    behind = spelled ∙ ap (◌++◌ pre) (stream_of-cons s front rest piece)
+
+    start : g ≡ length (pre ++ interval_bits s front)
+    start = ap₂ (λ x q. begin_of s x q (length pre + length (plain_bits s front))) behind next
+        ∙ begin_of-interval s front pre (stream_of s rest) (k + 1) aligned
+
+    later : IsWalk s count limit bits j g rest
+    later = ih (k + 1) j g (pre ++ interval_bits s front) bits (all_right (IsHeld s) front rest held) (IsAligned-interval s front pre aligned) next start
+        (behind ∙ sym (append_assoc pre (interval_bits s front) (stream_of s rest))) (omega (arith, counted, need, e, next))
+
+    all_needed : div_ceil count s.block_size - i ≡ length (covered_blocks s 0 part.sets) + (div_ceil count s.block_size - j)
+    all_needed = omega (arith, part.len, part.reaches, part.within, n, counted, need, e)
+
+    here : covered_blocks s 0 part.sets ≡ blocks_of s front
+    here = sym (take_all (length (blocks_of s front)) (covered_blocks s 0 part.sets) (omega (arith, part.len, part.within, n))) ∙ part.stand_for
+
+step : (s : Settings) (count limit : ℕ) → IsAllowed s → (front rest : List ℤ) → IsPieceBefore (interval_len s) front rest → HasWalk s count limit rest
+    → HasWalk s count limit (front ++ rest)
+step s count limit a front [] piece ih = subst (HasWalk s count limit) (sym (append-nil front)) (last_walk s count limit a front piece.some piece.fits)
+step s count limit a front (x ∷ rest) piece ih = walk_on s count limit a front (x ∷ rest) piece (omega arith) ih
+
+pub walk_of : (s : Settings) (count limit : ℕ) → IsAllowed s → (xs : List ℤ) → HasWalk s count limit xs
+walk_of s count limit a = by_pieces (HasWalk s count limit) (interval_len s) (interval_len-positive s a) (no_walk s count limit a) (step s count limit a)

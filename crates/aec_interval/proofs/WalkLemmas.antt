@@ -1,0 +1,135 @@
+-- From one place there is one walk at most: readings are unique, so are faults, and no bits have both.
+use Rattle.std.proofs.Common.{◌≡◌, ℕ, ◌+◌, ◌%◌, Bool, true, false, Option, List, [], ◌∷◌, length, drop, refl, sym, ap, ap₂, ◌∙◌, subst}
+use Rattle.std.proofs.lemmas.Bool.{both_ways}
+use Rattle.aec_params.specs.declared.settings.Settings.{Settings}
+use Rattle.aec_params.specs.declared.fault.Fault.{Fault}
+use Rattle.aec_params.specs.Params.{IsAllowed}
+use Rattle.aec_params.specs.Blocks.{Block}
+use Rattle.aec_params.specs.CodedDataSets.{CodedDataSet, cds_bits, HasShape, has_small_values}
+use Rattle.aec_params.specs.Places.{stays_in_segment, is_reference_block, IsLawful}
+use Rattle.aec_params.specs.Reading.{StandsAt, next_block, next_begin, is_wanted, keeps_limit, LeadsTo, stream_blocks, kept_blocks, IsBlockReading}
+use Rattle.aec_params.specs.Faults.{HasSetAt, IsWrongAt, cut_short, too_large, too_long, too_many, IsFault}
+use Rattle.aec_block.proofs.SetLemmas.{no_set_is_a_prefix}
+
+-- one coded data set at most stands at a place
+pub same_set : (s : Settings) (bits : List Bool) (b : ℕ) (t : Bool) (c d : CodedDataSet) → IsAllowed s → HasShape s t c → HasShape s t d
+    → StandsAt s bits b c → StandsAt s bits b d → c ≡ d
+same_set s bits b t c d a h k x y =
+    (no_set_is_a_prefix s a t c d (drop (b + length (cds_bits s c)) bits) (drop (b + length (cds_bits s d)) bits) h k (sym x ∙ y)).0
+
+-- ---- two walks
+
+-- where two walks end, if both are done
+pub record SameWalk (one other : List CodedDataSet) (j e k f : ℕ) : Type 0 where
+  pub sets : one ≡ other
+  pub block : j ≡ k
+  pub bit : e ≡ f
+
+wanted-back : (s : Settings) (count : Option ℕ) (bits : List Bool) (i b j e : ℕ) (t : Bool) → (j ≡ i) × (e ≡ b) → is_wanted s count bits j e ≡ t
+    → is_wanted s count bits i b ≡ t
+wanted-back s count bits i b j e t h w = ap₂ (is_wanted s count bits) (sym h.0) (sym h.1) ∙ w
+
+module _ (s : Settings) (a : IsAllowed s) (count : Option ℕ) (limit : ℕ) (bits : List Bool) where
+  -- the walk behind a coded data set is the walk behind an equal one
+  leads-from_same : (i b : ℕ) (c d : CodedDataSet) (sets : List CodedDataSet) (j e : ℕ) → c ≡ d
+      → LeadsTo s count limit bits (next_block s i d) (next_begin s bits i b d) sets j e
+      → LeadsTo s count limit bits (next_block s i c) (next_begin s bits i b c) sets j e
+  leads-from_same i b c d sets j e p h = subst (λ x. LeadsTo s count limit bits (next_block s i x) (next_begin s bits i b x) sets j e) (sym p) h
+
+  pub same_walk : (i b : ℕ) (sets later : List CodedDataSet) (j e k f : ℕ) → LeadsTo s count limit bits i b sets j e
+      → LeadsTo s count limit bits i b later k f
+      → is_wanted s count bits j e ≡ false → is_wanted s count bits k f ≡ false → SameWalk sets later j e k f
+  same_walk i b [] [] j e k f h t w v = record { sets = refl; block = h.0 ∙ sym t.0; bit = h.1 ∙ sym t.1 }
+  same_walk i b [] (d ∷ later) j e k f h t w v = absurd (both_ways (is_wanted s count bits i b) (wanted-back s count bits i b j e false h w) t.0)
+  same_walk i b (c ∷ sets) [] j e k f h t w v = absurd (both_ways (is_wanted s count bits i b) (wanted-back s count bits i b k f false t v) h.0)
+  same_walk i b (c ∷ sets) (d ∷ later) j e k f h t w v =
+      let p = same_set s bits b (is_reference_block s (i % s.interval)) c d a h.2.shape t.2.shape h.1 t.1 in
+      let r = same_walk (next_block s i c) (next_begin s bits i b c) sets later j e k f h.4 (leads-from_same i b c d later k f p t.4) w v in
+      record { sets = ap₂ ◌∷◌ p r.sets; block = r.block; bit = r.bit }
+
+  pub same_blocks : (i b : ℕ) (xs ys : List Block) → IsBlockReading s count limit bits i b xs → IsBlockReading s count limit bits i b ys → xs ≡ ys
+  same_blocks i b xs ys x y =
+      let r = same_walk i b x.sets y.sets x.end_block x.end_bit y.end_block y.end_bit x.leads y.leads x.done y.done in
+      x.kept ∙ ap (λ sets. kept_blocks s count i (stream_blocks s i sets)) r.sets ∙ sym y.kept
+
+  -- where a lawful coded data set stands, within the limit, nothing is wrong
+  pub not_wrong : (i b : ℕ) (c : CodedDataSet) (fault : Fault) → StandsAt s bits b c → IsLawful s (i % s.interval) c
+      → keeps_limit s count limit (next_block s i c) ≡ true
+      → IsWrongAt s count limit bits i b fault → ⊥
+  not_wrong i b c fault x l within (cut_short none) = none c (record { shape = l.shape; stands = x })
+  not_wrong i b c fault x l within (too_large d at large) =
+      both_ways (has_small_values s d) large
+      (ap (has_small_values s) (same_set s bits b (is_reference_block s (i % s.interval)) d c a at.shape l.shape at.stands x) ∙ l.small)
+  not_wrong i b c fault x l within (too_long d at small long) =
+      both_ways (stays_in_segment s (i % s.interval) d) long
+      (ap (stays_in_segment s (i % s.interval)) (same_set s bits b (is_reference_block s (i % s.interval)) d c a at.shape l.shape at.stands x) ∙ l.within)
+  not_wrong i b c fault x l within (too_many d at lawful past) =
+      both_ways (keeps_limit s count limit (next_block s i d)) past
+      (ap (λ c. keeps_limit s count limit (next_block s i c))
+      (same_set s bits b (is_reference_block s (i % s.interval)) d c a at.shape l.shape at.stands x) ∙ within)
+
+  wrong-back : (i b j e : ℕ) (fault : Fault) → (j ≡ i) × (e ≡ b) → IsWrongAt s count limit bits j e fault → IsWrongAt s count limit bits i b fault
+  wrong-back i b j e fault h w = subst (λ x. IsWrongAt s count limit bits x b fault) h.0 (subst (λ x. IsWrongAt s count limit bits j x fault) h.1 w)
+
+  -- a walk that is done and one that ends in a fault
+  pub not_both : (i b : ℕ) (sets later : List CodedDataSet) (j e k f : ℕ) (fault : Fault) → LeadsTo s count limit bits i b sets j e
+      → LeadsTo s count limit bits i b later k f
+      → is_wanted s count bits j e ≡ false → is_wanted s count bits k f ≡ true → IsWrongAt s count limit bits k f fault → ⊥
+  not_both i b [] [] j e k f fault h t w v wrong =
+      both_ways (is_wanted s count bits i b) (wanted-back s count bits i b j e false h w) (wanted-back s count bits i b k f true t v)
+  not_both i b [] (d ∷ later) j e k f fault h t w v wrong = both_ways (is_wanted s count bits i b) (wanted-back s count bits i b j e false h w) t.0
+  not_both i b (c ∷ sets) [] j e k f fault h t w v wrong = not_wrong i b c fault h.1 h.2 h.3 (wrong-back i b k f fault t wrong)
+  not_both i b (c ∷ sets) (d ∷ later) j e k f fault h t w v wrong =
+      let p = same_set s bits b (is_reference_block s (i % s.interval)) c d a h.2.shape t.2.shape h.1 t.1 in
+      not_both (next_block s i c) (next_begin s bits i b c) sets later j e k f fault h.4 (leads-from_same i b c d later k f p t.4) w v wrong
+
+  -- ---- two faults
+
+  -- one coded data set can't be judged in two ways
+  different_small : (i b : ℕ) (c d : CodedDataSet) → HasSetAt s bits (i % s.interval) b c → HasSetAt s bits (i % s.interval) b d
+      → has_small_values s c ≡ false → has_small_values s d ≡ true → ⊥
+  different_small i b c d x y large small =
+      both_ways (has_small_values s c) large (ap (has_small_values s)
+      (same_set s bits b (is_reference_block s (i % s.interval)) c d a x.shape y.shape x.stands y.stands) ∙ small)
+
+  different_long : (i b : ℕ) (c d : CodedDataSet) → HasSetAt s bits (i % s.interval) b c → HasSetAt s bits (i % s.interval) b d
+      → stays_in_segment s (i % s.interval) c ≡ false → stays_in_segment s (i % s.interval) d ≡ true → ⊥
+  different_long i b c d x y long within =
+      both_ways (stays_in_segment s (i % s.interval) c) long
+      (ap (stays_in_segment s (i % s.interval)) (same_set s bits b (is_reference_block s (i % s.interval)) c d a x.shape y.shape x.stands y.stands)
+      ∙ within)
+
+  pub same_wrong : (i b : ℕ) (fault other : Fault) → IsWrongAt s count limit bits i b fault → IsWrongAt s count limit bits i b other → fault ≡ other
+  same_wrong i b fault other (cut_short none) (cut_short n) = refl
+  same_wrong i b fault other (cut_short none) (too_large d at large) = absurd (none d at)
+  same_wrong i b fault other (cut_short none) (too_long d at small long) = absurd (none d at)
+  same_wrong i b fault other (cut_short none) (too_many d at lawful past) = absurd (none d at)
+  same_wrong i b fault other (too_large c at large) (cut_short none) = absurd (none c at)
+  same_wrong i b fault other (too_large c at large) (too_large d at' large') = refl
+  same_wrong i b fault other (too_large c at large) (too_long d at' small long) = absurd (different_small i b c d at at' large small)
+  same_wrong i b fault other (too_large c at large) (too_many d at' lawful past) = absurd (different_small i b c d at at' large lawful.small)
+  same_wrong i b fault other (too_long c at small long) (cut_short none) = absurd (none c at)
+  same_wrong i b fault other (too_long c at small long) (too_large d at' large) = absurd (different_small i b d c at' at large small)
+  same_wrong i b fault other (too_long c at small long) (too_long d at' small' long') = refl
+  same_wrong i b fault other (too_long c at small long) (too_many d at' lawful past) = absurd (different_long i b c d at at' long lawful.within)
+  same_wrong i b fault other (too_many c at lawful past) (cut_short none) = absurd (none c at)
+  same_wrong i b fault other (too_many c at lawful past) (too_large d at' large) = absurd (different_small i b d c at' at large lawful.small)
+  same_wrong i b fault other (too_many c at lawful past) (too_long d at' small long) = absurd (different_long i b d c at' at long lawful.within)
+  same_wrong i b fault other (too_many c at lawful past) (too_many d at' lawful' past') = refl
+
+  pub same_fault : (i b : ℕ) (sets later : List CodedDataSet) (j e k f : ℕ) (fault other : Fault) → LeadsTo s count limit bits i b sets j e
+      → LeadsTo s count limit bits i b later k f
+      → IsWrongAt s count limit bits j e fault → IsWrongAt s count limit bits k f other → fault ≡ other
+  same_fault i b [] [] j e k f fault other h t x y = same_wrong i b fault other (wrong-back i b j e fault h x) (wrong-back i b k f other t y)
+  same_fault i b [] (d ∷ later) j e k f fault other h t x y = absurd (not_wrong i b d fault t.1 t.2 t.3 (wrong-back i b j e fault h x))
+  same_fault i b (c ∷ sets) [] j e k f fault other h t x y = absurd (not_wrong i b c other h.1 h.2 h.3 (wrong-back i b k f other t y))
+  same_fault i b (c ∷ sets) (d ∷ later) j e k f fault other h t x y =
+      let p = same_set s bits b (is_reference_block s (i % s.interval)) c d a h.2.shape t.2.shape h.1 t.1 in
+      same_fault (next_block s i c) (next_begin s bits i b c) sets later j e k f fault other h.4 (leads-from_same i b c d later k f p t.4) x y
+
+  pub one_fault : (i b : ℕ) (fault other : Fault) → IsFault s count limit bits i b fault → IsFault s count limit bits i b other → fault ≡ other
+  one_fault i b fault other x y = same_fault i b x.sets y.sets x.block x.bit y.block y.bit fault other x.leads y.leads x.wrong y.wrong
+
+  pub no_reading_and_fault : (i b : ℕ) (blocks : List Block) (fault : Fault) → IsBlockReading s count limit bits i b blocks
+      → IsFault s count limit bits i b fault → ⊥
+  no_reading_and_fault i b blocks fault x y = not_both i b x.sets y.sets x.end_block x.end_bit y.block y.bit fault x.leads y.leads x.done y.wanted y.wrong

@@ -1,0 +1,38 @@
+-- The blocks of samples that come behind others of the same interval, or at its start.
+use Rattle.std.specs.Prelude.{◌≡◌, ℕ, ◌*◌, ◌≤◌, ⊤, Option, Some, None, ℤ, List, length}
+use Rattle.std.specs.List.{AllByRecursion}
+use Rattle.aec_params.specs.declared.settings.Settings.{Settings}
+use Rattle.aec_params.specs.Params.{IsHeld}
+use Rattle.aec_params.specs.Cutting.{pieces_of}
+use Rattle.aec_params.specs.Mapping.{mapped_after, mapped_values}
+use Rattle.aec_params.specs.Blocks.{Block, filled_samples, reference_of, with_reference}
+
+-- the values of samples behind the sample before them; behind none an interval starts
+abbrev pub values_after : Settings → Option ℤ → List ℤ → List ℕ
+values_after s None v = mapped_values s v
+values_after s (Some previous) v = mapped_after s previous v
+
+abbrev pub reference_after : Settings → Option ℤ → List ℤ → Option ℕ
+reference_after s None v = reference_of s v
+reference_after s (Some previous) v = None
+
+-- the samples as one block, filled up
+abbrev pub block_after : Settings → Option ℤ → List ℤ → Block
+block_after s previous v =
+    record { reference = reference_after s previous v; values = values_after s previous (filled_samples s v) }
+
+-- the samples as blocks, of which the last is filled up
+abbrev pub blocks_after : Settings → Option ℤ → List ℤ → List Block
+blocks_after s previous v =
+    with_reference (reference_after s previous v) (pieces_of s.block_size (values_after s previous (filled_samples s v)))
+
+-- the sample before is one of the settings, where there is one
+abbrev pub HoldsPrevious : Settings → Option ℤ → Type 0
+HoldsPrevious s None = ⊤
+HoldsPrevious s (Some previous) = IsHeld s previous
+
+-- samples behind the one before them, at most so many blocks
+pub record AreSamplesAfter (s : Settings) (previous : Option ℤ) (most : ℕ) (v : List ℤ) : Type 0 where
+  pub previous_held : HoldsPrevious s previous
+  pub held : AllByRecursion (IsHeld s) v
+  pub few : length v ≤ s.block_size * most

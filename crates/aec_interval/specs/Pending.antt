@@ -1,0 +1,44 @@
+-- What is still to be written of a segment behind zero blocks that have been counted and not yet written.
+use Rattle.std.specs.Prelude.{◌≡◌, ℕ, zero, suc, ◌+◌, ◌==◌, ◌≤◌, Bool, length, take, if◌then◌else◌, Option, None, List, [], ◌∷◌}
+use Rattle.std.specs.List.{flat_map}
+use Rattle.aec_params.specs.declared.settings.Settings.{Settings}
+use Rattle.aec_params.specs.Blocks.{Block}
+use Rattle.aec_params.specs.CodedDataSets.{CodedDataSet, cds_bits}
+use Rattle.aec_params.specs.Runs.{Group, zero_run, groups_of}
+use Rattle.aec_params.specs.Intervals.{group_sets}
+use Rattle.aec_block.specs.Choices.{FitsReference}
+use Rattle.aec_block.specs.Written.{run_bits}
+use Rattle.aec_interval.specs.declared.runs.Run.{Run}
+
+-- a run of z blocks before groups: it joins a run that comes first
+abbrev pub with_run : Option ℕ → ℕ → List Group → List Group
+with_run reference zero groups = groups
+with_run reference (suc z) (zero_run later m ∷ groups) = zero_run reference (suc z + m) ∷ groups
+with_run reference (suc z) groups = zero_run reference (suc z) ∷ groups
+
+-- the bits of a segment that has these blocks behind a run
+abbrev pub pending_bits : Settings → Run → List Block → List Bool
+pending_bits s run blocks = flat_map (cds_bits s) (group_sets s (with_run run.reference run.blocks (groups_of blocks)))
+
+-- the bits of a segment of these blocks
+abbrev pub segment_bits : Settings → List Block → List Bool
+segment_bits s blocks = flat_map (cds_bits s) (group_sets s (groups_of blocks))
+
+-- the bits of a run by itself, which ends its segment or not
+abbrev pub bits_of_run : Settings → Option ℕ → ℕ → Bool → List Bool
+bits_of_run s reference zero is_last = []
+bits_of_run s reference (suc z) is_last = run_bits s reference (suc z) is_last
+
+-- a run with one zero block more, which has this reference
+abbrev pub longer_run : Run → Option ℕ → Run
+longer_run run reference =
+    record { reference = (if run.blocks == 0 then reference else run.reference); blocks = run.blocks + 1 }
+
+-- a run of at most so many blocks, whose reference fits
+pub record IsRun (s : Settings) (most : ℕ) (run : Run) : Type 0 where
+  pub few : run.blocks ≤ most
+  pub reference : FitsReference s run.reference
+
+-- the bits from before stand in front of what there is now
+abbrev pub IsKept : List Bool → List Bool → Type 0
+IsKept old new = take (length old) new ≡ old

@@ -1,0 +1,83 @@
+//! The code of one reference sample interval.
+
+ghost use Rattle.std.specs.Prelude.{◌≡◌, ◌+◌, ◌*◌, ◌<◌, ◌≤◌, ◌++◌, None, length, OnOk, IfErr};
+ghost use Rattle.aec_params.specs.declared.fault.Fault.TheVariants.{Memory};
+ghost use Rattle.aec_params.specs.Intervals.{plain_bits, interval_bits};
+ghost use Rattle.aec_interval.specs.Laws.{AreOfInterval};
+ghost use Rattle.aec_interval.specs.Chunks.{blocks_after, AreSamplesAfter};
+ghost use Rattle.aec_interval.specs.Pending.{segment_bits, IsKept};
+
+use crate::chunks::block_of;
+use crate::runs::{NO_RUN, write_next};
+use aec_bits::BitBuf;
+use aec_params::{Fault, Params};
+use std::alloc::Global;
+
+/// The most blocks of a segment.
+const SEGMENT_BLOCKS: usize = 64;
+
+/// Appends the code of a segment, whose samples stand behind `previous` or at an interval's start. `Memory` where a
+/// growth was refused; the bits from before are then still in front.
+fn write_segment(
+    alloc: Global,
+    params: &Params,
+    previous: Option<i64>,
+    samples: &[i64],
+    out: &mut BitBuf,
+) -> Result<(), Fault>
+    requires { AreSamplesAfter params.now previous 64 samples.now }
+    ensures ok { OnOk result (out.new.list ≡ out.old.list ++ segment_bits params.now (blocks_after params.now previous samples.now)) }
+    ensures kept { IsKept out.old.list out.new.list }
+    ensures fault { IfErr result (λ e. e ≡ Memory) }
+{
+    let mut preceding = previous;
+    let mut run = NO_RUN;
+    for chunk in samples.chunks(params.block_size() as usize) {
+        let block = block_of(alloc, params, preceding, chunk);
+        run = write_next(params, run, &block, out)?;
+        preceding = chunk.last().copied();
+    }
+    run.write(params, true, out)
+}
+
+/// Appends the code of an interval without padding.
+fn write_segments(
+    alloc: Global,
+    params: &Params,
+    samples: &[i64],
+    out: &mut BitBuf,
+) -> Result<(), Fault>
+    requires { AreOfInterval params.now samples.now }
+    ensures ok { OnOk result (out.new.list ≡ out.old.list ++ plain_bits params.now samples.now) }
+    ensures kept { IsKept out.old.list out.new.list }
+    ensures fault { IfErr result (λ e. e ≡ Memory) }
+{
+    let mut preceding = None;
+    for segment in samples.chunks(SEGMENT_BLOCKS * params.block_size() as usize) {
+        write_segment(alloc, params, preceding, segment, out)?;
+        preceding = segment.last().copied();
+    }
+    Ok(())
+}
+
+/// Appends the code of an interval, padded by its own length where the parameters pad. `Memory` where a growth was
+/// refused; the bits from before are then still in front.
+pub(crate) fn write_interval(
+    alloc: Global,
+    params: &Params,
+    samples: &[i64],
+    out: &mut BitBuf,
+) -> Result<(), Fault>
+    requires { AreOfInterval params.now samples.now }
+    ensures ok { OnOk result (out.new.list ≡ out.old.list ++ interval_bits params.now samples.now) }
+    ensures kept { IsKept out.old.list out.new.list }
+    ensures fault { IfErr result (λ e. e ≡ Memory) }
+{
+    let start = out.len();
+    write_segments(alloc, params, samples, out)?;
+    if params.pad() {
+        let missing = (8 - (out.len() - start) % 8) % 8;
+        out.push_bits(0, missing as u32)?;
+    }
+    Ok(())
+}

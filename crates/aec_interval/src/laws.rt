@@ -1,0 +1,41 @@
+//! Laws of intervals, streams and readings. Their functions do nothing: what each one's contract says is proved.
+
+ghost use Rattle.aec_interval.specs.Laws.{
+  IntervalsAreRead,
+  IntervalsAreTold,
+  StreamsAreReadBack,
+  AllBitsAreReadInOneWay,
+  AllReadingsAreSamples,
+  AllCodesAreShortest,
+};
+
+/// The code of an interval is lawful coded data sets for its blocks.
+pub fn intervals_are_read()
+    ensures { IntervalsAreRead }
+{}
+
+/// Intervals of equal length are told by their codes, whatever follows them.
+pub fn intervals_are_told()
+    ensures { IntervalsAreTold }
+{}
+
+/// The code of samples, read with their count, gives the samples.
+pub fn streams_are_read_back()
+    ensures { StreamsAreReadBack }
+{}
+
+/// For all bits there is a reading or a fault, not both, and of each at most one.
+pub fn bits_are_read_in_one_way()
+    ensures { AllBitsAreReadInOneWay }
+{}
+
+/// The samples of a reading are held, and with a count they are so many.
+pub fn readings_are_samples()
+    ensures { AllReadingsAreSamples }
+{}
+
+/// No coded data sets for the blocks of an interval have fewer bits than its code, nor for those of all intervals than
+/// the code of all samples where nothing is padded.
+pub fn codes_are_shortest()
+    ensures { AllCodesAreShortest }
+{}

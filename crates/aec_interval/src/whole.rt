@@ -1,0 +1,52 @@
+//! The code of a whole list of samples.
+
+ghost use Rattle.std.specs.Prelude.{◌≡◌, Some, IfOk, IfErr, MatchOption};
+ghost use Rattle.std.specs.List.{AllByRecursion};
+ghost use Rattle.std.specs.Result.{result_err};
+ghost use Rattle.aec_params.specs.declared.fault.Fault.TheVariants.{SampleRange, Memory};
+ghost use Rattle.aec_params.specs.Params.{is_held, IsHeld};
+ghost use Rattle.aec_params.specs.Streams.{stream_of};
+ghost use Rattle.aec_bits.specs.Refusals.{first_unheld as first_unheld_of};
+
+use crate::interval::write_interval;
+use aec_bits::BitBuf;
+use aec_params::{Fault, Params};
+use std::alloc::Global;
+
+/// The index of the first number that is no sample of the parameters.
+fn first_unheld(params: &Params, samples: &[i64]) -> Option<u64>
+    ensures { result ≡ first_unheld_of (is_held params.now) 0 samples.now }
+{
+    for (index, x) in samples.iter().enumerate() {
+        if !params.holds(*x) {
+            return Some(index as u64);
+        }
+    }
+    None
+}
+
+/// The code of samples, interval by interval; `Memory` where a growth was refused.
+fn encode_held(alloc: Global, params: &Params, samples: &[i64]) -> Result<BitBuf, Fault>
+    requires { AllByRecursion (IsHeld params.now) samples.now }
+    ensures ok { IfOk result (λ b. b.list ≡ stream_of params.now samples.now) }
+    ensures fault { IfErr result (λ e. e ≡ Memory) }
+{
+    let mut out = BitBuf::new(alloc);
+    for interval in samples.chunks(params.interval_len() as usize) {
+        write_interval(alloc, params, interval, &mut out)?;
+    }
+    Ok(out)
+}
+
+/// The code of samples, without the zeros that fill its last byte. `SampleRange` with the index of the first number that
+/// is no sample of the parameters, judged before any memory is taken; then `Memory` where a growth was refused.
+pub fn encode_all(alloc: Global, params: &Params, samples: &[i64]) -> Result<BitBuf, Fault>
+    ensures ok { IfOk result (λ b. b.list ≡ stream_of params.now samples.now) }
+    ensures refuses { MatchOption (first_unheld_of (is_held params.now) 0 samples.now)
+        (IfErr result (λ e. e ≡ Memory)) (λ index. result_err result ≡ Some (SampleRange index)) }
+{
+    match first_unheld(params, samples) {
+        Some(index) => Err(Fault::SampleRange { index }),
+        None => encode_held(alloc, params, samples),
+    }
+}
