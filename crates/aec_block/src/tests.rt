@@ -5,8 +5,8 @@ ghost use Rattle.std.specs.Bool.{OnTrue};
 ghost use Rattle.std.specs.List.{AllByRecursion};
 ghost use Rattle.aec_block.specs.Choices.{FitsReference, IsFull};
 
-use crate::{Block, Choice, Coding, choose, map, unmap, write_block, write_run};
-use aec_bits::BitBuf;
+use crate::{Block, Cds, Choice, Coding, choose, map, read_cds, unmap, write_block, write_run};
+use aec_bits::{BitBuf, BitReader};
 use aec_params::{Params, Settings};
 use std::alloc::Global;
 use std::process::Abort;
@@ -287,6 +287,26 @@ fn plain_choice(params: &Params, block: &Block) -> (Coding, u128) {
     best
 }
 
+/// Reads the bits as one coded data set, which stands for the block.
+fn expect_block(
+    rt: &impl Abort,
+    alloc: Global,
+    params: &Params,
+    bits: &BitBuf,
+    block: &Block,
+) -> Result<(), Fail> {
+    let mut reader = BitReader::new(bits);
+    let cds = read_cds(alloc, params, &mut reader, block.reference().is_some())?;
+    assert_eq!(rt; reader.pos(), bits.len());
+    if let Cds::Single(read) = cds {
+        assert_eq!(rt; read.reference(), block.reference());
+        assert_eq!(rt; read.values(), block.values());
+    } else {
+        assert!(rt; false, "a run was read");
+    }
+    Ok(())
+}
+
 fn compare_choices(rt: &impl Abort, alloc: Global, params: &Params) -> Result<(), Fail> {
     for case in 0..200 {
         let block = fixed_block(alloc, params, case);
@@ -298,6 +318,7 @@ fn compare_choices(rt: &impl Abort, alloc: Global, params: &Params) -> Result<()
         let mut out = BitBuf::new(alloc);
         write_block(params, &block, choice, &mut out)?;
         assert_eq!(rt; out.len(), choice.bits, "block {case}");
+        expect_block(rt, alloc, params, &out, &block)?;
     }
     Ok(())
 }
