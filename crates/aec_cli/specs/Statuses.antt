@@ -1,5 +1,6 @@
 -- The status that the program ends with where its job is not done.
-use Rattle.std.specs.Prelude.{ℕ}
+use Rattle.std.specs.Prelude.{◌≡◌, ◌⊎◌, ℕ, [], ◌∷◌}
+use Rattle.clap.specs.Kinds.{Kinds}
 use Rattle.clap.specs.declared.error.kind.ErrorKind.{ErrorKind}
 use Rattle.clap.specs.declared.error.kind.ErrorKind.TheVariants as kind
 use Rattle.aec_cli.specs.declared.usage.Usage.{Usage}
@@ -24,3 +25,13 @@ parse_status kind.DisplayHelp = 0
 parse_status kind.DisplayVersion = 0
 parse_status kind.OutOfMemory = 1
 parse_status _ = 2
+
+-- the status of one of the kinds
+abbrev pub IsStatusAmong : ℕ → Kinds → Type 0
+IsStatusAmong status [] = ⊥
+IsStatusAmong status (k ∷ ks) = (status ≡ parse_status k) ⊎ IsStatusAmong status ks
+
+-- where the words have mistakes of these kinds, the status is that of one of them, or 1 for want of memory
+abbrev pub EndsByMistake : Kinds → ℕ → Type 0
+EndsByMistake [] status = Unit {0}
+EndsByMistake (k ∷ ks) status = (status ≡ 1) ⊎ IsStatusAmong status (k ∷ ks)

@@ -1,8 +1,11 @@
 //! One whole run of the program.
 
-ghost use Rattle.std.specs.Prelude.{◌≡◌, ◌≤◌};
+ghost use Rattle.std.specs.Prelude.{◌≡◌, ◌≤◌, map};
+ghost use Rattle.std.specs.String.{string_bytes};
+ghost use Rattle.clap.specs.Faults.{fault_of};
 ghost use Rattle.clap.specs.Values.{kind_of};
-ghost use Rattle.aec_cli.specs.Statuses.{parse_status, status_of};
+ghost use Rattle.aec_cli.specs.Commands.{aec_app};
+ghost use Rattle.aec_cli.specs.Statuses.{EndsByMistake, parse_status, status_of};
 
 use crate::failure::{Failure, status};
 use crate::job::{Action, Job, settings};
@@ -23,7 +26,8 @@ pub fn perform<F: Files, O: Write, E: Write>(
     out: &mut O,
     err: &mut E,
 ) -> u8
-    ensures { result ≤ 2 }
+    ensures bound { result ≤ 2 }
+    ensures mistakes { EndsByMistake (fault_of aec_app (map string_bytes words.items)) result }
 {
     let matches = match parse(alloc, words.as_slice()) {
         Ok(matches) => matches,
