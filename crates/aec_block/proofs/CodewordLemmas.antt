@@ -21,7 +21,8 @@ pub record Passed {X Y : Type 0} (t : Taken X) (next : X → List Bool → Taken
   pub before : t ≡ taken value behind
   pub after : next value behind ≡ taken y rest
 
-pub then_at-passed : {X Y : Type 0} (t : Taken X) (next : X → List Bool → Taken Y) (y : Y) (rest : List Bool) → then_at t next ≡ taken y rest → Passed t next y rest
+pub then_at-passed : {X Y : Type 0} (t : Taken X) (next : X → List Bool → Taken Y) (y : Y) (rest : List Bool)
+    → then_at t next ≡ taken y rest → Passed t next y rest
 then_at-passed nothing next y rest e = absurd (cc)
 then_at-passed (taken x mid) next y rest e = record { value = x; behind = mid; before = refl; after = e }
 

@@ -99,7 +99,8 @@ pub gathered-pushed_pair : (limit : ℕ) (before between values : List ℕ) (fit
     → first_fits ≡ nat_lt first limit → between ≡ with_value limit before first
     → second_fits ≡ nat_lt second limit → values ≡ with_value limit between second
     → (later : List ℕ) → gathered limit before fit (before_members (pair_of number) later) ≡ gathered limit values (fit && first_fits && second_fits) later
-gathered-pushed_pair limit before between values fit first_fits second_fits first second number is_first is_second first_test first_is second_test second_is later =
+gathered-pushed_pair limit before between values fit first_fits second_fits first second number
+    is_first is_second first_test first_is second_test second_is later =
     rw (← is_first, ← is_second) (gathered-pushed limit before between fit first_fits first first_test first_is (second ∷ later)
     ∙ gathered-pushed limit between values (fit && first_fits) second_fits second second_test second_is later)
 
@@ -150,7 +151,8 @@ pub LowsGathered-next : (limit : ℕ) (start : List Bool) (before : List ℕ) (k
     → LowsGathered limit start before k highs values i fit bits → LowsGathered limit start before k highs later_values (i + 1) (fit && fits) rest
 LowsGathered-next limit start before k highs values later_values i high low v fit fits bits rest within split first whole test is so_far =
     let left : length highs - i ≡ suc (length highs - (i + 1)) = omega arith in
-    so_far ∙ values_at-next (binary_at k) (lows_gathered limit values fit k (drop i highs)) (lows_gathered limit later_values (fit && fits) k (drop (i + 1) highs))
+    so_far ∙ values_at-next (binary_at k) (lows_gathered limit values fit k (drop i highs))
+    (lows_gathered limit later_values (fit && fits) k (drop (i + 1) highs))
     (length highs - i) (length highs - (i + 1)) low bits rest left first
     (lows_gathered-pushed limit values later_values fit fits k high (drop (i + 1) highs) (drop i highs) low v split whole test is)
 

@@ -88,7 +88,8 @@ pub record SpelledPairs (n : ℕ) (bits : List Bool) (values : List ℕ) (rest :
   pub count : length values ≡ 2 * n
   pub spelled : bits ≡ pair_bits values ++ rest
 
-pub members_at-spelled : (n : ℕ) (bits : List Bool) (values : List ℕ) (rest : List Bool) → members_at n bits ≡ taken values rest → SpelledPairs n bits values rest
+pub members_at-spelled : (n : ℕ) (bits : List Bool) (values : List ℕ) (rest : List Bool)
+    → members_at n bits ≡ taken values rest → SpelledPairs n bits values rest
 members_at-spelled zero bits values rest e =
     let none : [] ≡ values = cc in
     let same : bits ≡ rest = cc in

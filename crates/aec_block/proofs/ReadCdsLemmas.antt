@@ -22,7 +22,8 @@ use Rattle.aec_block.proofs.GatheringLemmas.{placed_values-append, members_at-ne
 
 -- ---- mapped twice
 
-pub map_taken-twice : {X Y Z : Type 0} (f : X → Y) (g : Y → Z) (h : X → Z) (t : Taken X) → ((x : X) → h x ≡ g (f x)) → map_taken h t ≡ map_taken g (map_taken f t)
+pub map_taken-twice : {X Y Z : Type 0} (f : X → Y) (g : Y → Z) (h : X → Z) (t : Taken X)
+    → ((x : X) → h x ≡ g (f x)) → map_taken h t ≡ map_taken g (map_taken f t)
 map_taken-twice f g h nothing same = refl
 map_taken-twice f g h (taken x rest) same = ap (λ z. taken z rest) (same x)
 
@@ -90,7 +91,8 @@ pub pairs_taken : (limit n m number : ℕ) (reference : Option ℕ) (start behin
 pairs_taken limit n m number reference start behind rest between values first second first_fits second_fits later_fit block
     count first_read is_first is_second first_test first_is second_test second_is later_read is_reference =
     let judged = λ (members : List ℕ). gathered limit (placed_values reference []) true (judged_in reference (value_pairs members)) in
-    let first_done = first_pair limit number reference between values first second first_fits second_fits is_first is_second first_test first_is second_test second_is in
+    let first_done = first_pair limit number reference between values first second first_fits second_fits
+    is_first is_second first_test first_is second_test second_is in
     let read = members_at-next judged (gathered limit values (first_fits && second_fits)) n m number start behind count first_read first_done
     ∙ fitted limit values (first_fits && second_fits) later_fit (λ later. later) (members_at m behind) block.values rest later_read in
     map_taken-twice judged (option_map (block_with reference)) (pair_block limit reference) (members_at n start) (pair_block-gathered limit reference)
@@ -131,7 +133,8 @@ high_fails limit k (high ∷ highs) (low ∷ lows) some same fails =
     let high_limit = (limit - 1) / 2 ^ k + 1 in
     elim (and_cases (nat_lt high high_limit) (all_below high_limit highs) fails) [
       | inl first ↦ rw (le-ltb (high * 2 ^ k + low) limit (too_high limit k high low some (ltb-false high high_limit first))) refl
-      | inr later ↦ and_right (nat_lt (high * 2 ^ k + low) limit) (all_below limit (joined_values k highs lows)) (high_fails limit k highs lows some (omega arith) later)
+      | inr later ↦ and_right (nat_lt (high * 2 ^ k + low) limit) (all_below limit (joined_values k highs lows))
+          (high_fails limit k highs lows some (omega arith) later)
     ]
 
 record SameWhen (b c : Bool) (x y : List ℕ) : Type 0 where
@@ -166,7 +169,8 @@ split_values_fit limit k reference true_highs highs lows high_fit low_fit block 
 pub split_taken : (limit high_limit k n : ℕ) (reference : Option ℕ) (start middle rest : List Bool) (highs : List ℕ) (high_fit low_fit : Bool) (block : Block)
     → 0 < limit → high_limit ≡ (limit - 1) / 2 ^ k + 1 → length highs ≡ n
     → map_taken (gathered high_limit [] true) (values_at fs_at n start) ≡ taken (when high_fit highs) middle
-    → map_taken (lows_gathered limit (placed_values reference []) true k highs) (values_at (binary_at k) (length highs) middle) ≡ taken (when low_fit block.values) rest
+    → map_taken (lows_gathered limit (placed_values reference []) true k highs) (values_at (binary_at k) (length highs) middle)
+    ≡ taken (when low_fit block.values) rest
     → block.reference ≡ reference → map_taken (small_block limit reference) (split_at k n start) ≡ taken (when (high_fit && low_fit) block) rest
 split_taken limit high_limit k n reference start middle rest highs high_fit low_fit block some is_limit count high_read low_read is_reference =
     let high = map_taken-mapped (gathered high_limit [] true) (values_at fs_at n start) (when high_fit highs) middle high_read in
@@ -183,7 +187,8 @@ split_taken limit high_limit k n reference start middle rest highs high_fit low_
     rw (high.before, lows_read, fits) refl
 
 -- the same, as the reader has it
-pub split_answered : (bits limit high_limit k n : ℕ) (reference : Option ℕ) (start middle rest : List Bool) (before scratch highs : List ℕ) (high_fit low_fit : Bool)
+pub split_answered : (bits limit high_limit k n : ℕ) (reference : Option ℕ) (start middle rest : List Bool) (before scratch highs : List ℕ)
+    (high_fit low_fit : Bool)
     (block : Block) (answer : Option Block) → limit ≡ 2 ^ bits → high_limit ≡ (limit - 1) / 2 ^ k + 1 → length scratch ≡ n → length highs ≡ length scratch
     → before ≡ placed_values reference []
     → map_taken (gathered high_limit [] true) (values_at fs_at (length scratch) start) ≡ taken (when high_fit highs) middle

@@ -52,7 +52,8 @@ pub split_at-bits : (k : ℕ) (values : List ℕ) (rest : List Bool)
 split_at-bits k values rest =
     let highs = values_at-reads fs (λ v. Unit {0}) fs_at fs_reader (high_parts k values) (low_bits k values ++ rest) (all_numbers (high_parts k values)) in
     let lows = values_at-reads (binary k) (λ v. v < 2 ^ k) (binary_at k) (binary_reader k) (low_parts k values) rest (all_low k values) in
-    let highs_read : values_at fs_at (length values) (high_bits k values ++ (low_bits k values ++ rest)) ≡ taken (high_parts k values) (low_bits k values ++ rest) =
+    let highs_read : values_at fs_at (length values) (high_bits k values ++ (low_bits k values ++ rest))
+    ≡ taken (high_parts k values) (low_bits k values ++ rest) =
     rw (high_bits-parts k values) (rw (length-high_parts k values) at highs) in
     let lows_read : values_at (binary_at k) (length values) (low_bits k values ++ rest) ≡ taken (low_parts k values) rest =
     rw (low_bits-parts k values) (rw (length-low_parts k values) at lows) in
@@ -88,7 +89,8 @@ pub record SpelledSplit (k n : ℕ) (bits : List Bool) (values : List ℕ) (rest
   pub count : length values ≡ n
   pub spelled : bits ≡ high_bits k values ++ low_bits k values ++ rest
 
-pub split_at-spelled : (k n : ℕ) (bits : List Bool) (values : List ℕ) (rest : List Bool) → split_at k n bits ≡ taken values rest → SpelledSplit k n bits values rest
+pub split_at-spelled : (k n : ℕ) (bits : List Bool) (values : List ℕ) (rest : List Bool)
+    → split_at k n bits ≡ taken values rest → SpelledSplit k n bits values rest
 split_at-spelled k n bits values rest e =
     let p = then_at-passed (values_at fs_at n bits) (lows_at k n) values rest e in
     let m = map_taken-mapped (joined_values k p.value) (values_at (binary_at k) n p.behind) values rest p.after in

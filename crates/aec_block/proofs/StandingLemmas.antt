@@ -13,8 +13,9 @@ use Rattle.aec_block.specs.declared.cds.Cds.{Cds}
 use Rattle.aec_block.specs.ReadAt.{Taken, nothing, taken, map_taken, cds_at}
 use Rattle.aec_block.specs.Gathering.{bits_at, when}
 use Rattle.aec_block.specs.ReadCds.{cds_of, checked, IsSetAt, IsReadAs, IsNotRead, cut_short, too_large}
+use Rattle.aec_block.specs.Laws.{OneSetStands}
 use Rattle.aec_block.proofs.CodewordLemmas.{map_taken-mapped}
-use Rattle.aec_block.proofs.SetLemmas.{what_is_read_is_spelled, none_begins}
+use Rattle.aec_block.proofs.SetLemmas.{what_is_read_is_spelled, none_begins, no_set_is_a_prefix}
 
 drop-add : (bits : List Bool) (b n : ℕ) → drop (b + n) bits ≡ drop n (drop b bits)
 drop-add bits zero n = ap (λ m. drop m bits) (zero-add n)
@@ -107,4 +108,11 @@ pub refused_cut : (s : Settings) (is_reference : Bool) (old : Cursor) (pos : ℕ
 refused_cut s is_reference old pos fault allowed is_fault at_start read =
     let none = unmapped (checked s) (cds_at s is_reference (bits_at old)) read in
     let cut_here : fault ≡ Truncated old.pos = is_fault ∙ ap (λ b. Truncated b) at_start in
-    rw cut_here (cut_short (λ c set. none_begins s is_reference (bits_at old) allowed none c (drop (old.pos + length (cds_bits s c)) old.list) set.shape set.stands))
+    let none_stands : (c : CodedDataSet) → IsSetAt s is_reference old.list old.pos c → ⊥ = λ c set.
+    none_begins s is_reference (bits_at old) allowed none c (drop (old.pos + length (cds_bits s c)) old.list) set.shape set.stands in
+    rw cut_here (cut_short none_stands)
+
+pub one_set_stands : OneSetStands
+one_set_stands s allowed is_reference bits b c d set_c set_d =
+    (no_set_is_a_prefix s allowed is_reference c d (drop (b + length (cds_bits s c)) bits) (drop (b + length (cds_bits s d)) bits)
+    set_c.shape set_d.shape (sym set_c.stands ∙ set_d.stands)).0

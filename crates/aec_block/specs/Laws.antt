@@ -1,9 +1,10 @@
 -- The laws of coded data sets: in allowed settings their bits and their place tell which they are.
-use Rattle.std.specs.Prelude.{◌≡◌, Bool, ◌↔◌, List, ◌++◌}
+use Rattle.std.specs.Prelude.{◌≡◌, ℕ, Bool, ◌↔◌, List, ◌++◌}
 use Rattle.aec_params.specs.declared.settings.Settings.{Settings}
 use Rattle.aec_params.specs.Params.{IsAllowed}
 use Rattle.aec_params.specs.CodedDataSets.{CodedDataSet, cds_bits, HasShape}
 use Rattle.aec_block.specs.ReadAt.{nothing, taken, cds_at}
+use Rattle.aec_block.specs.ReadCds.{IsSetAt}
 
 -- a coded data set is read back from its bits, whatever stands behind them
 abbrev pub WhatIsSpelledIsRead : Type 0
@@ -24,3 +25,8 @@ NothingIsReadWhereNoneBegins = (s : Settings) → IsAllowed s → (is_reference 
 abbrev pub NoSetIsAPrefix : Type 0
 NoSetIsAPrefix = (s : Settings) → IsAllowed s → (is_reference : Bool) (c d : CodedDataSet) (x y : List Bool)
     → HasShape s is_reference c → HasShape s is_reference d → cds_bits s c ++ x ≡ cds_bits s d ++ y → (c ≡ d) × (x ≡ y)
+
+-- at most one coded data set of a reference block, and at most one of another, stands at a position
+abbrev pub OneSetStands : Type 0
+OneSetStands = (s : Settings) → IsAllowed s → (is_reference : Bool) (bits : List Bool) (b : ℕ) (c d : CodedDataSet)
+    → IsSetAt s is_reference bits b c → IsSetAt s is_reference bits b d → c ≡ d

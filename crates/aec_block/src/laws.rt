@@ -1,6 +1,6 @@
 //! Laws of coded data sets: the contract of each function is a law, and its body is empty.
 
-ghost use Rattle.aec_block.specs.Laws.{WhatIsSpelledIsRead, WhatIsReadIsSpelled, NothingIsReadWhereNoneBegins, NoSetIsAPrefix};
+ghost use Rattle.aec_block.specs.Laws.{WhatIsSpelledIsRead, WhatIsReadIsSpelled, NothingIsReadWhereNoneBegins, NoSetIsAPrefix, OneSetStands};
 
 /// A coded data set is read back from its bits, whatever stands behind them.
 pub fn what_is_spelled_is_read()
@@ -20,4 +20,9 @@ pub fn nothing_is_read_where_none_begins()
 /// No coded data set is a prefix of another, where both are of reference blocks or neither is.
 pub fn no_set_is_a_prefix()
     ensures { NoSetIsAPrefix }
+{}
+
+/// At most one coded data set of a reference block, and at most one of another, stands at a position.
+pub fn one_set_stands()
+    ensures { OneSetStands }
 {}

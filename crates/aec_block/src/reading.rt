@@ -117,7 +117,8 @@ fn read_body(
     requires within { reader.old.pos ≤ length reader.old.list }
     requires short { HasShortSplit kind }
     requires due { is_some reference ≡ is_ref }
-    ensures taken { map_taken (checked_body params.now reference) (body_at params.now is_ref kind (bits_at reader.old)) ≡ as_taken result (bits_at reader.new) }
+    ensures taken { map_taken (checked_body params.now reference) (body_at params.now is_ref kind (bits_at reader.old))
+        ≡ as_taken result (bits_at reader.new) }
     ensures list { reader.new.list ≡ reader.old.list }
     ensures within { reader.new.pos ≤ length reader.new.list }
 {

@@ -23,7 +23,15 @@ fn usual() -> Settings {
 }
 
 /// A block without a reference sample, or with this one, stands at the bits' start and ends at `end`.
-fn expect_block(rt: &impl Abort, alloc: Global, params: &Params, bits: &BitBuf, reference: Option<u32>, values: &[u32], end: u64) {
+fn expect_block(
+    rt: &impl Abort,
+    alloc: Global,
+    params: &Params,
+    bits: &BitBuf,
+    reference: Option<u32>,
+    values: &[u32],
+    end: u64,
+) {
     let mut reader = BitReader::new(bits);
     match read_cds(alloc, params, &mut reader, reference.is_some()) {
         Ok(Cds::Single(block)) => {
@@ -37,7 +45,15 @@ fn expect_block(rt: &impl Abort, alloc: Global, params: &Params, bits: &BitBuf, 
 }
 
 /// A run stands at the bits' start and ends at `end`.
-fn expect_run(rt: &impl Abort, alloc: Global, params: &Params, bits: &BitBuf, first: Option<u32>, want: RunLen, end: u64) {
+fn expect_run(
+    rt: &impl Abort,
+    alloc: Global,
+    params: &Params,
+    bits: &BitBuf,
+    first: Option<u32>,
+    want: RunLen,
+    end: u64,
+) {
     let mut reader = BitReader::new(bits);
     match read_cds(alloc, params, &mut reader, first.is_some()) {
         Ok(Cds::Zeros { reference, len }) => {
@@ -51,7 +67,15 @@ fn expect_run(rt: &impl Abort, alloc: Global, params: &Params, bits: &BitBuf, fi
 }
 
 /// The fault at place `start`, where the reader stays.
-fn expect_fault(rt: &impl Abort, alloc: Global, params: &Params, bits: &BitBuf, start: u64, is_ref: bool, want: Fault) {
+fn expect_fault(
+    rt: &impl Abort,
+    alloc: Global,
+    params: &Params,
+    bits: &BitBuf,
+    start: u64,
+    is_ref: bool,
+    want: Fault,
+) {
     let mut reader = BitReader::new(bits);
     assert!(rt; start <= bits.len());
     reader.seek(start);
@@ -66,13 +90,29 @@ fn expect_fault(rt: &impl Abort, alloc: Global, params: &Params, bits: &BitBuf, 
 fn reads_reference_blocks(rt: HostRuntime) -> Result<(), Fail> {
     let params = Params::new(usual())?;
     let ramp = BitBuf::from_bytes(rt.alloc(), &[0x40, 0x15, 0x55, 0x80])?;
-    expect_block(&rt, rt.alloc(), &params, &ramp, Some(0), &[0, 1, 2, 2, 2, 2, 2, 2], 31);
+    expect_block(
+        &rt,
+        rt.alloc(),
+        &params,
+        &ramp,
+        Some(0),
+        &[0, 1, 2, 2, 2, 2, 2, 2],
+        31,
+    );
     // The first pair is (1, 0), and 1 is no value.
     let pairs = BitBuf::from_bytes(rt.alloc(), &[0x10, 0x07, 0x80])?;
     expect_block(&rt, rt.alloc(), &params, &pairs, Some(0), &[0; 8], 17);
     // One zero block.
     let zeros = BitBuf::from_bytes(rt.alloc(), &[0x00, 0x08])?;
-    expect_run(&rt, rt.alloc(), &params, &zeros, Some(0), RunLen::Blocks(1), 13);
+    expect_run(
+        &rt,
+        rt.alloc(),
+        &params,
+        &zeros,
+        Some(0),
+        RunLen::Blocks(1),
+        13,
+    );
     Ok(())
 }
 
@@ -93,7 +133,15 @@ fn reads_the_greatest_values(rt: HostRuntime) -> Result<(), Fail> {
     let bits = BitBuf::from_bytes(rt.alloc(), &bytes)?;
     let mut values = [u32::MAX; 8];
     values[0] = 0;
-    expect_block(&rt, rt.alloc(), &params, &bits, Some(0x8000_0000), &values, 261);
+    expect_block(
+        &rt,
+        rt.alloc(),
+        &params,
+        &bits,
+        Some(0x8000_0000),
+        &values,
+        261,
+    );
     Ok(())
 }
 
@@ -114,17 +162,49 @@ fn judges_the_members_of_pairs(rt: HostRuntime) -> Result<(), Fail> {
     let params = Params::new(usual())?;
     // The pair (0, 255).
     let greatest = one_pair(rt.alloc(), None, 32_895)?;
-    expect_block(&rt, rt.alloc(), &params, &greatest, None, &[0, 255, 0, 0, 0, 0, 0, 0], 32_903);
+    expect_block(
+        &rt,
+        rt.alloc(),
+        &params,
+        &greatest,
+        None,
+        &[0, 255, 0, 0, 0, 0, 0, 0],
+        32_903,
+    );
     // The pair (256, 0).
     let large = one_pair(rt.alloc(), None, 32_896)?;
-    expect_fault(&rt, rt.alloc(), &params, &large, 0, false, Fault::ValueTooLarge { bit: 0 });
+    expect_fault(
+        &rt,
+        rt.alloc(),
+        &params,
+        &large,
+        0,
+        false,
+        Fault::ValueTooLarge { bit: 0 },
+    );
     // The pairs (5, 0), (256, 0) and (0, 256) of a reference block.
     let ignored = one_pair(rt.alloc(), Some(0), 15)?;
     expect_block(&rt, rt.alloc(), &params, &ignored, Some(0), &[0; 8], 31);
     let large_ignored = one_pair(rt.alloc(), Some(0), 32_896)?;
-    expect_block(&rt, rt.alloc(), &params, &large_ignored, Some(0), &[0; 8], 32_912);
+    expect_block(
+        &rt,
+        rt.alloc(),
+        &params,
+        &large_ignored,
+        Some(0),
+        &[0; 8],
+        32_912,
+    );
     let large_second = one_pair(rt.alloc(), Some(0), 33_152)?;
-    expect_fault(&rt, rt.alloc(), &params, &large_second, 0, true, Fault::ValueTooLarge { bit: 0 });
+    expect_fault(
+        &rt,
+        rt.alloc(),
+        &params,
+        &large_second,
+        0,
+        true,
+        Fault::ValueTooLarge { bit: 0 },
+    );
     Ok(())
 }
 
@@ -162,12 +242,36 @@ fn judges_values_behind_the_last_bit(rt: HostRuntime) -> Result<(), Fail> {
     let ones = BitBuf::from_bytes(rt.alloc(), &[0xDF, 0xE1, 0x08, 0x42, 0x10, 0x84, 0x20])?;
     expect_block(&rt, rt.alloc(), &params, &ones, None, &[1; 8], 51);
     let two = BitBuf::from_bytes(rt.alloc(), &[0xDF, 0xE2, 0x08, 0x42, 0x10, 0x84, 0x20])?;
-    expect_fault(&rt, rt.alloc(), &params, &two, 0, false, Fault::ValueTooLarge { bit: 0 });
+    expect_fault(
+        &rt,
+        rt.alloc(),
+        &params,
+        &two,
+        0,
+        false,
+        Fault::ValueTooLarge { bit: 0 },
+    );
     // k = 0: the first value is 2.
     let whole = BitBuf::from_bytes(rt.alloc(), &[0x27, 0xF8])?;
-    expect_fault(&rt, rt.alloc(), &params, &whole, 0, false, Fault::ValueTooLarge { bit: 0 });
+    expect_fault(
+        &rt,
+        rt.alloc(),
+        &params,
+        &whole,
+        0,
+        false,
+        Fault::ValueTooLarge { bit: 0 },
+    );
     let cut = BitBuf::from_bytes(rt.alloc(), &[0x27])?;
-    expect_fault(&rt, rt.alloc(), &params, &cut, 0, false, Fault::Truncated { bit: 0 });
+    expect_fault(
+        &rt,
+        rt.alloc(),
+        &params,
+        &cut,
+        0,
+        false,
+        Fault::Truncated { bit: 0 },
+    );
     Ok(())
 }
 
@@ -180,47 +284,108 @@ fn refuses_each_cut(rt: HostRuntime) -> Result<(), Fail> {
         bits.push_bits(0x4015_5580, 32)?;
         assert!(rt; len <= bits.len());
         bits.truncate(len);
-        expect_fault(&rt, rt.alloc(), &params, &bits, 3, true, Fault::Truncated { bit: 3 });
+        expect_fault(
+            &rt,
+            rt.alloc(),
+            &params,
+            &bits,
+            3,
+            true,
+            Fault::Truncated { bit: 3 },
+        );
     }
     Ok(())
 }
 
+/// Bits per sample, whether the set is restricted, the bits of an identifier, and how many splitting options there are.
+const CODE_SETS: [(u32, bool, u32, u32); 5] = [
+    (1, true, 1, 0),
+    (3, true, 2, 2),
+    (8, false, 3, 6),
+    (16, false, 4, 14),
+    (32, false, 5, 30),
+];
+
+fn unprocessed(bits: u32, restricted: bool) -> Result<Params, Fault> {
+    Params::new(Settings {
+        bits,
+        preprocess: false,
+        restricted,
+        ..usual()
+    })
+}
+
 #[test]
 fn knows_each_identifier(rt: HostRuntime) -> Result<(), Fail> {
-    // Bits per sample, the restricted set, bits of an identifier, how many splitting options.
-    let sets = [(1, true, 1, 0), (3, true, 2, 2), (8, false, 3, 6), (16, false, 4, 14), (32, false, 5, 30)];
-    for (n, restricted, len, splits) in sets {
-        let params = Params::new(Settings {
-            bits: n,
-            preprocess: false,
-            restricted,
-            ..usual()
-        })?;
+    for (n, restricted, len, _) in CODE_SETS {
+        let params = unprocessed(n, restricted)?;
         let mut run = BitBuf::new(rt.alloc());
         run.push_bits(0, len + 1)?;
         run.push_fs(4)?;
-        expect_run(&rt, rt.alloc(), &params, &run, None, RunLen::Rest, u64::from(len) + 6);
+        expect_run(
+            &rt,
+            rt.alloc(),
+            &params,
+            &run,
+            None,
+            RunLen::Rest,
+            u64::from(len) + 6,
+        );
         let mut pairs = BitBuf::new(rt.alloc());
         pairs.push_bits(1, len + 1)?;
         for _ in 0..4 {
             pairs.push_fs(4)?;
         }
-        expect_block(&rt, rt.alloc(), &params, &pairs, None, &[1; 8], u64::from(len) + 21);
+        expect_block(
+            &rt,
+            rt.alloc(),
+            &params,
+            &pairs,
+            None,
+            &[1; 8],
+            u64::from(len) + 21,
+        );
         let mut plain = BitBuf::new(rt.alloc());
         plain.push_bits((1 << len) - 1, len)?;
         for _ in 0..8 {
             plain.push_bits((1 << n) - 1, n)?;
         }
         let greatest = ((1u64 << n) - 1) as u32;
-        expect_block(&rt, rt.alloc(), &params, &plain, None, &[greatest; 8], u64::from(len + 8 * n));
+        expect_block(
+            &rt,
+            rt.alloc(),
+            &params,
+            &plain,
+            None,
+            &[greatest; 8],
+            u64::from(len + 8 * n),
+        );
+    }
+    Ok(())
+}
+
+#[test]
+fn knows_each_splitting_option(rt: HostRuntime) -> Result<(), Fail> {
+    for (n, restricted, len, splits) in CODE_SETS {
+        let params = unprocessed(n, restricted)?;
         for k in 0..splits {
+            let value = if k > 0 { 1 } else { 0 };
             let mut split = BitBuf::new(rt.alloc());
+            assert!(rt; u64::from(k + 1) < 1 << len);
             split.push_bits(u64::from(k + 1), len)?;
             split.push_bits(0xFF, 8)?;
             for _ in 0..8 {
-                split.push_bits(if k > 0 { 1 } else { 0 }, k)?;
+                split.push_bits(u64::from(value), k)?;
             }
-            expect_block(&rt, rt.alloc(), &params, &split, None, &[if k > 0 { 1 } else { 0 }; 8], u64::from(len + 8 + 8 * k));
+            expect_block(
+                &rt,
+                rt.alloc(),
+                &params,
+                &split,
+                None,
+                &[value; 8],
+                u64::from(len + 8 + 8 * k),
+            );
         }
     }
     Ok(())

@@ -83,7 +83,8 @@ pub(crate) fn read_plain(
 ) -> Result<Block, Fault>
     requires within { reader.old.pos ≤ length reader.old.list }
     requires room { length (placed_values reference []) + count ≤ 64 }
-    ensures taken { map_taken (plain_block reference) (values_at (binary_at params.now.bits) count (bits_at reader.old)) ≡ as_taken result (bits_at reader.new) }
+    ensures taken { map_taken (plain_block reference) (values_at (binary_at params.now.bits) count (bits_at reader.old))
+        ≡ as_taken result (bits_at reader.new) }
     ensures list { reader.new.list ≡ reader.old.list }
     ensures within { reader.new.pos ≤ length reader.new.list }
 {
@@ -154,7 +155,8 @@ fn read_lows(
     requires room { length block.old.values + length highs.now ≤ 64 }
     requires shift { k < 32 }
     requires limit { limit ≤ 2 ^ 32 }
-    ensures taken { map_taken (lows_gathered limit block.old.values true k highs.now) (values_at (binary_at k) (length highs.now) (bits_at reader.old))
+    ensures taken { map_taken (lows_gathered limit block.old.values true k highs.now)
+        (values_at (binary_at k) (length highs.now) (bits_at reader.old))
         ≡ as_taken_by (λ fit. when fit block.new.values) result (bits_at reader.new) }
     ensures reference { block.new.reference ≡ block.old.reference }
     ensures list { reader.new.list ≡ reader.old.list }
@@ -180,7 +182,8 @@ pub(crate) fn read_split(
     requires within { reader.old.pos ≤ length reader.old.list }
     requires room { length (placed_values reference []) + count ≤ 64 }
     requires shift { k < 32 }
-    ensures taken { map_taken (small_block (2 ^ params.now.bits) reference) (split_at k count (bits_at reader.old)) ≡ as_taken result (bits_at reader.new) }
+    ensures taken { map_taken (small_block (2 ^ params.now.bits) reference) (split_at k count (bits_at reader.old))
+        ≡ as_taken result (bits_at reader.new) }
     ensures list { reader.new.list ≡ reader.old.list }
     ensures within { reader.new.pos ≤ length reader.new.list }
 {
