@@ -1,17 +1,14 @@
 -- Laws of the codewords, and of the bytes that bits fill.
-use Rattle.std.proofs.Common.{◌≡◌, ℕ, zero, suc, ◌+◌, ◌-◌, ◌*◌, ◌/◌, ◌%◌, ◌^◌, ◌<◌, ◌≤◌, Bool, true, false, cond, eqb, List, [], ◌∷◌, ◌++◌, length, take, drop, replicate, map, get_or, refl, sym, ap, ◌∙◌, subst, arith, rules, append_assoc, length-append, div-one, pow-suc, mod-eq_of_lt, inl, inr, ◌⊎◌}
+use Rattle.std.proofs.Common.{◌≡◌, ℕ, zero, suc, ◌+◌, ◌-◌, ◌*◌, ◌/◌, ◌%◌, ◌^◌, ◌<◌, ◌≤◌, Bool, true, false, cond, List, [], ◌∷◌, ◌++◌, length, take, drop, replicate, get_or, refl, sym, ap, ◌∙◌, arith, append_assoc, length-append, div-one, pow-suc, mod-eq_of_lt, inl, inr}
 use Rattle.std.specs.Prelude.{◌==◌, bit_and, min}
 use Rattle.std.proofs.Math.Numerals.{one-add}
 use mir.Val.{bool_byte}
 use Rattle.std.specs.Int.{div_ceil}
 use Rattle.std.specs.Simd.{first_chunks}
-use Rattle.std.proofs.lemmas.Grind.{common_steps}
 use Rattle.std.proofs.lemmas.Nat.{and_mask, shr-shr, shl_below}
 use Rattle.std.proofs.lemmas.Bool.{cases_lt}
-use Rattle.std.proofs.lemmas.List.{take_more, append-nil, take-append-le, take-take, drop_at, take_at, length-take-le, drop-append-le, length-drop, length-replicate, length-map, get_or-map, drop_more, drop-drop, drop_all, take_all, replicate_more}
-use Rattle.std.proofs.lemmas.List.Edits.{take-paste}
-use lib.Seq.{paste}
-use Rattle.aec_params.specs.Codewords.{fs, binary, bits_number, bytes_of, padded_to_byte, bits_of_bytes}
+use Rattle.std.proofs.lemmas.List.{take_more, append-nil, take_at, drop-append-le, length-replicate, length-map, get_or-map, drop_more, drop-drop, drop_all, take_all, replicate_more}
+use Rattle.aec_params.specs.Codewords.{binary, bits_number, bytes_of, padded_to_byte, bits_of_bytes}
 use Rattle.aec_params.specs.Cutting.{pieces_of, up_to_multiple}
 use Rattle.aec_bits.specs.BitReader.{has_one}
 use Rattle.aec_bits.specs.CodewordLaws.{length-binary, bits_number-append, bits_number-zeros, bits_number-binary}
@@ -30,12 +27,14 @@ binary_more front whole w v h e = rw append_assoc (ap (λ l. front ++ l) (sym (b
 
 pub bits_of_bytes-append : (xs ys : List ℕ) → bits_of_bytes (xs ++ ys) ≡ bits_of_bytes xs ++ bits_of_bytes ys
 bits_of_bytes-append [] ys = refl
-bits_of_bytes-append (x ∷ xs) ys = ap (λ l. binary 8 x ++ l) (bits_of_bytes-append xs ys) ∙ sym (append_assoc (binary 8 x) (bits_of_bytes xs) (bits_of_bytes ys))
+bits_of_bytes-append (x ∷ xs) ys =
+    ap (λ l. binary 8 x ++ l) (bits_of_bytes-append xs ys) ∙ sym (append_assoc (binary 8 x) (bits_of_bytes xs) (bits_of_bytes ys))
 
 pub bits_of_bytes_more : (front : List Bool) (xs : List ℕ) (i d : ℕ) → i < length xs
     → (front ++ bits_of_bytes (take i xs)) ++ binary 8 (get_or xs i d) ≡ front ++ bits_of_bytes (take (i + 1) xs)
 bits_of_bytes_more front xs i d h =
-    rw (append_assoc, take_more xs i d h, bits_of_bytes-append) (ap (λ l. front ++ (bits_of_bytes (take i xs) ++ l)) (sym (append-nil (binary 8 (get_or xs i d)))))
+    rw (append_assoc, take_more xs i d h, bits_of_bytes-append)
+    (ap (λ l. front ++ (bits_of_bytes (take i xs) ++ l)) (sym (append-nil (binary 8 (get_or xs i d)))))
 
 low_bit : (v : ℕ) (b : Bool) → ((2 * v + cond b 1 0) % 2 == 1) ≡ b
 low_bit v true = let e : (2 * v + 1) % 2 ≡ 1 = omega arith in rw e refl
@@ -57,31 +56,6 @@ binary-push_suc (suc k) v b =
 -- a bit more on the right
 pub binary-push : (k v : ℕ) (b : Bool) → binary (k + 1) (2 * v + cond b 1 0) ≡ binary k v ++ b ∷ []
 binary-push k v b = let e : k + 1 ≡ suc k = omega arith in rw e (binary-push_suc k v b)
-
--- ---- bits moved within a list
-
--- a tail moved to another place
-pub moved_tail : (xs : List Bool) (from to : ℕ) → from ≤ length xs
-    → take (to + (length xs - from)) (paste (xs ++ replicate (to - from) false) to (drop from (xs ++ replicate (to - from) false)) (length xs - from))
-      ≡ take to (xs ++ replicate (to - from) false) ++ drop from xs
-moved_tail xs from to h =
-    let zs : List Bool = replicate (to - from) false in
-    let longer : length (xs ++ zs) ≡ length xs + (to - from) = omega (arith, length-append xs zs, length-replicate (to - from) false) in
-    let tail : drop from (xs ++ zs) ≡ drop from xs ++ zs = drop-append-le from xs zs h in
-    rw (take-paste (xs ++ zs) to (drop from (xs ++ zs)) (length xs - from) (omega arith) (omega (arith, length-drop from (xs ++ zs))))
-       (ap (λ l. take to (xs ++ zs) ++ l) (ap (take (length xs - from)) tail ∙ take_at (drop from xs) zs (length xs - from) (length-drop from xs)))
-
--- bits written before a moved tail
-pub written_before_tail : (xs ys zs : List Bool) (start stop : ℕ) → start ≤ stop → stop ≤ length xs → start + length ys ≤ length (xs ++ zs)
-    → take start (take (start + length ys) (xs ++ zs) ++ drop stop xs) ++ (ys ++ drop (start + length ys) (take (start + length ys) (xs ++ zs) ++ drop stop xs))
-      ≡ take start xs ++ (ys ++ drop stop xs)
-written_before_tail xs ys zs start stop order within room =
-    let front : List Bool = take (start + length ys) (xs ++ zs) in
-    let front_len : length front ≡ start + length ys = length-take-le (start + length ys) (xs ++ zs) room in
-    let left : take start (front ++ drop stop xs) ≡ take start xs =
-        take-append-le start front (drop stop xs) (omega arith) ∙ take-take start (start + length ys) (xs ++ zs) (omega arith) ∙ take-append-le start xs zs (omega arith) in
-    let right : drop (start + length ys) (front ++ drop stop xs) ≡ drop stop xs = drop_at front (drop stop xs) (start + length ys) front_len in
-    rw (left, right) refl
 
 -- ---- bytes
 
@@ -145,18 +119,19 @@ eight_of bits i w v within width stands =
     let zs : List Bool = replicate (up_to_multiple 8 (length bits)) false in
     let rest : List Bool = drop (8 * i + w) bits in
     let from_there : drop (8 * i) (bits ++ zs) ≡ binary w v ++ (rest ++ zs) =
-        drop-append-le (8 * i) bits zs (omega arith) ∙ ap (λ l. l ++ zs) stands ∙ append_assoc (binary w v) rest zs in
+    drop-append-le (8 * i) bits zs (omega arith) ∙ ap (λ l. l ++ zs) stands ∙ append_assoc (binary w v) rest zs in
     elim (cases_lt (length bits - 8 * i) 8) [
-      inl short ↦
-        let none : rest ≡ [] = drop_all (8 * i + w) bits (omega arith) in
-        let missing : up_to_multiple 8 (length bits) ≡ 8 - w = omega arith in
-        let whole : binary w v ++ (rest ++ zs) ≡ binary w v ++ replicate (8 - w) false = rw (none, missing) refl in
-        ap (take 8) (from_there ∙ whole)
-        ∙ take_all 8 (binary w v ++ replicate (8 - w) false) (omega (arith, length-append (binary w v) (replicate (8 - w) false), length-binary w v, length-replicate (8 - w) false))
-    | inr long ↦
-        let none : 8 - w ≡ 0 = omega arith in
-        ap (take 8) from_there ∙ take_at (binary w v) (rest ++ zs) 8 (length-binary w v ∙ omega arith)
-        ∙ sym (append-nil (binary w v)) ∙ ap (λ n. binary w v ++ replicate n false) (sym none)
+      | inl short ↦
+          let none : rest ≡ [] = drop_all (8 * i + w) bits (omega arith) in
+          let missing : up_to_multiple 8 (length bits) ≡ 8 - w = omega arith in
+          let whole : binary w v ++ (rest ++ zs) ≡ binary w v ++ replicate (8 - w) false = rw (none, missing) refl in
+          ap (take 8) (from_there ∙ whole)
+          ∙ take_all 8 (binary w v ++ replicate (8 - w) false)
+          (omega (arith, length-append (binary w v) (replicate (8 - w) false), length-binary w v, length-replicate (8 - w) false))
+      | inr long ↦
+          let none : 8 - w ≡ 0 = omega arith in
+          ap (take 8) from_there ∙ take_at (binary w v) (rest ++ zs) 8 (length-binary w v ∙ omega arith)
+          ∙ sym (append-nil (binary w v)) ∙ ap (λ n. binary w v ++ replicate n false) (sym none)
     ]
 
 pub byte_at : (bits : List Bool) (i w v : ℕ) → i < length (bytes_of bits) → w ≡ min (length bits - 8 * i) 8 → v < 2 ^ w
@@ -167,12 +142,12 @@ byte_at bits i w v within width fits stands =
     let same : length (bytes_of bits) ≡ length (pieces_of 8 (padded_to_byte bits)) = length-map (pieces_of 8 (padded_to_byte bits)) bits_number in
     let there : 8 * i < length bits = omega (arith, length-bytes_of bits) in
     let spelled : bits_number (binary w v ++ replicate (8 - w) false) ≡ v * 2 ^ (8 - w) =
-        bits_number-append (binary w v) (replicate (8 - w) false)
-        ∙ rw (bits_number-binary, bits_number-zeros, length-replicate, mod-eq_of_lt fits) (omega arith) in
+    bits_number-append (binary w v) (replicate (8 - w) false)
+    ∙ rw (bits_number-binary, bits_number-zeros, length-replicate, mod-eq_of_lt fits) (omega arith) in
     sym (
-        get_or-map bits_number (pieces_of 8 (padded_to_byte bits)) i [] 0 (omega arith)
-        ∙ ap bits_number (get_or-first_chunks 8 count i (padded_to_byte bits) (omega arith) ∙ eight_of bits i w v there width stands)
-        ∙ spelled)
+    get_or-map bits_number (pieces_of 8 (padded_to_byte bits)) i [] 0 (omega arith)
+    ∙ ap bits_number (get_or-first_chunks 8 count i (padded_to_byte bits) (omega arith) ∙ eight_of bits i w v there width stands)
+    ∙ spelled)
 
 -- the low bits of a byte in its high places
 pub byte_fits : (v w : ℕ) → w ≤ 8 → v < 2 ^ w → v * 2 ^ (8 - w) < 2 ^ 8
@@ -195,6 +170,8 @@ has_one-zeros zero = refl
 has_one-zeros (suc n) = has_one-zeros n
 
 -- nothing but zeros up to the end
-pub zeros_all : (bits : List Bool) (start i : ℕ) → length bits ≤ i → drop start bits ≡ replicate (i - start) false ++ drop i bits → has_one (drop start bits) ≡ false
+pub zeros_all : (bits : List Bool) (start i : ℕ) → length bits ≤ i
+    → drop start bits ≡ replicate (i - start) false ++ drop i bits → has_one (drop start bits) ≡ false
 zeros_all bits start i past so_far =
-    ap has_one (so_far ∙ ap (λ l. replicate (i - start) false ++ l) (drop_all i bits past) ∙ append-nil (replicate (i - start) false)) ∙ has_one-zeros (i - start)
+    ap has_one (so_far ∙ ap (λ l. replicate (i - start) false ++ l) (drop_all i bits past) ∙ append-nil (replicate (i - start) false))
+    ∙ has_one-zeros (i - start)

@@ -1,5 +1,5 @@
 -- What several calls of a sink do together.
-use Rattle.std.proofs.Common.{◌≡◌, ℕ, ◌+◌, ◌-◌, ◌≤◌, List, ◌++◌, Option, Some, None, Result, Ok, Err, length, take, drop, subst, sym, ap, ◌∙◌, arith, take-add, inl, inr}
+use Rattle.std.proofs.Common.{ℕ, ◌+◌, List, Option, Result, Ok, Err, take, drop, subst, sym, arith, take-add, inl, inr}
 use Rattle.std.specs.Result.{OnErr}
 use Rattle.std.specs.Io.KnownBytes.{Appends}
 use Rattle.std.proofs.KnownBytes.{Appends-trans}
@@ -8,7 +8,8 @@ use Rattle.std.proofs.lemmas.Bool.{cases_lt}
 use Rattle.aec_bits.specs.Devices.{AppendsFront}
 
 -- the front of a piece was taken, and then the front of what was left
-pub Appends_more : (a b c : Option (List ℕ)) (piece : List ℕ) (done n : ℕ) → Appends a b (take done piece) → Appends b c (take n (drop done piece)) → Appends a c (take (done + n) piece)
+pub Appends_more : (a b c : Option (List ℕ)) (piece : List ℕ) (done n : ℕ)
+    → Appends a b (take done piece) → Appends b c (take n (drop done piece)) → Appends a c (take (done + n) piece)
 Appends_more a b c piece done n first second = subst (Appends a c) (sym (take-add done n piece)) (Appends-trans a b c _ _ first second)
 
 -- the front of a piece was taken, and then some of what was left
@@ -16,10 +17,16 @@ pub AppendsFront_more : (a b c : Option (List ℕ)) (piece : List ℕ) (done cou
     → Appends a b (take done piece) → AppendsFront b c (take count (drop done piece)) → AppendsFront a c piece
 AppendsFront_more a b c piece done count first second =
     elim (cases_lt second.0 count) [
-      inl few ↦ (done + second.0, Appends_more a b c piece done second.0 first (subst (Appends b c) (take-take second.0 count (drop done piece) (omega arith)) second.1))
-    | inr all ↦
-        (done + count, Appends_more a b c piece done count first
-            (subst (Appends b c) (take_all second.0 (take count (drop done piece)) (omega (arith, length-take count (drop done piece)))) second.1))
+      | inl few ↦ (
+        done + second.0,
+        Appends_more a b c piece done second.0 first
+            (subst (Appends b c) (take-take second.0 count (drop done piece) (omega arith)) second.1),
+      )
+      | inr all ↦ (
+        done + count,
+        Appends_more a b c piece done count first
+            (subst (Appends b c) (take_all second.0 (take count (drop done piece)) (omega (arith, length-take count (drop done piece)))) second.1),
+      )
     ]
 
 -- what holds at any rate holds after a refusal

@@ -1,25 +1,27 @@
 -- What the coder of octets meets as it goes.
-use Rattle.std.proofs.Common.{◌≡◌, ℕ, zero, suc, ◌+◌, ◌*◌, ◌<◌, ◌≤◌, ◌^◌, Bool, true, List, [], ◌∷◌, ◌++◌, length, take, drop, get_or, ℤ, pos, nat_abs, refl, sym, ap, ◌∙◌, subst, arith, append_assoc, length-append}
+use Rattle.std.proofs.Common.{◌≡◌, ℕ, zero, suc, ◌+◌, ◌*◌, ◌<◌, ◌≤◌, ◌^◌, Bool, true, List, [], ◌∷◌, ◌++◌, length, take, drop, get_or, ℤ, pos, nat_abs, refl, sym, ap, ◌∙◌, arith, append_assoc, length-append}
+use Rattle.std.proofs.lemmas.Bool.{and_parts}
 use Rattle.std.specs.List.{list_all, flat_map}
 use Rattle.std.proofs.lemmas.List.{take_more, drop_more, drop-drop, length-drop, append-nil, take_at, drop_at}
 use Rattle.std.proofs.lemmas.List.Concat.{flat_map-append}
 use Rattle.aec_params.specs.Codewords.{binary}
-use Rattle.aec_bits.specs.Codec.{IsInterval, BeginsAt}
+use Rattle.aec_bits.specs.Codec.{BeginsAt}
 use Rattle.aec_bits.specs.Octets.{octet_bits, is_octet, octets}
-use Rattle.aec_bits.specs.OctetsLaw.{both_true, octet_number, same_number}
+use Rattle.aec_bits.specs.OctetsLaw.{octet_number, same_number}
 use Rattle.aec_bits.specs.CodewordLaws.{length-binary}
 
 -- each number of a held list is an octet
 pub held_at : (s : List ℤ) (k : ℕ) (d : ℤ) → list_all is_octet s ≡ true → k < length s → is_octet (get_or s k d) ≡ true
 held_at [] k d held within = absurd (omega arith)
-held_at (x ∷ s) zero d held within = (both_true (is_octet x) (list_all is_octet s) held).0
-held_at (x ∷ s) (suc k) d held within = held_at s k d (both_true (is_octet x) (list_all is_octet s) held).1 (omega arith)
+held_at (x ∷ s) zero d held within = (and_parts (is_octet x) (list_all is_octet s) held).0
+held_at (x ∷ s) (suc k) d held within = held_at s k d (and_parts (is_octet x) (list_all is_octet s) held).1 (omega arith)
 
 -- one more octet coded
 pub octets_more : (front : List Bool) (s : List ℤ) (k : ℕ) (d : ℤ) → k < length s
     → (front ++ flat_map octet_bits (take k s)) ++ octet_bits (get_or s k d) ≡ front ++ flat_map octet_bits (take (k + 1) s)
 octets_more front s k d within =
-    rw (append_assoc, take_more s k d within, flat_map-append) (ap (λ l. front ++ (flat_map octet_bits (take k s) ++ l)) (sym (append-nil (octet_bits (get_or s k d)))))
+    rw (append_assoc, take_more s k d within, flat_map-append)
+    (ap (λ l. front ++ (flat_map octet_bits (take k s) ++ l)) (sym (append-nil (octet_bits (get_or s k d)))))
 
 length-octets : (s : List ℤ) → length (flat_map octet_bits s) ≡ 8 * length s
 length-octets [] = refl
@@ -33,15 +35,15 @@ octets_from [] (suc k) bits rest place within stands = absurd (omega arith)
 octets_from (x ∷ s) (suc k) bits rest place within stands =
     let step : place + 8 + 8 * k ≡ place + 8 * suc k = omega arith in
     let past : drop (place + 8) bits ≡ flat_map octet_bits s ++ rest =
-        sym (drop-drop 8 place bits) ∙ ap (drop 8) (stands ∙ append_assoc (octet_bits x) (flat_map octet_bits s) rest)
-        ∙ drop_at (octet_bits x) (flat_map octet_bits s ++ rest) 8 (length-binary 8 (nat_abs x)) in
+    sym (drop-drop 8 place bits) ∙ ap (drop 8) (stands ∙ append_assoc (octet_bits x) (flat_map octet_bits s) rest)
+    ∙ drop_at (octet_bits x) (flat_map octet_bits s ++ rest) 8 (length-binary 8 (nat_abs x)) in
     ap (λ n. drop n bits) (sym step) ∙ octets_from s k bits rest (place + 8) (omega arith) past
 
 -- the bits of the next octet are there
 pub octet_there : (bits : List Bool) (place count k : ℕ) (s : List ℤ) → BeginsAt octets bits place count s → k < count → place + 8 * k + 8 ≤ length bits
 octet_there bits place count k s begins within =
     let whole : length (drop place bits) ≡ 8 * count + length begins.stands.0 =
-        ap length begins.stands.1 ∙ length-append (flat_map octet_bits s) begins.stands.0 ∙ omega (arith, length-octets s, begins.length_is) in
+    ap length begins.stands.1 ∙ length-append (flat_map octet_bits s) begins.stands.0 ∙ omega (arith, length-octets s, begins.length_is) in
     omega (arith, length-drop place bits)
 
 -- the next number that is read is the next octet
@@ -53,15 +55,17 @@ octet_next bits place count k v s d begins within fits stands =
     let number = octet_number x (held_at s k d begins.interval.held inside) in
     let rest : List Bool = flat_map octet_bits (drop (k + 1) s) ++ begins.stands.0 in
     let there : drop (place + 8 * k) bits ≡ octet_bits x ++ rest =
-        octets_from s k bits begins.stands.0 place (omega arith) begins.stands.1
-        ∙ ap (λ l. flat_map octet_bits l ++ begins.stands.0) (drop_more s k d inside)
-        ∙ append_assoc (octet_bits x) (flat_map octet_bits (drop (k + 1) s)) begins.stands.0 in
+    octets_from s k bits begins.stands.0 place (omega arith) begins.stands.1
+    ∙ ap (λ l. flat_map octet_bits l ++ begins.stands.0) (drop_more s k d inside)
+    ∙ append_assoc (octet_bits x) (flat_map octet_bits (drop (k + 1) s)) begins.stands.0 in
     let same : binary 8 v ≡ octet_bits x =
-        sym (take_at (binary 8 v) (drop (place + 8 * k + 8) bits) 8 (length-binary 8 v)) ∙ ap (take 8) (sym stands ∙ there) ∙ take_at (octet_bits x) rest 8 (length-binary 8 (nat_abs x)) in
+    sym (take_at (binary 8 v) (drop (place + 8 * k + 8) bits) 8 (length-binary 8 v))
+    ∙ ap (take 8) (sym stands ∙ there) ∙ take_at (octet_bits x) rest 8 (length-binary 8 (nat_abs x)) in
     number.1 ∙ ap pos (same_number number.0 v number.2 fits (ap octet_bits (sym number.1) ∙ sym same))
 
 -- one more sample decoded: y, read as the number v at `at` from `list`
-pub decoded_more : (front items : List ℤ) (bits list : List Bool) (place count k v at : ℕ) (y : ℤ) → k < count → v < 2 ^ 8 → y ≡ pos v → list ≡ bits → at ≡ place + 8 * k
+pub decoded_more : (front items : List ℤ) (bits list : List Bool) (place count k v at : ℕ) (y : ℤ)
+    → k < count → v < 2 ^ 8 → y ≡ pos v → list ≡ bits → at ≡ place + 8 * k
     → drop at list ≡ binary 8 v ++ drop (at + 8) list
     → ((s : List ℤ) → BeginsAt octets bits place count s → items ≡ front ++ take k s)
     → (s : List ℤ) → BeginsAt octets bits place count s → items ++ y ∷ [] ≡ front ++ take (k + 1) s

@@ -3,14 +3,13 @@ use Rattle.std.specs.Prelude.{min}
 use Rattle.std.specs.Int.{div_ceil}
 use Rattle.std.specs.Simd.{first_chunks}
 use Rattle.std.specs.List.{list_all, flat_map}
-use Rattle.std.proofs.Common.{◌≡◌, ℕ, zero, suc, ◌+◌, ◌-◌, ◌*◌, ◌/◌, ◌%◌, ◌<◌, ◌≤◌, Bool, true, false, ◌&&◌, List, [], ◌∷◌, ◌++◌, length, take, drop, ℤ, refl, sym, ap, ◌∙◌, subst, inl, inr, arith, append_assoc, length-append, add-zero, mod-eq_of_lt}
+use Rattle.std.proofs.Common.{◌≡◌, ℕ, zero, suc, ◌+◌, ◌-◌, ◌*◌, ◌<◌, ◌≤◌, Bool, true, List, [], ◌∷◌, ◌++◌, length, take, drop, ℤ, refl, sym, ap, ◌∙◌, inl, inr, arith, append_assoc, length-append, mod-eq_of_lt}
 use Rattle.std.proofs.Math.Nat.{add-div_right, add-mod_right, div-eq_of_lt, mul-le-mul_left}
-use Rattle.std.proofs.lemmas.Bool.{cases_lt}
+use Rattle.std.proofs.lemmas.Bool.{cases_lt, and_parts}
 use Rattle.std.proofs.lemmas.List.{append-nil, nil_from_length, length-take, length-drop, take-append-le, drop-append-le, take-append-drop, take_all, drop_all, drop-drop}
 use Rattle.std.proofs.lemmas.List.Concat.{flat_map-append}
 use Rattle.aec_params.specs.Cutting.{pieces_of}
 use Rattle.aec_bits.specs.Codec.{Format, AreHeld, IsInterval, IsLawful, code_of}
-use Rattle.aec_bits.specs.OctetsLaw.{both_true}
 
 -- ---- pieces
 
@@ -20,13 +19,13 @@ no_pieces n h = rw (div-eq_of_lt h, mod-eq_of_lt h) refl
 one_piece_more : (n m : ℕ) → 0 < n → 0 < m → div_ceil m n ≡ suc (div_ceil (m - n) n)
 one_piece_more n m h some =
     elim (cases_lt m n) [
-      inl short ↦
-        let none : m - n ≡ 0 = omega arith in
-        let one : min 1 m ≡ 1 = omega arith in
-        rw (none, no_pieces n h, div-eq_of_lt short, mod-eq_of_lt short, one) refl
-    | inr long ↦
-        let split : m ≡ (m - n) + n = omega arith in
-        ap (λ k. div_ceil k n) split ∙ rw (add-div_right (m - n) h, add-mod_right (m - n) n) (omega arith)
+      | inl short ↦
+          let none : m - n ≡ 0 = omega arith in
+          let one : min 1 m ≡ 1 = omega arith in
+          rw (none, no_pieces n h, div-eq_of_lt short, mod-eq_of_lt short, one) refl
+      | inr long ↦
+          let split : m ≡ (m - n) + n = omega arith in
+          ap (λ k. div_ceil k n) split ∙ rw (add-div_right (m - n) h, add-mod_right (m - n) n) (omega arith)
     ]
 
 -- the first piece, and the others
@@ -73,7 +72,8 @@ code_of_interval f s some few =
 
 -- samples cut at the end of an interval
 pub code_of-append : (f : Format) (k : ℕ) (a b : List ℤ) → 1 ≤ f.most → length a ≡ k * f.most → code_of f (a ++ b) ≡ code_of f a ++ code_of f b
-code_of-append f k a b h whole = ap (flat_map f.bits_of) (pieces_of-append f.most k a b h whole) ∙ flat_map-append f.bits_of (pieces_of f.most a) (pieces_of f.most b)
+code_of-append f k a b h whole =
+    ap (flat_map f.bits_of) (pieces_of-append f.most k a b h whole) ∙ flat_map-append f.bits_of (pieces_of f.most a) (pieces_of f.most b)
 
 -- the code up to an interval, and from there on
 pub code_of_split : (f : Format) (k : ℕ) (s : List ℤ) → 1 ≤ f.most → k * f.most ≤ length s
@@ -89,8 +89,8 @@ code_of_around f k s h within =
     let next : k * f.most + f.most ≡ (k + 1) * f.most = omega arith in
     code_of_split f k s h (omega arith)
     ∙ ap (λ l. code_of f (take (k * f.most) s) ++ l)
-        (code_of_first f (drop (k * f.most) s) h (omega (arith, length-drop (k * f.most) s))
-         ∙ ap (λ l. f.bits_of (take f.most (drop (k * f.most) s)) ++ code_of f l) (drop-drop f.most (k * f.most) s ∙ ap (λ n. drop n s) next))
+    (code_of_first f (drop (k * f.most) s) h (omega (arith, length-drop (k * f.most) s))
+    ∙ ap (λ l. f.bits_of (take f.most (drop (k * f.most) s)) ++ code_of f l) (drop-drop f.most (k * f.most) s ∙ ap (λ n. drop n s) next))
 
 -- ---- a code and a number of samples have one list of samples
 
@@ -98,7 +98,7 @@ held_parts : (holds : ℤ → Bool) (n : ℕ) (s : List ℤ) → list_all holds 
 held_parts holds zero s h = (refl, h)
 held_parts holds (suc n) [] h = (refl, refl)
 held_parts holds (suc n) (x ∷ s) h =
-    let both = both_true (holds x) (list_all holds s) h in
+    let both = and_parts (holds x) (list_all holds s) h in
     let rest = held_parts holds n s both.1 in
     (rw (both.0, rest.0) refl, rest.1)
 
@@ -121,10 +121,11 @@ same_within f (suc k) (u ∷ a) (v ∷ b) x y lawful held kept len fits e =
     let s_first : IsInterval f (take n s) = record { some = omega (arith, length-take n s); few = omega (arith, length-take n s); held = s_parts.0 } in
     let t_first : IsInterval f (take n t) = record { some = omega (arith, length-take n t); few = omega (arith, length-take n t); held = t_parts.0 } in
     let split : f.bits_of (take n s) ++ (code_of f (drop n s) ++ x) ≡ f.bits_of (take n t) ++ (code_of f (drop n t) ++ y) =
-        sym (append_assoc (f.bits_of (take n s)) (code_of f (drop n s)) x) ∙ ap (λ l. l ++ x) (sym (code_of_first f s h some))
-        ∙ e ∙ ap (λ l. l ++ y) (code_of_first f t h (omega arith)) ∙ append_assoc (f.bits_of (take n t)) (code_of f (drop n t)) y in
+    sym (append_assoc (f.bits_of (take n s)) (code_of f (drop n s)) x) ∙ ap (λ l. l ++ x) (sym (code_of_first f s h some))
+    ∙ e ∙ ap (λ l. l ++ y) (code_of_first f t h (omega arith)) ∙ append_assoc (f.bits_of (take n t)) (code_of f (drop n t)) y in
     let first = lawful.equal_lengths (take n s) (take n t) _ _ s_first t_first (omega (arith, length-take n s, length-take n t)) split in
-    let rest = same_within f k (drop n s) (drop n t) x y lawful s_parts.1 t_parts.1 (omega (arith, length-drop n s, length-drop n t)) (omega (arith, length-drop n s)) first.1 in
+    let rest = same_within f k (drop n s) (drop n t) x y lawful s_parts.1 t_parts.1
+    (omega (arith, length-drop n s, length-drop n t)) (omega (arith, length-drop n s)) first.1 in
     (sym (take-append-drop n s) ∙ ap (λ l. l ++ drop n s) first.0 ∙ ap (λ l. take n t ++ l) rest.0 ∙ take-append-drop n t, rest.1)
 
 pub same_samples_follow : (f : Format) (a b : List ℤ) (x y : List Bool) → IsLawful f → AreHeld f a → AreHeld f b → length a ≡ length b

@@ -1,8 +1,6 @@
 -- What is claimed of codes and refusals, each the contract of a function of laws.rt.
-use Rattle.std.specs.Prelude.{◌≡◌, ℕ, ◌+◌, ◌*◌, ◌<◌, ◌≤◌, Bool, true, false, Option, Some, None, List, ◌++◌, length, take, drop, ℤ, pos, slice_index_or}
-use Rattle.aec_params.specs.declared.fault.Fault.{Fault}
+use Rattle.std.specs.Prelude.{◌≡◌, ℕ, ◌+◌, ◌*◌, ◌<◌, ◌≤◌, Bool, false, Some, None, List, ◌++◌, length, take, drop, ℤ, pos, slice_index_or}
 use Rattle.aec_params.specs.declared.fault.Fault.TheVariants.{SampleRange, TooManySamples, OutOfRange}
-use Rattle.aec_params.specs.declared.edit.Edit.{Edit}
 use Rattle.aec_params.specs.declared.edit.Edit.TheVariants.{Overwrite, Append, Truncate}
 use Rattle.aec_bits.specs.Codec.{Format, AreHeld, IsLawful, code_of}
 use Rattle.aec_bits.specs.Refusals.{refusal_of}
@@ -44,5 +42,5 @@ NamesTheFirstValue = (f : Format) (limit : ℕ) (s values : List ℤ) (i : ℕ) 
 abbrev pub AllowsWhatFits : Type 0
 AllowsWhatFits = (f : Format) (limit first : ℕ) (s values : List ℤ) → AreHeld f values
     → (first + length values ≤ length s → refusal_of f limit s (Overwrite first values) ≡ None)
-      × (length s + length values ≤ limit → refusal_of f limit s (Append values) ≡ None)
-      × (first ≤ length s → refusal_of f limit s (Truncate first) ≡ None)
+    × (length s + length values ≤ limit → refusal_of f limit s (Append values) ≡ None)
+    × (first ≤ length s → refusal_of f limit s (Truncate first) ≡ None)

@@ -1,5 +1,5 @@
 -- The samples 0 to 255, each in eight bits, in intervals of at most four.
-use Rattle.std.specs.Prelude.{ℕ, Bool, ◌&&◌, List, ℤ, pos, nat_abs, int_le, int_lt}
+use Rattle.std.specs.Prelude.{Bool, ◌&&◌, List, ℤ, pos, nat_abs, int_le, int_lt}
 use Rattle.std.specs.List.{flat_map}
 use Rattle.aec_params.specs.Codewords.{binary}
 use Rattle.aec_bits.specs.Codec.{Format}

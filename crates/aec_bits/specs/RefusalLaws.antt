@@ -1,26 +1,25 @@
 -- Laws of refusals.
-use Rattle.std.proofs.Common.{◌≡◌, ℕ, zero, suc, ◌+◌, ◌<◌, ◌≤◌, Bool, true, false, ◌&&◌, cond, ltb, Option, Some, None, List, [], ◌∷◌, length, take, drop, get_or, ℤ, refl, sym, ap, ◌∙◌, arith}
+use Rattle.std.proofs.Common.{◌≡◌, ℕ, zero, suc, ◌+◌, ◌<◌, ◌≤◌, Bool, true, false, ltb, Some, None, List, [], ◌∷◌, length, take, drop, get_or, ℤ, refl, ap, ◌∙◌, arith}
+use Rattle.std.proofs.lemmas.Bool.{and_parts}
 use Rattle.std.specs.List.{list_all}
-use Rattle.std.specs.Option.{option_map}
 use Rattle.std.proofs.lemmas.Bool.Decides.{nat_tests}
-use Rattle.aec_params.specs.declared.fault.Fault.{Fault}
 use Rattle.aec_params.specs.declared.fault.Fault.TheVariants.{SampleRange, TooManySamples, OutOfRange}
 use Rattle.aec_params.specs.declared.edit.Edit.TheVariants.{Overwrite, Append, Truncate}
-use Rattle.aec_bits.specs.OctetsLaw.{both_true}
 use Rattle.aec_bits.specs.Codec.{Format, AreHeld}
-use Rattle.aec_bits.specs.Refusals.{first_unheld, values_refusal, refusal_of}
+use Rattle.aec_bits.specs.Refusals.{first_unheld, refusal_of}
 
 -- nothing is found in a list that is held
 pub first_unheld-held : (holds : ℤ → Bool) (i : ℕ) (s : List ℤ) → list_all holds s ≡ true → first_unheld holds i s ≡ None
 first_unheld-held holds i [] h = refl
-first_unheld-held holds i (x ∷ s) h = let both = both_true (holds x) (list_all holds s) h in rw both.0 (first_unheld-held holds (i + 1) s both.1)
+first_unheld-held holds i (x ∷ s) h = let both = and_parts (holds x) (list_all holds s) h in rw both.0 (first_unheld-held holds (i + 1) s both.1)
 
 -- what is held in front is passed over
-pub first_unheld-drop : (holds : ℤ → Bool) (i k : ℕ) (s : List ℤ) → k ≤ length s → list_all holds (take k s) ≡ true → first_unheld holds i s ≡ first_unheld holds (i + k) (drop k s)
+pub first_unheld-drop : (holds : ℤ → Bool) (i k : ℕ) (s : List ℤ) → k ≤ length s → list_all holds (take k s) ≡ true
+    → first_unheld holds i s ≡ first_unheld holds (i + k) (drop k s)
 first_unheld-drop holds i zero s within h = let e : i + 0 ≡ i = omega arith in rw e refl
 first_unheld-drop holds i (suc k) [] within h = absurd (omega arith)
 first_unheld-drop holds i (suc k) (x ∷ s) within h =
-    let both = both_true (holds x) (list_all holds (take k s)) h in
+    let both = and_parts (holds x) (list_all holds (take k s)) h in
     let e : i + 1 + k ≡ i + suc k = omega arith in
     rw both.0 (first_unheld-drop holds (i + 1) k s (omega arith) both.1 ∙ ap (λ n. first_unheld holds n (drop k s)) e)
 
@@ -30,7 +29,7 @@ pub first_unheld_at : (holds : ℤ → Bool) (i k : ℕ) (s : List ℤ) (d : ℤ
 first_unheld_at holds i k [] d within h bad = absurd (omega arith)
 first_unheld_at holds i zero (x ∷ s) d within h bad = let e : i + 0 ≡ i = omega arith in rw (e, bad) refl
 first_unheld_at holds i (suc k) (x ∷ s) d within h bad =
-    let both = both_true (holds x) (list_all holds (take k s)) h in
+    let both = and_parts (holds x) (list_all holds (take k s)) h in
     let e : i + 1 + k ≡ i + suc k = omega arith in
     rw both.0 (first_unheld_at holds (i + 1) k s d (omega arith) both.1 bad ∙ ap Some e)
 
@@ -46,7 +45,8 @@ pub overwrite_past : (f : Format) (limit first : ℕ) (s values : List ℤ) → 
     → refusal_of f limit s (Overwrite first values) ≡ Some (OutOfRange (length s))
 overwrite_past f limit first s values h = rw (past (length s) (first + length values) h) refl
 
-pub append_past : (f : Format) (limit : ℕ) (s values : List ℤ) → limit < length s + length values → refusal_of f limit s (Append values) ≡ Some (TooManySamples limit)
+pub append_past : (f : Format) (limit : ℕ) (s values : List ℤ) → limit < length s + length values
+    → refusal_of f limit s (Append values) ≡ Some (TooManySamples limit)
 append_past f limit s values h = rw (past limit (length s + length values) h) refl
 
 pub append_first_value : (f : Format) (limit : ℕ) (s values : List ℤ) (i : ℕ) (d : ℤ) → length s + length values ≤ limit → i < length values
@@ -54,10 +54,12 @@ pub append_first_value : (f : Format) (limit : ℕ) (s values : List ℤ) (i : �
 append_first_value f limit s values i d fits within held bad =
     rw (not_past limit (length s + length values) fits, first_unheld_at f.holds 0 i values d within held bad) (let e : 0 + i ≡ i = omega arith in rw e refl)
 
-pub overwrite_fits : (f : Format) (limit first : ℕ) (s values : List ℤ) → AreHeld f values → first + length values ≤ length s → refusal_of f limit s (Overwrite first values) ≡ None
+pub overwrite_fits : (f : Format) (limit first : ℕ) (s values : List ℤ) → AreHeld f values → first + length values ≤ length s
+    → refusal_of f limit s (Overwrite first values) ≡ None
 overwrite_fits f limit first s values held fits = rw (not_past (length s) (first + length values) fits, first_unheld-held f.holds 0 values held) refl
 
-pub append_fits : (f : Format) (limit : ℕ) (s values : List ℤ) → AreHeld f values → length s + length values ≤ limit → refusal_of f limit s (Append values) ≡ None
+pub append_fits : (f : Format) (limit : ℕ) (s values : List ℤ) → AreHeld f values → length s + length values ≤ limit
+    → refusal_of f limit s (Append values) ≡ None
 append_fits f limit s values held fits = rw (not_past limit (length s + length values) fits, first_unheld-held f.holds 0 values held) refl
 
 pub truncate_fits : (f : Format) (limit count : ℕ) (s : List ℤ) → count ≤ length s → refusal_of f limit s (Truncate count) ≡ None

@@ -24,7 +24,7 @@ impl<'a> Model for BitReader<'a> {
 }
 
 impl<'a> BitReader<'a> {
-    ghost use Rattle.std.specs.Prelude.{◌≡◌, ◌+◌, ◌<◌, ◌≤◌, ◌^◌, ◌++◌, min, not, false, length, drop, MatchResult, IfOk, IfErr, OnErr};
+    ghost use Rattle.std.specs.Prelude.{◌≡◌, ◌+◌, ◌<◌, ◌≤◌, ◌^◌, ◌++◌, min, not, false, length, drop, MatchResult, IfOk, IfErr, OnOk, OnErr};
     ghost use Rattle.aec_params.specs.declared.fault.Fault.TheVariants.{Truncated};
     ghost use Rattle.aec_params.specs.Codewords.{fs, binary};
     ghost use Rattle.aec_params.specs.Cutting.{up_to_multiple};
@@ -61,12 +61,14 @@ impl<'a> BitReader<'a> {
     /// fewer bits are left.
     pub fn read(&mut self, width: u32) -> Result<u64, Fault>
         requires { width ≤ 64 }
-        ensures ok { IfOk result (λ v. (v < 2 ^ width)
-            × (drop self.old.pos self.old.list ≡ binary width v ++ drop (self.old.pos + width) self.old.list)
-            × (self.new.pos ≡ self.old.pos + width)) }
+        ensures fits { IfOk result (λ v. v < 2 ^ width) }
+        ensures bits { IfOk result (λ v.
+            drop self.old.pos self.old.list ≡ binary width v ++ drop (self.old.pos + width) self.old.list) }
+        ensures moves { OnOk result (self.new.pos ≡ self.old.pos + width) }
         ensures refuses { MatchResult result
             (λ _. self.old.pos + width ≤ length self.old.list)
             (λ e. (length self.old.list < self.old.pos + width) × (e ≡ Truncated self.old.pos)) }
+        ensures within { self.new.pos ≤ length self.new.list }
         ensures list { self.new.list ≡ self.old.list }
         ensures err { OnErr result (self.new ≡ self.old) }
     {
@@ -81,9 +83,11 @@ impl<'a> BitReader<'a> {
 
     /// The number of zeros before the next one, which is read too. `Truncated` with the present place where no one is left.
     pub fn read_fs(&mut self) -> Result<u64, Fault>
-        ensures ok { IfOk result (λ v. (drop self.old.pos self.old.list ≡ fs v ++ drop (self.old.pos + v + 1) self.old.list)
-            × (self.new.pos ≡ self.old.pos + v + 1)) }
-        ensures refuses { IfErr result (λ e. (has_one (drop self.old.pos self.old.list) ≡ false) × (e ≡ Truncated self.old.pos)) }
+        ensures bits { IfOk result (λ v.
+            drop self.old.pos self.old.list ≡ fs v ++ drop (self.old.pos + v + 1) self.old.list) }
+        ensures moves { IfOk result (λ v. self.new.pos ≡ self.old.pos + v + 1) }
+        ensures refuses { IfErr result (λ e.
+            (has_one (drop self.old.pos self.old.list) ≡ false) × (e ≡ Truncated self.old.pos)) }
         ensures within { self.new.pos ≤ length self.new.list }
         ensures list { self.new.list ≡ self.old.list }
         ensures err { OnErr result (self.new ≡ self.old) }

@@ -25,6 +25,14 @@ impl<R: Read> ReadSource<R> {
             failed: false,
         }
     }
+
+    /// The reader.
+    pub fn into_inner(self) -> R
+        ensures { ⟦<ReadSource<R> as Source>⟧.left self ≡ R.remaining result }
+    {
+        let ReadSource { inner, failed: _ } = self;
+        inner
+    }
 }
 
 impl<R: Read> Source for ReadSource<R> {
@@ -76,6 +84,18 @@ impl<W: Write> WriteSink<W> {
             begins: 0,
         }
     }
+
+    /// The writer.
+    pub fn into_inner(self) -> W
+        ensures { ⟦<WriteSink<W> as Sink>⟧.taken self ≡ W.contents result }
+    {
+        let WriteSink {
+            inner,
+            failed: _,
+            begins: _,
+        } = self;
+        inner
+    }
 }
 
 impl<W: Write> Sink for WriteSink<W> {
@@ -89,7 +109,11 @@ impl<W: Write> Sink for WriteSink<W> {
 
     fn begin(&mut self) -> Result<(), Fault> {
         self.begins = self.begins.saturating_add(1);
-        if self.failed { Err(Fault::Write) } else { Ok(()) }
+        if self.failed {
+            Err(Fault::Write)
+        } else {
+            Ok(())
+        }
     }
 
     fn put(&mut self, piece: &[u8]) -> Result<usize, Fault> {

@@ -90,47 +90,39 @@ impl Codec for Octets {
 /// Samples cut at the end of an interval have the code of both parts, one after the other.
 pub fn cuts_at_intervals()
     ensures { CutsAtIntervals }
-{
-}
+{}
 
 /// The code of one interval is its own bits.
 pub fn codes_intervals()
     ensures { CodesIntervals }
-{
-}
+{}
 
 /// An interval stands behind the code of the samples before it, and before the code of those after it.
 pub fn stands_between()
     ensures { StandsBetween }
-{
-}
+{}
 
 /// Of a lawful codec a code and a number of samples have one list of samples, whatever bits follow.
 pub fn has_one_list()
     ensures { HasOneList }
-{
-}
+{}
 
 /// An overwrite past the samples is refused for its place, whatever its values are.
 pub fn judges_places_first()
     ensures { JudgesPlacesFirst }
-{
-}
+{}
 
 /// An append past the limit is refused for it, whatever its values are.
 pub fn judges_the_limit_first()
     ensures { JudgesTheLimitFirst }
-{
-}
+{}
 
 /// An append within the limit is refused for the first value that is no sample.
 pub fn names_the_first_value()
     ensures { NamesTheFirstValue }
-{
-}
+{}
 
 /// An edit whose values are samples, within the limit and the samples present, is not refused.
 pub fn allows_what_fits()
     ensures { AllowsWhatFits }
-{
-}
+{}

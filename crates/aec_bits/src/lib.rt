@@ -7,6 +7,8 @@ mod codec;
 mod device;
 mod io_device;
 pub mod laws;
+#[cfg(test)]
+mod tests;
 mod writing;
 
 pub use bit_buf::BitBuf;
@@ -14,3 +16,4 @@ pub use bit_reader::BitReader;
 pub use codec::Codec;
 pub use device::{Sink, Source};
 pub use io_device::{ReadSource, WriteSink};
+pub use writing::put_all;

@@ -18,11 +18,11 @@ impl BitBuf {
     /// fails, which has then taken the front of these bytes. Takes no memory, and doesn't call `begin`.
     pub fn write_to<W: Sink>(&self, out: &mut W) -> Result<(), Fault>
         ensures ok { OnOk result (Appends (W.taken out.old) (W.taken out.new) (bytes_of self.now.list)) }
-        ensures prefix { OnErr result (AppendsFront (W.taken out.old) (W.taken out.new) (bytes_of self.now.list)) }
+        ensures front { OnErr result (AppendsFront (W.taken out.old) (W.taken out.new) (bytes_of self.now.list)) }
         ensures begun { W.begun out.new ≡ W.begun out.old }
         ensures fault { IfErr result (λ e. (e ≡ WriteFault) × (W.failed out.new ≡ 1)) }
-        ensures works { OnOk result (W.failed out.new ≡ W.failed out.old) }
-        ensures worked { OnOk result (0 < length self.now.list → W.failed out.old ≡ 0) }
+        ensures failures { OnOk result (W.failed out.new ≡ W.failed out.old) }
+        ensures refuses { OnOk result (0 < length self.now.list → W.failed out.old ≡ 0) }
     {
         let mut piece = [0u8; PIECE_LEN];
         let total = self.byte_len();
@@ -51,13 +51,13 @@ fn fill(buf: &BitBuf, first: u64, piece: &mut [u8]) -> usize
 }
 
 /// Puts all bytes of a piece to a sink, in as many calls as it needs.
-fn put_all<W: Sink>(out: &mut W, piece: &[u8]) -> Result<(), Fault>
+pub fn put_all<W: Sink>(out: &mut W, piece: &[u8]) -> Result<(), Fault>
     ensures ok { OnOk result (Appends (W.taken out.old) (W.taken out.new) piece.now) }
-    ensures prefix { OnErr result (AppendsFront (W.taken out.old) (W.taken out.new) piece.now) }
+    ensures front { OnErr result (AppendsFront (W.taken out.old) (W.taken out.new) piece.now) }
     ensures begun { W.begun out.new ≡ W.begun out.old }
     ensures fault { IfErr result (λ e. (e ≡ WriteFault) × (W.failed out.new ≡ 1)) }
-    ensures works { OnOk result (W.failed out.new ≡ W.failed out.old) }
-    ensures worked { OnOk result (0 < length piece.now → W.failed out.old ≡ 0) }
+    ensures failures { OnOk result (W.failed out.new ≡ W.failed out.old) }
+    ensures refuses { OnOk result (0 < length piece.now → W.failed out.old ≡ 0) }
 {
     let mut done = 0;
     while done < piece.len() {

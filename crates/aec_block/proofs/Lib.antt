@@ -8,3 +8,7 @@ pub mod SplitLemmas
 pub mod KindLemmas
 pub mod SetLemmas
 pub mod WritingLemmas
+pub mod CursorLemmas
+pub mod GatheringLemmas
+pub mod ReadCdsLemmas
+pub mod StandingLemmas

@@ -1,5 +1,5 @@
 -- Pair numbers, and the codewords of pairs: each number is that of one pair.
-use Rattle.std.proofs.Common.{◌≡◌, ℕ, zero, suc, ◌+◌, ◌*◌, ◌≤◌, Bool, refl, sym, ap, ◌∙◌, add-one, zero-add, append_assoc, List, [], ◌∷◌, ◌++◌, length, arith}
+use Rattle.std.proofs.Common.{◌≡◌, ℕ, zero, suc, ◌+◌, ◌-◌, ◌*◌, ◌≤◌, Bool, refl, sym, ap, ◌∙◌, add-one, zero-add, append_assoc, List, [], ◌∷◌, ◌++◌, length, arith}
 use Rattle.aec_params.specs.Codewords.{fs}
 use Rattle.aec_params.specs.CodedDataSets.{pair_number, pair_bits}
 use Rattle.aec_block.specs.ReadAt.{taken, map_taken, fs_at, next_pair, pair_of, before_members, members_at}
@@ -44,6 +44,12 @@ pair_of-number (suc m) a (suc b) e =
 
 pub pair_of-pair_number : (a b : ℕ) → pair_of (pair_number a b) ≡ record { first = a; second = b }
 pair_of-pair_number a b = pair_of-number (pair_number a b) a b (sym (pair_number-triangle a b))
+
+-- the pair by its sum and its second member
+pub pair_of-sum : (m sum second : ℕ) → triangle sum + second ≡ m → second ≤ sum → pair_of m ≡ record { first = sum - second; second = second }
+pair_of-sum m sum second number within =
+    let whole : sum - second + second ≡ sum = omega arith in
+    pair_of-number m (sum - second) second (ap (λ n. triangle n + second) whole ∙ number)
 
 next_number : (a b : ℕ) → let p = next_pair (record { first = a; second = b }) in
     triangle (p.first + p.second) + p.second ≡ suc (triangle (a + b) + b)

@@ -1,6 +1,6 @@
 -- Coded data sets: what was spelled is read back, and what is read was spelled; so none is a prefix of another.
-use Rattle.std.proofs.Common.{◌≡◌, ℕ, ◌*◌, ◌/◌, ◌^◌, ◌<◌, ◌==◌, Bool, true, false, Option, Some, None, List, ◌++◌, refl, sym, ap, ◌∙◌, append_assoc, inl, inr, if◌then◌else◌, nat_le, ◌||◌, IsTrue, lit<}
-use Rattle.std.proofs.lemmas.Bool.{or_cases, eqb-true}
+use Rattle.std.proofs.Common.{◌≡◌, ℕ, ◌*◌, ◌/◌, ◌^◌, ◌<◌, ◌==◌, Bool, true, false, Option, Some, None, List, ◌++◌, refl, sym, ap, ◌∙◌, append_assoc, inl, inr, if◌then◌else◌, nat_le, ◌||◌, IsTrue, lit<, arith}
+use Rattle.std.proofs.lemmas.Bool.{or_cases, eqb-true, cases_eq}
 use Rattle.aec_params.specs.declared.settings.Settings.{Settings}
 use Rattle.aec_params.specs.Params.{IsAllowed, id_len, is_block_size}
 use Rattle.aec_params.specs.Codewords.{binary}
@@ -41,6 +41,20 @@ halves j is_size =
 
 pub block_size-even : (s : Settings) → IsAllowed s → 2 * (s.block_size / 2) ≡ s.block_size
 block_size-even s allowed = halves s.block_size allowed.block_size
+
+no_empty_size : IsTrue (is_block_size 0) → ⊥
+no_empty_size is_size = cc
+
+pub block_size-some : (s : Settings) → IsAllowed s → 0 < s.block_size / 2
+block_size-some s allowed =
+    elim (cases_eq (s.block_size / 2) 0) [
+      | inl none ↦
+          let even = block_size-even s allowed in
+          let empty : s.block_size ≡ 0 = omega arith in
+          let is_size : IsTrue (is_block_size 0) = rw empty at allowed.block_size in
+          absurd (no_empty_size is_size)
+      | inr some ↦ omega arith
+    ]
 
 -- ---- the kind of a body
 
@@ -160,7 +174,7 @@ what_is_read_is_spelled s allowed is_reference bits c rest e =
     ∙ sym (append_assoc (identifier s m.value) (reference_bits s q.value ++ body_bits s m.value) rest)) in
     rw (← m.after) (record { reference = reference.has; body = body.has }, joined)
 
-none_begins : (s : Settings) (is_reference : Bool) (bits : List Bool) → IsAllowed s → cds_at s is_reference bits ≡ nothing
+pub none_begins : (s : Settings) (is_reference : Bool) (bits : List Bool) → IsAllowed s → cds_at s is_reference bits ≡ nothing
     → (c : CodedDataSet) (rest : List Bool) → HasShape s is_reference c → bits ≡ cds_bits s c ++ rest → ⊥
 none_begins s is_reference bits allowed none c rest shape begins =
     let read = what_is_spelled_is_read s allowed is_reference c rest shape in

@@ -4,4 +4,6 @@ pub mod Lengths
 pub mod Choices
 pub mod Written
 pub mod ReadAt
+pub mod Gathering
+pub mod ReadCds
 pub mod Laws

@@ -81,11 +81,8 @@ pub fn map(params: &Params, p: i64, x: i64) -> u32
     ensures fits { result < 2 ^ params.now.bits }
 {
     if params.preprocess() {
-        map_offset(
-            greatest_offset(params),
-            offset_of(params, p),
-            offset_of(params, x),
-        )
+        let top = greatest_offset(params);
+        map_offset(top, offset_of(params, p), offset_of(params, x))
     } else {
         params.pattern(x)
     }

@@ -17,6 +17,7 @@ use Rattle.aec_params.specs.Spellings.{written_values, after_reference}
 use Rattle.aec_interval.proofs.CuttingLemmas.{IsPieceBefore, by_pieces, pieces_of-nil, pieces_of-cons, length-pieces_of, up_to_multiple-fills, div_ceil-times}
 use Rattle.aec_params.proofs.ValueLaws.{mapped_value-fits}
 use Rattle.aec_params.proofs.PatternLaws.{pattern-fits}
+pub use Rattle.aec_params.proofs.SettingLaws.{block_size-positive}
 
 -- ---- what holds of each element
 
@@ -110,9 +111,6 @@ pub record IsBlockFor (s : Settings) (is_reference : Bool) (b : Block) : Type 0 
 abbrev pub AreBlocksFrom : Settings → ℕ → List Block → Type 0
 AreBlocksFrom s p [] = ⊤
 AreBlocksFrom s p (b ∷ blocks) = IsBlockFor s (is_reference_block s p) b × AreBlocksFrom s (suc p) blocks
-
-pub block_size-positive : (s : Settings) → IsAllowed s → 0 < s.block_size
-block_size-positive s a = let b = a.block_size in grind arith
 
 pub later_reference : (s : Settings) (p : ℕ) → is_reference_block s (suc p) ≡ false
 later_reference s p = and_right s.preprocess (suc p == 0) (ne_eqb (suc p) 0 (λ e. omega arith))

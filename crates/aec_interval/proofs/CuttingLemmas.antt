@@ -1,6 +1,6 @@
 -- Lists cut into pieces: one piece before the others, an induction over the pieces, and whole multiples.
-use Rattle.std.proofs.Common.{◌≡◌, ℕ, zero, suc, ◌+◌, ◌-◌, ◌*◌, ◌/◌, ◌%◌, ◌<◌, ◌≤◌, List, [], ◌∷◌, ◌++◌, length, take, drop, refl, sym, ap, ap₂, append-nil, ◌∙◌, subst, arith, ⊎_elim}
-use Rattle.std.proofs.Math.Nat.{div-eq-sub-div, mod-eq-sub-mod, div-eq_of_lt, mod-eq_of_lt, zero-div, mod_self, mul-div_cancel, mul-mod_left}
+use Rattle.std.proofs.Common.{◌≡◌, ℕ, zero, suc, ◌+◌, ◌-◌, ◌*◌, ◌/◌, ◌%◌, ◌<◌, ◌≤◌, List, [], ◌∷◌, ◌++◌, length, take, drop, refl, ap, ap₂, append-nil, ◌∙◌, subst, arith, ⊎_elim}
+use Rattle.std.proofs.Math.Nat.{mod-eq_of_lt, mod_self, mul-div_cancel, mul-mod_left}
 use Rattle.std.proofs.lemmas.List.{take_at, drop_at, take-append-drop, length-take, length-drop, length-append, take_all, drop_all}
 use Rattle.std.proofs.lemmas.Nat.{div-add-mod', mod_below}
 use Rattle.std.proofs.lemmas.Grind.{div_ceil_times}
@@ -9,36 +9,16 @@ use Rattle.std.specs.Int.{div_ceil}
 use Rattle.std.specs.Simd.{first_chunks}
 use Rattle.std.specs.List.{flat_map}
 use Rattle.aec_params.specs.Cutting.{pieces_of, up_to_multiple}
-
-pub div_ceil-zero : (n : ℕ) → 0 < n → div_ceil 0 n ≡ 0
-div_ceil-zero n h = omega (arith, zero-div n, mod-eq_of_lt h)
-
--- one piece more
-pub div_ceil-more : (m n : ℕ) → 0 < n → 0 < m → div_ceil m n ≡ suc (div_ceil (m - n) n)
-div_ceil-more m n h k = ⊎_elim short long (cases_lt m n)
-  where
-    short : m < n → div_ceil m n ≡ suc (div_ceil (m - n) n)
-    short l =
-        let e : m - n ≡ 0 = omega arith in
-        let d : div_ceil (m - n) n ≡ 0 = ap (λ x. div_ceil x n) e ∙ div_ceil-zero n h in
-        let q = div-eq_of_lt l in
-        let t = mod-eq_of_lt l in
-        omega arith
-
-    long : n ≤ m → div_ceil m n ≡ suc (div_ceil (m - n) n)
-    long l = omega (arith, div-eq-sub-div h l, mod-eq-sub-mod l)
+pub use Rattle.aec_params.proofs.CuttingLaws.{div_ceil-zero, div_ceil-step, pieces_of-nil, pieces_of-one}
 
 pub div_ceil-one : (m n : ℕ) → 0 < m → m ≤ n → div_ceil m n ≡ 1
 div_ceil-one m n h k =
     let e : m - n ≡ 0 = omega arith in
     let d : div_ceil (m - n) n ≡ 0 = ap (λ x. div_ceil x n) e ∙ div_ceil-zero n (omega arith) in
-    omega (arith, div_ceil-more m n (omega arith) h)
+    omega (arith, div_ceil-step m n (omega arith) h)
 
 pub div_ceil-positive : (m n : ℕ) → 0 < n → 0 < m → 0 < div_ceil m n
-div_ceil-positive m n h k = omega (arith, div_ceil-more m n h k)
-
-pub pieces_of-nil : {X : Type 0} (n : ℕ) → 0 < n → pieces_of {X = X} n [] ≡ []
-pieces_of-nil n h = ap (λ k. first_chunks n k []) (div_ceil-zero n h)
+div_ceil-positive m n h k = omega (arith, div_ceil-step m n h k)
 
 -- the first piece of a list and what is behind it
 take_front : {X : Type 0} (n : ℕ) (front rest : List X) → length front ≤ n → (0 < length rest → length front ≡ n) → take n (front ++ rest) ≡ front
@@ -64,13 +44,8 @@ pieces_of-cons n front rest h =
     left = ⊎_elim (λ l. omega (arith, length-append front rest, h.full l)) (λ l. omega (arith, length-append front rest, h.fits)) (cases_lt 0 (length rest))
 
     count : div_ceil (length (front ++ rest)) n ≡ suc (div_ceil (length rest) n)
-    count = div_ceil-more (length (front ++ rest)) n (omega (arith, h.some, h.fits)) (omega (arith, length-append front rest, h.some))
+    count = div_ceil-step (length (front ++ rest)) n (omega (arith, h.some, h.fits)) (omega (arith, length-append front rest, h.some))
         ∙ ap (λ x. suc (div_ceil x n)) left
-
-pub pieces_of-one : {X : Type 0} (n : ℕ) (front : List X) → 0 < length front → length front ≤ n → pieces_of n front ≡ front ∷ []
-pieces_of-one n front h k =
-    ap (pieces_of n) (sym (append-nil front)) ∙ pieces_of-cons n front [] (record { some = h; fits = k; full = λ l. absurd (omega arith) })
-    ∙ ap (◌∷◌ front) (pieces_of-nil n (omega arith))
 
 -- what holds of no elements, and of a piece and more when it holds of the rest, holds of each list
 module _ {X : Type 0} (P : List X → Type 0) (n : ℕ) (positive : 0 < n) (nothing : P [])

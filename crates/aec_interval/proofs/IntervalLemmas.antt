@@ -26,10 +26,10 @@ pub AreBlocksFrom_right : (s : Settings) (p : ℕ) (front rest : List Block) →
 AreBlocksFrom_right s p [] rest h = subst (λ q. AreBlocksFrom s q rest) (omega arith) h
 AreBlocksFrom_right s p (b ∷ front) rest h = subst (λ q. AreBlocksFrom s q rest) (omega arith) (AreBlocksFrom_right s (suc p) front rest h.1)
 
-block_sets-nil : (s : Settings) → block_sets s [] ≡ []
+pub block_sets-nil : (s : Settings) → block_sets s [] ≡ []
 block_sets-nil s = ap (flat_map (λ segment. group_sets s (groups_of segment))) (pieces_of-nil 64 (omega arith))
 
-block_sets-cons : (s : Settings) (front rest : List Block) → IsPieceBefore 64 front rest
+pub block_sets-cons : (s : Settings) (front rest : List Block) → IsPieceBefore 64 front rest
     → block_sets s (front ++ rest) ≡ group_sets s (groups_of front) ++ block_sets s rest
 block_sets-cons s front rest h = ap (flat_map (λ segment. group_sets s (groups_of segment))) (pieces_of-cons 64 front rest h)
 

@@ -11,6 +11,9 @@ pub mod WalkLemmas
 pub mod EqualLengthLemmas
 pub mod OutcomeLemmas
 pub mod ReadingLemmas
+pub mod ShortestLemmas
+pub mod CostLemmas
+pub mod OptimalityLemmas
 pub mod PendingLemmas
 pub mod ChunkLemmas
 pub mod MappedLemmas

@@ -1,16 +1,17 @@
 -- Where coded data sets stand in a stream: those that cover an interval lead through it, with one skip at its end.
-use Rattle.std.proofs.Common.{◌≡◌, ℕ, ◌+◌, ◌-◌, ◌*◌, ◌%◌, ◌<◌, ◌≤◌, min, Bool, true, Option, Some, None, List, [], ◌∷◌, ◌++◌, length, refl, sym, ap, ap₂, ◌∙◌, subst, arith}
+use Rattle.std.proofs.Common.{◌≡◌, ℕ, ◌+◌, ◌*◌, ◌%◌, ◌<◌, ◌≤◌, min, Bool, true, Option, Some, List, [], ◌∷◌, ◌++◌, length, refl, sym, ap, ap₂, ◌∙◌, subst, arith}
 use Rattle.std.specs.Prelude.{◌==◌, ◌&&◌, nat_lt, if◌then◌else◌}
 use Rattle.std.specs.List.{flat_map}
 use Rattle.std.specs.Int.{div_ceil, next_multiple_of}
-use Rattle.std.proofs.lemmas.List.{length-append, length-replicate, append_assoc, append-nil}
+use Rattle.std.proofs.lemmas.List.{length-append, append_assoc, append-nil}
 use Rattle.std.proofs.Math.Seq.{drop-append_seam, drop-append-add}
 use Rattle.std.proofs.lemmas.Nat.{mod-mul-add}
 use Rattle.std.proofs.lemmas.Bool.{cond_both, cond-false, leb-true, lt-ltb, ltb-false, and_right, ne_eqb}
 use Rattle.aec_params.specs.declared.settings.Settings.{Settings}
 use Rattle.aec_params.specs.CodedDataSets.{Body, plain_values, value_pairs, split_values, zero_blocks, CodedDataSet, cds_bits}
-use Rattle.aec_params.specs.Places.{block_count, body_blocks, run_len, segment_left, IsLawful, cds_blocks, blocks_in, zero_block}
+use Rattle.aec_params.specs.Places.{block_count, body_blocks, run_len, segment_left, IsLawful, cds_blocks}
 use Rattle.aec_params.specs.Reading.{Covers, covered_blocks, StandsAt, begin_of, next_block, next_begin, LeadsTo, stream_blocks}
+pub use Rattle.aec_params.proofs.StreamLaws.{length-cds_blocks}
 
 -- ---- how far coded data sets reach
 
@@ -28,17 +29,6 @@ body_blocks-positive s p (zero_blocks m) h = run_len-positive s p m h
 
 pub block_count-positive : (s : Settings) (p : ℕ) (c : CodedDataSet) → p < s.interval → 0 < block_count s p c
 block_count-positive s p c h = body_blocks-positive s p c.body h
-
-length-blocks_in : (s : Settings) (p : ℕ) (reference : Option ℕ) (body : Body) → p < s.interval
-    → length (blocks_in s p reference body) ≡ body_blocks s p body
-length-blocks_in s p reference (plain_values values) h = refl
-length-blocks_in s p reference (value_pairs values) h = refl
-length-blocks_in s p reference (split_values k values) h = refl
-length-blocks_in s p reference (zero_blocks m) h =
-    omega (arith, run_len-positive s p m h, length-replicate (run_len s p m - 1) (zero_block s None))
-
-pub length-cds_blocks : (s : Settings) (p : ℕ) (c : CodedDataSet) → p < s.interval → length (cds_blocks s p c) ≡ block_count s p c
-length-cds_blocks s p c h = length-blocks_in s p c.reference c.body h
 
 -- a lawful one ends within its interval
 pub lawful-within : (s : Settings) (p : ℕ) (c : CodedDataSet) → IsLawful s p c → p < s.interval → p + block_count s p c ≤ s.interval

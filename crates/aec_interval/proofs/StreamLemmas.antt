@@ -1,5 +1,5 @@
 -- The code of all samples is read as the samples.
-use Rattle.std.proofs.Common.{◌≡◌, ℕ, ◌+◌, ◌-◌, ◌*◌, ◌/◌, ◌%◌, ◌<◌, ◌≤◌, min, Bool, true, false, Some, List, [], ◌∷◌, ◌++◌, length, take, replicate, refl, sym, ap, ap₂, ◌∙◌, subst, arith, ⊎_elim, mul-pos}
+use Rattle.std.proofs.Common.{◌≡◌, ℕ, ◌+◌, ◌-◌, ◌*◌, ◌/◌, ◌%◌, ◌<◌, ◌≤◌, min, Bool, true, false, Some, List, [], ◌∷◌, ◌++◌, length, take, replicate, refl, sym, ap, ap₂, ◌∙◌, subst, arith, ⊎_elim}
 use Rattle.std.specs.Prelude.{ℤ, ◌==◌, ◌&&◌, if◌then◌else◌}
 use Rattle.std.specs.List.{AllByRecursion, flat_map}
 use Rattle.std.specs.Int.{div_ceil, next_multiple_of}
@@ -19,14 +19,10 @@ use Rattle.aec_interval.proofs.CuttingLemmas.{IsPieceBefore, by_pieces, pieces_o
 use Rattle.aec_interval.proofs.BlockLemmas.{all_left, all_right, length-blocks_of, block_size-positive}
 use Rattle.aec_interval.proofs.IntervalLemmas.{ReadsBlocks-plain_bits, blocks-few}
 use Rattle.aec_interval.proofs.PlaceLemmas.{end_of, end_of-reaches, end_of-within, length-covered_blocks, stream_blocks-covered, LeadsTo-append, stream_blocks-append, LeadsTo-interval}
+pub use Rattle.aec_params.proofs.SettingLaws.{interval-positive}
+pub use Rattle.aec_params.proofs.SampleLaws.{interval_len-positive, all_blocks_of-nil}
 
 -- ---- whole intervals in front
-
-pub interval-positive : (s : Settings) → IsAllowed s → 0 < s.interval
-interval-positive s a = let b = a.interval in grind arith
-
-pub interval_len-positive : (s : Settings) → IsAllowed s → 0 < interval_len s
-interval_len-positive s a = mul-pos (block_size-positive s a) (interval-positive s a)
 
 -- so many whole pieces more
 pub div_ceil-add : (k m n : ℕ) → 0 < n → div_ceil (n * k + m) n ≡ k + div_ceil m n
@@ -42,9 +38,6 @@ stream_of-nil s a = ap (flat_map (interval_bits s)) (pieces_of-nil (interval_len
 pub stream_of-cons : (s : Settings) (front rest : List ℤ) → IsPieceBefore (interval_len s) front rest
     → stream_of s (front ++ rest) ≡ interval_bits s front ++ stream_of s rest
 stream_of-cons s front rest h = ap (flat_map (interval_bits s)) (pieces_of-cons (interval_len s) front rest h)
-
-pub all_blocks_of-nil : (s : Settings) → IsAllowed s → all_blocks_of s [] ≡ []
-all_blocks_of-nil s a = ap (flat_map (blocks_of s)) (pieces_of-nil (interval_len s) (interval_len-positive s a))
 
 pub all_blocks_of-cons : (s : Settings) (front rest : List ℤ) → IsPieceBefore (interval_len s) front rest
     → all_blocks_of s (front ++ rest) ≡ blocks_of s front ++ all_blocks_of s rest

@@ -1,10 +1,10 @@
 -- What the definitions of intervals, streams and readings were meant to say.
-use Rattle.std.specs.Prelude.{◌≡◌, ℕ, ◌<◌, ◌≤◌, Bool, Option, Some, ◌⊎◌, ℤ, List, ◌++◌, length}
-use Rattle.std.specs.List.{AllByRecursion}
+use Rattle.std.specs.Prelude.{◌≡◌, ℕ, ◌<◌, ◌≤◌, Bool, false, Option, Some, ◌⊎◌, ⊤, ℤ, List, [], ◌∷◌, ◌++◌, length}
+use Rattle.std.specs.List.{AllByRecursion, flat_map}
 use Rattle.aec_params.specs.declared.settings.Settings.{Settings}
 use Rattle.aec_params.specs.declared.fault.Fault.{Fault}
 use Rattle.aec_params.specs.Params.{IsAllowed, IsHeld, interval_len}
-use Rattle.aec_params.specs.Blocks.{blocks_of}
+use Rattle.aec_params.specs.Blocks.{intervals_of, blocks_of}
 use Rattle.aec_params.specs.Intervals.{plain_bits, interval_bits}
 use Rattle.aec_params.specs.Streams.{stream_of}
 use Rattle.aec_params.specs.Reading.{ReadsBlocks, IsReading}
@@ -50,3 +50,21 @@ pub record ReadingsAreSamples (s : Settings) (limit : ℕ) (bits : List Bool) : 
 
 abbrev pub AllReadingsAreSamples : Type 0
 AllReadingsAreSamples = (s : Settings) (limit : ℕ) (bits : List Bool) → IsAllowed s → ReadingsAreSamples s limit bits
+
+-- ---- the shortest code
+
+-- for each interval bits that are coded data sets for its blocks
+abbrev pub ReadsEach : Settings → List (List Bool) → List (List ℤ) → Type 0
+ReadsEach s [] [] = ⊤
+ReadsEach s (code ∷ codes) (v ∷ intervals) = ReadsBlocks s code (blocks_of s v) × ReadsEach s codes intervals
+ReadsEach s codes intervals = ⊥
+
+-- no coded data sets for the blocks of an interval have fewer bits than its code, and none for those of all intervals than the
+-- code of all samples, where nothing is padded
+pub record CodesAreShortest (s : Settings) (samples : List ℤ) : Type 0 where
+  pub interval : AreOfInterval s samples → (bits : List Bool) → ReadsBlocks s bits (blocks_of s samples) → length (plain_bits s samples) ≤ length bits
+  pub stream : AllByRecursion (IsHeld s) samples → s.pad ≡ false → (codes : List (List Bool)) → ReadsEach s codes (intervals_of s samples)
+      → length (stream_of s samples) ≤ length (flat_map (λ code. code) codes)
+
+abbrev pub AllCodesAreShortest : Type 0
+AllCodesAreShortest = (s : Settings) (samples : List ℤ) → IsAllowed s → CodesAreShortest s samples

@@ -6,6 +6,7 @@ ghost use Rattle.aec_interval.specs.Laws.{
   StreamsAreReadBack,
   AllBitsAreReadInOneWay,
   AllReadingsAreSamples,
+  AllCodesAreShortest,
 };
 
 /// The code of an interval is lawful coded data sets for its blocks.
@@ -31,4 +32,10 @@ pub fn bits_are_read_in_one_way()
 /// The samples of a reading are held, and with a count they are so many.
 pub fn readings_are_samples()
     ensures { AllReadingsAreSamples }
+{}
+
+/// No coded data sets for the blocks of an interval have fewer bits than its code, nor for those of all intervals than
+/// the code of all samples where nothing is padded.
+pub fn codes_are_shortest()
+    ensures { AllCodesAreShortest }
 {}

@@ -1,5 +1,5 @@
 -- Blocks at their places, joined and taken apart.
-use Rattle.std.proofs.Common.{◌≡◌, ℕ, suc, ◌+◌, List, [], ◌∷◌, ◌++◌, length, subst, arith}
+use Rattle.std.proofs.Common.{◌≡◌, ℕ, suc, ◌+◌, List, [], ◌∷◌, ◌++◌, length, sym, subst, arith}
 use Rattle.std.proofs.Math.Nat.{add-mod_right}
 use Rattle.aec_params.specs.declared.settings.Settings.{Settings}
 use Rattle.aec_params.specs.Blocks.{Block}
@@ -31,4 +31,12 @@ AreBlocksFrom-interval s i (x ∷ xs) h =
     let e : i + s.interval + 1 ≡ i + 1 + s.interval = omega arith in (
       subst (λ (t : ℕ). IsBlockAt s t x) (add-mod_right i s.interval) h.0,
       AreBlocksFrom-interval s (i + 1) xs (subst (λ (t : ℕ). AreBlocksFrom s t xs) e h.1),
+    )
+
+pub AreBlocksFrom-later : (s : Settings) (i : ℕ) (xs : List Block) → AreBlocksFrom s i xs → AreBlocksFrom s (i + s.interval) xs
+AreBlocksFrom-later s i [] h = tt
+AreBlocksFrom-later s i (x ∷ xs) h =
+    let e : i + 1 + s.interval ≡ i + s.interval + 1 = omega arith in (
+      subst (λ (t : ℕ). IsBlockAt s t x) (sym (add-mod_right i s.interval)) h.0,
+      subst (λ (t : ℕ). AreBlocksFrom s t xs) e (AreBlocksFrom-later s (i + 1) xs h.1),
     )

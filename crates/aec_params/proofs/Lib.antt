@@ -20,3 +20,5 @@ pub mod BlockShapeLaws
 pub mod FillLaws
 pub mod StreamLaws
 pub mod ReadingLaws
+pub mod EditLaws
+pub mod SampleShapeLaws

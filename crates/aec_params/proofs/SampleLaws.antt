@@ -134,7 +134,7 @@ pub all_blocks_of-step : (s : Settings) (xs : List ℤ) → IsAllowed s → 0 < 
     → all_blocks_of s xs ≡ blocks_of s (take (interval_len s) xs) ++ all_blocks_of s (drop (interval_len s) xs)
 all_blocks_of-step s xs a l = ap (flat_map (blocks_of s)) (pieces_of-step (interval_len s) xs (interval_len-positive s a) l)
 
-length-with_reference : (r : Option ℕ) (groups : List (List ℕ)) → length (with_reference r groups) ≡ length groups
+pub length-with_reference : (r : Option ℕ) (groups : List (List ℕ)) → length (with_reference r groups) ≡ length groups
 length-with_reference r [] = refl
 length-with_reference r (g ∷ groups) = ap suc (length-map groups (λ (values : List ℕ). record { reference = None; values = values }))
 
@@ -159,10 +159,10 @@ same_block_count s xs ys h l = count xs ∙ (ap (λ (m : ℕ). div_ceil (m + up_
         ∙ (length-pieces_of s.block_size (mapped_values s (filled_samples s v)) h
         ∙ ap (λ (m : ℕ). div_ceil m s.block_size) (length-mapped_values s (filled_samples s v) ∙ filled v))
 
-held-take : (s : Settings) (n : ℕ) (xs : List ℤ) → AreHeld s xs → AreHeld s (take n xs)
+pub held-take : (s : Settings) (n : ℕ) (xs : List ℤ) → AreHeld s xs → AreHeld s (take n xs)
 held-take s n xs h = all-front (IsHeld s) (take n xs) (drop n xs) (rw (take-append-drop n xs) h)
 
-held-drop : (s : Settings) (n : ℕ) (xs : List ℤ) → AreHeld s xs → AreHeld s (drop n xs)
+pub held-drop : (s : Settings) (n : ℕ) (xs : List ℤ) → AreHeld s xs → AreHeld s (drop n xs)
 held-drop s n xs h = all-back (IsHeld s) (take n xs) (drop n xs) (rw (take-append-drop n xs) h)
 
 -- samples are known from their blocks and their number; m bounds the number

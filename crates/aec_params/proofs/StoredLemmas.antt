@@ -14,7 +14,7 @@ use Rattle.std.specs.Prelude.{ℤ, pos, negsuc, Bool, true, false, nat_le, nat_l
 use Rattle.std.specs.Int.{cast_unsigned, w64}
 use Rattle.aec_params.specs.declared.settings.Settings.{Settings}
 use Rattle.aec_params.specs.Params.{IsAllowed, IsHeld, pattern_value, storage_len}
-use Rattle.aec_params.specs.Stored.{stored_number, byte_groups, samples_of_groups, sample_of_number, number_in, sample_before, is_sign_extended}
+use Rattle.aec_params.specs.Stored.{stored_number, byte_groups, samples_of_groups, sample_of_number, number_in, sample_before, has_sign_above}
 use Rattle.aec_params.proofs.ParamsLemmas.{bits-least, bits-greatest, pow-halves, low_bits-code, low_bits-negative, held-positive, held-negative}
 
 -- the bytes of a sample of n bits have room for it, and are four at most
@@ -127,15 +127,15 @@ behind-sample xs x i (Err k) = refl
 sample-low : (s : Settings) (u : ℕ) → (sample_of_number s u ≡ None) ⊎ (sample_of_number s u ≡ Some (pattern_value s (u % 2 ^ s.bits)))
 sample-low s u =
     let low : Option ℤ = Some (pattern_value s (u % 2 ^ s.bits)) in
-    let rest : Option ℤ = if s.signed && is_sign_extended s u then low else None in
+    let rest : Option ℤ = if s.signed && has_sign_above s u then low else None in
     elim (cases_Bool (nat_lt u (2 ^ s.bits))) as (λ w. (sample_of_number s u ≡ None) ⊎ (sample_of_number s u ≡ low)) [
       | inl plain ↦ inr (cond-true (nat_lt u (2 ^ s.bits)) (Some (pattern_value s u)) rest plain
           ∙ ap (λ (k : ℕ). Some (pattern_value s k)) (sym (mod-eq_of_lt (ltb-true u (2 ^ s.bits) plain))))
       | inr wide ↦
           let second : sample_of_number s u ≡ rest = cond-false (nat_lt u (2 ^ s.bits)) (Some (pattern_value s u)) rest wide in
-          elim (cases_Bool (s.signed && is_sign_extended s u)) as (λ w. (sample_of_number s u ≡ None) ⊎ (sample_of_number s u ≡ low)) [
-            | inl extended ↦ inr (second ∙ cond-true (s.signed && is_sign_extended s u) low None extended)
-            | inr other ↦ inl (second ∙ cond-false (s.signed && is_sign_extended s u) low None other)
+          elim (cases_Bool (s.signed && has_sign_above s u)) as (λ w. (sample_of_number s u ≡ None) ⊎ (sample_of_number s u ≡ low)) [
+            | inl extended ↦ inr (second ∙ cond-true (s.signed && has_sign_above s u) low None extended)
+            | inr other ↦ inl (second ∙ cond-false (s.signed && has_sign_above s u) low None other)
           ]
     ]
 

@@ -68,7 +68,7 @@ zero_block_at s p r a h = record {
 
 -- ---- one coded data set
 
-not_first : (s : Settings) (p : ℕ) → 0 < p → is_reference_block s p ≡ false
+pub not_first : (s : Settings) (p : ℕ) → 0 < p → is_reference_block s p ≡ false
 not_first s p l = and_right s.preprocess (eqb p 0) (ne_eqb p 0 (λ e. absurd (omega arith)))
 
 -- k zero blocks from place q of an interval on, which begins at block r * d
@@ -125,7 +125,8 @@ pub length-cds_blocks : (s : Settings) (p : ℕ) (c : CodedDataSet) → p < s.in
 length-cds_blocks s p c l = length-blocks_in s p c.reference c.body l
 
 -- the blocks of a lawful coded data set can stand where it stands
-pub cds_blocks-shape : (s : Settings) (i : ℕ) (c : CodedDataSet) → IsAllowed s → IsLawful s (i % s.interval) c → AreBlocksFrom s i (cds_blocks s (i % s.interval) c)
+pub cds_blocks-shape : (s : Settings) (i : ℕ) (c : CodedDataSet)
+    → IsAllowed s → IsLawful s (i % s.interval) c → AreBlocksFrom s i (cds_blocks s (i % s.interval) c)
 cds_blocks-shape s i c a h = blocks_in-shape s i c.reference c.body a h.shape.reference h.shape.body h.small h.within
 
 -- ---- coded data sets one after the other

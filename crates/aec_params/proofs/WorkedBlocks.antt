@@ -1,14 +1,14 @@
 -- Stored samples, mapped values, lengths of options and choices, computed from the definitions.
-use Rattle.std.proofs.Common.{true, ◌≡◌, ℕ, ◌+◌, ◌*◌, ℤ, pos, negsuc, Option, Some, None, Ok, Err, List, [], ◌∷◌, ◌++◌, map, replicate, length, refl}
+use Rattle.std.proofs.Common.{true, ◌≡◌, ℕ, pos, negsuc, Some, None, Ok, Err, List, [], ◌∷◌, ◌++◌, map, replicate, length, refl}
 use Rattle.aec_params.specs.declared.settings.Settings.{Settings}
 use Rattle.aec_params.specs.declared.fault.Fault.TheVariants.{BitsPerSample, BlockSize, Interval, RestrictedWidth}
 use Rattle.aec_params.specs.Params.{settings_fault, id_len, k_max}
 use Rattle.aec_params.specs.Stored.{samples_of_bytes, stored_bytes}
-use Rattle.aec_params.specs.Mapping.{mapped_value, mapped_values}
+use Rattle.aec_params.specs.Mapping.{mapped_value}
 use Rattle.aec_params.specs.Blocks.{Block, blocks_of}
-use Rattle.aec_params.specs.CodedDataSets.{CodedDataSet, plain_values, value_pairs, split_values, cds_bits, pair_number}
+use Rattle.aec_params.specs.CodedDataSets.{plain_values, value_pairs, split_values, cds_bits, pair_number}
 use Rattle.aec_params.specs.Spellings.{spellings, shortest_spelling}
-use Rattle.aec_params.proofs.WorkedSettings.{usual, unprocessed, restricted_two, twelve_bits, five_signed, twenty_bits}
+use Rattle.aec_params.proofs.WorkedSettings.{usual, restricted_two, twelve_bits, five_signed, twenty_bits}
 
 -- ---- settings
 

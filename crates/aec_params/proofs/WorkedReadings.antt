@@ -1,14 +1,11 @@
 -- Small streams read back, and the faults of others, worked out against the definitions of a reading and a fault.
-use Rattle.std.proofs.Common.{rules, lit<, ◌≡◌, ℕ, true, false, ℤ, pos, Option, Some, None, List, [], ◌∷◌, ◌++◌, map, replicate, refl}
-use Rattle.aec_params.specs.declared.settings.Settings.{Settings}
-use Rattle.aec_params.specs.declared.fault.Fault.TheVariants.{ValueTooLarge, RunTooLong, TooManySamples}
+use Rattle.std.proofs.Common.{rules, lit<, ℕ, ℤ, pos, Some, None, List, [], ◌∷◌, map, replicate, refl}
 use Rattle.aec_params.specs.Codewords.{bits_of_bytes}
-use Rattle.aec_params.specs.CodedDataSets.{CodedDataSet, plain_values, value_pairs, split_values, zero_blocks}
+use Rattle.aec_params.specs.CodedDataSets.{CodedDataSet, split_values, zero_blocks}
 use Rattle.aec_params.specs.Blocks.{Block}
 use Rattle.aec_params.specs.Places.{zero_block}
 use Rattle.aec_params.specs.Reading.{IsReading}
-use Rattle.aec_params.specs.Faults.{IsFault, too_large, too_long, too_many}
-use Rattle.aec_params.proofs.WorkedSettings.{usual, with_interval, unprocessed, padded}
+use Rattle.aec_params.proofs.WorkedSettings.{usual, padded}
 
 -- ---- a ramp
 

@@ -1,5 +1,5 @@
 -- The remainder code read back, with a count and without, an uncompressed block, and small faults.
-use Rattle.std.proofs.Common.{rules, lit<, ◌≡◌, ℕ, zero, suc, true, false, ℤ, pos, Option, Some, None, List, [], ◌∷◌, map, replicate, refl}
+use Rattle.std.proofs.Common.{rules, lit<, ℕ, zero, suc, ℤ, pos, Some, None, List, [], ◌∷◌, map, replicate, refl}
 use Rattle.aec_params.specs.declared.settings.Settings.{Settings}
 use Rattle.aec_params.specs.declared.fault.Fault.TheVariants.{ValueTooLarge, RunTooLong, TooManySamples}
 use Rattle.aec_params.specs.Codewords.{bits_of_bytes}

@@ -1,5 +1,5 @@
 -- The settings of the worked examples.
-use Rattle.std.proofs.Common.{ℕ, Bool, true, false}
+use Rattle.std.proofs.Common.{ℕ, true, false}
 use Rattle.aec_params.specs.declared.settings.Settings.{Settings}
 
 -- 8 bits, blocks of 8, intervals of 2 blocks, unsigned, with preprocessing

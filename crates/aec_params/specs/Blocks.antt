@@ -1,5 +1,5 @@
 -- Intervals and blocks: how samples are cut up before they are coded.
-use Rattle.std.specs.Prelude.{ℕ, ◌-◌, ◌==◌, Bool, if◌then◌else◌, Option, Some, None, ℤ, pos, List, [], ◌∷◌, ◌++◌, length, map, replicate, unwrap_or}
+use Rattle.std.specs.Prelude.{ℕ, ◌==◌, Bool, if◌then◌else◌, Option, Some, None, ℤ, pos, List, [], ◌∷◌, ◌++◌, length, map, replicate, unwrap_or}
 use Rattle.std.specs.List.{list_all, last_or, flat_map}
 use Rattle.aec_params.specs.declared.settings.Settings.{Settings}
 use Rattle.aec_params.specs.Params.{interval_len, sample_pattern}

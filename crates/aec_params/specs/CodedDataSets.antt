@@ -1,10 +1,9 @@
 -- Coded data sets: what one is, and the bits that spell it.
-use Rattle.std.specs.Prelude.{◌≡◌, ℕ, zero, suc, ◌+◌, ◌-◌, ◌*◌, ◌/◌, ◌%◌, ◌^◌, ◌<◌, min, Bool, true, false, ◌&&◌, ◌==◌, nat_lt, nat_le, if◌then◌else◌, IsTrue, Option, Some, None, List, [], ◌∷◌, ◌++◌, length, map, drop, replicate, ⊤}
+use Rattle.std.specs.Prelude.{◌≡◌, ℕ, ◌+◌, ◌-◌, ◌*◌, ◌/◌, ◌%◌, ◌^◌, ◌<◌, Bool, true, false, nat_lt, if◌then◌else◌, Option, Some, None, List, [], ◌∷◌, ◌++◌, length, drop, ⊤}
 use Rattle.std.specs.List.{flat_map, AllByRecursion, list_all}
 use Rattle.aec_params.specs.declared.settings.Settings.{Settings}
-use Rattle.aec_params.specs.Params.{id_len, split_count, value_count}
+use Rattle.aec_params.specs.Params.{id_len, split_count}
 use Rattle.aec_params.specs.Codewords.{fs, binary}
-use Rattle.aec_params.specs.Blocks.{Block}
 
 -- what stands after the identifier and the reference sample
 pub data Body : Type 0 where

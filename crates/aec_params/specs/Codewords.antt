@@ -1,5 +1,5 @@
 -- The two codewords that everything is written with, and the bytes that bits fill.
-use Rattle.std.specs.Prelude.{ℕ, zero, suc, ◌+◌, ◌-◌, ◌*◌, ◌/◌, ◌%◌, ◌^◌, Bool, true, false, ◌==◌, cond, List, [], ◌∷◌, ◌++◌, length, map, replicate}
+use Rattle.std.specs.Prelude.{ℕ, zero, suc, ◌+◌, ◌/◌, ◌%◌, ◌^◌, Bool, true, false, ◌==◌, cond, List, [], ◌∷◌, ◌++◌, length, map, replicate}
 use Rattle.aec_params.specs.Cutting.{pieces_of, up_to_multiple}
 
 -- the fundamental sequence of v: v zeros and a one

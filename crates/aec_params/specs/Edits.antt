@@ -15,7 +15,7 @@ samples_after samples (Truncate count) = take count samples
 abbrev pub touched_intervals : ℕ → ℕ → ℕ → List ℕ
 touched_intervals n first len = dedup (λ i k. i == k) (map (λ place. place / n) (range_with_len first len))
 
--- how many intervals a cut to count samples codes: the last one where it is cut and not empty
+-- how many intervals a cut to count samples codes: one where the count differs and is no multiple of n
 abbrev pub cut_calls : ℕ → ℕ → ℕ → ℕ
 cut_calls n old count = if count == old then 0 else (if count % n == 0 then 0 else 1)
 
@@ -25,7 +25,7 @@ needed_calls n old (Overwrite first values) = length (touched_intervals n first 
 needed_calls n old (Append values) = if length values == 0 then 0 else div_ceil (old + length values) n - old / n
 needed_calls n old (Truncate count) = cut_calls n old count
 
--- whether interval k of n samples, of old samples in all, has a place outside the len places from first on
+-- whether a touched interval k of n samples, of old samples in all, has a place outside the len places from first on
 abbrev pub keeps_a_sample : ℕ → ℕ → ℕ → ℕ → ℕ → Bool
 keeps_a_sample n old first len k = nat_lt (k * n) first || nat_lt (first + len) (min (k * n + n) old)
 

@@ -18,7 +18,7 @@ pub data IsWrongAt (s : Settings) (count : Option ℕ) (limit : ℕ) (bits : Lis
   cut_short : ((c : CodedDataSet) → HasSetAt s bits (i % s.interval) b c → ⊥) → IsWrongAt s count limit bits i b (Truncated b)
   -- else a value is above 2^n - 1
   too_large : (c : CodedDataSet) → HasSetAt s bits (i % s.interval) b c → has_small_values s c ≡ false → IsWrongAt s count limit bits i b (ValueTooLarge b)
-  -- else the run is longer than its segment
+  -- else the run is longer than what its segment has left
   too_long : (c : CodedDataSet) → HasSetAt s bits (i % s.interval) b c → has_small_values s c ≡ true
       → stays_in_segment s (i % s.interval) c ≡ false → IsWrongAt s count limit bits i b (RunTooLong b)
   -- else the samples with this coded data set pass the limit

@@ -1,5 +1,5 @@
 -- The code of one reference sample interval.
-use Rattle.std.specs.Prelude.{ℕ, Bool, true, false, if◌then◌else◌, ℤ, List, [], ◌∷◌, ◌++◌}
+use Rattle.std.specs.Prelude.{Bool, true, false, if◌then◌else◌, ℤ, List, [], ◌∷◌}
 use Rattle.std.specs.List.{flat_map}
 use Rattle.aec_params.specs.declared.settings.Settings.{Settings}
 use Rattle.aec_params.specs.Codewords.{padded_to_byte}

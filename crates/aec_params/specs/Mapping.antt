@@ -1,5 +1,5 @@
 -- Prediction and mapping: from samples to the values that are coded.
-use Rattle.std.specs.Prelude.{ℕ, ◌+◌, ◌-◌, ◌*◌, Bool, ◌&&◌, if◌then◌else◌, ℤ, pos, neg_ℤ, ◌-ℤ◌, nat_abs, int_le, int_lt, List, [], ◌∷◌}
+use Rattle.std.specs.Prelude.{ℕ, ◌+◌, ◌-◌, ◌*◌, ◌&&◌, if◌then◌else◌, ℤ, pos, neg_ℤ, ◌-ℤ◌, nat_abs, int_le, int_lt, List, [], ◌∷◌}
 use Rattle.std.specs.Int.{int_min}
 use Rattle.aec_params.specs.declared.settings.Settings.{Settings}
 use Rattle.aec_params.specs.Params.{x_min, x_max, sample_pattern}

@@ -1,5 +1,5 @@
 -- The parameters of a stream: which the format has, and the numbers that follow from them.
-use Rattle.std.specs.Prelude.{◌≡◌, ℕ, ◌+◌, ◌-◌, ◌*◌, ◌^◌, ◌<◌, Bool, ◌&&◌, ◌||◌, not, nat_le, nat_lt, ◌==◌, if◌then◌else◌, Option, Some, None, ℤ, pos, negsuc, neg_ℤ, ◌-ℤ◌, int_le, IsTrue}
+use Rattle.std.specs.Prelude.{ℕ, ◌+◌, ◌-◌, ◌*◌, ◌^◌, Bool, ◌&&◌, ◌||◌, not, nat_le, nat_lt, ◌==◌, if◌then◌else◌, Option, Some, None, ℤ, pos, negsuc, neg_ℤ, ◌-ℤ◌, int_le, IsTrue}
 use Rattle.aec_params.specs.declared.settings.Settings.{Settings}
 use Rattle.aec_params.specs.declared.fault.Fault.{Fault}
 use Rattle.aec_params.specs.declared.fault.Fault.TheVariants.{BitsPerSample, BlockSize, Interval, RestrictedWidth}
@@ -44,10 +44,6 @@ split_count s = 2 ^ id_len s - 2
 -- the greatest k of a sample-splitting option, if there is one
 abbrev pub k_max : Settings → Option ℕ
 k_max s = if id_len s == 1 then None else Some (2 ^ id_len s - 3)
-
--- how many values n bits have
-abbrev pub value_count : Settings → ℕ
-value_count s = 2 ^ s.bits
 
 -- the least and the greatest sample
 abbrev pub x_min : Settings → ℤ

@@ -1,5 +1,5 @@
 -- Runs of zero blocks: how the blocks of a segment are grouped, and the number that a run's code spells.
-use Rattle.std.specs.Prelude.{ℕ, ◌+◌, ◌-◌, Bool, true, false, nat_le, if◌then◌else◌, Option, List, [], ◌∷◌}
+use Rattle.std.specs.Prelude.{ℕ, ◌+◌, ◌-◌, Bool, nat_le, if◌then◌else◌, Option, List, [], ◌∷◌}
 use Rattle.aec_params.specs.Blocks.{Block, is_zero_block}
 use Rattle.aec_params.specs.Cutting.{pieces_of}
 
@@ -22,6 +22,7 @@ abbrev pub groups_of : List Block → List Group
 groups_of [] = []
 groups_of (b ∷ blocks) = if is_zero_block b then with_zero_block b.reference (groups_of blocks) else single_block b ∷ groups_of blocks
 
--- the number that is written for a run of z blocks; the remainder code, 4, only where the run ends its segment
+-- the number that is written for a run of z blocks; the remainder code, 4, only where the run ends
+-- the coded blocks of its segment
 abbrev pub run_code : ℕ → Bool → ℕ
 run_code z is_last = if nat_le z 4 then z - 1 else (if is_last then 4 else z)

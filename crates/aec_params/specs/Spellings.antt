@@ -1,5 +1,5 @@
--- The coded data sets that can stand for one block by itself, and the shortest of them.
-use Rattle.std.specs.Prelude.{ℕ, zero, suc, ◌-◌, Bool, nat_lt, Option, Some, None, List, [], ◌∷◌, ◌++◌, length, map, drop}
+-- The coded data sets that are weighed for one block by itself, and the shortest of them.
+use Rattle.std.specs.Prelude.{ℕ, Bool, nat_lt, Option, Some, None, List, ◌∷◌, length, map, drop}
 use Rattle.std.specs.List.{range_with_len, best_of}
 use Rattle.aec_params.specs.declared.settings.Settings.{Settings}
 use Rattle.aec_params.specs.Params.{split_count}

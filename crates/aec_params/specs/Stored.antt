@@ -1,5 +1,5 @@
 -- Samples as they are stored: which bytes a sample has, and which samples bytes are.
-use Rattle.std.specs.Prelude.{◌≡◌, ℕ, ◌+◌, ◌-◌, ◌*◌, ◌/◌, ◌%◌, ◌^◌, Bool, ◌&&◌, ◌||◌, nat_le, nat_lt, ◌==◌, if◌then◌else◌, Option, Some, None, Result, Ok, Err, List, [], ◌∷◌, length, ℤ, pos, negsuc}
+use Rattle.std.specs.Prelude.{◌≡◌, ℕ, ◌+◌, ◌-◌, ◌*◌, ◌/◌, ◌%◌, ◌^◌, Bool, ◌&&◌, nat_lt, ◌==◌, if◌then◌else◌, Option, Some, None, Result, Ok, Err, List, [], ◌∷◌, length, ℤ, pos, negsuc}
 use Rattle.std.specs.Simd.{first_chunks}
 use Rattle.byteorder.specs.Endian.{big_bytes, little_bytes, big_number, little_number}
 use Rattle.aec_params.specs.declared.settings.Settings.{Settings}
@@ -23,16 +23,16 @@ abbrev pub number_in : Settings → List ℕ → ℕ
 number_in s bytes =
     if s.msb_first then big_number (storage_len s) bytes else little_number (storage_len s) bytes
 
--- whether the bits above the lowest n are copies of the sign bit, bit n - 1, or all zero where it is not set
-abbrev pub is_sign_extended : Settings → ℕ → Bool
-is_sign_extended s u =
+-- whether the sign bit, bit n - 1, and all bits above it are set
+abbrev pub has_sign_above : Settings → ℕ → Bool
+has_sign_above s u =
     (u / 2 ^ (s.bits - 1) == 2 ^ (8 * storage_len s - (s.bits - 1)) - 1)
 
 -- the sample that a stored number is: its unused bits are zero, or where samples are signed copies of its sign
 abbrev pub sample_of_number : Settings → ℕ → Option ℤ
 sample_of_number s u =
     if nat_lt u (2 ^ s.bits) then Some (pattern_value s u)
-    else (if s.signed && is_sign_extended s u then Some (pattern_value s (u % 2 ^ s.bits)) else None)
+    else (if s.signed && has_sign_above s u then Some (pattern_value s (u % 2 ^ s.bits)) else None)
 
 -- the whole groups of bytes that hold a sample each; what is left over at the end is in none
 abbrev pub byte_groups : Settings → List ℕ → List (List ℕ)

@@ -1,6 +1,6 @@
 //! Laws of the format's definitions. Their functions do nothing: what each one's contract says is proved.
 
-ghost use Rattle.aec_params.specs.Laws.{FundamentalSequencesDiffer, BinaryNumbersDiffer, CodewordLengths, BinaryNumbersAreReadBack, ListsAreTold, EachNumberIsOnePair, SamplesAreValues, PiecesAreTheCut, WholePiecesComeFirst, BytesAreBits, BlocksTellSamples, BlocksHaveSamples, ReadingsHaveSamples};
+ghost use Rattle.aec_params.specs.Laws.{FundamentalSequencesDiffer, BinaryNumbersDiffer, CodewordLengths, BinaryNumbersAreReadBack, ListsAreTold, EachNumberIsOnePair, SamplesAreValues, PiecesAreTheCut, WholePiecesComeFirst, BytesAreBits, BlocksTellSamples, SamplesAreBlocks, ReadingsHaveSamples, EditsTouchFew};
 
 /// Fundamental sequences of two numbers differ, whatever bits follow them.
 pub fn fundamental_sequences_differ()
@@ -57,12 +57,17 @@ pub fn blocks_tell_samples()
     ensures { BlocksTellSamples }
 {}
 
-/// Blocks in the shape that the format has are the blocks of held samples.
-pub fn blocks_have_samples()
-    ensures { BlocksHaveSamples }
+/// The blocks of held samples are those in the shape that the format has, and no others.
+pub fn samples_are_blocks()
+    ensures { SamplesAreBlocks }
 {}
 
 /// Each reading of blocks is one of samples, and of one list alone.
 pub fn readings_have_samples()
     ensures { ReadingsHaveSamples }
+{}
+
+/// Which intervals an edit touches, and that it opens at most two of those that it codes.
+pub fn edits_touch_few()
+    ensures { EditsTouchFew }
 {}

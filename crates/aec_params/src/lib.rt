@@ -9,6 +9,8 @@ mod params;
 mod samples;
 mod settings;
 mod stored;
+#[cfg(test)]
+mod tests;
 
 pub use edit::Edit;
 pub use fault::Fault;

@@ -4,7 +4,7 @@ ghost use Rattle.std.specs.Prelude.{None, Ok, IfOk, IfErr, ◌≡◌, ◌<◌, �
 ghost use Rattle.aec_params.specs.declared.fault.Fault.TheVariants.{Memory};
 ghost use Rattle.aec_params.specs.Params.{IsHeld, pattern_value, storage_len};
 ghost use Rattle.std.specs.Result.{result_err};
-ghost use Rattle.aec_params.specs.Stored.{samples_of_bytes, stored_bytes, stored_number, AnswersSamples, is_sign_extended, number_in, sample_of_number};
+ghost use Rattle.aec_params.specs.Stored.{samples_of_bytes, stored_bytes, stored_number, AnswersSamples, has_sign_above, number_in, sample_of_number};
 
 use crate::fault::Fault;
 use crate::params::Params;
@@ -79,7 +79,7 @@ fn number_of(params: &Params, group: &[u8]) -> u64
 
 /// Whether the bits of a stored number from its sign bit on are all set.
 fn has_sign_bits(params: &Params, number: u64) -> bool
-    ensures { result ≡ is_sign_extended params.now number }
+    ensures { result ≡ has_sign_above params.now number }
 {
     let low = params.bits() - 1;
     let high = 8 * params.storage() as u32 - low;

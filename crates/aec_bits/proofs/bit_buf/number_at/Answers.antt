@@ -1,4 +1,4 @@
-use Rattle.std.proofs.Common.{rules, arith}
+use Rattle.std.proofs.Common.{arith}
 use Rattle.aec_bits.proofs.CodewordLemmas.{number_more, number_more-lt, bit_value}
 use Rattle.aec_bits.proofs.bit_buf.number_at.Goals as goal
 

@@ -1,4 +1,4 @@
-use Rattle.std.proofs.Common.{◌≡◌, ◌+◌, ◌-◌, ◌<◌, ◌^◌, ◌++◌, drop}
+use Rattle.std.proofs.Common.{◌≡◌, ◌-◌, ◌<◌, ◌^◌, ◌++◌, drop}
 use Rattle.aec_params.specs.Codewords.{binary}
 use Rattle.aec_bits.proofs.bit_buf.number_at.Given as goal
 

@@ -1,4 +1,4 @@
-use Rattle.std.proofs.Common.{rules, arith}
+use Rattle.std.proofs.Common.{arith}
 use Rattle.aec_bits.proofs.CodewordLemmas.{binary_more}
 use Rattle.aec_bits.proofs.bit_buf.push_number.Goals as goal
 

@@ -1,4 +1,4 @@
-use Rattle.std.proofs.Common.{◌≡◌, length, take, drop}
+use Rattle.std.proofs.Common.{◌≡◌, take, drop}
 use Rattle.aec_params.specs.Codewords.{bytes_of}
 use Rattle.aec_bits.proofs.writing.fill.Given as goal
 

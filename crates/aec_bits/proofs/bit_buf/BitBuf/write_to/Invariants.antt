@@ -1,4 +1,4 @@
-use Rattle.std.proofs.Common.{◌≡◌, ◌≤◌, ◌<◌, ◌-◌, length, take}
+use Rattle.std.proofs.Common.{◌≡◌, ◌≤◌, ◌<◌, ◌-◌, take}
 use Rattle.std.specs.Io.KnownBytes.{Appends}
 use Rattle.aec_params.specs.Codewords.{bytes_of}
 use Rattle.aec_bits.proofs.bit_buf.BitBuf.write_to.Given as goal
@@ -8,8 +8,8 @@ invariant-loop-done g l = record {
   within : l.done ≤ l.total;
   bytes : Appends (g.W.Sink.taken l.initial.out) (g.W.Sink.taken l.out) (take l.done (bytes_of l.self.list));
   begun : g.W.Sink.begun l.out ≡ g.W.Sink.begun l.initial.out;
-  works : g.W.Sink.failed l.out ≡ g.W.Sink.failed l.initial.out;
-  worked : 0 < l.done → g.W.Sink.failed l.initial.out ≡ 0;
+  failures : g.W.Sink.failed l.out ≡ g.W.Sink.failed l.initial.out;
+  refuses : 0 < l.done → g.W.Sink.failed l.initial.out ≡ 0;
 }
 
 abbrev pub decreases-loop-done : goal.decreases-loop-done

@@ -1,4 +1,4 @@
-use Rattle.std.proofs.Common.{◌≡◌, ◌+◌, ◌*◌, ◌≤◌, ◌<◌, length, drop, ◌++◌, arith, ap, sym, ◌∙◌, refl}
+use Rattle.std.proofs.Common.{length, arith, ap, ◌∙◌}
 use mir.Val.{to_z}
 use mir.Syntax.{w64}
 use Rattle.std.proofs.lemmas.Int.{to_z_pos}
@@ -17,14 +17,14 @@ returns-in_err-read-clause-err c =
 
 pub loop-place-preserved : goal.loop-place-preserved
 loop-place-preserved c =
-    let number = c.in_ok-read.ensures.ok in
     record {
       list = c.in_ok-read.ensures.list ∙ c.loop-place.invariant.list;
-      place = omega (arith, number.2);
+      place = omega (arith, c.in_ok-read.ensures.moves);
       room = omega (arith, c.in_ok-push.ensures.len);
       items =
-        rw c.in_ok-push.ensures.items
+          rw c.in_ok-push.ensures.items
           (decoded_more c.args.out.now.items c.loop-place.out.items c.args.stream.now.list c.loop-place.reader.list c.args.pos c.args.count c.loop-place._place
-            c.in_ok-read.field-0 c.loop-place.reader.pos (to_z w64 c.in_ok-read.field-0) (omega arith) number.0 (to_z_pos w64 c.in_ok-read.field-0 (omega arith))
-            c.loop-place.invariant.list c.loop-place.invariant.place number.1 c.loop-place.invariant.items);
+          c.in_ok-read.field-0 c.loop-place.reader.pos (to_z w64 c.in_ok-read.field-0) (omega arith) c.in_ok-read.ensures.fits
+          (to_z_pos w64 c.in_ok-read.field-0 (omega (arith, c.in_ok-read.ensures.fits)))
+          c.loop-place.invariant.list c.loop-place.invariant.place c.in_ok-read.ensures.bits c.loop-place.invariant.items);
     }

@@ -1,0 +1,5 @@
+//! What no clause says: that calls succeed, bytes from outside, and devices that fail.
+
+mod bits;
+mod codecs;
+mod devices;

@@ -1,0 +1,194 @@
+ghost use Rattle.std.specs.Prelude.{◌<◌, ◌≤◌, ◌^◌, length};
+
+use crate::{BitBuf, BitReader};
+use aec_params::Fault;
+use std::alloc::Global;
+use std::test::Fail;
+
+/// The bytes that bits fill, one by one.
+pub fn bytes(alloc: Global, buf: &BitBuf) -> Result<Vec<u8>, Fault> {
+    let mut bytes = Vec::new(alloc);
+    for i in 0..buf.byte_len() {
+        bytes.push(buf.byte(i))?;
+    }
+    Ok(bytes)
+}
+
+/// Bits from a slice of them.
+pub fn bits(alloc: Global, list: &[bool]) -> Result<BitBuf, Fault> {
+    let mut buf = BitBuf::new(alloc);
+    for bit in list {
+        buf.push_bits(u64::from(*bit), 1)?;
+    }
+    Ok(buf)
+}
+
+/// The bits of bytes.
+pub fn bits_in(alloc: Global, bytes: &[u8]) -> Result<BitBuf, Fault> {
+    BitBuf::from_bytes(alloc, bytes)
+}
+
+/// Appends a number: the clauses of a literal's many bits stay out of the tests' proofs.
+fn push(buf: &mut BitBuf, value: u64, width: u32) -> Result<(), Fault>
+    requires width { width ≤ 64 }
+    requires fits { value < 2 ^ width }
+{
+    buf.push_bits(value, width)
+}
+
+fn push_fs(buf: &mut BitBuf, v: u64) -> Result<(), Fault> {
+    buf.push_fs(v)
+}
+
+/// Whether the bits are those of a slice.
+fn are(buf: &BitBuf, list: &[bool]) -> bool {
+    if buf.len() != list.len() as u64 {
+        return false;
+    }
+    for (i, bit) in list.iter().enumerate() {
+        if buf.get(i as u64) != *bit {
+            return false;
+        }
+    }
+    true
+}
+
+/// Bits with no simple period.
+fn sample_list(alloc: Global, len: usize, step: usize) -> Result<Vec<bool>, Fault> {
+    let mut list = Vec::new(alloc);
+    for i in 0..len.min(100) {
+        list.push(i * step.min(100) % 7 < 3)?;
+    }
+    Ok(list)
+}
+
+/// Whether a splice leaves what it leaves of a plain list.
+fn splices(
+    alloc: Global,
+    list: &[bool],
+    start: usize,
+    stop: usize,
+    with: &[bool],
+) -> Result<bool, Fault>
+    requires order { start ≤ stop }
+    requires within { stop ≤ length list.now }
+{
+    let mut want = list[..start].to_vec(alloc)?;
+    want.extend_from_slice(with)?;
+    want.extend_from_slice(&list[stop..])?;
+    let mut buf = bits(alloc, list)?;
+    if (stop as u64) > buf.len() {
+        return Ok(false);
+    }
+    buf.splice(start as u64, stop as u64, &bits(alloc, with)?)?;
+    Ok(are(&buf, &want))
+}
+
+#[test]
+fn builds_and_edits(rt: HostRuntime) -> Result<(), Fail> {
+    let alloc = rt.alloc();
+    let mut buf = BitBuf::new(alloc);
+    buf.reserve(100)?;
+    push(&mut buf, 5, 3)?;
+    push_fs(&mut buf, 4)?;
+    buf.append(&bits(alloc, &[true, true])?)?;
+    assert_eq!(rt; bytes(alloc, &buf)?.as_slice(), [0xA1, 0xC0].as_slice());
+    assert_eq!(rt; buf.len(), 10);
+    buf.splice(2, 7, &bits(alloc, &[false, true, true, false])?)?;
+    assert_eq!(rt; bytes(alloc, &buf)?.as_slice(), [0x9B, 0x80].as_slice());
+    assert_eq!(rt; buf.len(), 9);
+    buf.truncate(5);
+    buf.pad_to_byte()?;
+    assert_eq!(rt; bytes(alloc, &buf)?.as_slice(), [0x98].as_slice());
+    assert_eq!(rt; buf.len(), 8);
+    buf.pad_to_byte()?;
+    assert_eq!(rt; buf.len(), 8);
+    Ok(())
+}
+
+#[test]
+fn reads_and_stays(rt: HostRuntime) -> Result<(), Fail> {
+    let buf = bits_in(rt.alloc(), &[0x98])?;
+    let mut reader = BitReader::new(&buf);
+    assert_eq!(rt; reader.read(3), Ok(4));
+    assert_eq!(rt; reader.read_fs(), Ok(0));
+    assert_eq!(rt; reader.read_fs(), Ok(0));
+    assert!(rt; reader.rest_is_zero());
+    assert_eq!(rt; reader.read_fs(), Err(Fault::Truncated { bit: 5 }));
+    assert_eq!(rt; reader.pos(), 5);
+    reader.skip_to_byte();
+    assert_eq!(rt; reader.pos(), 8);
+    assert_eq!(rt; reader.read(1), Err(Fault::Truncated { bit: 8 }));
+    reader.skip_to_byte();
+    assert_eq!(rt; reader.pos(), 8);
+    assert!(rt; reader.rest_is_zero());
+    Ok(())
+}
+
+#[test]
+fn pushes_extreme_numbers(rt: HostRuntime) -> Result<(), Fail> {
+    let mut buf = BitBuf::new(rt.alloc());
+    push(&mut buf, 0, 0)?;
+    assert_eq!(rt; buf.len(), 0);
+    for value in [u64::MAX, 1, 1 << 63] {
+        push(&mut buf, value, 64)?;
+    }
+    for v in [0, 1, 63, 64, 1000] {
+        push_fs(&mut buf, v)?;
+    }
+    assert_eq!(rt; buf.len(), 192 + 1128 + 5);
+    let mut reader = BitReader::new(&buf);
+    assert_eq!(rt; reader.read(0), Ok(0));
+    for value in [u64::MAX, 1, 1 << 63] {
+        assert_eq!(rt; reader.read(64), Ok(value));
+    }
+    for v in [0, 1, 63, 64, 1000] {
+        assert_eq!(rt; reader.read_fs(), Ok(v));
+    }
+    assert_eq!(rt; reader.read_fs(), Err(Fault::Truncated { bit: 1325 }));
+    Ok(())
+}
+
+#[test]
+fn gives_bytes_back(rt: HostRuntime) -> Result<(), Fail> {
+    let alloc = rt.alloc();
+    let mut given = Vec::new(alloc);
+    for i in 0..21u64 {
+        let buf = bits_in(alloc, &given)?;
+        assert_eq!(rt; buf.len(), 8 * i);
+        assert_eq!(rt; bytes(alloc, &buf)?.as_slice(), given.as_slice(), "at {i}");
+        given.push((i * 37 % 256) as u8)?;
+    }
+    Ok(())
+}
+
+#[test]
+fn splices_as_a_list(rt: HostRuntime) -> Result<(), Fail> {
+    let alloc = rt.alloc();
+    let sizes = [0, 1, 7, 8, 9, 63, 64, 65];
+    for len in sizes {
+        let list = sample_list(alloc, len, 3)?;
+        for start in sizes {
+            for stop in sizes {
+                for added in sizes {
+                    let with = sample_list(alloc, added, 5)?;
+                    if start <= stop && stop <= list.len() {
+                        assert!(rt;
+                            splices(alloc, &list, start, stop, &with)?,
+                            "{len} {start} {stop} {added}"
+                        );
+                    }
+                }
+            }
+        }
+    }
+    Ok(())
+}
+
+#[test]
+fn refuses_more_than_a_list_holds(rt: HostRuntime) {
+    let mut buf = BitBuf::new(rt.alloc());
+    assert_eq!(rt; buf.reserve((1 << 62) + 1), Err(Fault::Memory));
+    assert_eq!(rt; push_fs(&mut buf, u64::MAX), Err(Fault::Memory));
+    assert_eq!(rt; buf.len(), 0);
+}

@@ -1,0 +1,150 @@
+use super::bits::bits_in;
+use crate::{ReadSource, Sink, Source, WriteSink};
+use aec_params::Fault;
+use std::alloc::Global;
+use std::io;
+use std::io::{ErrorKind, Read, Write};
+use std::test::Fail;
+
+/// Takes nothing.
+#[derive(Drop)]
+struct Full;
+
+impl Write for Full {
+    fn write(&mut self, _buf: &[u8]) -> io::Result<usize> {
+        Ok(0)
+    }
+
+    fn flush(&mut self) -> io::Result<()> {
+        Ok(())
+    }
+}
+
+/// Takes one byte a call, so many in all, and is interrupted then.
+#[derive(Drop)]
+struct Slow {
+    bytes: Vec<u8>,
+    left: usize,
+}
+
+impl Write for Slow {
+    fn write(&mut self, buf: &[u8]) -> io::Result<usize> {
+        match buf.first() {
+            None => Ok(0),
+            Some(byte) => {
+                if self.left == 0 || self.bytes.push(*byte).is_err() {
+                    return Err(io::Error::from(ErrorKind::Interrupted));
+                }
+                self.left -= 1;
+                Ok(1)
+            }
+        }
+    }
+
+    fn flush(&mut self) -> io::Result<()> {
+        Ok(())
+    }
+}
+
+/// Gives one byte a call, so many in all, is interrupted once, and would go on then.
+#[derive(Drop)]
+struct Torn {
+    given: u8,
+    stop: u8,
+}
+
+impl Read for Torn {
+    fn read(&mut self, buf: &mut [u8]) -> io::Result<usize> {
+        if buf.is_empty() {
+            return Ok(0);
+        }
+        if self.given == self.stop {
+            self.stop = u8::MAX;
+            return Err(io::Error::from(ErrorKind::Interrupted));
+        }
+        buf[0] = self.given;
+        self.given = self.given.wrapping_add(1);
+        Ok(1)
+    }
+}
+
+#[test]
+fn writes_whole_bytes(rt: HostRuntime) -> Result<(), Fail> {
+    let mut buf = bits_in(rt.alloc(), &[0x80, 0, 0xFF])?;
+    buf.truncate(buf.len().min(17));
+    let mut sink = WriteSink::new(Vec::new(rt.alloc()));
+    sink.begin()?;
+    buf.write_to(&mut sink)?;
+    assert_eq!(rt; sink.begins(), 1);
+    assert_eq!(rt; sink.failures(), 0);
+    let taken = sink.into_inner();
+    assert_eq!(rt; taken.as_slice(), [0x80, 0, 0x80].as_slice());
+    Ok(())
+}
+
+#[test]
+fn writes_a_front_and_fails(rt: HostRuntime) -> Result<(), Fail> {
+    let buf = bits_in(rt.alloc(), &[1, 2, 3, 4])?;
+    for left in 0..4usize {
+        let mut sink = WriteSink::new(Slow {
+            bytes: Vec::new(rt.alloc()),
+            left,
+        });
+        assert_eq!(rt; buf.write_to(&mut sink), Err(Fault::Write));
+        assert_eq!(rt; buf.write_to(&mut sink), Err(Fault::Write));
+        assert_eq!(rt; sink.failures(), 1);
+        assert_eq!(rt; sink.begin(), Err(Fault::Write));
+        assert_eq!(rt; sink.begins(), 1);
+        let slow = sink.into_inner();
+        assert_eq!(rt; slow.bytes.as_slice(), &[1, 2, 3, 4][..left]);
+    }
+    let mut sink = WriteSink::new(Slow {
+        bytes: Vec::new(rt.alloc()),
+        left: 4,
+    });
+    buf.write_to(&mut sink)?;
+    assert_eq!(rt; sink.into_inner().bytes.as_slice(), [1, 2, 3, 4].as_slice());
+    Ok(())
+}
+
+#[test]
+fn a_writer_that_takes_nothing_fails(rt: HostRuntime) {
+    let mut sink = WriteSink::new(Full);
+    assert_eq!(rt; sink.put(&[]), Ok(0));
+    assert_eq!(rt; sink.failures(), 0);
+    assert_eq!(rt; sink.put(&[7]), Err(Fault::Write));
+    assert_eq!(rt; sink.put(&[7]), Err(Fault::Write));
+    assert_eq!(rt; sink.put(&[]), Err(Fault::Write));
+    assert_eq!(rt; sink.failures(), 1);
+}
+
+#[test]
+fn a_source_fails_for_good(rt: HostRuntime) {
+    for stop in 0..4u8 {
+        let mut source = ReadSource::new(Torn { given: 0, stop });
+        for i in 0..stop {
+            let mut buf = [0xFFu8; 3];
+            assert_eq!(rt; source.take(&mut buf), Ok(1));
+            assert_eq!(rt; buf, [i, 0xFF, 0xFF]);
+        }
+        assert_eq!(rt; source.failures(), 0);
+        assert_eq!(rt; source.take(&mut [0; 3]), Err(Fault::Read));
+        assert_eq!(rt; source.take(&mut [0; 3]), Err(Fault::Read));
+        assert_eq!(rt; source.take(&mut []), Err(Fault::Read));
+        assert_eq!(rt; source.failures(), 1);
+    }
+}
+
+#[test]
+fn a_source_ends(rt: HostRuntime) {
+    let data = [1u8, 2, 3];
+    let mut source = ReadSource::new(data.as_slice());
+    let mut buf = [0u8; 2];
+    assert_eq!(rt; source.take(&mut []), Ok(0));
+    assert_eq!(rt; source.take(&mut buf), Ok(2));
+    assert_eq!(rt; buf, [1, 2]);
+    assert_eq!(rt; source.take(&mut buf), Ok(1));
+    assert_eq!(rt; buf, [3, 2]);
+    assert_eq!(rt; source.take(&mut buf), Ok(0));
+    assert_eq!(rt; source.failures(), 0);
+}

@@ -1,0 +1,110 @@
+-- From what is taken of the bits that are left to the coded data set that stands at the position.
+use Rattle.std.proofs.Common.{◌≡◌, ℕ, zero, suc, zero-add, [], ◌∷◌, ◌+◌, ◌-◌, ◌≤◌, Bool, true, false, Option, Some, None, List, ◌++◌, length, drop, refl, sym, ap, ◌∙◌, arith}
+use Rattle.std.proofs.lemmas.List.{length-append, length-drop}
+use Rattle.std.proofs.Math.Seq.{drop-append_seam, drop-nil}
+use Rattle.aec_params.specs.declared.settings.Settings.{Settings}
+use Rattle.aec_params.specs.declared.fault.Fault.{Fault}
+use Rattle.aec_params.specs.declared.fault.Fault.TheVariants.{Truncated, ValueTooLarge}
+use Rattle.aec_params.specs.Params.{IsAllowed}
+use Rattle.aec_params.specs.CodedDataSets.{CodedDataSet, cds_bits, has_small_values}
+use Rattle.aec_params.specs.Reading.{StandsAt}
+use Rattle.aec_bits.specs.BitReader.{Cursor}
+use Rattle.aec_block.specs.declared.cds.Cds.{Cds}
+use Rattle.aec_block.specs.ReadAt.{Taken, nothing, taken, map_taken, cds_at}
+use Rattle.aec_block.specs.Gathering.{bits_at, when}
+use Rattle.aec_block.specs.ReadCds.{cds_of, checked, IsSetAt, IsReadAs, IsNotRead, cut_short, too_large}
+use Rattle.aec_block.proofs.CodewordLemmas.{map_taken-mapped}
+use Rattle.aec_block.proofs.SetLemmas.{what_is_read_is_spelled, none_begins}
+
+drop-add : (bits : List Bool) (b n : ℕ) → drop (b + n) bits ≡ drop n (drop b bits)
+drop-add bits zero n = ap (λ m. drop m bits) (zero-add n)
+drop-add [] (suc b) n = drop-nil (suc b + n) ∙ sym (drop-nil n)
+drop-add (bit ∷ bits) (suc b) n =
+    let place : suc b + n ≡ suc (b + n) = omega arith in
+    ap (λ m. drop m (bit ∷ bits)) place ∙ drop-add bits b n
+
+-- the position is behind the front of what is left
+drop-behind : (bits front rest : List Bool) (b : ℕ) → drop b bits ≡ front ++ rest → drop (b + length front) bits ≡ rest
+drop-behind bits front rest b begins =
+    drop-add bits b (length front) ∙ (ap (drop (length front)) begins ∙ drop-append_seam front rest)
+
+pub stands_from : (bits : List Bool) (b : ℕ) (s : Settings) (c : CodedDataSet) (rest : List Bool) → drop b bits ≡ cds_bits s c ++ rest → StandsAt s bits b c
+stands_from bits b s c rest begins = begins ∙ ap (λ l. cds_bits s c ++ l) (sym (drop-behind bits (cds_bits s c) rest b begins))
+
+pub record IsTaken (s : Settings) (is_reference : Bool) (old : Cursor) (c : CodedDataSet) (answer : Option Cds) (rest : List Bool) : Type 0 where
+  pub set : IsSetAt s is_reference old.list old.pos c
+  pub begins : bits_at old ≡ cds_bits s c ++ rest
+  pub answer_is : checked s c ≡ answer
+
+pub set_taken : (s : Settings) (is_reference : Bool) (old : Cursor) (answer : Option Cds) (rest : List Bool) → IsAllowed s
+    → map_taken (checked s) (cds_at s is_reference (bits_at old)) ≡ taken answer rest → (c : CodedDataSet) × IsTaken s is_reference old c answer rest
+set_taken s is_reference old answer rest allowed read =
+    let m = map_taken-mapped (checked s) (cds_at s is_reference (bits_at old)) answer rest read in
+    let spelled = what_is_read_is_spelled s allowed is_reference (bits_at old) m.value rest m.before in (
+      m.value,
+      record {
+        set = record { shape = spelled.0; stands = stands_from old.list old.pos s m.value rest spelled.1 };
+        begins = spelled.1;
+        answer_is = m.after;
+      },
+    )
+
+record WhenSome (b : Bool) (x y : Cds) : Type 0 where
+  test : b ≡ true
+  value : y ≡ x
+
+when-some : (b : Bool) (x y : Cds) → when b x ≡ Some y → WhenSome b x y
+when-some true x y e = record { test = refl; value = cc }
+when-some false x y e = absurd (cc)
+
+when-none : (b : Bool) (x : Cds) → when b x ≡ None → b ≡ false
+when-none true x e = absurd (cc)
+when-none false x e = refl
+
+cursor_is : (old new : Cursor) (pos : ℕ) → new.list ≡ old.list → new.pos ≡ pos → new ≡ record { list = old.list; pos = pos }
+cursor_is old new pos same place = rw (← same, ← place) refl
+
+same_cursor : (old new : Cursor) (front : List Bool) → old.pos ≤ length old.list → new.pos ≤ length new.list → new.list ≡ old.list
+    → bits_at old ≡ front ++ bits_at new → new ≡ record { list = old.list; pos = old.pos + length front }
+same_cursor old new front inside_old inside_new same begins =
+    let lengths = ap (length {A = Bool}) begins in
+    let left_new : length (bits_at new) ≡ length old.list - new.pos = length-drop new.pos new.list ∙ ap (λ l. length l - new.pos) same in
+    let inside : new.pos ≤ length old.list = rw same at inside_new in
+    let pos : new.pos ≡ old.pos + length front =
+    omega (arith, length-drop old.pos old.list, length-append front (bits_at new)) in
+    cursor_is old new (old.pos + length front) same pos
+
+pub read_as : (s : Settings) (is_reference : Bool) (old new : Cursor) (cds : Cds) → IsAllowed s → old.pos ≤ length old.list → new.pos ≤ length new.list
+    → new.list ≡ old.list → map_taken (checked s) (cds_at s is_reference (bits_at old)) ≡ taken (Some cds) (bits_at new)
+    → (c : CodedDataSet) × IsReadAs s is_reference old new c cds
+read_as s is_reference old new cds allowed inside_old inside_new same read =
+    let t = set_taken s is_reference old (Some cds) (bits_at new) allowed read in
+    let some = when-some (has_small_values s t.0) (cds_of t.0) cds t.1.answer_is in (
+      t.0,
+      record {
+        set = t.1.set;
+        small = some.test;
+        behind = same_cursor old new (cds_bits s t.0) inside_old inside_new same t.1.begins;
+        answer = some.value;
+      },
+    )
+
+pub refused_large : (s : Settings) (is_reference : Bool) (old new : Cursor) (answer : Option Cds) (pos : ℕ) (fault : Fault) → IsAllowed s
+    → fault ≡ ValueTooLarge pos → pos ≡ old.pos → answer ≡ None
+    → map_taken (checked s) (cds_at s is_reference (bits_at old)) ≡ taken answer (bits_at new) → IsNotRead s is_reference old.list old.pos fault
+refused_large s is_reference old new answer pos fault allowed is_fault at_start none read =
+    let t = set_taken s is_reference old answer (bits_at new) allowed read in
+    let large = when-none (has_small_values s t.0) (cds_of t.0) (t.1.answer_is ∙ none) in
+    let large_here : fault ≡ ValueTooLarge old.pos = is_fault ∙ ap (λ b. ValueTooLarge b) at_start in
+    rw large_here (too_large t.0 t.1.set large)
+
+unmapped : {X Y : Type 0} (f : X → Y) (t : Taken X) → map_taken f t ≡ nothing → t ≡ nothing
+unmapped f nothing e = refl
+unmapped f (taken x rest) e = absurd (cc)
+
+pub refused_cut : (s : Settings) (is_reference : Bool) (old : Cursor) (pos : ℕ) (fault : Fault) → IsAllowed s → fault ≡ Truncated pos → pos ≡ old.pos
+    → map_taken (checked s) (cds_at s is_reference (bits_at old)) ≡ nothing → IsNotRead s is_reference old.list old.pos fault
+refused_cut s is_reference old pos fault allowed is_fault at_start read =
+    let none = unmapped (checked s) (cds_at s is_reference (bits_at old)) read in
+    let cut_here : fault ≡ Truncated old.pos = is_fault ∙ ap (λ b. Truncated b) at_start in
+    rw cut_here (cut_short (λ c set. none_begins s is_reference (bits_at old) allowed none c (drop (old.pos + length (cds_bits s c)) old.list) set.shape set.stands))

@@ -1,0 +1,55 @@
+-- How the private functions of reading answer: what was taken, in the place of a result, and values that are gathered while
+-- they are small enough.
+use Rattle.std.specs.Prelude.{ℕ, Bool, ◌&&◌, nat_lt, if◌then◌else◌, Option, Some, None, Result, Ok, Err, List, [], ◌∷◌, ◌++◌, drop}
+use Rattle.std.specs.List.{list_all}
+use Rattle.aec_bits.specs.BitReader.{Cursor}
+use Rattle.aec_params.specs.Blocks.{Block}
+use Rattle.aec_params.specs.Places.{placed_values, placed_members}
+use Rattle.aec_params.specs.CodedDataSets.{value_pairs, judged_in}
+use Rattle.aec_block.specs.ReadAt.{Taken, nothing, taken, joined_values}
+
+-- the bits that are left at a cursor
+abbrev pub bits_at : Cursor → List Bool
+bits_at c = drop c.pos c.list
+
+-- a result as what was taken before the rest
+abbrev pub as_taken : {X E : Type 0} → Result X E → List Bool → Taken X
+as_taken (Ok x) rest = taken x rest
+as_taken (Err e) rest = nothing
+
+-- the same for what a result stands for
+abbrev pub as_taken_by : {X Y E : Type 0} → (X → Y) → Result X E → List Bool → Taken Y
+as_taken_by f (Ok x) rest = taken (f x) rest
+as_taken_by f (Err e) rest = nothing
+
+-- something, where a test holds
+abbrev pub when : {X : Type 0} → Bool → X → Option X
+when b x = if b then Some x else None
+
+abbrev pub all_below : ℕ → List ℕ → Bool
+all_below limit values = list_all (λ v. nat_lt v limit) values
+
+-- the values of before with later ones behind them, where the test has held for all and the later ones keep it
+abbrev pub gathered : ℕ → List ℕ → Bool → List ℕ → Option (List ℕ)
+gathered limit before fit later = when (fit && all_below limit later) (before ++ later)
+
+-- the same with later values of which the high parts are known
+abbrev pub lows_gathered : ℕ → List ℕ → Bool → ℕ → List ℕ → List ℕ → Option (List ℕ)
+lows_gathered limit before fit k highs lows = gathered limit before fit (joined_values k highs lows)
+
+-- values with one more, where that is below the limit
+abbrev pub with_value : ℕ → List ℕ → ℕ → List ℕ
+with_value limit before v = if nat_lt v limit then before ++ v ∷ [] else before
+
+-- the block of values that are written one by one
+abbrev pub plain_block : Option ℕ → List ℕ → Block
+plain_block reference values = record { reference = reference; values = placed_values reference values }
+
+-- the block of such values, where they are below the limit
+abbrev pub small_block : ℕ → Option ℕ → List ℕ → Option Block
+small_block limit reference values = when (all_below limit values) (plain_block reference values)
+
+-- the block of the members of pairs, where those that are values are below the limit
+abbrev pub pair_block : ℕ → Option ℕ → List ℕ → Option Block
+pair_block limit reference members =
+    when (all_below limit (judged_in reference (value_pairs members))) (record { reference = reference; values = placed_members reference members })

@@ -1,0 +1,44 @@
+//! Reads the codewords of a coded data set.
+
+ghost use Rattle.std.specs.Prelude.{◌≡◌, ◌≤◌, ◌<◌, ◌^◌, length, IfOk};
+ghost use Rattle.aec_block.specs.ReadAt.{fs_at, binary_at, pair_of as pair_with_number};
+ghost use Rattle.aec_block.specs.Gathering.{bits_at, as_taken};
+
+use aec_bits::BitReader;
+use aec_params::Fault;
+
+/// The number that the next `width` bits spell.
+pub(crate) fn read_number(reader: &mut BitReader, width: u32) -> Result<u64, Fault>
+    requires width { width ≤ 64 }
+    requires within { reader.old.pos ≤ length reader.old.list }
+    ensures taken { binary_at width (bits_at reader.old) ≡ as_taken result (bits_at reader.new) }
+    ensures list { reader.new.list ≡ reader.old.list }
+    ensures within { reader.new.pos ≤ length reader.new.list }
+    ensures bound { IfOk result (λ v. v < 2 ^ width) }
+{
+    reader.read(width)
+}
+
+/// The number of the fundamental sequence that comes next.
+pub(crate) fn read_sequence(reader: &mut BitReader) -> Result<u64, Fault>
+    ensures taken { fs_at (bits_at reader.old) ≡ as_taken result (bits_at reader.new) }
+    ensures list { reader.new.list ≡ reader.old.list }
+    ensures within { reader.new.pos ≤ length reader.new.list }
+{
+    reader.read_fs()
+}
+
+/// The two members of the pair with a number. As many steps are made as their sum is, fewer than the bits of the
+/// number's fundamental sequence.
+pub(crate) fn pair_of(number: u64) -> (u64, u64)
+    ensures first { result.0 ≡ (pair_with_number number).first }
+    ensures second { result.1 ≡ (pair_with_number number).second }
+{
+    let mut sum = 0;
+    let mut second = number;
+    while second > sum {
+        sum += 1;
+        second -= sum;
+    }
+    (sum - second, second)
+}

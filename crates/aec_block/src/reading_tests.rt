@@ -1,0 +1,227 @@
+//! Coded data sets spelled by hand, and what is read from them.
+
+use crate::{Cds, RunLen, read_cds};
+use aec_bits::{BitBuf, BitReader};
+use aec_params::{Fault, Params, Settings};
+use std::alloc::Global;
+use std::process::Abort;
+use std::test::Fail;
+
+/// Settings of 8 bits, blocks of 8 values and intervals of two blocks, unsigned and with preprocessing.
+fn usual() -> Settings {
+    Settings {
+        bits: 8,
+        block_size: 8,
+        interval: 2,
+        signed: false,
+        msb_first: false,
+        three_byte: false,
+        preprocess: true,
+        pad: false,
+        restricted: false,
+    }
+}
+
+/// A block without a reference sample, or with this one, stands at the bits' start and ends at `end`.
+fn expect_block(rt: &impl Abort, alloc: Global, params: &Params, bits: &BitBuf, reference: Option<u32>, values: &[u32], end: u64) {
+    let mut reader = BitReader::new(bits);
+    match read_cds(alloc, params, &mut reader, reference.is_some()) {
+        Ok(Cds::Single(block)) => {
+            assert_eq!(rt; block.reference(), reference);
+            assert_eq!(rt; block.values(), values);
+        }
+        Ok(Cds::Zeros { .. }) => assert!(rt; false, "a run"),
+        Err(fault) => assert!(rt; false, "{fault}"),
+    }
+    assert_eq!(rt; reader.pos(), end);
+}
+
+/// A run stands at the bits' start and ends at `end`.
+fn expect_run(rt: &impl Abort, alloc: Global, params: &Params, bits: &BitBuf, first: Option<u32>, want: RunLen, end: u64) {
+    let mut reader = BitReader::new(bits);
+    match read_cds(alloc, params, &mut reader, first.is_some()) {
+        Ok(Cds::Zeros { reference, len }) => {
+            assert_eq!(rt; reference, first);
+            assert_eq!(rt; len, want);
+        }
+        Ok(Cds::Single(_)) => assert!(rt; false, "a block"),
+        Err(fault) => assert!(rt; false, "{fault}"),
+    }
+    assert_eq!(rt; reader.pos(), end);
+}
+
+/// The fault at place `start`, where the reader stays.
+fn expect_fault(rt: &impl Abort, alloc: Global, params: &Params, bits: &BitBuf, start: u64, is_ref: bool, want: Fault) {
+    let mut reader = BitReader::new(bits);
+    assert!(rt; start <= bits.len());
+    reader.seek(start);
+    match read_cds(alloc, params, &mut reader, is_ref) {
+        Ok(_) => assert!(rt; false, "no fault"),
+        Err(fault) => assert_eq!(rt; fault, want),
+    }
+    assert_eq!(rt; reader.pos(), start);
+}
+
+#[test]
+fn reads_reference_blocks(rt: HostRuntime) -> Result<(), Fail> {
+    let params = Params::new(usual())?;
+    let ramp = BitBuf::from_bytes(rt.alloc(), &[0x40, 0x15, 0x55, 0x80])?;
+    expect_block(&rt, rt.alloc(), &params, &ramp, Some(0), &[0, 1, 2, 2, 2, 2, 2, 2], 31);
+    // The first pair is (1, 0), and 1 is no value.
+    let pairs = BitBuf::from_bytes(rt.alloc(), &[0x10, 0x07, 0x80])?;
+    expect_block(&rt, rt.alloc(), &params, &pairs, Some(0), &[0; 8], 17);
+    // One zero block.
+    let zeros = BitBuf::from_bytes(rt.alloc(), &[0x00, 0x08])?;
+    expect_run(&rt, rt.alloc(), &params, &zeros, Some(0), RunLen::Blocks(1), 13);
+    Ok(())
+}
+
+#[test]
+fn reads_the_greatest_values(rt: HostRuntime) -> Result<(), Fail> {
+    let params = Params::new(Settings {
+        bits: 32,
+        signed: true,
+        ..usual()
+    })?;
+    let mut bytes = [0xFF; 33];
+    bytes[0] = 0xFC;
+    bytes[1] = 0;
+    bytes[2] = 0;
+    bytes[3] = 0;
+    bytes[4] = 0x07;
+    bytes[32] = 0xF8;
+    let bits = BitBuf::from_bytes(rt.alloc(), &bytes)?;
+    let mut values = [u32::MAX; 8];
+    values[0] = 0;
+    expect_block(&rt, rt.alloc(), &params, &bits, Some(0x8000_0000), &values, 261);
+    Ok(())
+}
+
+/// The second extension with a first pair of a number and three pairs of zeros.
+fn one_pair(alloc: Global, reference: Option<u32>, number: u64) -> Result<BitBuf, Fault> {
+    let mut bits = BitBuf::new(alloc);
+    bits.push_bits(1, 4)?;
+    if reference.is_some() {
+        bits.push_bits(0, 8)?;
+    }
+    bits.push_fs(number)?;
+    bits.push_bits(0b111, 3)?;
+    Ok(bits)
+}
+
+#[test]
+fn judges_the_members_of_pairs(rt: HostRuntime) -> Result<(), Fail> {
+    let params = Params::new(usual())?;
+    // The pair (0, 255).
+    let greatest = one_pair(rt.alloc(), None, 32_895)?;
+    expect_block(&rt, rt.alloc(), &params, &greatest, None, &[0, 255, 0, 0, 0, 0, 0, 0], 32_903);
+    // The pair (256, 0).
+    let large = one_pair(rt.alloc(), None, 32_896)?;
+    expect_fault(&rt, rt.alloc(), &params, &large, 0, false, Fault::ValueTooLarge { bit: 0 });
+    // The pairs (5, 0), (256, 0) and (0, 256) of a reference block.
+    let ignored = one_pair(rt.alloc(), Some(0), 15)?;
+    expect_block(&rt, rt.alloc(), &params, &ignored, Some(0), &[0; 8], 31);
+    let large_ignored = one_pair(rt.alloc(), Some(0), 32_896)?;
+    expect_block(&rt, rt.alloc(), &params, &large_ignored, Some(0), &[0; 8], 32_912);
+    let large_second = one_pair(rt.alloc(), Some(0), 33_152)?;
+    expect_fault(&rt, rt.alloc(), &params, &large_second, 0, true, Fault::ValueTooLarge { bit: 0 });
+    Ok(())
+}
+
+#[test]
+fn reads_the_lengths_of_runs(rt: HostRuntime) -> Result<(), Fail> {
+    let params = Params::new(usual())?;
+    let lengths = [
+        (0, RunLen::Blocks(1)),
+        (1, RunLen::Blocks(2)),
+        (2, RunLen::Blocks(3)),
+        (3, RunLen::Blocks(4)),
+        (4, RunLen::Rest),
+        (5, RunLen::Blocks(5)),
+        (63, RunLen::Blocks(63)),
+        (64, RunLen::Blocks(64)),
+        (70, RunLen::Blocks(70)),
+    ];
+    for (number, len) in lengths {
+        let mut bits = BitBuf::new(rt.alloc());
+        bits.push_bits(0, 4)?;
+        bits.push_fs(number)?;
+        expect_run(&rt, rt.alloc(), &params, &bits, None, len, 5 + number);
+    }
+    Ok(())
+}
+
+#[test]
+fn judges_values_behind_the_last_bit(rt: HostRuntime) -> Result<(), Fail> {
+    let params = Params::new(Settings {
+        bits: 1,
+        preprocess: false,
+        ..usual()
+    })?;
+    // k = 5: eight ones, and a 2 among them.
+    let ones = BitBuf::from_bytes(rt.alloc(), &[0xDF, 0xE1, 0x08, 0x42, 0x10, 0x84, 0x20])?;
+    expect_block(&rt, rt.alloc(), &params, &ones, None, &[1; 8], 51);
+    let two = BitBuf::from_bytes(rt.alloc(), &[0xDF, 0xE2, 0x08, 0x42, 0x10, 0x84, 0x20])?;
+    expect_fault(&rt, rt.alloc(), &params, &two, 0, false, Fault::ValueTooLarge { bit: 0 });
+    // k = 0: the first value is 2.
+    let whole = BitBuf::from_bytes(rt.alloc(), &[0x27, 0xF8])?;
+    expect_fault(&rt, rt.alloc(), &params, &whole, 0, false, Fault::ValueTooLarge { bit: 0 });
+    let cut = BitBuf::from_bytes(rt.alloc(), &[0x27])?;
+    expect_fault(&rt, rt.alloc(), &params, &cut, 0, false, Fault::Truncated { bit: 0 });
+    Ok(())
+}
+
+#[test]
+fn refuses_each_cut(rt: HostRuntime) -> Result<(), Fail> {
+    let params = Params::new(usual())?;
+    for len in 3..34 {
+        let mut bits = BitBuf::new(rt.alloc());
+        bits.push_bits(0b101, 3)?;
+        bits.push_bits(0x4015_5580, 32)?;
+        assert!(rt; len <= bits.len());
+        bits.truncate(len);
+        expect_fault(&rt, rt.alloc(), &params, &bits, 3, true, Fault::Truncated { bit: 3 });
+    }
+    Ok(())
+}
+
+#[test]
+fn knows_each_identifier(rt: HostRuntime) -> Result<(), Fail> {
+    // Bits per sample, the restricted set, bits of an identifier, how many splitting options.
+    let sets = [(1, true, 1, 0), (3, true, 2, 2), (8, false, 3, 6), (16, false, 4, 14), (32, false, 5, 30)];
+    for (n, restricted, len, splits) in sets {
+        let params = Params::new(Settings {
+            bits: n,
+            preprocess: false,
+            restricted,
+            ..usual()
+        })?;
+        let mut run = BitBuf::new(rt.alloc());
+        run.push_bits(0, len + 1)?;
+        run.push_fs(4)?;
+        expect_run(&rt, rt.alloc(), &params, &run, None, RunLen::Rest, u64::from(len) + 6);
+        let mut pairs = BitBuf::new(rt.alloc());
+        pairs.push_bits(1, len + 1)?;
+        for _ in 0..4 {
+            pairs.push_fs(4)?;
+        }
+        expect_block(&rt, rt.alloc(), &params, &pairs, None, &[1; 8], u64::from(len) + 21);
+        let mut plain = BitBuf::new(rt.alloc());
+        plain.push_bits((1 << len) - 1, len)?;
+        for _ in 0..8 {
+            plain.push_bits((1 << n) - 1, n)?;
+        }
+        let greatest = ((1u64 << n) - 1) as u32;
+        expect_block(&rt, rt.alloc(), &params, &plain, None, &[greatest; 8], u64::from(len + 8 * n));
+        for k in 0..splits {
+            let mut split = BitBuf::new(rt.alloc());
+            split.push_bits(u64::from(k + 1), len)?;
+            split.push_bits(0xFF, 8)?;
+            for _ in 0..8 {
+                split.push_bits(if k > 0 { 1 } else { 0 }, k)?;
+            }
+            expect_block(&rt, rt.alloc(), &params, &split, None, &[if k > 0 { 1 } else { 0 }; 8], u64::from(len + 8 + 8 * k));
+        }
+    }
+    Ok(())
+}

@@ -1,0 +1,327 @@
+//! Worked values, and the choice against lengths that are computed plainly.
+
+ghost use Rattle.std.specs.Prelude.{◌≡◌, ◌<◌, ◌^◌, true};
+ghost use Rattle.std.specs.Bool.{OnTrue};
+ghost use Rattle.std.specs.List.{AllByRecursion};
+ghost use Rattle.aec_block.specs.Choices.{FitsReference, IsFull};
+
+use crate::{Block, Choice, Coding, choose, map, unmap, write_block, write_run};
+use aec_bits::BitBuf;
+use aec_params::{Params, Settings};
+use std::alloc::Global;
+use std::process::Abort;
+use std::test::Fail;
+
+/// Settings of 8 bits, blocks of 8 values and intervals of two blocks, unsigned and with preprocessing.
+fn settings() -> Settings {
+    Settings {
+        bits: 8,
+        block_size: 8,
+        interval: 2,
+        signed: false,
+        msb_first: false,
+        three_byte: false,
+        preprocess: true,
+        pad: false,
+        restricted: false,
+    }
+}
+
+/// A block of the values behind the reference place.
+fn block_of(alloc: Global, reference: Option<u32>, values: &[u32]) -> Block {
+    let mut block = Block::new(alloc, reference);
+    for v in values {
+        if block.len() < 64 {
+            block.push(*v);
+        }
+    }
+    block
+}
+
+fn all_below(values: &[u32], limit: u64) -> bool
+    ensures { OnTrue result (AllByRecursion (λ v. v < limit) values.now) }
+{
+    values.iter().all(|v| u64::from(*v) < limit)
+}
+
+fn fits_reference(params: &Params, reference: Option<u32>) -> bool
+    ensures { OnTrue result (FitsReference params.now reference) }
+{
+    match reference {
+        None => true,
+        Some(r) => u64::from(r) < 1 << params.bits(),
+    }
+}
+
+/// Whether the settings have a block.
+fn is_full(params: &Params, block: &Block) -> bool
+    ensures { OnTrue result (IsFull params.now block.now) }
+{
+    if block.len() != params.block_size() as usize {
+        return false;
+    }
+    if !fits_reference(params, block.reference()) {
+        return false;
+    }
+    all_below(block.values(), 1 << params.bits())
+}
+
+/// Compares bits with those of bytes, of which the last is filled with zeros.
+fn expect_bits(rt: &impl Abort, bits: &BitBuf, len: u64, bytes: &[u8]) {
+    assert_eq!(rt; bits.len(), len);
+    assert_eq!(rt; bits.byte_len(), bytes.len() as u64);
+    for (i, byte) in bytes.iter().enumerate() {
+        assert!(rt; (i as u64) < bits.byte_len());
+        assert_eq!(rt; bits.byte(i as u64), *byte, "byte {i}");
+    }
+}
+
+#[test]
+fn maps_by_the_table(rt: HostRuntime) -> Result<(), Fail> {
+    let params = Params::new(settings())?;
+    for (p, x, m) in [(3, 10, 10), (3, 1, 3), (250, 240, 15), (250, 255, 10)] {
+        assert!(rt; params.holds(p) && params.holds(x));
+        assert_eq!(rt; map(&params, p, x), m, "{x} at {p}");
+    }
+    assert!(rt; params.holds(250));
+    assert_eq!(rt; unmap(&params, 250, 15), 240);
+    Ok(())
+}
+
+#[test]
+fn chooses_and_writes_the_shortest(rt: HostRuntime) -> Result<(), Fail> {
+    let params = Params::new(settings())?;
+    // k = 0 and k = 1 have equal lengths.
+    let block = block_of(rt.alloc(), Some(0), &[1, 2, 2, 2, 2, 2, 2]);
+    assert!(rt; is_full(&params, &block));
+    let choice = choose(&params, &block);
+    assert_eq!(rt;
+        choice,
+        Choice {
+            coding: Coding::Split(0),
+            bits: 31
+        }
+    );
+    let mut out = BitBuf::new(rt.alloc());
+    write_block(&params, &block, choice, &mut out)?;
+    expect_bits(&rt, &out, 31, &[0x20, 0x09, 0x24, 0x92]);
+    Ok(())
+}
+
+#[test]
+fn takes_the_first_of_equal_lengths(rt: HostRuntime) -> Result<(), Fail> {
+    // No compression has the length of the second extension.
+    let narrow = Params::new(Settings {
+        bits: 2,
+        interval: 1,
+        restricted: true,
+        ..settings()
+    })?;
+    let block = block_of(rt.alloc(), Some(0), &[0, 0, 0, 0, 0, 0, 3]);
+    assert!(rt; is_full(&narrow, &block));
+    assert_eq!(rt;
+        choose(&narrow, &block),
+        Choice {
+            coding: Coding::NoCompression,
+            bits: 17
+        }
+    );
+
+    // The second extension has the length of splitting with k = 0.
+    let params = Params::new(settings())?;
+    let block = block_of(rt.alloc(), Some(0), &[0, 0, 0, 1, 1, 0, 0]);
+    assert!(rt; is_full(&params, &block));
+    assert_eq!(rt;
+        choose(&params, &block),
+        Choice {
+            coding: Coding::SecondExtension,
+            bits: 20
+        }
+    );
+    Ok(())
+}
+
+#[test]
+fn adds_up_values_of_32_bits(rt: HostRuntime) -> Result<(), Fail> {
+    let params = Params::new(Settings {
+        bits: 32,
+        ..settings()
+    })?;
+    for (reference, values, choice) in [
+        (
+            None,
+            [1 << 31, 1 << 31, 0, 0, 0, 0, 0, 0].as_slice(),
+            Choice {
+                coding: Coding::Split(28),
+                bits: 253,
+            },
+        ),
+        (
+            Some(1 << 31),
+            [u32::MAX; 7].as_slice(),
+            Choice {
+                coding: Coding::NoCompression,
+                bits: 261,
+            },
+        ),
+        (
+            None,
+            [u32::MAX; 8].as_slice(),
+            Choice {
+                coding: Coding::NoCompression,
+                bits: 261,
+            },
+        ),
+    ] {
+        let block = block_of(rt.alloc(), reference, values);
+        assert!(rt; is_full(&params, &block));
+        assert_eq!(rt; choose(&params, &block), choice);
+    }
+    Ok(())
+}
+
+#[test]
+fn writes_runs(rt: HostRuntime) -> Result<(), Fail> {
+    let params = Params::new(settings())?;
+    let mut out = BitBuf::new(rt.alloc());
+    write_run(&params, Some(0), 1, true, &mut out)?;
+    expect_bits(&rt, &out, 13, &[0x00, 0x08]);
+    let mut out = BitBuf::new(rt.alloc());
+    write_run(&params, None, 4, false, &mut out)?;
+    expect_bits(&rt, &out, 8, &[0x01]);
+    let mut out = BitBuf::new(rt.alloc());
+    write_run(&params, None, 5, false, &mut out)?;
+    expect_bits(&rt, &out, 10, &[0x00, 0x40]);
+    let mut out = BitBuf::new(rt.alloc());
+    write_run(&params, None, 64, true, &mut out)?;
+    expect_bits(&rt, &out, 9, &[0x00, 0x80]);
+    Ok(())
+}
+
+/// A value of a fixed block: zeros, ones, a ramp, a spike, extremes, or noise of some width.
+fn fixed_value(case: u32, place: u32, most: u32) -> u32 {
+    let seed = case.wrapping_mul(0x9E37_79B9) ^ place.wrapping_mul(0x85EB_CA6B);
+    let noise = (seed ^ (seed >> 15)).wrapping_mul(0x2C1B_3C6D);
+    let value = match case % 6 {
+        0 => 0,
+        1 => 1,
+        2 => place,
+        3 if place == case / 6 % 8 => most,
+        3 => 0,
+        4 => most,
+        _ => (noise ^ (noise >> 12)).wrapping_shr(case / 6),
+    };
+    value & most
+}
+
+fn fixed_block(alloc: Global, params: &Params, case: u32) -> Block {
+    let most = u32::MAX.wrapping_shr(32 - params.bits());
+    let reference = match case % 4 {
+        0 => None,
+        _ => Some(fixed_value(case, 99, most)),
+    };
+    let mut block = Block::new(alloc, reference);
+    for place in 0..64 {
+        if block.len() < params.block_size() as usize && block.len() < 64 {
+            block.push(fixed_value(case, place, most));
+        }
+    }
+    block
+}
+
+/// The length of a spelling by the table of lengths. No sum of it wraps.
+fn plain_length(params: &Params, block: &Block, coding: Coding) -> u128 {
+    let head = u128::from(params.id_len());
+    let n = u128::from(params.bits());
+    let (head, skipped) = match block.reference() {
+        None => (head, 0),
+        Some(_) => (head + n, 1),
+    };
+    let mut bits = head;
+    match coding {
+        Coding::NoCompression => {
+            for _ in block.values().iter().skip(skipped) {
+                bits = bits.wrapping_add(n);
+            }
+        }
+        Coding::SecondExtension => {
+            bits += 1;
+            for pair in block.values().chunks_exact(2) {
+                let a = pair.first().map_or(0, |v| u128::from(*v));
+                let b = pair.last().map_or(0, |v| u128::from(*v));
+                let sum = a.wrapping_add(b);
+                let number = (sum.wrapping_mul(sum.wrapping_add(1)) / 2).wrapping_add(b);
+                bits = bits.wrapping_add(number).wrapping_add(1);
+            }
+        }
+        Coding::Split(k) => {
+            for v in block.values().iter().skip(skipped) {
+                let high = u128::from(v.wrapping_shr(k));
+                bits = bits
+                    .wrapping_add(high)
+                    .wrapping_add(1)
+                    .wrapping_add(u128::from(k));
+            }
+        }
+    }
+    bits
+}
+
+fn plain_choice(params: &Params, block: &Block) -> (Coding, u128) {
+    let mut best = (
+        Coding::NoCompression,
+        plain_length(params, block, Coding::NoCompression),
+    );
+    let pairs = plain_length(params, block, Coding::SecondExtension);
+    if pairs < best.1 {
+        best = (Coding::SecondExtension, pairs);
+    }
+    if let Some(most) = params.k_max() {
+        for k in 0..=most {
+            let split = plain_length(params, block, Coding::Split(k));
+            if split < best.1 {
+                best = (Coding::Split(k), split);
+            }
+        }
+    }
+    best
+}
+
+fn compare_choices(rt: &impl Abort, alloc: Global, params: &Params) -> Result<(), Fail> {
+    for case in 0..200 {
+        let block = fixed_block(alloc, params, case);
+        assert!(rt; is_full(params, &block));
+        let choice = choose(params, &block);
+        let (coding, bits) = plain_choice(params, &block);
+        assert_eq!(rt; choice.coding, coding, "block {case}");
+        assert_eq!(rt; u128::from(choice.bits), bits, "block {case}");
+        let mut out = BitBuf::new(alloc);
+        write_block(params, &block, choice, &mut out)?;
+        assert_eq!(rt; out.len(), choice.bits, "block {case}");
+    }
+    Ok(())
+}
+
+#[test]
+fn chooses_as_plain_lengths_say(rt: HostRuntime) -> Result<(), Fail> {
+    for block_size in [8, 16, 32, 64] {
+        for bits in [1, 2, 3, 4, 5, 8, 9, 16, 17, 24, 32] {
+            let params = Params::new(Settings {
+                bits,
+                block_size,
+                ..settings()
+            })?;
+            compare_choices(&rt, rt.alloc(), &params)?;
+            if bits <= 4 {
+                let params = Params::new(Settings {
+                    bits,
+                    block_size,
+                    restricted: true,
+                    ..settings()
+                })?;
+                compare_choices(&rt, rt.alloc(), &params)?;
+            }
+        }
+    }
+    Ok(())
+}

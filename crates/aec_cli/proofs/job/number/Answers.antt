@@ -1,0 +1,10 @@
+use Rattle.std.proofs.Common.{◌∙◌}
+use Rattle.std.specs.Str.Parse.{ExplainsUnsignedError, HasUnsignedDigitsIfOk, ParsesUnsigned}
+use Rattle.clap.specs.Matches.{found_of}
+use Rattle.aec_cli.proofs.JobLemmas.{word_of-read}
+use Rattle.aec_cli.proofs.job.number.Goals as goal
+
+pub returns : goal.returns
+returns c = c.unwrap_or.ensures ∙ word_of-read
+    (λ bs r. ParsesUnsigned 32 10 bs r × ExplainsUnsignedError 10 bs r × HasUnsignedDigitsIfOk bs r)
+    c.args.default c.args.id.now (found_of c.args.matches.now) c.get_one.result (λ t x g. g.0) c.get_one.ensures.none c.get_one.ensures.value

@@ -1,0 +1,14 @@
+use Rattle.std.proofs.Common.{ap, codes, refl, ◌≡◌, ◌∙◌}
+use Rattle.std.proofs.lemmas.Result.{IfOk-weaker}
+use Rattle.clap.specs.Walk.{rule_of}
+use Rattle.aec_cli.specs.Commands.{long_parser, number_rule, work_rules}
+use Rattle.aec_cli.proofs.WordLemmas.{app_of-added}
+use Rattle.aec_cli.proofs.words.with_work.Goals as goal
+
+pub returns : goal.returns
+unfolding work_rules
+returns c =
+    let buffer : rule_of c.number-buffer.result ≡ number_rule long_parser (codes "buffer") 98 =
+    c.number-buffer.ensures.rule ∙ ap (λ p. number_rule p (codes "buffer") 98) c.value_parser.ensures in
+    let first = app_of-added _ _ _ _ _ c.in_ok-arg.ensures c.flag-decode.ensures.local refl c.flag-decode.ensures.rule in
+    IfOk-weaker c.arg-2.result _ _ (λ r added. app_of-added _ _ _ _ _ added c.number-buffer.ensures.local first buffer) c.arg-2.ensures

@@ -1,0 +1,55 @@
+-- What the command makes of words that are written out. A wrong line here fails the check.
+use Rattle.std.specs.Prelude.{◌≡◌, List, [], ◌∷◌, Some, None, codes, refl}
+use Rattle.clap.proofs.OnLiterals.{clap_on_literals}
+use Rattle.clap.specs.Faults.{fault_of}
+use Rattle.clap.specs.Simple.{matches_of}
+use Rattle.clap.specs.Walk.{Text, first_of, one_of}
+use Rattle.clap.specs.declared.error.kind.ErrorKind.TheVariants.{ArgumentConflict, MissingRequiredArgument, ValueValidation}
+use Rattle.aec_cli.specs.Commands.{aec_app, coding_rules, file_rules, number_rules, storage_rules, work_rules}
+
+-- `aec -d -n 20 -3 in out`
+abbrev decoding : List Text
+decoding = codes "aec" ∷ codes "-d" ∷ codes "-n" ∷ codes "20" ∷ codes "-3" ∷ codes "in" ∷ codes "out" ∷ []
+
+bits_given : one_of (codes "bits") (matches_of aec_app decoding) ≡ Some (codes "20")
+unfolding aec_app number_rules coding_rules storage_rules work_rules file_rules clap_on_literals
+bits_given = refl
+
+bits_left_out : one_of (codes "interval") (matches_of aec_app decoding) ≡ None
+unfolding aec_app number_rules coding_rules storage_rules work_rules file_rules clap_on_literals
+bits_left_out = refl
+
+flag_given : first_of (codes "three-byte") (matches_of aec_app decoding) ≡ Some (codes "true")
+unfolding aec_app number_rules coding_rules storage_rules work_rules file_rules clap_on_literals
+flag_given = refl
+
+flag_left_out : first_of (codes "signed") (matches_of aec_app decoding) ≡ Some (codes "false")
+unfolding aec_app number_rules coding_rules storage_rules work_rules file_rules clap_on_literals
+flag_left_out = refl
+
+source_given : first_of (codes "SOURCE") (matches_of aec_app decoding) ≡ Some (codes "in")
+unfolding aec_app number_rules coding_rules storage_rules work_rules file_rules clap_on_literals
+source_given = refl
+
+dest_given : first_of (codes "DEST") (matches_of aec_app decoding) ≡ Some (codes "out")
+unfolding aec_app number_rules coding_rules storage_rules work_rules file_rules clap_on_literals
+dest_given = refl
+
+no_fault : fault_of aec_app decoding ≡ []
+unfolding aec_app number_rules coding_rules storage_rules work_rules file_rules clap_on_literals
+no_fault = refl
+
+-- `aec a`: DEST is missing
+dest_missing : fault_of aec_app (codes "aec" ∷ codes "a" ∷ []) ≡ MissingRequiredArgument ∷ []
+unfolding aec_app number_rules coding_rules storage_rules work_rules file_rules clap_on_literals
+dest_missing = refl
+
+-- an option that stands twice
+repeated : fault_of aec_app (codes "aec" ∷ codes "-s" ∷ codes "-s" ∷ codes "a" ∷ codes "b" ∷ []) ≡ ArgumentConflict ∷ []
+unfolding aec_app number_rules coding_rules storage_rules work_rules file_rules clap_on_literals
+repeated = refl
+
+-- a number that doesn't fit 32 bits
+too_large : fault_of aec_app (codes "aec" ∷ codes "-r" ∷ codes "4294967296" ∷ codes "a" ∷ codes "b" ∷ []) ≡ ValueValidation ∷ []
+unfolding aec_app number_rules coding_rules storage_rules work_rules file_rules clap_on_literals
+too_large = refl

@@ -1,0 +1,6 @@
+pub mod CommandExamples
+pub mod Commands
+pub mod Jobs
+pub mod Openings
+pub mod Statuses
+pub mod Tallies

@@ -1,0 +1,26 @@
+-- The status that the program ends with where its job is not done.
+use Rattle.std.specs.Prelude.{ℕ}
+use Rattle.clap.specs.declared.error.kind.ErrorKind.{ErrorKind}
+use Rattle.clap.specs.declared.error.kind.ErrorKind.TheVariants as kind
+use Rattle.aec_cli.specs.declared.usage.Usage.{Usage}
+use Rattle.aec_cli.specs.declared.usage.Usage.TheVariants.{Setting, Memory}
+use Rattle.aec_cli.specs.declared.failure.Failure.{Failure}
+use Rattle.aec_cli.specs.declared.failure.Failure.TheVariants as failure
+
+-- words that make no job: 2; but want of memory is no fault of the words
+abbrev pub usage_status : Usage → ℕ
+usage_status (Setting fault) = 2
+usage_status Memory = 1
+
+-- and everything else: 1
+abbrev pub status_of : Failure → ℕ
+status_of (failure.Usage usage) = usage_status usage
+status_of (failure.Fault fault) = 1
+status_of failure.NotYet = 1
+
+-- where a parse gives no matches: 0 for what was asked for, 1 for want of memory, and else 2
+abbrev pub parse_status : ErrorKind → ℕ
+parse_status kind.DisplayHelp = 0
+parse_status kind.DisplayVersion = 0
+parse_status kind.OutOfMemory = 1
+parse_status _ = 2

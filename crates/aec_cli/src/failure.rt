@@ -1,0 +1,33 @@
+//! Why a run of the program did not do its job, and the status that it ends with.
+
+ghost use Rattle.std.specs.Prelude.{◌≡◌};
+ghost use Rattle.aec_cli.specs.Statuses.{status_of};
+
+use crate::usage::Usage;
+use aec_params::Fault;
+use thiserror::Error;
+
+/// The failure of a run. Its text is what stands on the printed line behind `aec: `.
+#[derive(Clone, Copy, Debug, PartialEq, Eq, Error)]
+pub enum Failure {
+    /// The words make no job.
+    #[error("{0}")]
+    Usage(Usage),
+    /// The job was refused.
+    #[error("{0}")]
+    Fault(Fault),
+    /// The job is one that this program cannot do yet.
+    #[error("not yet")]
+    NotYet,
+}
+
+/// The status that the program ends with: 2 for words that make no job, and else 1. Want of memory is no fault of the
+/// words.
+pub fn status(failure: &Failure) -> u8
+    ensures { result ≡ status_of failure.now }
+{
+    match failure {
+        Failure::Usage(Usage::Setting(_)) => 2,
+        Failure::Usage(Usage::Memory) | Failure::Fault(_) | Failure::NotYet => 1,
+    }
+}

@@ -1,0 +1,102 @@
+//! What a run of the program is asked to do.
+
+ghost use Rattle.std.specs.Prelude.{◌≡◌, IfOk, IfErr, IsOk};
+ghost use Rattle.std.specs.String.{string_bytes};
+ghost use Rattle.clap.specs.Matches.{found_of};
+ghost use Rattle.aec_cli.specs.Jobs.{job_of, task_of, settings_of, action_of, is_given, word_of, file_of};
+
+use crate::usage::Usage;
+use aec_params::{Params, Settings};
+use clap::ArgMatches;
+use std::alloc::{AllocError, Global};
+
+/// What is done with the source.
+#[derive(Debug, PartialEq, Eq, Drop)]
+pub enum Action {
+    /// Its samples are coded.
+    Encode,
+    /// It is decoded: the first `count` samples, and without a count all to its end.
+    Decode { count: Option<u64> },
+}
+
+/// One run: the parameters, what is done, and the names of the file that is read and of the file that is written.
+#[derive(Debug, Drop)]
+pub struct Job {
+    pub params: Params,
+    pub action: Action,
+    pub source: String,
+    pub dest: String,
+}
+
+/// The job that the matches of a parse ask for. The settings are judged first; `Memory` comes only where no other
+/// refusal does.
+pub fn settings(alloc: Global, matches: &ArgMatches<'_>) -> Result<Job, Usage>
+    ensures ok { IfOk result (λ job. job_of (found_of matches.now) ≡ Ok (task_of job)) }
+    ensures refuses { IfErr (job_of (found_of matches.now)) (λ usage. result ≡ Err usage) }
+    ensures memory { IfErr result (λ usage. IsOk (job_of (found_of matches.now)) → usage ≡ Usage.Memory) }
+{
+    let params = Params::new(asked_settings(matches)).map_err(Usage::Setting)?;
+    let source = file_name(alloc, matches, "SOURCE")?;
+    let dest = file_name(alloc, matches, "DEST")?;
+    Ok(Job {
+        params,
+        action: asked_action(matches),
+        source,
+        dest,
+    })
+}
+
+// The settings, each of them its default where it is not given.
+#[tactic(auto, unfolding(crate::specs::Jobs::settings_of))]
+fn asked_settings(matches: &ArgMatches<'_>) -> Settings
+    ensures { result ≡ settings_of (found_of matches.now) }
+{
+    Settings {
+        bits: number(matches, "bits", 8),
+        block_size: number(matches, "block-size", 8),
+        interval: number(matches, "interval", 2),
+        signed: has_flag(matches, "signed"),
+        msb_first: has_flag(matches, "msb-first"),
+        three_byte: has_flag(matches, "three-byte"),
+        preprocess: !has_flag(matches, "plain"),
+        pad: has_flag(matches, "pad"),
+        restricted: has_flag(matches, "restricted"),
+    }
+}
+
+#[tactic(auto, unfolding(crate::specs::Jobs::action_of))]
+fn asked_action(matches: &ArgMatches<'_>) -> Action
+    ensures { result ≡ action_of (found_of matches.now) }
+{
+    if has_flag(matches, "decode") {
+        Action::Decode { count: None }
+    } else {
+        Action::Encode
+    }
+}
+
+#[tactic(auto, unfolding(crate::specs::Jobs::is_given))]
+fn has_flag(matches: &ArgMatches<'_>, id: &str) -> bool
+    ensures { result ≡ is_given id.now (found_of matches.now) }
+{
+    match matches.get_str(id) {
+        Some(text) => text == "true",
+        None => false,
+    }
+}
+
+fn number(matches: &ArgMatches<'_>, id: &str, default: u32) -> u32
+    ensures { result ≡ word_of default id.now (found_of matches.now) }
+{
+    matches.get_one::<u32>(id).unwrap_or(default)
+}
+
+#[tactic(auto, unfolding(crate::specs::Jobs::file_of))]
+fn file_name(alloc: Global, matches: &ArgMatches<'_>, id: &str) -> Result<String, AllocError>
+    ensures { IfOk result (λ name. string_bytes name ≡ file_of id.now (found_of matches.now)) }
+{
+    match matches.get_str(id) {
+        Some(name) => String::from_str(alloc, name),
+        None => Ok(String::new(alloc)),
+    }
+}

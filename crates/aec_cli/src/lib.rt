@@ -1,0 +1,19 @@
+//! The command `aec`: its words, its job, the files that it reads and writes, and one whole run.
+#![tactic(auto)]
+
+mod failure;
+mod files;
+mod job;
+mod program;
+mod usage;
+mod words;
+
+pub use failure::{Failure, status};
+pub use files::{DestSink, FileSource};
+pub use job::{Action, Job, settings};
+pub use program::perform;
+pub use usage::Usage;
+pub use words::{command, parse};
+
+#[cfg(test)]
+mod tests;

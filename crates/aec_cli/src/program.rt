@@ -1,0 +1,71 @@
+//! One whole run of the program.
+
+ghost use Rattle.std.specs.Prelude.{◌≡◌, ◌≤◌};
+ghost use Rattle.clap.specs.Values.{kind_of};
+ghost use Rattle.aec_cli.specs.Statuses.{parse_status, status_of};
+
+use crate::failure::{Failure, status};
+use crate::job::{Action, Job, settings};
+use crate::usage::Usage;
+use crate::words::parse;
+use clap::error::ErrorKind;
+use std::alloc::Global;
+use std::io::Write;
+use std::rt::Files;
+
+/// Runs the program on its words, of which the first is the program's name, and answers its status: 0, 1 or 2. What
+/// belongs on standard output is written to `out`, what belongs on standard error to `err`; a fault of either changes
+/// nothing.
+pub fn perform<F: Files, O: Write, E: Write>(
+    rt: &F,
+    alloc: Global,
+    words: Vec<String>,
+    out: &mut O,
+    err: &mut E,
+) -> u8
+    ensures { result ≤ 2 }
+{
+    let matches = match parse(alloc, words.as_slice()) {
+        Ok(matches) => matches,
+        Err(error) => return answer(&error, out, err),
+    };
+    let done = match settings(alloc, &matches) {
+        Ok(job) => run(rt, alloc, job),
+        Err(usage) => Err(Failure::Usage(usage)),
+    };
+    match done {
+        Ok(()) => 0,
+        Err(failure) => report(failure, err),
+    }
+}
+
+// Does the job. `NotYet` for every one.
+fn run<F: Files>(_rt: &F, _alloc: Global, job: Job) -> Result<(), Failure> {
+    match job.action {
+        Action::Encode | Action::Decode { .. } => Err(Failure::NotYet),
+    }
+}
+
+// Prints the line of a failure, and answers its status.
+fn report<E: Write>(failure: Failure, err: &mut E) -> u8
+    ensures { result ≡ status_of failure }
+{
+    let _ = writeln!(err, "aec: {failure}");
+    status(&failure)
+}
+
+// Prints what a parse says in place of matches, help or a fault of the words, and answers the status.
+fn answer<O: Write, E: Write>(error: &clap::Error, out: &mut O, err: &mut E) -> u8
+    ensures { result ≡ parse_status (kind_of error.now) }
+{
+    if error.kind() == ErrorKind::OutOfMemory {
+        return report(Failure::Usage(Usage::Memory), err);
+    }
+    if error.use_stderr() {
+        let _ = write!(err, "{error}");
+        2
+    } else {
+        let _ = write!(out, "{error}");
+        0
+    }
+}

@@ -1,0 +1,27 @@
+//! Why the words of a command make no job.
+
+use aec_params::Fault;
+use std::alloc::AllocError;
+use thiserror::Error;
+
+/// A refusal of a job, in the order in which the variants are judged.
+#[derive(Clone, Copy, Debug, PartialEq, Eq, Error)]
+pub enum Usage {
+    /// The settings break a rule of the format: the first one that they break.
+    #[error("{0}")]
+    Setting(Fault),
+    /// A growth was refused.
+    #[error("out of memory")]
+    Memory,
+}
+
+impl From<AllocError> for Usage {
+    ghost use Rattle.std.specs.Prelude.{◌≡◌};
+    ghost use Rattle.aec_cli.specs.declared.usage.Usage.TheVariants.{Memory};
+
+    ghost from_gives = { λ _ e. e ≡ Memory };
+
+    fn from(_e: AllocError) -> Usage {
+        Usage::Memory
+    }
+}

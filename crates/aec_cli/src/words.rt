@@ -1,0 +1,176 @@
+//! The command and its words.
+
+ghost use Rattle.std.specs.Prelude.{◌≡◌, IfOk, IfErr, false, map};
+ghost use Rattle.std.specs.String.{string_bytes};
+ghost use Rattle.clap.specs.Faults.{fault_of};
+ghost use Rattle.clap.specs.Kinds.{FailsBy};
+ghost use Rattle.clap.specs.Matches.{found_of};
+ghost use Rattle.clap.specs.Simple.{app_of, matches_of};
+ghost use Rattle.clap.specs.Walk.{rows_of, rule_of};
+ghost use Rattle.aec_cli.specs.Commands.{aec_app, with_rules, flag_rule, number_rule, file_rule};
+ghost use Rattle.aec_cli.specs.Commands.{number_rules, coding_rules, storage_rules, work_rules, file_rules};
+
+use crate::usage::Usage;
+use clap::builder::ValueParser;
+use clap::{Arg, ArgAction, ArgMatches, Command, Error};
+use std::alloc::{AllocError, Global};
+
+/// The command `aec`, which has no rules between its arguments. `Memory` is the only refusal.
+pub fn command<'a>(alloc: Global) -> Result<Command<'a>, Usage>
+    ensures app { IfOk result (λ c. app_of c ≡ aec_app) }
+    ensures refuses { IfErr result (λ u. u ≡ Usage.Memory) }
+{
+    let command = Command::new(alloc, "aec").about("Codes samples without loss, or decodes them.");
+    let command = with_numbers(alloc, command)?;
+    let command = with_coding(alloc, command)?;
+    let command = with_storage(alloc, command)?;
+    let command = with_work(alloc, command)?;
+    Ok(with_files(alloc, command)?)
+}
+
+/// What the words say to the command, the first of them the program's name. The entries are those that the words
+/// state; an error has the kind of the first mistake, or is want of memory.
+pub fn parse<'a>(alloc: Global, words: &'a [String]) -> Result<ArgMatches<'a>, Error>
+    ensures entries { IfOk result (λ m.
+        rows_of (found_of m) ≡ matches_of aec_app (map string_bytes words.entry.now)) }
+    ensures kinds { FailsBy (fault_of aec_app (map string_bytes words.entry.now)) result }
+{
+    let Ok(command) = command(alloc) else {
+        return Err(Error::from(AllocError));
+    };
+    command.try_get_matches_from(words)
+}
+
+// The numbers of the format.
+fn with_numbers<'a>(alloc: Global, command: Command<'a>) -> Result<Command<'a>, AllocError>
+    ensures { IfOk result (λ c. app_of c ≡ with_rules (app_of command.entry) number_rules) }
+{
+    let bits = number(
+        alloc,
+        "bits",
+        'n',
+        clap::value_parser!(u32),
+        "bits per sample, 1 to 32 (default 8)",
+    );
+    let block_size = number(
+        alloc,
+        "block-size",
+        'j',
+        clap::value_parser!(u32),
+        "samples per block: 8, 16, 32 or 64 (default 8)",
+    );
+    let interval = number(
+        alloc,
+        "interval",
+        'r',
+        clap::value_parser!(u32),
+        "blocks per reference sample interval, 1 to 4096 (default 2)",
+    );
+    command.arg(bits)?.arg(block_size)?.arg(interval)
+}
+
+// How samples are coded.
+fn with_coding<'a>(alloc: Global, command: Command<'a>) -> Result<Command<'a>, AllocError>
+    ensures { IfOk result (λ c. app_of c ≡ with_rules (app_of command.entry) coding_rules) }
+{
+    let plain = flag(
+        alloc,
+        "plain",
+        'N',
+        "no preprocessing: samples are coded as they are",
+    );
+    let pad = flag(
+        alloc,
+        "pad",
+        'p',
+        "each interval padded to a byte boundary; this project's own rule, violates the standard, for data that needs it",
+    );
+    let restricted = flag(
+        alloc,
+        "restricted",
+        't',
+        "restricted set of code options, for 4 bits per sample or fewer",
+    );
+    command.arg(plain)?.arg(pad)?.arg(restricted)
+}
+
+// How samples are stored.
+fn with_storage<'a>(alloc: Global, command: Command<'a>) -> Result<Command<'a>, AllocError>
+    ensures { IfOk result (λ c. app_of c ≡ with_rules (app_of command.entry) storage_rules) }
+{
+    let signed = flag(alloc, "signed", 's', "signed samples");
+    let msb_first = flag(
+        alloc,
+        "msb-first",
+        'm',
+        "samples stored with their most significant byte first",
+    );
+    let three_byte = flag(
+        alloc,
+        "three-byte",
+        '3',
+        "samples of 17 to 24 bits stored in three bytes",
+    );
+    command.arg(signed)?.arg(msb_first)?.arg(three_byte)
+}
+
+// What is done.
+fn with_work<'a>(alloc: Global, command: Command<'a>) -> Result<Command<'a>, AllocError>
+    ensures { IfOk result (λ c. app_of c ≡ with_rules (app_of command.entry) work_rules) }
+{
+    let decode = flag(alloc, "decode", 'd', "decode SOURCE in place of coding it");
+    let buffer = number(
+        alloc,
+        "buffer",
+        'b',
+        clap::value_parser!(u64),
+        "size of a buffer; read, without effect",
+    );
+    command.arg(decode)?.arg(buffer)
+}
+
+// The two files.
+fn with_files<'a>(alloc: Global, command: Command<'a>) -> Result<Command<'a>, AllocError>
+    ensures { IfOk result (λ c. app_of c ≡ with_rules (app_of command.entry) file_rules) }
+{
+    let source = file(alloc, "SOURCE", "the file that is read");
+    let dest = file(alloc, "DEST", "the file that is written whole");
+    command.arg(source)?.arg(dest)
+}
+
+// An option of one letter that takes no value.
+fn flag<'a>(alloc: Global, id: &'a str, letter: char, help: &'a str) -> Arg<'a>
+    ensures rule { rule_of result ≡ flag_rule id.entry.now letter }
+    ensures local { result.global ≡ false }
+{
+    Arg::new(alloc, id)
+        .short(letter)
+        .action(ArgAction::SetTrue)
+        .help(help)
+}
+
+// An option of one letter that takes a number, which the parser judges.
+fn number<'a>(
+    alloc: Global,
+    id: &'a str,
+    letter: char,
+    parser: ValueParser<'a>,
+    help: &'a str,
+) -> Arg<'a>
+    ensures rule { rule_of result ≡ number_rule parser.entry id.entry.now letter }
+    ensures local { result.global ≡ false }
+{
+    Arg::new(alloc, id)
+        .short(letter)
+        .value_name("N")
+        .value_parser(parser)
+        .help(help)
+}
+
+// A file, which has to be named.
+fn file<'a>(alloc: Global, id: &'a str, help: &'a str) -> Arg<'a>
+    ensures rule { rule_of result ≡ file_rule id.entry.now }
+    ensures local { result.global ≡ false }
+{
+    Arg::new(alloc, id).required(true).help(help)
+}

@@ -1,0 +1,114 @@
+use super::{PLAIN, restricted, width};
+use crate::fault::Fault;
+use crate::params::Params;
+use crate::settings::Settings;
+use std::test::Fail;
+
+const fn shape(bits: u32, block_size: u32, interval: u32) -> Settings {
+    Settings {
+        bits,
+        block_size,
+        interval,
+        ..PLAIN
+    }
+}
+
+#[test]
+fn judges_the_rules_in_order(rt: HostRuntime) {
+    let cases = [
+        (shape(0, 8, 2), Some(Fault::BitsPerSample)),
+        (shape(33, 10, 2), Some(Fault::BitsPerSample)),
+        (shape(8, 10, 0), Some(Fault::BlockSize)),
+        (shape(8, 8, 0), Some(Fault::Interval)),
+        (shape(8, 8, 4097), Some(Fault::Interval)),
+        (restricted(8), Some(Fault::RestrictedWidth)),
+        (restricted(5), Some(Fault::RestrictedWidth)),
+        (restricted(4), None),
+        (shape(32, 64, 4096), None),
+    ];
+    for (settings, wanted) in cases {
+        assert_eq!(rt; Params::new(settings).err(), wanted, "at {settings:?}");
+    }
+}
+
+// Bits of an identifier and the greatest k, by the table of identifiers; then the range and the stored bytes.
+#[test]
+fn numbers_follow_from_settings(rt: HostRuntime) -> Result<(), Fail> {
+    let cases = [
+        (restricted(1), 1, None, 0, 1, 1),
+        (restricted(2), 1, None, 0, 3, 1),
+        (restricted(3), 2, Some(1), 0, 7, 1),
+        (restricted(4), 2, Some(1), 0, 15, 1),
+        (width(1, true), 3, Some(5), -1, 0, 1),
+        (width(8, false), 3, Some(5), 0, 255, 1),
+        (width(9, true), 4, Some(13), -256, 255, 2),
+        (width(16, false), 4, Some(13), 0, 65535, 2),
+        (width(17, false), 5, Some(29), 0, 131071, 4),
+        (width(32, false), 5, Some(29), 0, 4294967295, 4),
+        (width(32, true), 5, Some(29), -2147483648, 2147483647, 4),
+    ];
+    for (settings, id_len, k_max, x_min, x_max, storage) in cases {
+        let params = Params::new(settings)?;
+        assert_eq!(rt;
+            (params.id_len(), params.k_max()),
+            (id_len, k_max),
+            "at {settings:?}"
+        );
+        assert_eq!(rt;
+            (params.x_min(), params.x_max()),
+            (x_min, x_max),
+            "at {settings:?}"
+        );
+        assert_eq!(rt; params.storage(), storage, "at {settings:?}");
+        let (below, above) = (x_min.saturating_sub(1), x_max.saturating_add(1));
+        assert!(rt; params.holds(x_min) && params.holds(x_max));
+        assert!(rt; !params.holds(below) && !params.holds(above));
+    }
+    Ok(())
+}
+
+#[test]
+fn readers_give_the_settings(rt: HostRuntime) -> Result<(), Fail> {
+    let settings = Settings {
+        signed: true,
+        msb_first: true,
+        three_byte: true,
+        preprocess: false,
+        pad: true,
+        ..shape(20, 64, 4096)
+    };
+    let params = Params::new(settings)?;
+    let copy = params;
+    assert_eq!(rt; copy, params);
+    assert!(rt; params != Params::new(PLAIN)?);
+    assert_eq!(rt;
+        (params.bits(), params.block_size(), params.interval()),
+        (20, 64, 4096)
+    );
+    assert_eq!(rt; params.interval_len(), 262144);
+    assert!(rt; params.signed() && params.msb_first() && params.pad() && !params.preprocess());
+    Ok(())
+}
+
+#[test]
+fn patterns_are_twos_complement(rt: HostRuntime) -> Result<(), Fail> {
+    let cases = [
+        (width(1, true), -1, 1),
+        (width(5, true), -16, 16),
+        (width(5, true), -1, 31),
+        (width(5, true), 15, 15),
+        (width(8, false), 255, 255),
+        (width(32, false), 4294967295, 4294967295),
+        (width(32, true), -2147483648, 2147483648),
+        (width(32, true), -1, 4294967295),
+    ];
+    for (settings, x, pattern) in cases {
+        let params = Params::new(settings)?;
+        assert!(rt; params.holds(x));
+        assert_eq!(rt; params.pattern(x), pattern, "at {settings:?}");
+        let bound = 1u64 << params.bits();
+        assert!(rt; u64::from(pattern) < bound);
+        assert_eq!(rt; params.value(pattern), x, "at {settings:?}");
+    }
+    Ok(())
+}
