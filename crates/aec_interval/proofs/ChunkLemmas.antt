@@ -1,22 +1,22 @@
 -- Samples cut at the end of a block or a segment: the blocks of the front, and those of what is behind it.
-use Rattle.std.proofs.Common.{◌≡◌, ℕ, zero, suc, ◌+◌, ◌-◌, ◌*◌, ◌%◌, ◌^◌, ◌<◌, ◌≤◌, Bool, true, false, Option, Some, None, ℤ, pos, List, [], ◌∷◌, ◌++◌, length, map, take, drop, replicate, refl, sym, ap, ap₂, ◌∙◌, subst, arith, inl, inr, ⊎_elim}
-use Rattle.std.specs.Prelude.{⊤, unwrap_or, if◌then◌else◌}
-use Rattle.std.specs.List.{AllByRecursion, last_or, flat_map}
+use Rattle.std.proofs.Common.{◌≡◌, ℕ, zero, suc, ◌+◌, ◌-◌, ◌*◌, ◌%◌, ◌<◌, ◌≤◌, Bool, Option, Some, None, ℤ, pos, List, [], ◌∷◌, ◌++◌, length, map, take, drop, replicate, refl, sym, ap, ap₂, ◌∙◌, arith}
+use Rattle.std.specs.Prelude.{unwrap_or, if◌then◌else◌}
+use Rattle.std.specs.List.{last_or, flat_map}
 use Rattle.std.specs.Int.{div_ceil}
 use Rattle.std.proofs.Math.Nat.{add-mod_right, mod_self, mod-eq_of_lt, lt_of_mul-lt-mul_right}
-use Rattle.std.proofs.lemmas.List.{append_assoc, append-nil, length-append, length-replicate, length-take, length-drop, length-map, take-append-drop, nil_from_length}
+use Rattle.std.proofs.lemmas.List.{append_assoc, append-nil, length-append, length-take, length-drop, length-map, take-append-drop}
 use Rattle.std.proofs.lemmas.List.Concat.{flat_map-append}
 use Rattle.aec_params.specs.declared.settings.Settings.{Settings}
-use Rattle.aec_params.specs.Params.{IsAllowed, IsHeld, interval_len, sample_pattern}
+use Rattle.aec_params.specs.Params.{sample_pattern}
 use Rattle.aec_params.specs.Cutting.{pieces_of, up_to_multiple}
-use Rattle.aec_params.specs.Mapping.{mapped_value, mapped_after, mapped_values}
-use Rattle.aec_params.specs.Blocks.{Block, filled_samples, reference_of, with_reference, blocks_of}
+use Rattle.aec_params.specs.Mapping.{mapped_value}
+use Rattle.aec_params.specs.Blocks.{filled_samples, with_reference}
 use Rattle.aec_params.specs.CodedDataSets.{cds_bits}
 use Rattle.aec_params.specs.Runs.{groups_of}
 use Rattle.aec_params.specs.Intervals.{group_sets, block_sets, plain_bits}
 use Rattle.aec_interval.specs.Chunks.{values_after, reference_after, block_after, blocks_after}
 use Rattle.aec_interval.specs.Pending.{segment_bits}
-use Rattle.aec_interval.proofs.CuttingLemmas.{IsPieceBefore, pieces_of-nil, pieces_of-cons, length-pieces_of, div_ceil-zero, div_ceil-one, div_ceil-positive, div_ceil-bounds, div_ceil-times}
+use Rattle.aec_interval.proofs.CuttingLemmas.{IsPieceBefore, pieces_of-nil, pieces_of-cons, length-pieces_of, div_ceil-one, div_ceil-positive, div_ceil-bounds, div_ceil-times}
 use Rattle.aec_interval.proofs.BlockLemmas.{length-mapped_after, length-mapped_values, length-filled_samples}
 
 -- ---- the last sample
@@ -55,7 +55,7 @@ filled_samples-append s front (y ∷ rest) h piece =
     let whole : length front ≡ s.block_size = piece.full (omega arith) in
     let last : last_or None (front ++ y ∷ rest) ≡ last_or (Some y) rest = last_or-append None front (y ∷ rest) in
     let missing : up_to_multiple s.block_size (length (front ++ y ∷ rest)) ≡ up_to_multiple s.block_size (length (y ∷ rest)) =
-        ap (up_to_multiple s.block_size) (length-append front (y ∷ rest) ∙ ap (λ n. n + length (y ∷ rest)) whole) ∙ up_to_multiple-add s.block_size (length (y ∷ rest)) in
+    ap (up_to_multiple s.block_size) (length-append front (y ∷ rest) ∙ ap (λ n. n + length (y ∷ rest)) whole) ∙ up_to_multiple-add s.block_size (length (y ∷ rest)) in
     ap₂ (λ n o. (front ++ y ∷ rest) ++ replicate n (unwrap_or o (pos 0))) missing last
     ∙ append_assoc front (y ∷ rest) (replicate (up_to_multiple s.block_size (length (y ∷ rest))) (unwrap_or (last_or (Some y) rest) (pos 0)))
     ∙ ap (λ l. l ++ filled_samples s (y ∷ rest)) (sym (filled_samples-whole s front h whole))
@@ -131,20 +131,25 @@ blocks_after-cons s o [] rest h piece = absurd (omega (arith, piece.some))
 blocks_after-cons s o (x ∷ xs) rest h piece =
     ap₂ with_reference (reference_after-front s o x (xs ++ rest) xs) (ap (pieces_of s.block_size) values ∙ pieces_of-cons s.block_size first later one)
     ∙ ap (λ l. record { reference = reference_after s o front; values = first } ∷ l)
-        (with_no_reference (pieces_of s.block_size later) ∙ ap (λ r. with_reference r (pieces_of s.block_size later)) (sym (reference_after-some s x xs rest)))
+    (with_no_reference (pieces_of s.block_size later) ∙ ap (λ r. with_reference r (pieces_of s.block_size later)) (sym (reference_after-some s x xs rest)))
   where
     front : List ℤ
     front = x ∷ xs
+
     first : List ℕ
     first = values_after s o (filled_samples s front)
+
     later : List ℕ
     later = values_after s (last_or o front) (filled_samples s rest)
+
     values : values_after s o (filled_samples s (front ++ rest)) ≡ first ++ later
     values =
         ap (values_after s o) (filled_samples-append s front rest h piece) ∙ values_after-append s o (filled_samples s front) (filled_samples s rest)
         ∙ ap (λ l. first ++ values_after s l (filled_samples s rest)) (last_or-filled s o x xs)
+
     len : length first ≡ s.block_size
     len = length-values_after s o (filled_samples s front) ∙ length-filled_block s front piece.some piece.fits
+
     one : IsPieceBefore s.block_size first later
     one = record { some = omega (arith, len); fits = omega (arith, len); full = λ _. len }
 
@@ -161,16 +166,20 @@ blocks_after-append s (suc k) o front rest h e =
     ∙ blocks_after-cons s o a (b ++ rest) h (full_piece s.block_size a (b ++ rest) h la)
     ∙ ap (λ l. block_after s o a ∷ l) (blocks_after-append s k (last_or o a) b rest h lb)
     ∙ ap₂ ◌++◌ (sym (blocks_after-cons s o a b h (full_piece s.block_size a b h la)) ∙ ap (blocks_after s o) whole)
-        (ap (λ l. blocks_after s l rest) (sym (last_or-append o a b) ∙ ap (last_or o) whole))
+    (ap (λ l. blocks_after s l rest) (sym (last_or-append o a b) ∙ ap (last_or o) whole))
   where
     a : List ℤ
     a = take s.block_size front
+
     b : List ℤ
     b = drop s.block_size front
+
     whole : a ++ b ≡ front
     whole = take-append-drop s.block_size front
+
     la : length a ≡ s.block_size
     la = omega (arith, length-take s.block_size front)
+
     lb : length b ≡ k * s.block_size
     lb = omega (arith, length-drop s.block_size front)
 
@@ -195,9 +204,10 @@ few_blocks s o v most h few =
 segment_before : (s : Settings) (o : Option ℤ) (front rest : List ℤ) → 0 < s.block_size → IsPieceBefore (s.block_size * 64) front rest
     → IsPieceBefore 64 (blocks_after s o front) (blocks_after s (last_or o front) rest)
 segment_before s o front rest h piece = record {
-    some = omega (arith, length-blocks_after s o front h, div_ceil-positive (length front) s.block_size h piece.some);
-    fits = few_blocks s o front 64 h piece.fits;
-    full = full rest piece.full }
+  some = omega (arith, length-blocks_after s o front h, div_ceil-positive (length front) s.block_size h piece.some);
+  fits = few_blocks s o front 64 h piece.fits;
+  full = full rest piece.full;
+}
   where
     full : (rest : List ℤ) → (0 < length rest → length front ≡ s.block_size * 64) → 0 < length (blocks_after s (last_or o front) rest) → length (blocks_after s o front) ≡ 64
     full [] whole some = absurd (omega (arith, ap length (blocks_after-nil s (last_or o front) h)))
@@ -216,7 +226,7 @@ pub bits_after-segment : (s : Settings) (o : Option ℤ) (front rest : List ℤ)
 bits_after-segment s o front rest h piece =
     ap (λ blocks. flat_map (cds_bits s) (block_sets s blocks)) (blocks_after-segment s o front rest h piece)
     ∙ ap (λ segments. flat_map (cds_bits s) (flat_map (λ segment. group_sets s (groups_of segment)) segments))
-        (pieces_of-cons 64 (blocks_after s o front) (blocks_after s (last_or o front) rest) (segment_before s o front rest h piece))
+    (pieces_of-cons 64 (blocks_after s o front) (blocks_after s (last_or o front) rest) (segment_before s o front rest h piece))
     ∙ flat_map-append (cds_bits s) (group_sets s (groups_of (blocks_after s o front))) (block_sets s (blocks_after s (last_or o front) rest))
 
 pub bits_after-interval : (s : Settings) (v : List ℤ) → bits_after s None v ≡ plain_bits s v

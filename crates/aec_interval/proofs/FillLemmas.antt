@@ -1,8 +1,8 @@
 -- One block: its first sample, those behind it, and the filler.
-use Rattle.std.proofs.Common.{◌≡◌, ℕ, zero, suc, ◌+◌, ◌-◌, ◌*◌, ◌^◌, ◌<◌, ◌≤◌, Bool, true, false, Option, Some, None, ℤ, pos, List, [], ◌∷◌, ◌++◌, length, drop, take, replicate, refl, sym, ap, ap₂, ◌∙◌, subst, arith}
-use Rattle.std.specs.Prelude.{⊤, unwrap_or, if◌then◌else◌, slice_index_or}
+use Rattle.std.proofs.Common.{◌≡◌, ℕ, ◌+◌, ◌-◌, ◌^◌, ◌<◌, ◌≤◌, Option, Some, None, ℤ, pos, List, [], ◌∷◌, ◌++◌, length, drop, take, replicate, refl, sym, ap, ap₂, ◌∙◌, arith}
+use Rattle.std.specs.Prelude.{unwrap_or, slice_index_or}
 use Rattle.std.specs.List.{AllByRecursion, last_or}
-use Rattle.std.proofs.lemmas.List.{append_assoc, length-append, length-replicate, take_all}
+use Rattle.std.proofs.lemmas.List.{length-append, length-replicate, take_all}
 use Rattle.std.proofs.lemmas.Bool.{cond_both}
 use Rattle.aec_params.specs.declared.settings.Settings.{Settings}
 use Rattle.aec_params.specs.Params.{IsAllowed, IsHeld, sample_pattern}
@@ -12,9 +12,9 @@ use Rattle.aec_params.specs.Blocks.{Block, filled_samples}
 use Rattle.aec_params.proofs.PatternLaws.{pattern-fits}
 use Rattle.aec_block.specs.Choices.{FitsReference, IsFull}
 use Rattle.aec_interval.specs.Chunks.{values_after, reference_after, block_after, HoldsPrevious, AreSamplesAfter}
-use Rattle.aec_interval.proofs.BlockLemmas.{all-mapped_after, all-mapped_values, all-filled_samples, block_size-positive}
+use Rattle.aec_interval.proofs.BlockLemmas.{all-mapped_after, all-mapped_values, all-filled_samples}
 use Rattle.aec_interval.proofs.MappedLemmas.{mapped_after-replicate}
-use Rattle.aec_interval.proofs.ChunkLemmas.{values_after-append, length-values_after, length-filled_block, last_or-append}
+use Rattle.aec_interval.proofs.ChunkLemmas.{values_after-append, length-values_after, length-filled_block}
 
 -- a full block of values that fit
 small_values : (s : Settings) (o : Option ℤ) (v : List ℤ) → IsAllowed s → HoldsPrevious s o → AllByRecursion (IsHeld s) v
@@ -32,7 +32,8 @@ IsFull-block_after s o (x ∷ v) a some h =
     record {
       len = length-values_after s o (filled_samples s (x ∷ v)) ∙ length-filled_block s (x ∷ v) some (omega (arith, h.few));
       values = small_values s o (filled_samples s (x ∷ v)) a h.previous_held (all-filled_samples s x v h.held);
-      reference = fits_reference s o x v a h.held.0 }
+      reference = fits_reference s o x v a h.held.0;
+    }
 
 -- the values of one block: of the first sample, of those behind it, and of the filler
 block_values : (s : Settings) (o : Option ℤ) (x last : ℤ) (xs : List ℤ) (n : ℕ) → length (x ∷ xs) ≤ s.block_size → n ≡ s.block_size - length (x ∷ xs) → Some last ≡ last_or (Some x) xs
@@ -44,9 +45,13 @@ block_values s o x last xs n few e f =
   where
     filled : length (x ∷ xs) + up_to_multiple s.block_size (length (x ∷ xs)) ≡ s.block_size
     filled =
-        omega (arith, length-filled_block s (x ∷ xs) (omega arith) few,
+        omega (
+          arith,
+          length-filled_block s (x ∷ xs) (omega arith) few,
           length-append (x ∷ xs) (replicate (up_to_multiple s.block_size (length (x ∷ xs))) (unwrap_or (last_or (Some x) xs) (pos 0))),
-          length-replicate (up_to_multiple s.block_size (length (x ∷ xs))) (unwrap_or (last_or (Some x) xs) (pos 0)))
+          length-replicate (up_to_multiple s.block_size (length (x ∷ xs))) (unwrap_or (last_or (Some x) xs) (pos 0)),
+        )
+
     missing : n ≡ up_to_multiple s.block_size (length (x ∷ xs))
     missing = omega (arith, e, filled)
 
@@ -61,14 +66,14 @@ pub block_after-built : (s : Settings) (o : Option ℤ) (x last : ℤ) (xs : Lis
     → built ≡ block_after s o (x ∷ xs)
 block_after-built s o x last xs begun mapped built few e f g h =
     let front : mapped.values ≡ values_after s o (x ∷ []) ++ mapped_after s x xs =
-        ap (λ (b : Block). b.values) f ∙ ap (λ (b : Block). b.values ++ mapped_after s x xs) e in
+    ap (λ (b : Block). b.values) f ∙ ap (λ (b : Block). b.values ++ mapped_after s x xs) e in
     let missing : s.block_size - length mapped.values ≡ s.block_size - length (x ∷ xs) =
-        ap (λ n. s.block_size - n) (ap length front ∙ length-begun s o x xs) in
+    ap (λ n. s.block_size - n) (ap length front ∙ length-begun s o x xs) in
     let reference : built.reference ≡ reference_after s o (x ∷ xs) =
-        ap (λ (b : Block). b.reference) h ∙ ap (λ (b : Block). b.reference) f ∙ ap (λ (b : Block). b.reference) e ∙ same_reference o in
+    ap (λ (b : Block). b.reference) h ∙ ap (λ (b : Block). b.reference) f ∙ ap (λ (b : Block). b.reference) e ∙ same_reference o in
     let values : built.values ≡ values_after s o (filled_samples s (x ∷ xs)) =
-        ap (λ (b : Block). b.values) h ∙ ap (λ l. l ++ replicate (s.block_size - length mapped.values) (mapped_value s last last)) front
-        ∙ block_values s o x last xs (s.block_size - length mapped.values) few missing g in
+    ap (λ (b : Block). b.values) h ∙ ap (λ l. l ++ replicate (s.block_size - length mapped.values) (mapped_value s last last)) front
+    ∙ block_values s o x last xs (s.block_size - length mapped.values) few missing g in
     ap₂ (λ r l. record { reference = r; values = l }) reference values
   where
     same_reference : (o : Option ℤ) → reference_after s o (x ∷ []) ≡ reference_after s o (x ∷ xs)

@@ -1,5 +1,5 @@
 -- Samples mapped one by one, and the filler of a block.
-use Rattle.std.proofs.Common.{◌≡◌, ℕ, zero, suc, ◌+◌, ◌-◌, ◌<◌, ◌≤◌, Option, Some, None, ℤ, pos, List, [], ◌∷◌, ◌++◌, length, drop, replicate, refl, sym, ap, ◌∙◌, subst, arith, append_assoc, append-nil}
+use Rattle.std.proofs.Common.{◌≡◌, ℕ, zero, suc, Some, ℤ, List, [], ◌∷◌, ◌++◌, replicate, refl, sym, ap, ◌∙◌, subst, append_assoc, append-nil}
 use Rattle.std.specs.List.{AllByRecursion, last_or}
 use Rattle.aec_params.specs.declared.settings.Settings.{Settings}
 use Rattle.aec_params.specs.Params.{IsHeld}
@@ -22,7 +22,10 @@ maps-more s p xs before values last x rest later e m =
     let here : Maps s p xs before values last (x ∷ later) = subst (Maps s p xs before values last) e m in
     record {
       mapped = append_assoc values (mapped_value s last x ∷ []) (mapped_after s x later) ∙ here.mapped;
-      last_is = here.last_is; last_held = here.rest_held.0; rest_held = here.rest_held.1 }
+      last_is = here.last_is;
+      last_held = here.rest_held.0;
+      rest_held = here.rest_held.1;
+    }
 
 pub maps-end : (s : Settings) (p : ℤ) (xs : List ℤ) (before values : List ℕ) (last : ℤ) (rest : List ℤ) → rest ≡ []
     → Maps s p xs before values last rest → (values ≡ before ++ mapped_after s p xs) × (Some last ≡ last_or (Some p) xs)
@@ -40,5 +43,5 @@ pub maps-more_kept : (s : Settings) (p : ℤ) (xs : List ℤ) (before values new
     → rest ≡ x ∷ later → m ≡ mapped_value s past kept → new ≡ values ++ m ∷ [] → Maps s p xs before values last rest → Maps s p xs before new kept later
 maps-more_kept s p xs before values new last past x kept m rest later e f cut value pushed maps =
     let here : Maps s p xs before (values ++ mapped_value s last kept ∷ []) kept later =
-        maps-more s p xs before values last kept rest later (cut ∙ ap (λ y. y ∷ later) (sym e)) maps in
+    maps-more s p xs before values last kept rest later (cut ∙ ap (λ y. y ∷ later) (sym e)) maps in
     subst (λ l. Maps s p xs before l kept later) (sym (pushed ∙ ap (λ k. values ++ k ∷ []) (value ∙ ap (λ q. mapped_value s q kept) f))) here

@@ -1,22 +1,21 @@
 -- The loops over the blocks of a segment and over the segments of an interval, step by step.
-use Rattle.std.proofs.Common.{◌≡◌, ℕ, zero, suc, ◌+◌, ◌-◌, ◌*◌, ◌<◌, ◌≤◌, min, Bool, true, false, Option, Some, None, ℤ, List, [], ◌∷◌, ◌++◌, length, take, drop, refl, sym, ap, ◌∙◌, subst, arith, inl, inr, ⊎_elim}
-use Rattle.std.specs.Prelude.{⊤, slice_get}
+use Rattle.std.proofs.Common.{◌≡◌, ℕ, ◌+◌, ◌-◌, ◌*◌, ◌<◌, ◌≤◌, min, Bool, true, Option, Some, None, ℤ, List, [], ◌∷◌, ◌++◌, length, take, drop, refl, sym, ap, ◌∙◌, subst, arith, ⊎_elim}
+use Rattle.std.specs.Prelude.{slice_get}
 use Rattle.std.specs.List.{AllByRecursion, last_or}
 use Rattle.std.proofs.Math.Nat.{mul-le-mul_left}
 use Rattle.std.proofs.lemmas.List.{append_assoc, append-nil, length-append, length-take, take-append-le, take-append-drop, nil_from_length}
 use Rattle.std.proofs.lemmas.Bool.{cases_lt}
 use Rattle.aec_params.specs.declared.settings.Settings.{Settings}
-use Rattle.aec_params.specs.Params.{IsAllowed, IsHeld, interval_len}
+use Rattle.aec_params.specs.Params.{IsHeld}
 use Rattle.aec_params.specs.Blocks.{Block}
 use Rattle.aec_params.specs.Intervals.{plain_bits}
 use Rattle.aec_interval.specs.declared.runs.Run.{Run}
-use Rattle.aec_interval.specs.Laws.{AreOfInterval}
 use Rattle.aec_interval.specs.Chunks.{block_after, blocks_after, HoldsPrevious, AreSamplesAfter}
 use Rattle.aec_interval.specs.Pending.{pending_bits, segment_bits, bits_of_run, IsRun, IsKept}
 use Rattle.aec_interval.proofs.CuttingLemmas.{IsPieceBefore}
-use Rattle.aec_interval.proofs.BlockLemmas.{all_left, all_right, last_or-held}
-use Rattle.aec_interval.proofs.PendingLemmas.{kept-self, kept-append, pending-end}
-use Rattle.aec_interval.proofs.ChunkLemmas.{last_or-some, blocks_after-nil, blocks_after-cons, bits_after, bits_after-nil, bits_after-segment}
+use Rattle.aec_interval.proofs.BlockLemmas.{all_left, all_right}
+use Rattle.aec_interval.proofs.PendingLemmas.{kept-self, pending-end}
+use Rattle.aec_interval.proofs.ChunkLemmas.{blocks_after-nil, blocks_after-cons, bits_after, bits_after-nil, bits_after-segment}
 
 -- ---- pieces
 
@@ -61,7 +60,13 @@ pub record SegmentSoFar (s : Settings) (old new whole : List Bool) (o : Option �
 pub segment-begun : (s : Settings) (old : List Bool) (o : Option ℤ) (v : List ℤ) → AreSamplesAfter s o 64 v
     → SegmentSoFar s old old (segment_bits s (blocks_after s o v)) o (record { reference = None; blocks = 0 }) v
 segment-begun s old o v h = record {
-  previous_held = h.previous_held; held = h.held; few = h.few; is_run = record { few = omega arith; reference = tt }; bits = refl; kept = kept-self old }
+  previous_held = h.previous_held;
+  held = h.held;
+  few = h.few;
+  is_run = record { few = omega arith; reference = tt };
+  bits = refl;
+  kept = kept-self old;
+}
 
 -- a block fits behind the run
 pub record IsNextChunk (s : Settings) (o : Option ℤ) (run : Run) (chunk rest : List ℤ) : Type 0 where
@@ -83,7 +88,8 @@ next_chunk s old new whole o run rest chunk later h m e len some =
       some = piece.some;
       samples = record { previous_held = m.previous_held; held = all_left (IsHeld s) chunk later (subst (AllByRecursion (IsHeld s)) e m.held); few = omega (arith, piece.fits) };
       is_run = record { few = room_for_run s.block_size run.blocks (length rest) some m.few m.is_run.few; reference = m.is_run.reference };
-      piece = piece }
+      piece = piece;
+    }
 
 less_room : (n y z m k : ℕ) → m ≤ n * (64 - z) → n ≤ m → y ≤ z + 1 → z ≤ 63 → m ≡ n + k → k ≤ n * (64 - y)
 less_room n y z m k few full next most e =
@@ -111,10 +117,11 @@ segment-more s old new newer whole o p run next rest chunk later h m n e last is
       few = rest_fits s next run rest chunk later m.few n.is_run.few is_run.few n.piece e;
       is_run = record { few = omega (arith, is_run.few, n.is_run.few); reference = is_run.reference };
       bits =
-        written (blocks_after s (last_or o chunk) later)
-        ∙ ap (λ blocks. new ++ pending_bits s run blocks) (sym (blocks_after-cons s o chunk later h n.piece) ∙ ap (blocks_after s o) (sym e))
-        ∙ m.bits;
-      kept = kept-trans old new newer m.kept kept })
+          written (blocks_after s (last_or o chunk) later)
+          ∙ ap (λ blocks. new ++ pending_bits s run blocks) (sym (blocks_after-cons s o chunk later h n.piece) ∙ ap (blocks_after s o) (sym e))
+          ∙ m.bits;
+      kept = kept-trans old new newer m.kept kept;
+    })
   where
     held : AllByRecursion (IsHeld s) (chunk ++ later)
     held = subst (AllByRecursion (IsHeld s)) e m.held
@@ -149,11 +156,12 @@ interval-more s old new newer whole o p rest front later h m piece e last kept w
       previous_held = holds_last s o front m.previous_held (all_left (IsHeld s) front later held);
       held = all_right (IsHeld s) front later held;
       bits =
-        ap (λ l. l ++ bits_after s (last_or o front) later) written
-        ∙ append_assoc new (segment_bits s (blocks_after s o front)) (bits_after s (last_or o front) later)
-        ∙ ap (λ l. new ++ l) (sym (bits_after-segment s o front later h piece) ∙ ap (bits_after s o) (sym e))
-        ∙ m.bits;
-      kept = kept-trans old new newer m.kept kept })
+          ap (λ l. l ++ bits_after s (last_or o front) later) written
+          ∙ append_assoc new (segment_bits s (blocks_after s o front)) (bits_after s (last_or o front) later)
+          ∙ ap (λ l. new ++ l) (sym (bits_after-segment s o front later h piece) ∙ ap (bits_after s o) (sym e))
+          ∙ m.bits;
+      kept = kept-trans old new newer m.kept kept;
+    })
   where
     held : AllByRecursion (IsHeld s) (front ++ later)
     held = subst (AllByRecursion (IsHeld s)) e m.held

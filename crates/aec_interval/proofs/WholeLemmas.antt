@@ -1,18 +1,18 @@
 -- The loops over all samples: the first that is none, and interval upon interval.
-use Rattle.std.proofs.Common.{◌≡◌, ℕ, zero, suc, ◌+◌, ◌*◌, ◌<◌, ◌≤◌, min, Bool, true, false, IsTrue, Option, Some, None, ℤ, List, [], ◌∷◌, ◌++◌, length, refl, sym, ap, ◌∙◌, subst, arith, rules}
+use Rattle.std.proofs.Common.{◌≡◌, ℕ, ◌+◌, ◌<◌, Bool, true, false, IsTrue, Some, None, ℤ, List, [], ◌∷◌, ◌++◌, length, sym, ap, ◌∙◌, subst, rules}
 use Rattle.std.specs.Prelude.{if◌then◌else◌}
 use Rattle.std.specs.List.{AllByRecursion, flat_map}
 use Rattle.std.proofs.lemmas.List.{append_assoc, append-nil}
 use Rattle.std.proofs.lemmas.Bool.{cond-true, cond-false}
 use Rattle.aec_params.specs.declared.settings.Settings.{Settings}
-use Rattle.aec_params.specs.Params.{IsAllowed, IsHeld, is_held, interval_len}
+use Rattle.aec_params.specs.Params.{IsHeld, is_held, interval_len}
 use Rattle.aec_params.specs.Intervals.{interval_bits}
 use Rattle.aec_params.specs.Streams.{stream_of}
 use Rattle.aec_bits.specs.Refusals.{first_unheld}
 use Rattle.aec_interval.specs.Laws.{AreOfInterval}
 use Rattle.aec_interval.proofs.CuttingLemmas.{IsPieceBefore, pieces_of-nil, pieces_of-cons}
 use Rattle.aec_interval.proofs.BlockLemmas.{all_left, all_right}
-use Rattle.aec_interval.proofs.SegmentLemmas.{piece_taken, nothing_left}
+use Rattle.aec_interval.proofs.SegmentLemmas.{nothing_left}
 
 -- ---- the first number that is no sample
 
@@ -59,8 +59,9 @@ pub stream-more : (s : Settings) (new newer whole : List Bool) (rest front later
 stream-more s new newer whole rest front later m e piece written = record {
   held = all_right (IsHeld s) front later (subst (AllByRecursion (IsHeld s)) e m.held);
   bits =
-    ap (λ l. l ++ stream_of s later) written ∙ append_assoc new (interval_bits s front) (stream_of s later)
-    ∙ ap (λ l. new ++ l) (sym (stream_of-cons s front later piece) ∙ ap (stream_of s) (sym e)) ∙ m.bits }
+      ap (λ l. l ++ stream_of s later) written ∙ append_assoc new (interval_bits s front) (stream_of s later)
+      ∙ ap (λ l. new ++ l) (sym (stream_of-cons s front later piece) ∙ ap (stream_of s) (sym e)) ∙ m.bits;
+}
 
 pub stream-end : (s : Settings) (new whole : List Bool) (rest : List ℤ) → 0 < interval_len s → length rest ≡ 0 → StreamSoFar s new whole rest → new ≡ whole
 stream-end s new whole rest h none m =

@@ -1,9 +1,9 @@
 -- What is still to be written of a segment behind zero blocks that have been counted and not yet written.
-use Rattle.std.specs.Prelude.{◌≡◌, ℕ, zero, suc, ◌+◌, ◌==◌, ◌≤◌, Bool, length, take, if◌then◌else◌, Option, None, List, [], ◌∷◌}
+use Rattle.std.specs.Prelude.{◌≡◌, ℕ, zero, suc, ◌+◌, ◌==◌, ◌≤◌, Bool, length, take, if◌then◌else◌, Option, List, [], ◌∷◌}
 use Rattle.std.specs.List.{flat_map}
 use Rattle.aec_params.specs.declared.settings.Settings.{Settings}
 use Rattle.aec_params.specs.Blocks.{Block}
-use Rattle.aec_params.specs.CodedDataSets.{CodedDataSet, cds_bits}
+use Rattle.aec_params.specs.CodedDataSets.{cds_bits}
 use Rattle.aec_params.specs.Runs.{Group, zero_run, groups_of}
 use Rattle.aec_params.specs.Intervals.{group_sets}
 use Rattle.aec_block.specs.Choices.{FitsReference}

@@ -55,8 +55,10 @@ fn push_mapped(params: &Params, previous: i64, samples: &[i64], block: &mut Bloc
 fn fill(params: &Params, last: i64, block: &mut Block)
     requires last { IsHeld params.now last }
     requires few { length block.old.values ≤ params.now.block_size }
-    ensures { block.new ≡ record block.old { values = block.old.values
-        ++ replicate (params.now.block_size - length block.old.values) (mapped_value params.now last last) } }
+    ensures { block.new ≡ record block.old {
+      values = block.old.values
+          ++ replicate (params.now.block_size - length block.old.values) (mapped_value params.now last last);
+    } }
 {
     let filler = map(params, last, last);
     for _place in block.len()..params.block_size() as usize {

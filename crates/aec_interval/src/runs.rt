@@ -55,7 +55,12 @@ impl Run {
 
 /// Takes one block more of a segment behind a run: a zero block joins the run, before another one the run is written.
 /// The run that is then still to be written, or `Memory` where a growth was refused.
-pub(crate) fn write_next(params: &Params, run: Run, block: &Block, out: &mut BitBuf) -> Result<Run, Fault>
+pub(crate) fn write_next(
+    params: &Params,
+    run: Run,
+    block: &Block,
+    out: &mut BitBuf,
+) -> Result<Run, Fault>
     requires run { IsRun params.now 63 run }
     requires block { IsFull params.now block.now }
     ensures ok { (rest : List Values) → IfOk result (λ next.

@@ -1,5 +1,4 @@
-use Rattle.std.proofs.Common.{◌≡◌, ◌+◌, ◌-◌, ◌≤◌, ◌++◌, length, replicate}
-use Rattle.aec_params.specs.Mapping.{mapped_value}
+use Rattle.std.proofs.Common.{◌≡◌, ◌-◌, ◌++◌, length, replicate}
 use Rattle.aec_interval.proofs.chunks.fill.Given as goal
 
 abbrev pub invariant-loop-place : goal.invariant-loop-place

@@ -1,6 +1,5 @@
-use Rattle.std.proofs.Common.{arith, ◌≡◌, ◌<◌, ◌++◌, ◌∷◌, min, length, List, ℤ, Bool, ap, ◌∙◌}
+use Rattle.std.proofs.Common.{arith, ◌++◌, ◌∷◌, min, length, ap, ◌∙◌}
 use Rattle.std.specs.Slice.Iter.{chunks_rest}
-use Rattle.aec_params.specs.declared.settings.Settings.{Settings}
 use Rattle.aec_params.specs.Blocks.{Block}
 use Rattle.aec_interval.specs.Pending.{pending_bits}
 use Rattle.aec_interval.proofs.BlockLemmas.{block_size-positive}
@@ -19,5 +18,5 @@ loop-chunk-preserved c =
       is_finite = tt;
       size = steps.0 ∙ size;
       so_far = segment-more c.args.params.now _ _ _ _ _ _ _ _ _ _ _ positive so_far next steps.1.0 (c.copied-preceding.ensures ∙ c.last.ensures.value) c.in_ok-run.ensures.run c.in_ok-run.ensures.kept
-        (λ blocks. c.in_ok-run.ensures.ok blocks ∙ ap (λ (b : Block). c.loop-chunk.out.list ++ pending_bits c.args.params.now c.loop-chunk.run (b ∷ blocks)) c.block_of-block.ensures.value);
+          (λ blocks. c.in_ok-run.ensures.ok blocks ∙ ap (λ (b : Block). c.loop-chunk.out.list ++ pending_bits c.args.params.now c.loop-chunk.run (b ∷ blocks)) c.block_of-block.ensures.value);
     }

@@ -1,7 +1,7 @@
-use Rattle.std.proofs.Common.{arith, ◌≡◌, ◌*◌, ◌<◌, min, length, ap, ◌∙◌}
+use Rattle.std.proofs.Common.{arith, ◌*◌, ◌<◌, min, length, ap, ◌∙◌}
 use Rattle.std.specs.Slice.Iter.{chunks_rest}
 use Rattle.aec_interval.proofs.BlockLemmas.{block_size-positive}
-use Rattle.aec_interval.proofs.SegmentLemmas.{piece_taken, segment_samples, interval-more}
+use Rattle.aec_interval.proofs.SegmentLemmas.{piece_taken, interval-more}
 use Rattle.aec_interval.proofs.interval.write_segments.Goals as goal
 
 pub loop-segment-preserved : goal.loop-segment-preserved
@@ -12,11 +12,11 @@ loop-segment-preserved c =
     let size = c.loop-segment.invariant.size in
     let many : 0 < c.args.params.now.block_size * 64 = omega arith in
     let piece = piece_taken (c.args.params.now.block_size * 64) _ c.in-Some.segment.now _ many steps.1.0
-        (steps.1.1 ∙ ap (λ n. min n (length (chunks_rest c.loop-segment.segment-iterator))) size) steps.1.2 in
+    (steps.1.1 ∙ ap (λ n. min n (length (chunks_rest c.loop-segment.segment-iterator))) size) steps.1.2 in
     record {
       can_next = omega (arith, steps.0, c.loop-segment.invariant.can_next);
       is_finite = tt;
       size = steps.0 ∙ size;
       so_far = interval-more c.args.params.now _ _ _ _ _ _ _ _ _ positive so_far piece steps.1.0 (c.copied-preceding.ensures ∙ c.last.ensures.value)
-        c.in_ok-write_segment.ensures.kept c.in_ok-write_segment.ensures.ok;
+          c.in_ok-write_segment.ensures.kept c.in_ok-write_segment.ensures.ok;
     }

@@ -1,8 +1,8 @@
-use Rattle.std.proofs.Common.{arith, ◌≡◌, ◌<◌, min, length, ap, ◌∙◌}
+use Rattle.std.proofs.Common.{arith, ◌<◌, min, length, ap, ◌∙◌}
 use Rattle.std.specs.Slice.Iter.{chunks_rest}
 use Rattle.aec_params.specs.Params.{interval_len}
 use Rattle.aec_interval.proofs.SegmentLemmas.{piece_taken}
-use Rattle.aec_interval.proofs.WholeLemmas.{stream-begun, interval_samples, stream-more, stream-end}
+use Rattle.aec_interval.proofs.WholeLemmas.{interval_samples, stream-more}
 use Rattle.aec_interval.proofs.whole.encode_held.Goals as goal
 
 pub write_interval-requires : goal.write_interval-requires
@@ -11,7 +11,7 @@ write_interval-requires c =
     let size = c.loop-interval.invariant.size in
     let some : 0 < interval_len c.args.params.now = omega (arith, size, c.loop-interval.invariant.can_next) in
     let piece = piece_taken (interval_len c.args.params.now) _ c.in-Some.interval.now _ some steps.1.0
-        (steps.1.1 ∙ ap (λ n. min n (length (chunks_rest c.loop-interval.interval-iterator))) size) steps.1.2 in
+    (steps.1.1 ∙ ap (λ n. min n (length (chunks_rest c.loop-interval.interval-iterator))) size) steps.1.2 in
     interval_samples c.args.params.now _ _ _ _ _ c.loop-interval.invariant.so_far steps.1.0 piece
 
 pub loop-interval-preserved : goal.loop-interval-preserved
@@ -20,7 +20,7 @@ loop-interval-preserved c =
     let size = c.loop-interval.invariant.size in
     let some : 0 < interval_len c.args.params.now = omega (arith, size, c.loop-interval.invariant.can_next) in
     let piece = piece_taken (interval_len c.args.params.now) _ c.in-Some.interval.now _ some steps.1.0
-        (steps.1.1 ∙ ap (λ n. min n (length (chunks_rest c.loop-interval.interval-iterator))) size) steps.1.2 in
+    (steps.1.1 ∙ ap (λ n. min n (length (chunks_rest c.loop-interval.interval-iterator))) size) steps.1.2 in
     record {
       can_next = omega (arith, steps.0, c.loop-interval.invariant.can_next);
       is_finite = tt;
