@@ -21,3 +21,12 @@ pub mod FillLemmas
 pub mod SegmentLemmas
 pub mod PaddingLemmas
 pub mod WholeLemmas
+pub mod NextBlockLemmas
+pub mod ReadingSteps
+pub mod FillingLemmas
+pub mod NextFillLemmas
+pub mod ReachedLemmas
+pub mod ZeroRunLemmas
+pub mod NextSetLemmas
+pub mod DecodeLemmas
+pub mod ReadNextLemmas

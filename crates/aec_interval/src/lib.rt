@@ -2,12 +2,15 @@
 #![tactic(auto)]
 
 mod chunks;
+mod filling;
 mod interval;
 pub mod laws;
 mod runs;
-mod whole;
-
-pub use whole::encode_all;
-
 #[cfg(test)]
 mod tests;
+mod whole;
+mod whole_reading;
+mod zero_runs;
+
+pub use whole::encode_all;
+pub use whole_reading::decode_all;

@@ -1,0 +1,111 @@
+-- What a coded data set that was read gives a reading: the blocks that come next, or its fault.
+use Rattle.std.proofs.Common.{◌≡◌, ℕ, zero, suc, ◌+◌, ◌-◌, ◌%◌, ◌<◌, ◌≤◌, ◌==◌, min, Bool, true, false, if◌then◌else◌, nat_lt, nat_le, Option, Some, None, ℤ, List, [], ◌∷◌, length, take, drop, replicate, refl, sym, ap, ◌∙◌, subst, arith, rules, ⊎_elim}
+use Rattle.std.proofs.lemmas.Bool.{cases_lt, ltb-true}
+use Rattle.std.proofs.lemmas.List.{take_all, length-replicate}
+use Rattle.std.specs.Int.{div_ceil}
+use Rattle.aec_params.specs.declared.settings.Settings.{Settings}
+use Rattle.aec_params.specs.declared.fault.Fault.{Fault}
+use Rattle.aec_params.specs.declared.fault.Fault.TheVariants.{RunTooLong, TooManySamples}
+use Rattle.aec_params.specs.Params.{IsAllowed}
+use Rattle.aec_params.specs.Blocks.{Block}
+use Rattle.aec_params.specs.CodedDataSets.{Body, plain_values, value_pairs, split_values, zero_blocks, CodedDataSet, cds_bits, HasShape, has_small_values}
+use Rattle.aec_params.specs.Places.{segment_left, run_len, body_blocks, block_count, stays_in_segment, is_reference_block, zero_block, blocks_in, cds_blocks, IsLawful}
+use Rattle.aec_params.specs.Reading.{StandsAt, next_block, is_wanted, keeps_limit, kept_blocks}
+use Rattle.aec_params.specs.Faults.{HasSetAt, IsWrongAt, IsFault, cut_short, too_large, too_long, too_many}
+use Rattle.aec_bits.specs.BitReader.{Cursor}
+use Rattle.aec_block.specs.declared.cds.RunLen.{RunLen}
+use Rattle.aec_block.specs.declared.cds.RunLen.TheVariants.{Blocks, Rest}
+use Rattle.aec_block.specs.ReadCds as read
+use Rattle.aec_block.specs.ReadCds.{run_len_of, answer_of, cds_of, IsSetAt, IsReadAs, IsNotRead}
+use Rattle.aec_interval.specs.NextBlock.{IsNextBlock, run_blocks}
+use Rattle.aec_interval.specs.NextSet.{run_count, cds_count, kept_count, IsNextCds, cds_front}
+use Rattle.aec_interval.specs.Reached.{AreFilled, IsReached, RefusesReading, faulty}
+use Rattle.aec_interval.proofs.NextSetLemmas.{single_next, single_blocks, run_front}
+
+if_ap : {A B : Type 0} (f : A → B) (b : Bool) (x y : A) → f (if b then x else y) ≡ (if b then f x else f y)
+if_ap f true x y = refl
+if_ap f false x y = refl
+
+-- ---- how many blocks
+
+pub run_count-run_len_of : (s : Settings) (p m : ℕ) → run_count s p (run_len_of m) ≡ run_len s p m
+run_count-run_len_of s p m =
+    if_ap (run_count s p) (nat_lt m 4) (Blocks (m + 1)) (if m == 4 then Rest else Blocks m)
+    ∙ ap (λ z. if nat_lt m 4 then m + 1 else z) (if_ap (run_count s p) (m == 4) Rest (Blocks m))
+
+pub cds_count-answer_of : (s : Settings) (p : ℕ) (reference : Option ℕ) (body : Body) → cds_count s p (answer_of reference body) ≡ body_blocks s p body
+cds_count-answer_of s p reference (plain_values values) = refl
+cds_count-answer_of s p reference (value_pairs members) = refl
+cds_count-answer_of s p reference (split_values k values) = refl
+cds_count-answer_of s p reference (zero_blocks m) = run_count-run_len_of s p m
+
+-- ---- which blocks
+
+pub next-answer_of : (s : Settings) (i : ℕ) (samples : List ℤ) (kept : ℕ) (reference : Option ℕ) (body : Body) → IsAllowed s → AreFilled s i samples
+    → HasShape s (is_reference_block s (i % s.interval)) (record { reference = reference; body = body }) → has_small_values s (record { reference = reference; body = body }) ≡ true
+    → 1 ≤ kept → i % s.interval + kept ≤ s.interval → IsNextCds s i samples kept (answer_of reference body)
+next-answer_of s i samples kept reference (plain_values values) allowed filled shape small some within = single_next s i samples reference (plain_values values) allowed filled shape small tt
+next-answer_of s i samples kept reference (value_pairs members) allowed filled shape small some within = single_next s i samples reference (value_pairs members) allowed filled shape small tt
+next-answer_of s i samples kept reference (split_values k values) allowed filled shape small some within = single_next s i samples reference (split_values k values) allowed filled shape small tt
+next-answer_of s i samples kept reference (zero_blocks m) allowed filled shape small some within = (some, (within, shape.reference))
+
+-- of one block or more, those that are kept
+kept_one : (s : Settings) (count : Option ℕ) (bits : List Bool) (i b : ℕ) (block : Block) → is_wanted s count bits i b ≡ true → block ∷ [] ≡ kept_blocks s count i (block ∷ [])
+kept_one s None bits i b block wanted = refl
+kept_one s (Some count) bits i b block wanted =
+    let below = ltb-true i (div_ceil count s.block_size) wanted in sym (take_all (div_ceil count s.block_size - i) (block ∷ []) (omega arith))
+
+min_left : (a b : ℕ) → a ≤ b → min a b ≡ a
+min_left a b h = omega arith
+
+min_right : (a b : ℕ) → b ≤ a → min a b ≡ b
+min_right a b h = omega arith
+
+run_within : (s : Settings) (reference : Option ℕ) (z : ℕ) → 1 ≤ z → length (zero_block s reference ∷ replicate (z - 1) (zero_block s None)) ≤ z
+run_within s reference z some =
+    let later : length (replicate (z - 1) (zero_block s None)) ≡ z - 1 = length-replicate (z - 1) (zero_block s None) in
+    omega (arith, ap suc later)
+
+kept_run : (s : Settings) (count : Option ℕ) (bits : List Bool) (i b : ℕ) (reference : Option ℕ) (z : ℕ) → 1 ≤ z → is_wanted s count bits i b ≡ true
+    → run_blocks s reference (kept_count s count i z) ≡ kept_blocks s count i (zero_block s reference ∷ replicate (z - 1) (zero_block s None))
+kept_run s None bits i b reference z some wanted =
+    sym (run_front s reference z z some (omega arith)) ∙ take_all z (zero_block s reference ∷ replicate (z - 1) (zero_block s None)) (run_within s reference z some)
+kept_run s (Some count) bits i b reference z some wanted = ⊎_elim fewer all (cases_lt (div_ceil count s.block_size - i) z)
+  where
+    below : i < div_ceil count s.block_size
+    below = ltb-true i (div_ceil count s.block_size) wanted
+    fewer : div_ceil count s.block_size - i < z → run_blocks s reference (kept_count s (Some count) i z) ≡ kept_blocks s (Some count) i (zero_block s reference ∷ replicate (z - 1) (zero_block s None))
+    fewer h =
+        let k : kept_count s (Some count) i z ≡ div_ceil count s.block_size - i = min_right z (div_ceil count s.block_size - i) (omega arith) in
+        ap (run_blocks s reference) k ∙ sym (run_front s reference z (div_ceil count s.block_size - i) (omega (arith, below)) (omega arith))
+    all : z ≤ div_ceil count s.block_size - i → run_blocks s reference (kept_count s (Some count) i z) ≡ kept_blocks s (Some count) i (zero_block s reference ∷ replicate (z - 1) (zero_block s None))
+    all h =
+        ap (run_blocks s reference) (min_left z (div_ceil count s.block_size - i) h) ∙ (sym (run_front s reference z z some (omega arith))
+        ∙ (take_all z (zero_block s reference ∷ replicate (z - 1) (zero_block s None)) (run_within s reference z some)
+        ∙ sym (take_all (div_ceil count s.block_size - i) (zero_block s reference ∷ replicate (z - 1) (zero_block s None)) (omega (arith, run_within s reference z some, h)))))
+
+pub front-answer_of : (s : Settings) (count : Option ℕ) (bits : List Bool) (i b : ℕ) (reference : Option ℕ) (body : Body) → 1 ≤ body_blocks s (i % s.interval) body
+    → is_wanted s count bits i b ≡ true
+    → cds_front s (kept_count s count i (body_blocks s (i % s.interval) body)) (answer_of reference body) ≡ kept_blocks s count i (blocks_in s (i % s.interval) reference body)
+front-answer_of s count bits i b reference (plain_values values) some wanted = kept_one s count bits i b _ wanted
+front-answer_of s count bits i b reference (value_pairs members) some wanted = kept_one s count bits i b _ wanted
+front-answer_of s count bits i b reference (split_values k values) some wanted = kept_one s count bits i b _ wanted
+front-answer_of s count bits i b reference (zero_blocks m) some wanted = kept_run s count bits i b reference (run_len s (i % s.interval) m) some wanted
+
+-- ---- faults
+
+module _ (s : Settings) (count : Option ℕ) (limit : ℕ) (bits : List Bool) (i b : ℕ) (samples : List ℤ) (reached : IsReached s count limit bits i b samples) (wanted : is_wanted s count bits i b ≡ true) where
+  wrong_here : (fault : Fault) → IsWrongAt s count limit bits i b fault → RefusesReading s count limit bits fault
+  wrong_here fault wrong = faulty fault (record { sets = reached.sets; block = i; bit = b; leads = reached.leads; wanted = wanted; wrong = wrong })
+
+  pub refuses_unread : (fault : Fault) → IsNotRead s (is_reference_block s (i % s.interval)) bits b fault → RefusesReading s count limit bits fault
+  refuses_unread fault (read.cut_short none) = wrong_here _ (cut_short (λ c at. none c (record { shape = at.shape; stands = at.stands })))
+  refuses_unread fault (read.too_large c at large) = wrong_here _ (too_large c (record { shape = at.shape; stands = at.stands }) large)
+
+  pub refuses_long : (c : CodedDataSet) → IsSetAt s (is_reference_block s (i % s.interval)) bits b c → has_small_values s c ≡ true → stays_in_segment s (i % s.interval) c ≡ false
+      → RefusesReading s count limit bits (RunTooLong b)
+  refuses_long c at small long = wrong_here _ (too_long c (record { shape = at.shape; stands = at.stands }) small long)
+
+  pub refuses_many : (c : CodedDataSet) → IsSetAt s (is_reference_block s (i % s.interval)) bits b c → IsLawful s (i % s.interval) c → keeps_limit s count limit (next_block s i c) ≡ false
+      → RefusesReading s count limit bits (TooManySamples limit)
+  refuses_many c at lawful many = wrong_here _ (too_many c (record { shape = at.shape; stands = at.stands }) lawful many)

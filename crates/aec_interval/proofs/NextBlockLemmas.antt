@@ -1,0 +1,180 @@
+-- The blocks of samples with one block more: the blocks as they were, and that block.
+use Rattle.std.proofs.Common.{◌≡◌, ℕ, zero, suc, ◌+◌, ◌-◌, ◌*◌, ◌/◌, ◌%◌, ◌<◌, ◌≤◌, ◌==◌, if◌then◌else◌, Bool, true, false, Option, Some, None, ℤ, pos, List, [], ◌∷◌, ◌++◌, map, length, replicate, unwrap_or, refl, sym, ap, ap₂, append-nil, append_assoc, ◌∙◌, subst, arith, rules, inl, inr, ⊎_elim}
+use Rattle.std.proofs.lemmas.List.{length-append}
+use Rattle.std.proofs.lemmas.Bool.{cases_lt, ne_eqb}
+use Rattle.std.specs.List.{flat_map, last_or}
+use Rattle.aec_params.specs.declared.settings.Settings.{Settings}
+use Rattle.aec_params.specs.Params.{IsAllowed, interval_len, sample_pattern}
+use Rattle.aec_params.specs.Cutting.{pieces_of, up_to_multiple}
+use Rattle.aec_params.specs.Mapping.{mapped_value, mapped_after, mapped_values}
+use Rattle.aec_params.specs.Blocks.{Block, intervals_of, filled_samples, reference_of, with_reference, blocks_of, all_blocks_of}
+use Rattle.aec_interval.specs.NextBlock.{last_sample, next_block_at, next_block_of}
+use Rattle.std.proofs.lemmas.List.{map-append}
+use Rattle.std.proofs.Math.Nat.{mul-mod_left, mod_self, mod-eq_of_lt, add-mod_left, suc-mul, zero-mul, one-mul, sub-zero, mul-pos, mul-le-mul_right, le-mul_of_pos_right, mul_comm, mul-sub}
+use Rattle.aec_interval.proofs.CuttingLemmas.{pieces_of-nil, pieces_of-cons, pieces_of-one, IsPieceBefore, by_pieces, length-pieces_of, div_ceil-positive}
+
+pub last_or-append : {X : Type 0} (o : Option X) (xs ys : List X) → last_or o (xs ++ ys) ≡ last_or (last_or o xs) ys
+last_or-append o [] ys = refl
+last_or-append o (x ∷ xs) ys = last_or-append (Some x) xs ys
+
+pub mapped_after-append : (s : Settings) (p : ℤ) (xs ys : List ℤ) → mapped_after s p (xs ++ ys) ≡ mapped_after s p xs ++ mapped_after s (unwrap_or (last_or (Some p) xs) (pos 0)) ys
+mapped_after-append s p [] ys = refl
+mapped_after-append s p (x ∷ xs) ys = ap (λ values. mapped_value s p x ∷ values) (mapped_after-append s x xs ys)
+
+pub mapped_values-append : (s : Settings) (x : ℤ) (xs ys : List ℤ) → mapped_values s ((x ∷ xs) ++ ys) ≡ mapped_values s (x ∷ xs) ++ mapped_after s (last_sample (x ∷ xs)) ys
+mapped_values-append s x xs ys = ap (λ values. (if s.preprocess then 0 else sample_pattern s x) ∷ values) (mapped_after-append s x xs ys)
+
+pub length-mapped_after : (s : Settings) (p : ℤ) (xs : List ℤ) → length (mapped_after s p xs) ≡ length xs
+length-mapped_after s p [] = refl
+length-mapped_after s p (x ∷ xs) = ap suc (length-mapped_after s x xs)
+
+pub length-mapped_values : (s : Settings) (xs : List ℤ) → length (mapped_values s xs) ≡ length xs
+length-mapped_values s [] = refl
+length-mapped_values s (x ∷ xs) = ap suc (length-mapped_after s x xs)
+
+-- a first piece of a list of whole pieces is whole
+pub front_full : (n a b k : ℕ) → 0 < n → a ≤ n → 0 < a → (0 < b → a ≡ n) → a + b ≡ k * n → (a ≡ n) × ((j : ℕ) × (b ≡ j * n))
+front_full n a b zero positive fits some full whole = absurd (omega (arith, zero-mul n))
+front_full n a b (suc k) positive fits some full whole = (is_full, (k, omega (arith, suc-mul k n, is_full)))
+  where
+    is_full : a ≡ n
+    is_full = ⊎_elim full (λ l. omega (arith, suc-mul k n)) (cases_lt 0 b)
+
+-- whole blocks are not filled up
+pub filled_samples-whole : (s : Settings) (v : List ℤ) → 0 < s.block_size → (k : ℕ) → length v ≡ k * s.block_size → filled_samples s v ≡ v
+filled_samples-whole s v positive k whole = ap (λ n. v ++ replicate n (last_sample v)) none ∙ append-nil v
+  where
+    even : length v % s.block_size ≡ 0
+    even = ap (λ n. n % s.block_size) whole ∙ mul-mod_left k s.block_size
+    none : up_to_multiple s.block_size (length v) ≡ 0
+    none = ap (λ n. (s.block_size - n) % s.block_size) even ∙ (ap (λ n. n % s.block_size) (sub-zero s.block_size) ∙ mod_self s.block_size)
+
+pub with_reference-push : (reference : Option ℕ) (groups : List (List ℕ)) (values : List ℕ) → 0 < length groups
+    → with_reference reference (groups ++ values ∷ []) ≡ with_reference reference groups ++ (record { reference = None; values = values }) ∷ []
+with_reference-push reference [] values some = absurd (omega arith)
+with_reference-push reference (first ∷ groups) values some =
+    let block : List ℕ → Block = λ values. record { reference = None; values = values } in
+    let first_block : Block = record { reference = reference; values = first } in
+    ap (λ blocks. first_block ∷ blocks) (map-append block groups (values ∷ []))
+
+-- pieces of whole length with one piece more
+pub pieces_of-push : {X : Type 0} (n : ℕ) → 0 < n → (xs ys : List X) (k : ℕ) → length xs ≡ k * n → length ys ≡ n → pieces_of n (xs ++ ys) ≡ pieces_of n xs ++ ys ∷ []
+pieces_of-push {X} n positive xs ys k whole last = by_pieces P n positive nothing step xs k whole
+  where
+    P : List X → Type 0
+    P xs = (k : ℕ) → length xs ≡ k * n → pieces_of n (xs ++ ys) ≡ pieces_of n xs ++ ys ∷ []
+    nothing : P []
+    nothing k h = pieces_of-one n ys (omega arith) (omega arith) ∙ ap (λ ps. ps ++ ys ∷ []) (sym (pieces_of-nil n positive))
+    step : (front rest : List X) → IsPieceBefore n front rest → P rest → P (front ++ rest)
+    step front rest piece ih k h =
+        let parts = front_full n (length front) (length rest) k positive piece.fits piece.some piece.full (sym (length-append front rest) ∙ h) in
+        ap (pieces_of n) (append_assoc front rest ys)
+        ∙ (pieces_of-cons n front (rest ++ ys) (record { some = piece.some; fits = piece.fits; full = λ _. parts.0 })
+        ∙ (ap (λ ps. front ∷ ps) (ih parts.1.0 parts.1.1) ∙ ap (λ ps. ps ++ ys ∷ []) (sym (pieces_of-cons n front rest piece))))
+
+pub pieces_of-some : {X : Type 0} (n : ℕ) (xs : List X) → 0 < n → 0 < length xs → 0 < length (pieces_of n xs)
+pieces_of-some n xs positive some = omega (arith, length-pieces_of n xs, div_ceil-positive (length xs) n positive some)
+
+-- whole blocks of one interval, and one block more of it
+pub blocks_of-push : (s : Settings) (v ys : List ℤ) (k : ℕ) → 0 < s.block_size → 0 < length v → length v ≡ k * s.block_size → length ys ≡ s.block_size
+    → blocks_of s (v ++ ys) ≡ blocks_of s v ++ (record { reference = None; values = mapped_after s (last_sample v) ys }) ∷ []
+blocks_of-push s [] ys k positive some whole last = absurd (omega arith)
+blocks_of-push s (x ∷ v) ys k positive some whole last =
+    ap (λ filled. with_reference (reference_of s (x ∷ v)) (pieces_of s.block_size (mapped_values s filled)))
+       (filled_samples-whole s ((x ∷ v) ++ ys) positive (suc k) (omega (arith, length-append (x ∷ v) ys, suc-mul k s.block_size)))
+    ∙ (ap (λ values. with_reference (reference_of s (x ∷ v)) (pieces_of s.block_size values)) (mapped_values-append s x v ys)
+    ∙ (ap (with_reference (reference_of s (x ∷ v)))
+          (pieces_of-push s.block_size positive (mapped_values s (x ∷ v)) (mapped_after s (last_sample (x ∷ v)) ys) k (length-mapped_values s (x ∷ v) ∙ whole) (length-mapped_after s _ ys ∙ last))
+    ∙ (with_reference-push (reference_of s (x ∷ v)) (pieces_of s.block_size (mapped_values s (x ∷ v))) (mapped_after s (last_sample (x ∷ v)) ys)
+          (pieces_of-some s.block_size (mapped_values s (x ∷ v)) positive (omega (arith, length-mapped_values s (x ∷ v))))
+    ∙ ap (λ filled. with_reference (reference_of s (x ∷ v)) (pieces_of s.block_size (mapped_values s filled)) ++ (record { reference = None; values = mapped_after s (last_sample (x ∷ v)) ys }) ∷ [])
+         (sym (filled_samples-whole s (x ∷ v) positive k whole)))))
+
+-- one block by itself
+pub blocks_of-one : (s : Settings) (ys : List ℤ) → 0 < s.block_size → length ys ≡ s.block_size → blocks_of s ys ≡ (record { reference = reference_of s ys; values = mapped_values s ys }) ∷ []
+blocks_of-one s ys positive last =
+    ap (λ filled. with_reference (reference_of s ys) (pieces_of s.block_size (mapped_values s filled))) (filled_samples-whole s ys positive 1 (last ∙ sym (one-mul s.block_size)))
+    ∙ ap (with_reference (reference_of s ys)) (pieces_of-one s.block_size (mapped_values s ys) (omega (arith, length-mapped_values s ys)) (omega (arith, length-mapped_values s ys)))
+
+-- ---- all intervals
+
+pub all_blocks_of-cons : (s : Settings) (front rest : List ℤ) → IsPieceBefore (interval_len s) front rest → all_blocks_of s (front ++ rest) ≡ blocks_of s front ++ all_blocks_of s rest
+all_blocks_of-cons s front rest piece = ap (flat_map (blocks_of s)) (pieces_of-cons (interval_len s) front rest piece)
+
+pub all_blocks_of-one : (s : Settings) (v : List ℤ) → 0 < length v → length v ≤ interval_len s → all_blocks_of s v ≡ blocks_of s v
+all_blocks_of-one s v some fits = ap (flat_map (blocks_of s)) (pieces_of-one (interval_len s) v some fits) ∙ append-nil (blocks_of s v)
+
+pub all_blocks_of-nil : (s : Settings) → 0 < interval_len s → all_blocks_of s [] ≡ []
+all_blocks_of-nil s positive = ap (flat_map (blocks_of s)) (pieces_of-nil (interval_len s) positive)
+
+pub last_sample-append : (xs ys : List ℤ) → 0 < length ys → last_sample (xs ++ ys) ≡ last_sample ys
+last_sample-append xs [] some = absurd (omega arith)
+last_sample-append xs (y ∷ ys) some = ap (λ o. unwrap_or o (pos 0)) (last_or-append None xs (y ∷ ys))
+
+-- the block that comes next depends on the rest behind whole intervals alone
+pub next_block_of-rest : (s : Settings) (front rest ys : List ℤ) → 0 < interval_len s → length front ≡ interval_len s → next_block_of s (front ++ rest) ys ≡ next_block_of s rest ys
+next_block_of-rest s front [] ys positive full =
+    ap (λ n. next_block_at s (n == 0) (last_sample (front ++ [])) ys) (ap (λ n. n % interval_len s) (ap length (append-nil front) ∙ full) ∙ mod_self (interval_len s))
+    ∙ ap (λ n. next_block_at s (n == 0) (pos 0) ys) (sym (mod-eq_of_lt positive))
+next_block_of-rest s front (x ∷ rest) ys positive full =
+    ap₂ (λ n p. next_block_at s (n == 0) p ys)
+       (ap (λ n. n % interval_len s) (length-append front (x ∷ rest) ∙ ap (λ n. n + length (x ∷ rest)) full) ∙ add-mod_left (interval_len s) (length (x ∷ rest)))
+       (last_sample-append front (x ∷ rest) (omega arith))
+
+-- at the start of an interval, and within one
+pub next_block_of-first : (s : Settings) (ys : List ℤ) → 0 < interval_len s → next_block_of s [] ys ≡ record { reference = reference_of s ys; values = mapped_values s ys }
+next_block_of-first s ys positive = ap (λ n. next_block_at s (n == 0) (pos 0) ys) (mod-eq_of_lt positive)
+
+pub next_block_of-later : (s : Settings) (v ys : List ℤ) → 0 < length v → length v < interval_len s → next_block_of s v ys ≡ record { reference = None; values = mapped_after s (last_sample v) ys }
+next_block_of-later s v ys some within =
+    ap (λ b. next_block_at s b (last_sample v) ys) (ap (λ n. n == 0) (mod-eq_of_lt within) ∙ ne_eqb (length v) 0 (λ e. absurd (omega arith)))
+
+-- whole blocks behind a whole interval, and one more that fits an interval of them
+rest_whole : (j r k a b : ℕ) → a ≡ j * r → a + b ≡ k * j → b ≡ (k - r) * j
+rest_whole j r k a b is_full whole = omega (arith, mul-sub j k r, mul_comm j (k - r), mul_comm j k)
+
+one_more_fits : (j r k a : ℕ) → a ≡ k * j → a < j * r → a + j ≤ j * r
+one_more_fits j r k a whole short = ⊎_elim below past (cases_lt k r)
+  where
+    below : k < r → a + j ≤ j * r
+    below h = omega (arith, mul-le-mul_right j (lt_suc h), suc-mul k j, mul_comm j r)
+      where
+        lt_suc : k < r → suc k ≤ r
+        lt_suc h = omega arith
+    past : r ≤ k → a + j ≤ j * r
+    past h = absurd (omega (arith, mul-le-mul_right j h, mul_comm j r))
+
+-- whole blocks of samples, and one block more
+pub all_blocks_of-push : (s : Settings) (xs ys : List ℤ) (k : ℕ) → 0 < s.block_size → 0 < s.interval → length xs ≡ k * s.block_size → length ys ≡ s.block_size
+    → all_blocks_of s (xs ++ ys) ≡ all_blocks_of s xs ++ next_block_of s xs ys ∷ []
+all_blocks_of-push s xs ys k block interval whole last = by_pieces P (interval_len s) positive nothing step xs k whole
+  where
+    positive : 0 < interval_len s
+    positive = mul-pos block interval
+    P : List ℤ → Type 0
+    P xs = (k : ℕ) → length xs ≡ k * s.block_size → all_blocks_of s (xs ++ ys) ≡ all_blocks_of s xs ++ next_block_of s xs ys ∷ []
+    one_fits : s.block_size ≤ interval_len s
+    one_fits = le-mul_of_pos_right s.block_size interval
+    nothing : P []
+    nothing k h =
+        all_blocks_of-one s ys (omega arith) (omega (arith, one_fits))
+        ∙ (blocks_of-one s ys block last ∙ ap₂ (λ bs b. bs ++ b ∷ []) (sym (all_blocks_of-nil s positive)) (sym (next_block_of-first s ys positive)))
+    full : (front rest : List ℤ) → IsPieceBefore (interval_len s) front rest → P rest → length front ≡ interval_len s → P (front ++ rest)
+    full front rest piece ih is_full k h =
+        ap (all_blocks_of s) (append_assoc front rest ys)
+        ∙ (all_blocks_of-cons s front (rest ++ ys) (record { some = piece.some; fits = piece.fits; full = λ _. is_full })
+        ∙ (ap (λ bs. blocks_of s front ++ bs) (ih (k - s.interval) (rest_whole s.block_size s.interval k (length front) (length rest) is_full (sym (length-append front rest) ∙ h)))
+        ∙ (sym (append_assoc (blocks_of s front) (all_blocks_of s rest) (next_block_of s rest ys ∷ []))
+        ∙ ap₂ (λ bs b. bs ++ b ∷ []) (sym (all_blocks_of-cons s front rest piece)) (sym (next_block_of-rest s front rest ys positive is_full)))))
+    within : (front : List ℤ) → 0 < length front → length front < interval_len s → P front
+    within front some short k h =
+        all_blocks_of-one s (front ++ ys) (omega (arith, length-append front ys))
+          (omega (arith, length-append front ys, one_more_fits s.block_size s.interval k (length front) h short))
+        ∙ (blocks_of-push s front ys k block some h last
+        ∙ ap₂ (λ bs b. bs ++ b ∷ []) (sym (all_blocks_of-one s front some (omega arith))) (sym (next_block_of-later s front ys some short)))
+    step : (front rest : List ℤ) → IsPieceBefore (interval_len s) front rest → P rest → P (front ++ rest)
+    step front rest piece ih = ⊎_elim (λ short. alone rest piece short) (λ l. full front rest piece ih (omega (arith, piece.fits, l))) (cases_lt (length front) (interval_len s))
+      where
+        alone : (rest : List ℤ) → IsPieceBefore (interval_len s) front rest → length front < interval_len s → P (front ++ rest)
+        alone [] piece short = subst P (sym (append-nil front)) (within front piece.some short)
+        alone (x ∷ rest) piece short = absurd (omega (arith, piece.full (omega arith)))

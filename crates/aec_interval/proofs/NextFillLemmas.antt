@@ -1,0 +1,137 @@
+-- Samples taken back from the values of a block fill that block behind the blocks before.
+use Rattle.std.proofs.Common.{◌≡◌, ℕ, zero, suc, ◌+◌, ◌*◌, ◌%◌, ◌<◌, ◌≤◌, ◌^◌, ◌==◌, ◌&&◌, if◌then◌else◌, Bool, true, false, Option, Some, None, ℤ, pos, List, [], ◌∷◌, ◌++◌, length, take, drop, unwrap_or, refl, sym, ap, ap₂, ◌∙◌, subst, append_assoc, append-nil, arith, rules, IsTrue, ◌-◌, neg_ℤ, int_le}
+use Rattle.std.proofs.lemmas.Bool.Decides.{nat_tests}
+use Rattle.std.proofs.lemmas.Bool.{le-leb}
+use Rattle.std.proofs.lemmas.Result.{IfOk-weaker}
+use Rattle.std.proofs.Common.{Result, Ok, Err, IfOk}
+use Rattle.aec_params.specs.declared.fault.Fault.{Fault}
+use Rattle.std.proofs.lemmas.List.{length-append}
+use Rattle.std.specs.List.{AllByRecursion, last_or}
+use Rattle.aec_params.specs.declared.settings.Settings.{Settings}
+use Rattle.aec_params.specs.Params.{IsAllowed, IsHeld, is_held, is_between, is_block_size, interval_len, sample_pattern}
+use Rattle.aec_params.specs.Mapping.{mapped_value, mapped_after, mapped_values}
+use Rattle.aec_params.specs.Blocks.{Block, reference_of}
+use Rattle.aec_params.specs.CodedDataSets.{HasReference}
+use Rattle.aec_params.specs.Reading.{FillBlocks}
+use Rattle.aec_interval.specs.NextBlock.{last_sample, next_block_at, next_block_of, Unmaps, Placed, IsNextBlock, FillsNext}
+use Rattle.aec_interval.proofs.NextBlockLemmas.{length-mapped_after}
+use Rattle.aec_interval.proofs.ReadingSteps.{FillBlocks-push}
+
+pub block_size-some : (s : Settings) → IsAllowed s → 0 < s.block_size
+block_size-some s allowed = let b = allowed.block_size in grind arith
+
+pub interval-some : (s : Settings) → IsAllowed s → 0 < s.interval
+interval-some s allowed = let b = allowed.interval in grind (arith, nat_tests)
+
+zero_within : (low high : ℕ) → (int_le (neg_ℤ (pos low)) (pos 0) && int_le (pos 0) (pos high)) ≡ true
+zero_within zero high = le-leb 0 high (omega arith)
+zero_within (suc low) high = le-leb 0 high (omega arith)
+
+pub held-zero : (s : Settings) → IsAllowed s → IsHeld s (pos 0)
+held-zero s allowed = by_sign s.signed
+  where
+    by_sign : (signed : Bool) → IsHeld (record s { signed = signed }) (pos 0)
+    by_sign false = zero_within 0 (2 ^ s.bits - 1)
+    by_sign true = zero_within (2 ^ (s.bits - 1)) (2 ^ (s.bits - 1) - 1)
+
+pub held-last_or : (s : Settings) (x : ℤ) (xs : List ℤ) → IsHeld s x → AllByRecursion (IsHeld s) xs → IsHeld s (unwrap_or (last_or (Some x) xs) (pos 0))
+held-last_or s x [] held all = held
+held-last_or s x (y ∷ xs) held all = held-last_or s y xs all.0 all.1
+
+pub held-last_sample : (s : Settings) (xs : List ℤ) → IsAllowed s → AllByRecursion (IsHeld s) xs → IsHeld s (last_sample xs)
+held-last_sample s [] allowed all = held-zero s allowed
+held-last_sample s (x ∷ xs) allowed all = held-last_or s x xs all.0 all.1
+
+pub reference-below : (s : Settings) (due : Bool) (r : ℕ) → HasReference s due (Some r) → r < 2 ^ s.bits
+reference-below s true r has = has
+reference-below s false r has = absurd has
+
+-- without preprocessing no sample is predicted
+pub mapped_values-plain : (s : Settings) (p : ℤ) (xs : List ℤ) → s.preprocess ≡ false → mapped_values s xs ≡ mapped_after s p xs
+mapped_values-plain s p [] plain = refl
+mapped_values-plain s p (x ∷ xs) plain =
+    ap (λ v. v ∷ mapped_after s x xs)
+      (ap (λ b. if b then 0 else sample_pattern s x) plain ∙ sym (ap (λ b. if b then mapped_value (record s { preprocess = true }) p x else sample_pattern s x) plain))
+
+pub reference_of-plain : (s : Settings) (xs : List ℤ) → s.preprocess ≡ false → reference_of s xs ≡ None
+reference_of-plain s [] plain = refl
+reference_of-plain s (x ∷ xs) plain = ap (λ b. if b then Some (sample_pattern s x) else None) plain
+
+abbrev block_of : Option ℕ → List ℕ → Block
+block_of reference values = record { reference = reference; values = values }
+
+abbrev plain_block : List ℕ → Block
+plain_block values = block_of None values
+
+placed_again : (values : List ℕ) → take 1 values ≡ 0 ∷ [] → 0 ∷ drop 1 values ≡ values
+placed_again [] placed = absurd (cc)
+placed_again (v ∷ values) placed = ap (λ first. first ++ values) (sym placed)
+
+-- a block with no reference
+next_plain : (s : Settings) (at_start : Bool) (p : ℤ) (more : List ℤ) (values : List ℕ) → HasReference s (s.preprocess && at_start) None → mapped_after s p more ≡ values
+    → next_block_at s at_start p more ≡ plain_block values
+next_plain s false p more values none mapped = ap plain_block mapped
+next_plain s true p more values none mapped = by_preprocess s.preprocess refl none
+  where
+    by_preprocess : (preprocess : Bool) → s.preprocess ≡ preprocess → HasReference s (preprocess && true) None → next_block_at s true p more ≡ plain_block values
+    by_preprocess true is none = absurd none
+    by_preprocess false is none = ap₂ block_of (reference_of-plain s more is) (mapped_values-plain s p more is ∙ mapped)
+
+pub fills_plain : (s : Settings) (old new : List ℤ) (values : List ℕ) → IsAllowed s → IsNextBlock s old (record { reference = None; values = values })
+    → Unmaps s (last_sample old) values old new → FillsNext s old new ((record { reference = None; values = values }) ∷ [])
+fills_plain s old new values allowed next unmaps blocks filled =
+    subst (λ samples. FillBlocks s samples (blocks ++ (record { reference = None; values = values }) ∷ [])) (sym unmaps.appended)
+      (FillBlocks-push s old unmaps.more blocks (record { reference = None; values = values }) (block_size-some s allowed) (interval-some s allowed) filled unmaps.held
+        (sym (length-mapped_after s (last_sample old) unmaps.more) ∙ (ap length unmaps.mapped ∙ next.whole))
+        (next_plain s (length old % interval_len s == 0) (last_sample old) unmaps.more values next.reference unmaps.mapped))
+
+-- a block that begins with a reference sample
+next_reference : (s : Settings) (at_start : Bool) (r : ℕ) (x : ℤ) (more : List ℤ) (values : List ℕ) (p : ℤ) → HasReference s (s.preprocess && at_start) (Some r)
+    → Placed (Some r) values → sample_pattern s x ≡ r → mapped_after s x more ≡ drop 1 values → next_block_at s at_start p (x ∷ more) ≡ block_of (Some r) values
+next_reference s at_start r x more values p has placed pattern mapped = by_tests s.preprocess at_start refl has
+  where
+    by_tests : (preprocess at_start : Bool) → s.preprocess ≡ preprocess → HasReference s (preprocess && at_start) (Some r) → next_block_at s at_start p (x ∷ more) ≡ block_of (Some r) values
+    by_tests false at_start is has = absurd has
+    by_tests true false is has = absurd has
+    by_tests true true is has =
+        ap₂ block_of (ap (λ b. if b then Some (sample_pattern s x) else None) is ∙ ap Some pattern)
+          (ap₂ (λ b later. (if b then 0 else sample_pattern s x) ∷ later) is mapped ∙ placed_again values placed)
+
+pub fills_reference : (s : Settings) (old new : List ℤ) (r : ℕ) (values : List ℕ) (x : ℤ) → IsAllowed s → IsNextBlock s old (record { reference = Some r; values = values })
+    → IsHeld s x → sample_pattern s x ≡ r → Unmaps s x (drop 1 values) (old ++ x ∷ []) new → FillsNext s old new ((record { reference = Some r; values = values }) ∷ [])
+fills_reference s old new r values x allowed next held pattern unmaps blocks filled =
+    subst (λ samples. FillBlocks s samples (blocks ++ (record { reference = Some r; values = values }) ∷ [])) (sym (unmaps.appended ∙ append_assoc old (x ∷ []) unmaps.more))
+      (FillBlocks-push s old (x ∷ unmaps.more) blocks (record { reference = Some r; values = values }) (block_size-some s allowed) (interval-some s allowed) filled (held, unmaps.held) (ap suc (sym (length-mapped_after s x unmaps.more) ∙ ap length unmaps.mapped) ∙ (ap length (placed_again values next.placed) ∙ next.whole))
+        (next_reference s (length old % interval_len s == 0) r x unmaps.more values (last_sample old) next.reference next.placed pattern unmaps.mapped))
+
+-- ---- in the form in which the code has the facts
+
+pub values-below : (s : Settings) (b : Block) (old : List ℤ) (values : List ℕ) → IsNextBlock s old b → values ≡ b.values → AllByRecursion (λ v. v < 2 ^ s.bits) values
+values-below s b old values next e = subst (λ values. AllByRecursion (λ v. v < 2 ^ s.bits) values) (sym e) next.small
+
+pub all-tail : {X : Type 0} (P : X → Type 0) (xs : List X) → AllByRecursion P xs → AllByRecursion P (drop 1 xs)
+all-tail P [] all = tt
+all-tail P (x ∷ xs) all = all.1
+
+pub fills_block_plain : {X : Type 0} (r : Result X Fault) (s : Settings) (old new : List ℤ) (b : Block) (p : ℤ) (values : List ℕ) → IsAllowed s → IsNextBlock s old b → b.reference ≡ None
+    → p ≡ last_sample old → values ≡ b.values → IfOk r (λ _. Unmaps s p values old new) → IfOk r (λ _. FillsNext s old new (b ∷ []))
+fills_block_plain r s old new b p values allowed next none previous is_values ok =
+    IfOk-weaker r (λ _. Unmaps s p values old new) (λ _. FillsNext s old new (b ∷ [])) (λ _ unmaps. by_reference b.reference none next
+      (subst (λ q. Unmaps s q b.values old new) previous (subst (λ vs. Unmaps s p vs old new) is_values unmaps))) ok
+  where
+    by_reference : (reference : Option ℕ) → reference ≡ None → IsNextBlock s old (block_of reference b.values) → Unmaps s (last_sample old) b.values old new
+        → FillsNext s old new (block_of reference b.values ∷ [])
+    by_reference None e next unmaps = fills_plain s old new b.values allowed next unmaps
+    by_reference (Some q) e next unmaps = absurd (cc)
+
+pub fills_block_reference : {X : Type 0} (r : Result X Fault) (s : Settings) (old mid new : List ℤ) (b : Block) (q : ℕ) (x : ℤ) (values : List ℕ) → IsAllowed s → IsNextBlock s old b
+    → b.reference ≡ Some q → IsHeld s x → sample_pattern s x ≡ q → values ≡ drop 1 b.values → mid ≡ old ++ x ∷ []
+    → IfOk r (λ _. Unmaps s x values mid new) → IfOk r (λ _. FillsNext s old new (b ∷ []))
+fills_block_reference r s old mid new b q x values allowed next some held pattern is_values pushed ok =
+    IfOk-weaker r (λ _. Unmaps s x values mid new) (λ _. FillsNext s old new (b ∷ [])) (λ _ unmaps. by_reference b.reference some next
+      (subst (λ mid. Unmaps s x (drop 1 b.values) mid new) pushed (subst (λ vs. Unmaps s x vs mid new) is_values unmaps))) ok
+  where
+    by_reference : (reference : Option ℕ) → reference ≡ Some q → IsNextBlock s old (block_of reference b.values) → Unmaps s x (drop 1 b.values) (old ++ x ∷ []) new
+        → FillsNext s old new (block_of reference b.values ∷ [])
+    by_reference None e next unmaps = absurd (cc)
+    by_reference (Some u) e next unmaps = fills_reference s old new u b.values x allowed next held (pattern ∙ (cc)) unmaps

@@ -1,0 +1,177 @@
+-- One coded data set more, in the form in which the reader has the facts.
+use Rattle.std.proofs.Common.{◌≡◌, ℕ, ◌+◌, ◌-◌, ◌%◌, ◌<◌, ◌≤◌, min, Bool, true, false, nat_le, Option, Some, None, ℤ, List, [], ◌++◌, length, drop, refl, sym, ap, ◌∙◌, subst, arith, Result, Err, IfErr, IfSome}
+use Rattle.std.proofs.Math.Nat.{mod-lt, le-mul_of_pos_right, zero-div, zero-mod, zero-mul}
+use Rattle.std.proofs.lemmas.List.{take_all}
+use Rattle.std.specs.List.{flat_map}
+use Rattle.std.specs.Simd.{first_chunks}
+use Rattle.aec_params.specs.Params.{interval_len}
+use Rattle.aec_params.specs.Blocks.{blocks_of, all_blocks_of}
+use Rattle.std.proofs.lemmas.Grind.{div_ceil_times}
+use Rattle.std.proofs.lemmas.Bool.{le-leb, leb-true, ltb-true, ltb-false}
+use Rattle.std.proofs.lemmas.Bool.Decides.{nat_tests}
+use Rattle.std.specs.Int.{div_ceil}
+use Rattle.aec_params.specs.declared.settings.Settings.{Settings}
+use Rattle.aec_params.specs.declared.fault.Fault.{Fault}
+use Rattle.aec_params.specs.declared.fault.Fault.TheVariants.{RunTooLong, TooManySamples, Memory}
+use Rattle.aec_params.specs.Params.{IsAllowed}
+use Rattle.std.proofs.Common.{lit≤, nat_lt, if◌then◌else◌}
+use Rattle.std.proofs.lemmas.Bool.{lt-leb}
+use Rattle.aec_params.specs.CodedDataSets.{Body, plain_values, value_pairs, split_values, zero_blocks, CodedDataSet, cds_bits, has_small_values}
+use Rattle.aec_params.specs.Places.{segment_left, body_blocks, block_count, stays_in_segment, is_reference_block, cds_blocks, IsLawful}
+use Rattle.aec_params.specs.Reading.{next_block, next_begin, begin_of, is_wanted, keeps_limit, kept_blocks, stream_blocks, counted_samples, IsReading}
+use Rattle.aec_bits.specs.BitReader.{Cursor}
+use Rattle.aec_block.specs.declared.cds.Cds.{Cds}
+use Rattle.aec_block.specs.ReadCds.{cds_of, answer_of, IsReadAs, IsNotRead}
+use Rattle.aec_interval.specs.NextBlock.{FillsNext}
+use Rattle.aec_interval.specs.NextSet.{cds_count, kept_count, IsNextCds, cds_front}
+use Rattle.aec_interval.specs.Reached.{AreFilled, IsReached, RefusesReading, no_memory, count_refusal, RefusesDecoding, above_limit, unread}
+use Rattle.aec_interval.proofs.NextFillLemmas.{interval-some, block_size-some}
+use Rattle.std.proofs.Common.{◌*◌, ◌^◌}
+use Rattle.aec_interval.proofs.ReadingSteps.{run_len-some}
+use Rattle.aec_interval.proofs.ReachedLemmas.{AreFilled-reached, IsReached-more}
+use Rattle.aec_interval.proofs.DecodeLemmas.{cds_count-answer_of, next-answer_of, front-answer_of, refuses_unread, refuses_long, refuses_many}
+
+pub block_size-most : (s : Settings) → IsAllowed s → s.block_size ≤ 64
+block_size-most s allowed = let b = allowed.block_size in grind (arith, nat_tests)
+
+-- the coded data set that was read stands for as many blocks as were counted
+pub count-read : (s : Settings) (p : ℕ) (due : Bool) (old new : Cursor) (c : CodedDataSet) (cds : Cds) (blocks : ℕ) → IsReadAs s due old new c cds → blocks ≡ cds_count s p cds → blocks ≡ block_count s p c
+count-read s p due old new c cds blocks read counted = counted ∙ (ap (cds_count s p) read.answer ∙ cds_count-answer_of s p c.reference c.body)
+
+pub count-some : (s : Settings) (p : ℕ) (c : CodedDataSet) → p < s.interval → 1 ≤ block_count s p c
+count-some s p c within = of_body c.body
+  where
+    of_body : (body : Body) → 1 ≤ body_blocks s p body
+    of_body (plain_values values) = lit≤ tt
+    of_body (value_pairs members) = lit≤ tt
+    of_body (split_values k values) = lit≤ tt
+    of_body (zero_blocks m) = run_len-some s p m within
+
+module _ (s : Settings) (count : Option ℕ) (limit : ℕ) (old new : Cursor) (i : ℕ) (samples : List ℤ) (allowed : IsAllowed s)
+    (reached : IsReached s count limit old.list i old.pos samples) (wanted : is_wanted s count old.list i old.pos ≡ true) where
+
+  pub unread-refuses : {X : Type 0} (r : Result X Fault) (fault : Fault) → r ≡ Err fault → IsNotRead s (is_reference_block s (i % s.interval)) old.list old.pos fault
+      → IfErr r (λ fault. RefusesReading s count limit old.list fault)
+  unread-refuses r fault is not_read =
+      let P : Result _ Fault → Type 0 = λ r. IfErr r (λ fault. RefusesReading s count limit old.list fault) in
+      subst P (sym is) (refuses_unread s count limit old.list i old.pos samples reached wanted fault not_read)
+
+  pub memory-refuses : {X : Type 0} (r : Result X Fault) (fault : Fault) → r ≡ Err fault → fault ≡ Memory → IfErr r (λ fault. RefusesReading s count limit old.list fault)
+  memory-refuses r fault is memory =
+      let P : Result _ Fault → Type 0 = λ r. IfErr r (λ fault. RefusesReading s count limit old.list fault) in
+      subst P (sym (is ∙ ap Err memory)) no_memory
+
+  module _ (c : CodedDataSet) (cds : Cds) (blocks left : ℕ) (read : IsReadAs s (is_reference_block s (i % s.interval)) old new c cds)
+      (counted : blocks ≡ cds_count s (i % s.interval) cds) (left_is : left ≡ segment_left s (i % s.interval)) where
+
+    blocks-is : blocks ≡ block_count s (i % s.interval) c
+    blocks-is = count-read s (i % s.interval) (is_reference_block s (i % s.interval)) old new c cds blocks read counted
+
+    pub long-refuses : left < blocks → RefusesReading s count limit old.list (RunTooLong old.pos)
+    long-refuses past = refuses_long s count limit old.list i old.pos samples reached wanted c read.set read.small
+        (lt-leb (block_count s (i % s.interval) c) (segment_left s (i % s.interval)) (omega (arith, blocks-is, left_is, past)))
+
+    stays : blocks ≤ left → stays_in_segment s (i % s.interval) c ≡ true
+    stays within = le-leb (block_count s (i % s.interval) c) (segment_left s (i % s.interval)) (omega (arith, blocks-is, left_is, within))
+
+    lawful : blocks ≤ left → IsLawful s (i % s.interval) c
+    lawful within = record { shape = read.set.shape; small = read.small; within = stays within }
+
+    pub many-refuses : blocks ≤ left → keeps_limit s count limit (i + blocks) ≡ false → RefusesReading s count limit old.list (TooManySamples limit)
+    many-refuses within many = refuses_many s count limit old.list i old.pos samples reached wanted c read.set (lawful within)
+        (ap (λ z. keeps_limit s count limit (i + z)) (sym blocks-is) ∙ many)
+
+    blocks-some : 1 ≤ blocks
+    blocks-some = omega (arith, blocks-is, count-some s (i % s.interval) c (mod-lt i (interval-some s allowed)))
+
+    kept-bounds : (kept : ℕ) → kept ≡ kept_count s count i blocks → (1 ≤ kept) × (kept ≤ blocks)
+    kept-bounds kept is = by_count count wanted is
+      where
+        by_count : (count : Option ℕ) → is_wanted s count old.list i old.pos ≡ true → kept ≡ kept_count s count i blocks → (1 ≤ kept) × (kept ≤ blocks)
+        by_count None wanted is = (omega (arith, blocks-some, is), omega (arith, is))
+        by_count (Some n) wanted is =
+            let below = ltb-true i (div_ceil n s.block_size) wanted in (omega (arith, blocks-some, is, below), omega (arith, is))
+
+    pub next-cds : (kept : ℕ) → blocks ≤ left → kept ≡ kept_count s count i blocks → IsNextCds s i samples kept cds
+    next-cds kept within is =
+        let bounds = kept-bounds kept is in
+        subst (IsNextCds s i samples kept) (sym read.answer)
+          (next-answer_of s i samples kept c.reference c.body allowed (AreFilled-reached s count limit old.list i old.pos samples allowed reached wanted)
+            read.set.shape read.small bounds.0 (omega (arith, bounds.1, within, left_is)))
+
+    pub reached-next : (kept : ℕ) (more : List ℤ) (e : ℕ) → blocks ≤ left → kept ≡ kept_count s count i blocks → keeps_limit s count limit (i + blocks) ≡ true
+        → FillsNext s samples more (cds_front s kept cds) → e ≡ begin_of s old.list (i + blocks) new.pos → IsReached s count limit old.list (i + blocks) e more
+    reached-next kept more e within is keeps fills begins =
+        let front : cds_front s kept cds ≡ kept_blocks s count i (cds_blocks s (i % s.interval) c) =
+              ap (λ k. cds_front s k cds) (is ∙ ap (kept_count s count i) blocks-is) ∙ (ap (cds_front s (kept_count s count i (block_count s (i % s.interval) c))) read.answer
+              ∙ front-answer_of s count old.list i old.pos c.reference c.body (omega (arith, blocks-is, blocks-some)) wanted) in
+        let whole = IsReached-more s count limit old.list i old.pos samples more c allowed reached wanted read.set.stands (lawful within)
+              (ap (λ z. keeps_limit s count limit (i + z)) (sym blocks-is) ∙ keeps) (subst (FillsNext s samples more) front fills) in
+        subst (λ z. IsReached s count limit old.list (i + z) e more) (sym blocks-is)
+          (subst (λ e. IsReached s count limit old.list (next_block s i c) e more)
+            (sym (begins ∙ (ap (λ z. begin_of s old.list (i + z) new.pos) blocks-is ∙ ap (begin_of s old.list (next_block s i c)) (ap (λ (cursor : Cursor). cursor.pos) read.behind)))) whole)
+
+    pub forward-next : i < i + blocks
+    forward-next = omega (arith, blocks-some)
+
+    pub few-next : blocks ≤ left → keeps_limit s count limit (i + blocks) ≡ true → limit ≤ 2 ^ 32 → IfSome count (λ n. n ≤ 2 ^ 32) → i + blocks < 2 ^ 34
+    few-next within keeps low counted = by_count count wanted keeps counted
+      where
+        positive : 0 < s.block_size
+        positive = block_size-some s allowed
+        by_count : (count : Option ℕ) → is_wanted s count old.list i old.pos ≡ true → keeps_limit s count limit (i + blocks) ≡ true → IfSome count (λ n. n ≤ 2 ^ 32) → i + blocks < 2 ^ 34
+        by_count None wanted keeps counted =
+            let kept = leb-true ((i + blocks) * s.block_size) limit keeps in
+            omega (arith, kept, low, le-mul_of_pos_right (i + blocks) positive)
+        by_count (Some n) wanted keeps counted =
+            let below = ltb-true i (div_ceil n s.block_size) wanted in
+            omega (arith, below, counted, within, left_is, div_ceil_times n s.block_size positive, le-mul_of_pos_right (div_ceil n s.block_size) positive, block_size-most s allowed)
+
+pub few-wanted : (s : Settings) (count : Option ℕ) (bits : List Bool) (i b : ℕ) → is_wanted s count bits i b ≡ true → IfSome count (λ n. i ≤ div_ceil n s.block_size)
+few-wanted s None bits i b wanted = tt
+few-wanted s (Some n) bits i b wanted = let below = ltb-true i (div_ceil n s.block_size) wanted in omega arith
+
+-- where nothing more is wanted, the samples are the reading
+pub reading-done : (s : Settings) (count : Option ℕ) (limit : ℕ) (bits : List Bool) (i b : ℕ) (samples : List ℤ) → IsReached s count limit bits i b samples → is_wanted s count bits i b ≡ false
+    → IsReading s count limit bits (counted_samples count samples)
+reading-done s count limit bits i b samples reached done = record {
+  blocks = kept_blocks s count 0 (stream_blocks s 0 reached.sets);
+  read = record { sets = reached.sets; end_block = i; end_bit = b; leads = reached.leads; done = done; kept = refl };
+  all_samples = samples; filled = reached.filled; counted = refl }
+
+-- a count that is not refused is within the limit
+pub count-within : (limit : ℕ) (count : Option ℕ) → count_refusal limit count ≡ None → limit ≤ 2 ^ 32 → IfSome count (λ n. n ≤ 2 ^ 32)
+count-within limit None none low = tt
+count-within limit (Some n) none low = by_test (nat_lt limit n) refl none
+  where
+    by_test : (b : Bool) → nat_lt limit n ≡ b → (if b then Some (TooManySamples limit) else None) ≡ None → n ≤ 2 ^ 32
+    by_test true is none = absurd (cc)
+    by_test false is none = let within = ltb-false limit n is in omega (arith, within, low)
+
+-- at the start, whatever the settings
+pub reached-start : (s : Settings) (count : Option ℕ) (limit : ℕ) (bits : List Bool) (b : ℕ) (samples : List ℤ) → b ≡ 0 → samples ≡ [] → IsReached s count limit bits 0 b samples
+reached-start s count limit bits b samples start none =
+    subst (λ b. IsReached s count limit bits 0 b samples) (sym start) (subst (λ samples. IsReached s count limit bits 0 0 samples) (sym none)
+      (record { sets = []; leads = (refl, refl); filled = record { held = tt; whole = sym (no_blocks count); mapped = nothing ∙ sym (nothing_kept count) } }))
+  where
+    no_pieces : div_ceil 0 (interval_len s) ≡ 0
+    no_pieces = omega (arith, zero-div (interval_len s), zero-mod (interval_len s))
+    nothing : all_blocks_of s [] ≡ []
+    nothing = ap (λ k. flat_map (blocks_of s) (first_chunks (interval_len s) k [])) no_pieces
+    nothing_kept : (count : Option ℕ) → kept_blocks s count 0 [] ≡ []
+    nothing_kept None = refl
+    nothing_kept (Some n) = take_all (div_ceil n s.block_size - 0) [] (omega arith)
+    no_blocks : (count : Option ℕ) → length (kept_blocks s count 0 []) * s.block_size ≡ 0
+    no_blocks count = ap (λ blocks. length blocks * s.block_size) (nothing_kept count) ∙ zero-mul s.block_size
+
+pub counting-refuses : {X : Type 0} (r : Result X Fault) (fault : Fault) (s : Settings) (count : Option ℕ) (limit : ℕ) (bits : List Bool) → r ≡ Err fault → Some fault ≡ count_refusal limit count
+    → IfErr r (λ fault. RefusesDecoding s count limit bits fault)
+counting-refuses {X} r fault s count limit bits is above =
+    let P : Result X Fault → Type 0 = λ r. IfErr r (λ fault. RefusesDecoding s count limit bits fault) in
+    subst P (sym is) (above_limit fault (sym above))
+
+pub reading-refuses : {X : Type 0} (r : Result X Fault) (fault : Fault) (s : Settings) (count : Option ℕ) (limit : ℕ) (bits : List Bool) → r ≡ Err fault → None ≡ count_refusal limit count
+    → RefusesReading s count limit bits fault → IfErr r (λ fault. RefusesDecoding s count limit bits fault)
+reading-refuses {X} r fault s count limit bits is within refuses =
+    let P : Result X Fault → Type 0 = λ r. IfErr r (λ fault. RefusesDecoding s count limit bits fault) in
+    subst P (sym is) (unread fault (sym within) refuses)

@@ -1,0 +1,90 @@
+-- Zero blocks that come next, one behind the other.
+use Rattle.std.proofs.Common.{◌≡◌, ℕ, zero, suc, ◌+◌, ◌-◌, ◌*◌, ◌/◌, ◌%◌, ◌<◌, ◌≤◌, ◌^◌, ◌==◌, ◌&&◌, Bool, true, false, Option, Some, None, Result, IfOk, ℤ, List, [], ◌∷◌, ◌++◌, length, take, replicate, refl, sym, ap, ap₂, ◌∙◌, subst, append_assoc, append-nil, add-one, arith, rules}
+use Rattle.std.proofs.Math.Nat.{mod-eq_of_lt, mul_comm, mod-lt, zero-mul, suc-mul, mul-lt-mul_of_pos_right}
+use Rattle.std.proofs.lemmas.Nat.{pow_pos, div-add-mod', mod-mul-add}
+use Rattle.std.proofs.lemmas.Bool.{ne_eqb}
+use Rattle.std.proofs.lemmas.List.{length-append, length-replicate}
+use Rattle.std.specs.List.{AllByRecursion}
+use Rattle.aec_params.specs.declared.settings.Settings.{Settings}
+use Rattle.aec_params.specs.Params.{IsAllowed, interval_len}
+use Rattle.aec_params.specs.Blocks.{Block}
+use Rattle.aec_params.specs.CodedDataSets.{HasReference}
+use Rattle.aec_params.specs.Places.{zero_block, is_reference_block}
+use Rattle.aec_params.specs.Reading.{FillBlocks}
+use Rattle.aec_interval.specs.NextBlock.{Placed, IsNextBlock, FillsNext, run_blocks}
+use Rattle.aec_interval.specs.Reached.{AreFilled}
+use Rattle.aec_interval.proofs.NextFillLemmas.{block_size-some, interval-some}
+
+-- whole blocks of samples end an interval exactly where their number does
+starts_alike : (j r i : ℕ) → 0 < j → 0 < r → (i * j % (j * r) == 0) ≡ (i % r == 0)
+starts_alike j r i some positive =
+    ap (λ n. n % (j * r) == 0) whole ∙ (ap (λ n. n == 0) (mod-mul-add (i / r) (j * r) (i % r * j) below) ∙ zero_alike (i % r))
+  where
+    whole : i * j ≡ i / r * (j * r) + i % r * j
+    whole = omega (arith, ap (λ n. n * j) (div-add-mod' i r))
+    below : i % r * j < j * r
+    below = omega (arith, mul-lt-mul_of_pos_right (mod-lt i positive) some, mul_comm j r)
+    zero_alike : (m : ℕ) → (m * j == 0) ≡ (m == 0)
+    zero_alike zero = ap (λ n. n == 0) (zero-mul j)
+    zero_alike (suc m) = ne_eqb (suc m * j) 0 (λ e. absurd (omega (arith, suc-mul m j))) ∙ sym (ne_eqb (suc m) 0 (λ e. absurd (omega arith)))
+
+pub HasReference-next : (s : Settings) (i : ℕ) (samples : List ℤ) (reference : Option ℕ) → IsAllowed s → AreFilled s i samples → HasReference s (is_reference_block s (i % s.interval)) reference
+    → HasReference s (s.preprocess && (length samples % interval_len s == 0)) reference
+HasReference-next s i samples reference allowed filled due =
+    subst (λ b. HasReference s (s.preprocess && b) reference)
+      (sym (ap (λ n. n % interval_len s == 0) (filled.filled.whole ∙ ap (λ k. k * s.block_size) filled.count_is) ∙ starts_alike s.block_size s.interval i (block_size-some s allowed) (interval-some s allowed))) due
+
+pub zero_block-next : (s : Settings) (i : ℕ) (samples : List ℤ) (reference : Option ℕ) → IsAllowed s → AreFilled s i samples → HasReference s (is_reference_block s (i % s.interval)) reference
+    → IsNextBlock s samples (zero_block s reference)
+zero_block-next s i samples reference allowed filled due = record {
+  whole = length-replicate s.block_size 0;
+  small = all_small s.block_size;
+  reference = HasReference-next s i samples reference allowed filled due;
+  placed = in_place reference s.block_size (block_size-some s allowed) }
+  where
+    all_small : (n : ℕ) → AllByRecursion (λ v. v < 2 ^ s.bits) (replicate n 0)
+    all_small zero = tt
+    all_small (suc n) = (pow_pos s.bits, all_small n)
+    in_place : (reference : Option ℕ) (n : ℕ) → 0 < n → Placed reference (replicate n 0)
+    in_place None n some = tt
+    in_place (Some r) zero some = absurd (omega arith)
+    in_place (Some r) (suc n) some = refl
+
+pub length-run_blocks : (s : Settings) (reference : Option ℕ) (z : ℕ) → length (run_blocks s reference z) ≡ z
+length-run_blocks s reference zero = refl
+length-run_blocks s reference (suc z) = ap suc (length-replicate z (zero_block s None))
+
+pub AreFilled-next : (s : Settings) (i k : ℕ) (old new : List ℤ) (more : List Block) → AreFilled s i old → FillsNext s old new more → length more ≡ k → AreFilled s (i + k) new
+AreFilled-next s i k old new more filled fills len = record {
+  blocks = filled.blocks ++ more;
+  filled = fills filled.blocks filled.filled;
+  count_is = length-append filled.blocks more ∙ ap₂ ◌+◌ filled.count_is len }
+
+-- a block within an interval has no reference
+pub no_reference-later : (s : Settings) (i k : ℕ) → 1 ≤ k → i % s.interval + k < s.interval → HasReference s (is_reference_block s ((i + k) % s.interval)) None
+no_reference-later s i k some within = subst (λ b. HasReference s b None) (sym not_first) tt
+  where
+    place : (i + k) % s.interval ≡ i % s.interval + k
+    place = ap (λ n. n % s.interval) (omega (arith, div-add-mod' i s.interval)) ∙ mod-mul-add (i / s.interval) s.interval (i % s.interval + k) within
+    and_false : (b : Bool) → (b && false) ≡ false
+    and_false true = refl
+    and_false false = refl
+    not_first : is_reference_block s ((i + k) % s.interval) ≡ false
+    not_first = ap (λ p. s.preprocess && (p == 0)) place ∙ (ap (λ b. s.preprocess && b) (ne_eqb (i % s.interval + k) 0 (λ e. absurd (omega arith))) ∙ and_false s.preprocess)
+
+-- one zero block more
+pub run_blocks-push : (s : Settings) (reference : Option ℕ) (z : ℕ) → 1 ≤ z → run_blocks s reference (z + 1) ≡ run_blocks s reference z ++ zero_block s None ∷ []
+run_blocks-push s reference zero some = absurd (omega arith)
+run_blocks-push s reference (suc z) some =
+    ap (run_blocks s reference) (add-one (suc z)) ∙ ap (λ later. zero_block s reference ∷ later) (replicate-push z (zero_block s None))
+  where
+    replicate-push : {X : Type 0} (n : ℕ) (x : X) → replicate (suc n) x ≡ replicate n x ++ x ∷ []
+    replicate-push zero x = refl
+    replicate-push (suc n) x = ap (λ xs. x ∷ xs) (replicate-push n x)
+
+pub FillsNext-push : (s : Settings) (old mid new : List ℤ) (reference : Option ℕ) (z : ℕ) → 1 ≤ z → FillsNext s old mid (run_blocks s reference z) → FillsNext s mid new (zero_block s None ∷ [])
+    → FillsNext s old new (run_blocks s reference (z + 1))
+FillsNext-push s old mid new reference z some first then blocks filled =
+    subst (FillBlocks s new) (append_assoc blocks (run_blocks s reference z) (zero_block s None ∷ []) ∙ ap (λ more. blocks ++ more) (sym (run_blocks-push s reference z some)))
+      (then (blocks ++ run_blocks s reference z) (first blocks filled))
+

@@ -1,0 +1,54 @@
+-- One block more behind whole blocks of samples.
+use Rattle.std.specs.Prelude.{◌≡◌, ℕ, zero, suc, ◌%◌, ◌^◌, ◌<◌, ◌==◌, ◌&&◌, Bool, true, false, Option, None, Some, ℤ, pos, List, [], ◌∷◌, ◌++◌, length, take, replicate, ◌-◌, unwrap_or, ⊤}
+use Rattle.std.specs.List.{last_or, AllByRecursion}
+use Rattle.aec_params.specs.declared.settings.Settings.{Settings}
+use Rattle.aec_params.specs.Params.{interval_len, IsHeld}
+use Rattle.aec_params.specs.CodedDataSets.{HasReference}
+use Rattle.aec_params.specs.Places.{zero_block}
+use Rattle.aec_params.specs.Reading.{FillBlocks}
+use Rattle.aec_params.specs.Mapping.{mapped_after, mapped_values}
+use Rattle.aec_params.specs.Blocks.{Block, reference_of}
+
+-- the last sample, from which the next is predicted
+abbrev pub last_sample : List ℤ → ℤ
+last_sample samples = unwrap_or (last_or None samples) (pos 0)
+
+-- the block of J samples: at the start of an interval, or predicted from p
+abbrev pub next_block_at : Settings → Bool → ℤ → List ℤ → Block
+next_block_at s true p more = record { reference = reference_of s more; values = mapped_values s more }
+next_block_at s false p more = record { reference = None; values = mapped_after s p more }
+
+-- the block of J samples that come behind others
+abbrev pub next_block_of : Settings → List ℤ → List ℤ → Block
+next_block_of s samples more = next_block_at s (length samples % interval_len s == 0) (last_sample samples) more
+
+-- new samples are the old ones and those that values stand for, the first of them predicted from p
+pub record Unmaps (s : Settings) (p : ℤ) (values : List ℕ) (old new : List ℤ) : Type 0 where
+  pub more : List ℤ
+  pub appended : new ≡ old ++ more
+  pub held : AllByRecursion (IsHeld s) more
+  pub mapped : mapped_after s p more ≡ values
+
+-- where there is a reference, 0 stands in its place
+abbrev pub Placed : Option ℕ → List ℕ → Type 0
+Placed None values = ⊤
+Placed (Some r) values = take 1 values ≡ 0 ∷ []
+
+abbrev pub StartsPlaced : Block → Type 0
+StartsPlaced b = Placed b.reference b.values
+
+-- a block that can come behind these samples: whole, of small values, with a reference where an interval begins
+pub record IsNextBlock (s : Settings) (samples : List ℤ) (b : Block) : Type 0 where
+  pub whole : length b.values ≡ s.block_size
+  pub small : AllByRecursion (λ v. v < 2 ^ s.bits) b.values
+  pub reference : HasReference s (s.preprocess && (length samples % interval_len s == 0)) b.reference
+  pub placed : StartsPlaced b
+
+-- new samples fill the blocks that the old ones fill, and some more
+abbrev pub FillsNext : Settings → List ℤ → List ℤ → List Block → Type 0
+FillsNext s old new more = (blocks : List Block) → FillBlocks s old blocks → FillBlocks s new (blocks ++ more)
+
+-- so many zero blocks, the first with this reference
+abbrev pub run_blocks : Settings → Option ℕ → ℕ → List Block
+run_blocks s reference zero = []
+run_blocks s reference (suc z) = zero_block s reference ∷ replicate z (zero_block s None)

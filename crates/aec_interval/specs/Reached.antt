@@ -1,0 +1,36 @@
+-- How far a reading has come, and why it stops.
+use Rattle.std.specs.Prelude.{◌≡◌, ℕ, Bool, if◌then◌else◌, nat_lt, Option, Some, None, ℤ, List, length}
+use Rattle.aec_params.specs.declared.settings.Settings.{Settings}
+use Rattle.aec_params.specs.declared.fault.Fault.{Fault}
+use Rattle.aec_params.specs.declared.fault.Fault.TheVariants.{Memory, TooManySamples}
+use Rattle.aec_params.specs.Blocks.{Block}
+use Rattle.aec_params.specs.CodedDataSets.{CodedDataSet}
+use Rattle.aec_params.specs.Reading.{LeadsTo, stream_blocks, kept_blocks, FillBlocks}
+use Rattle.aec_params.specs.Faults.{IsFault}
+
+-- samples that fill so many blocks
+pub record AreFilled (s : Settings) (count : ℕ) (samples : List ℤ) : Type 0 where
+  pub blocks : List Block
+  pub filled : FillBlocks s samples blocks
+  pub count_is : length blocks ≡ count
+
+-- coded data sets lead to block i at position b, and the samples fill the blocks that are kept of them
+pub record IsReached (s : Settings) (count : Option ℕ) (limit : ℕ) (bits : List Bool) (i b : ℕ) (samples : List ℤ) : Type 0 where
+  pub sets : List CodedDataSet
+  pub leads : LeadsTo s count limit bits 0 0 sets i b
+  pub filled : FillBlocks s samples (kept_blocks s count 0 (stream_blocks s 0 sets))
+
+-- why a reading answers no samples: its fault, or want of memory
+pub data RefusesReading (s : Settings) (count : Option ℕ) (limit : ℕ) (bits : List Bool) : Fault → Type 0 where
+  no_memory : RefusesReading s count limit bits Memory
+  faulty : (fault : Fault) → IsFault s count limit bits 0 0 fault → RefusesReading s count limit bits fault
+
+-- the refusal of a sample count that is above the limit
+abbrev pub count_refusal : ℕ → Option ℕ → Option Fault
+count_refusal limit (Some count) = if nat_lt limit count then Some (TooManySamples limit) else None
+count_refusal limit None = None
+
+-- why bits are not decoded: a count above the limit, and else what the reading meets
+pub data RefusesDecoding (s : Settings) (count : Option ℕ) (limit : ℕ) (bits : List Bool) : Fault → Type 0 where
+  above_limit : (fault : Fault) → count_refusal limit count ≡ Some fault → RefusesDecoding s count limit bits fault
+  unread : (fault : Fault) → count_refusal limit count ≡ None → RefusesReading s count limit bits fault → RefusesDecoding s count limit bits fault
