@@ -74,10 +74,12 @@ kept_run s (Some count) bits i b reference z some wanted = ⊎_elim fewer all (c
   where
     below : i < div_ceil count s.block_size
     below = ltb-true i (div_ceil count s.block_size) wanted
+
     fewer : div_ceil count s.block_size - i < z → run_blocks s reference (kept_count s (Some count) i z) ≡ kept_blocks s (Some count) i (zero_block s reference ∷ replicate (z - 1) (zero_block s None))
     fewer h =
         let k : kept_count s (Some count) i z ≡ div_ceil count s.block_size - i = min_right z (div_ceil count s.block_size - i) (omega arith) in
         ap (run_blocks s reference) k ∙ sym (run_front s reference z (div_ceil count s.block_size - i) (omega (arith, below)) (omega arith))
+
     all : z ≤ div_ceil count s.block_size - i → run_blocks s reference (kept_count s (Some count) i z) ≡ kept_blocks s (Some count) i (zero_block s reference ∷ replicate (z - 1) (zero_block s None))
     all h =
         ap (run_blocks s reference) (min_left z (div_ceil count s.block_size - i) h) ∙ (sym (run_front s reference z z some (omega arith))

@@ -17,7 +17,9 @@ pub record UnmapsSoFar (s : Settings) (p last : ℤ) (values : List ℕ) (old ne
 pub unmaps_none : (s : Settings) (p : ℤ) (items : List ℤ) → IsHeld s p → UnmapsSoFar s p p [] items items
 unmaps_none s p items held = record {
   so_far = record { more = []; appended = sym (append-nil items); held = tt; mapped = refl };
-  last_is = refl; last_held = held }
+  last_is = refl;
+  last_held = held;
+}
 
 all-push : {X : Type 0} (P : X → Type 0) (xs : List X) (x : X) → AllByRecursion P xs → P x → AllByRecursion P (xs ++ x ∷ [])
 all-push P [] x all here = (here, tt)
@@ -31,9 +33,11 @@ unmaps_more s p last x values v old mid so_far held mapped = record {
     appended = ap (λ items. items ++ x ∷ []) so_far.so_far.appended ∙ append_assoc old so_far.so_far.more (x ∷ []);
     held = all-push (IsHeld s) so_far.so_far.more x so_far.so_far.held held;
     mapped = mapped_after-append s p so_far.so_far.more (x ∷ [])
-      ∙ ap₂ (λ vs v. vs ++ v ∷ []) so_far.so_far.mapped (ap (λ q. mapped_value s q x) (sym so_far.last_is) ∙ mapped) };
+        ∙ ap₂ (λ vs v. vs ++ v ∷ []) so_far.so_far.mapped (ap (λ q. mapped_value s q x) (sym so_far.last_is) ∙ mapped);
+  };
   last_is = ap (λ o. unwrap_or o (pos 0)) (sym (last_or-append (Some p) so_far.so_far.more (x ∷ [])));
-  last_held = held }
+  last_held = held;
+}
 
 -- the same for numbers as the machine keeps them
 pub unmaps_none_kept : (s : Settings) (p kept : ℤ) (items : List ℤ) → kept ≡ p → IsHeld s p → UnmapsSoFar s kept kept [] items items
@@ -44,9 +48,9 @@ pub unmaps_more_kept : (s : Settings) (p last x kept : ℤ) (values : List ℕ) 
 unmaps_more_kept s p last x kept values i old mid new within e pushed so_far held mapped =
     let P : ℤ → List ℕ → List ℤ → Type 0 = λ x values new. UnmapsSoFar s p x values old new in
     subst (λ new. P kept (take (i + 1) values) new) (sym pushed)
-      (subst (λ values. P kept values (mid ++ kept ∷ [])) (sym (take_more values i 0 within))
-        (subst (λ x. P x (take i values ++ get_or values i 0 ∷ []) (mid ++ x ∷ [])) (sym e)
-          (unmaps_more s p last x (take i values) (get_or values i 0) old mid so_far held mapped)))
+    (subst (λ values. P kept values (mid ++ kept ∷ [])) (sym (take_more values i 0 within))
+    (subst (λ x. P x (take i values ++ get_or values i 0 ∷ []) (mid ++ x ∷ [])) (sym e)
+    (unmaps_more s p last x (take i values) (get_or values i 0) old mid so_far held mapped)))
 
 -- ---- the last sample
 

@@ -46,6 +46,7 @@ filled_samples-whole s v positive k whole = ap (λ n. v ++ replicate n (last_sam
   where
     even : length v % s.block_size ≡ 0
     even = ap (λ n. n % s.block_size) whole ∙ mul-mod_left k s.block_size
+
     none : up_to_multiple s.block_size (length v) ≡ 0
     none = ap (λ n. (s.block_size - n) % s.block_size) even ∙ (ap (λ n. n % s.block_size) (sub-zero s.block_size) ∙ mod_self s.block_size)
 
@@ -63,8 +64,10 @@ pieces_of-push {X} n positive xs ys k whole last = by_pieces P n positive nothin
   where
     P : List X → Type 0
     P xs = (k : ℕ) → length xs ≡ k * n → pieces_of n (xs ++ ys) ≡ pieces_of n xs ++ ys ∷ []
+
     nothing : P []
     nothing k h = pieces_of-one n ys (omega arith) (omega arith) ∙ ap (λ ps. ps ++ ys ∷ []) (sym (pieces_of-nil n positive))
+
     step : (front rest : List X) → IsPieceBefore n front rest → P rest → P (front ++ rest)
     step front rest piece ih k h =
         let parts = front_full n (length front) (length rest) k positive piece.fits piece.some piece.full (sym (length-append front rest) ∙ h) in
@@ -81,14 +84,14 @@ pub blocks_of-push : (s : Settings) (v ys : List ℤ) (k : ℕ) → 0 < s.block_
 blocks_of-push s [] ys k positive some whole last = absurd (omega arith)
 blocks_of-push s (x ∷ v) ys k positive some whole last =
     ap (λ filled. with_reference (reference_of s (x ∷ v)) (pieces_of s.block_size (mapped_values s filled)))
-       (filled_samples-whole s ((x ∷ v) ++ ys) positive (suc k) (omega (arith, length-append (x ∷ v) ys, suc-mul k s.block_size)))
+    (filled_samples-whole s ((x ∷ v) ++ ys) positive (suc k) (omega (arith, length-append (x ∷ v) ys, suc-mul k s.block_size)))
     ∙ (ap (λ values. with_reference (reference_of s (x ∷ v)) (pieces_of s.block_size values)) (mapped_values-append s x v ys)
     ∙ (ap (with_reference (reference_of s (x ∷ v)))
-          (pieces_of-push s.block_size positive (mapped_values s (x ∷ v)) (mapped_after s (last_sample (x ∷ v)) ys) k (length-mapped_values s (x ∷ v) ∙ whole) (length-mapped_after s _ ys ∙ last))
+    (pieces_of-push s.block_size positive (mapped_values s (x ∷ v)) (mapped_after s (last_sample (x ∷ v)) ys) k (length-mapped_values s (x ∷ v) ∙ whole) (length-mapped_after s _ ys ∙ last))
     ∙ (with_reference-push (reference_of s (x ∷ v)) (pieces_of s.block_size (mapped_values s (x ∷ v))) (mapped_after s (last_sample (x ∷ v)) ys)
-          (pieces_of-some s.block_size (mapped_values s (x ∷ v)) positive (omega (arith, length-mapped_values s (x ∷ v))))
+    (pieces_of-some s.block_size (mapped_values s (x ∷ v)) positive (omega (arith, length-mapped_values s (x ∷ v))))
     ∙ ap (λ filled. with_reference (reference_of s (x ∷ v)) (pieces_of s.block_size (mapped_values s filled)) ++ (record { reference = None; values = mapped_after s (last_sample (x ∷ v)) ys }) ∷ [])
-         (sym (filled_samples-whole s (x ∷ v) positive k whole)))))
+    (sym (filled_samples-whole s (x ∷ v) positive k whole)))))
 
 -- one block by itself
 pub blocks_of-one : (s : Settings) (ys : List ℤ) → 0 < s.block_size → length ys ≡ s.block_size → blocks_of s ys ≡ (record { reference = reference_of s ys; values = mapped_values s ys }) ∷ []
@@ -118,8 +121,8 @@ next_block_of-rest s front [] ys positive full =
     ∙ ap (λ n. next_block_at s (n == 0) (pos 0) ys) (sym (mod-eq_of_lt positive))
 next_block_of-rest s front (x ∷ rest) ys positive full =
     ap₂ (λ n p. next_block_at s (n == 0) p ys)
-       (ap (λ n. n % interval_len s) (length-append front (x ∷ rest) ∙ ap (λ n. n + length (x ∷ rest)) full) ∙ add-mod_left (interval_len s) (length (x ∷ rest)))
-       (last_sample-append front (x ∷ rest) (omega arith))
+    (ap (λ n. n % interval_len s) (length-append front (x ∷ rest) ∙ ap (λ n. n + length (x ∷ rest)) full) ∙ add-mod_left (interval_len s) (length (x ∷ rest)))
+    (last_sample-append front (x ∷ rest) (omega arith))
 
 -- at the start of an interval, and within one
 pub next_block_of-first : (s : Settings) (ys : List ℤ) → 0 < interval_len s → next_block_of s [] ys ≡ record { reference = reference_of s ys; values = mapped_values s ys }
@@ -141,6 +144,7 @@ one_more_fits j r k a whole short = ⊎_elim below past (cases_lt k r)
       where
         lt_suc : k < r → suc k ≤ r
         lt_suc h = omega arith
+
     past : r ≤ k → a + j ≤ j * r
     past h = absurd (omega (arith, mul-le-mul_right j h, mul_comm j r))
 
@@ -151,14 +155,18 @@ all_blocks_of-push s xs ys k block interval whole last = by_pieces P (interval_l
   where
     positive : 0 < interval_len s
     positive = mul-pos block interval
+
     P : List ℤ → Type 0
     P xs = (k : ℕ) → length xs ≡ k * s.block_size → all_blocks_of s (xs ++ ys) ≡ all_blocks_of s xs ++ next_block_of s xs ys ∷ []
+
     one_fits : s.block_size ≤ interval_len s
     one_fits = le-mul_of_pos_right s.block_size interval
+
     nothing : P []
     nothing k h =
         all_blocks_of-one s ys (omega arith) (omega (arith, one_fits))
         ∙ (blocks_of-one s ys block last ∙ ap₂ (λ bs b. bs ++ b ∷ []) (sym (all_blocks_of-nil s positive)) (sym (next_block_of-first s ys positive)))
+
     full : (front rest : List ℤ) → IsPieceBefore (interval_len s) front rest → P rest → length front ≡ interval_len s → P (front ++ rest)
     full front rest piece ih is_full k h =
         ap (all_blocks_of s) (append_assoc front rest ys)
@@ -166,12 +174,14 @@ all_blocks_of-push s xs ys k block interval whole last = by_pieces P (interval_l
         ∙ (ap (λ bs. blocks_of s front ++ bs) (ih (k - s.interval) (rest_whole s.block_size s.interval k (length front) (length rest) is_full (sym (length-append front rest) ∙ h)))
         ∙ (sym (append_assoc (blocks_of s front) (all_blocks_of s rest) (next_block_of s rest ys ∷ []))
         ∙ ap₂ (λ bs b. bs ++ b ∷ []) (sym (all_blocks_of-cons s front rest piece)) (sym (next_block_of-rest s front rest ys positive is_full)))))
+
     within : (front : List ℤ) → 0 < length front → length front < interval_len s → P front
     within front some short k h =
         all_blocks_of-one s (front ++ ys) (omega (arith, length-append front ys))
-          (omega (arith, length-append front ys, one_more_fits s.block_size s.interval k (length front) h short))
+        (omega (arith, length-append front ys, one_more_fits s.block_size s.interval k (length front) h short))
         ∙ (blocks_of-push s front ys k block some h last
         ∙ ap₂ (λ bs b. bs ++ b ∷ []) (sym (all_blocks_of-one s front some (omega arith))) (sym (next_block_of-later s front ys some short)))
+
     step : (front rest : List ℤ) → IsPieceBefore (interval_len s) front rest → P rest → P (front ++ rest)
     step front rest piece ih = ⊎_elim (λ short. alone rest piece short) (λ l. full front rest piece ih (omega (arith, piece.fits, l))) (cases_lt (length front) (interval_len s))
       where

@@ -51,7 +51,7 @@ pub mapped_values-plain : (s : Settings) (p : ℤ) (xs : List ℤ) → s.preproc
 mapped_values-plain s p [] plain = refl
 mapped_values-plain s p (x ∷ xs) plain =
     ap (λ v. v ∷ mapped_after s x xs)
-      (ap (λ b. if b then 0 else sample_pattern s x) plain ∙ sym (ap (λ b. if b then mapped_value (record s { preprocess = true }) p x else sample_pattern s x) plain))
+    (ap (λ b. if b then 0 else sample_pattern s x) plain ∙ sym (ap (λ b. if b then mapped_value (record s { preprocess = true }) p x else sample_pattern s x) plain))
 
 pub reference_of-plain : (s : Settings) (xs : List ℤ) → s.preprocess ≡ false → reference_of s xs ≡ None
 reference_of-plain s [] plain = refl
@@ -81,9 +81,9 @@ pub fills_plain : (s : Settings) (old new : List ℤ) (values : List ℕ) → Is
     → Unmaps s (last_sample old) values old new → FillsNext s old new ((record { reference = None; values = values }) ∷ [])
 fills_plain s old new values allowed next unmaps blocks filled =
     subst (λ samples. FillBlocks s samples (blocks ++ (record { reference = None; values = values }) ∷ [])) (sym unmaps.appended)
-      (FillBlocks-push s old unmaps.more blocks (record { reference = None; values = values }) (block_size-some s allowed) (interval-some s allowed) filled unmaps.held
-        (sym (length-mapped_after s (last_sample old) unmaps.more) ∙ (ap length unmaps.mapped ∙ next.whole))
-        (next_plain s (length old % interval_len s == 0) (last_sample old) unmaps.more values next.reference unmaps.mapped))
+    (FillBlocks-push s old unmaps.more blocks (record { reference = None; values = values }) (block_size-some s allowed) (interval-some s allowed) filled unmaps.held
+    (sym (length-mapped_after s (last_sample old) unmaps.more) ∙ (ap length unmaps.mapped ∙ next.whole))
+    (next_plain s (length old % interval_len s == 0) (last_sample old) unmaps.more values next.reference unmaps.mapped))
 
 -- a block that begins with a reference sample
 next_reference : (s : Settings) (at_start : Bool) (r : ℕ) (x : ℤ) (more : List ℤ) (values : List ℕ) (p : ℤ) → HasReference s (s.preprocess && at_start) (Some r)
@@ -95,14 +95,14 @@ next_reference s at_start r x more values p has placed pattern mapped = by_tests
     by_tests true false is has = absurd has
     by_tests true true is has =
         ap₂ block_of (ap (λ b. if b then Some (sample_pattern s x) else None) is ∙ ap Some pattern)
-          (ap₂ (λ b later. (if b then 0 else sample_pattern s x) ∷ later) is mapped ∙ placed_again values placed)
+        (ap₂ (λ b later. (if b then 0 else sample_pattern s x) ∷ later) is mapped ∙ placed_again values placed)
 
 pub fills_reference : (s : Settings) (old new : List ℤ) (r : ℕ) (values : List ℕ) (x : ℤ) → IsAllowed s → IsNextBlock s old (record { reference = Some r; values = values })
     → IsHeld s x → sample_pattern s x ≡ r → Unmaps s x (drop 1 values) (old ++ x ∷ []) new → FillsNext s old new ((record { reference = Some r; values = values }) ∷ [])
 fills_reference s old new r values x allowed next held pattern unmaps blocks filled =
     subst (λ samples. FillBlocks s samples (blocks ++ (record { reference = Some r; values = values }) ∷ [])) (sym (unmaps.appended ∙ append_assoc old (x ∷ []) unmaps.more))
-      (FillBlocks-push s old (x ∷ unmaps.more) blocks (record { reference = Some r; values = values }) (block_size-some s allowed) (interval-some s allowed) filled (held, unmaps.held) (ap suc (sym (length-mapped_after s x unmaps.more) ∙ ap length unmaps.mapped) ∙ (ap length (placed_again values next.placed) ∙ next.whole))
-        (next_reference s (length old % interval_len s == 0) r x unmaps.more values (last_sample old) next.reference next.placed pattern unmaps.mapped))
+    (FillBlocks-push s old (x ∷ unmaps.more) blocks (record { reference = Some r; values = values }) (block_size-some s allowed) (interval-some s allowed) filled (held, unmaps.held) (ap suc (sym (length-mapped_after s x unmaps.more) ∙ ap length unmaps.mapped) ∙ (ap length (placed_again values next.placed) ∙ next.whole))
+    (next_reference s (length old % interval_len s == 0) r x unmaps.more values (last_sample old) next.reference next.placed pattern unmaps.mapped))
 
 -- ---- in the form in which the code has the facts
 
@@ -117,7 +117,7 @@ pub fills_block_plain : {X : Type 0} (r : Result X Fault) (s : Settings) (old ne
     → p ≡ last_sample old → values ≡ b.values → IfOk r (λ _. Unmaps s p values old new) → IfOk r (λ _. FillsNext s old new (b ∷ []))
 fills_block_plain r s old new b p values allowed next none previous is_values ok =
     IfOk-weaker r (λ _. Unmaps s p values old new) (λ _. FillsNext s old new (b ∷ [])) (λ _ unmaps. by_reference b.reference none next
-      (subst (λ q. Unmaps s q b.values old new) previous (subst (λ vs. Unmaps s p vs old new) is_values unmaps))) ok
+    (subst (λ q. Unmaps s q b.values old new) previous (subst (λ vs. Unmaps s p vs old new) is_values unmaps))) ok
   where
     by_reference : (reference : Option ℕ) → reference ≡ None → IsNextBlock s old (block_of reference b.values) → Unmaps s (last_sample old) b.values old new
         → FillsNext s old new (block_of reference b.values ∷ [])
@@ -129,7 +129,7 @@ pub fills_block_reference : {X : Type 0} (r : Result X Fault) (s : Settings) (ol
     → IfOk r (λ _. Unmaps s x values mid new) → IfOk r (λ _. FillsNext s old new (b ∷ []))
 fills_block_reference r s old mid new b q x values allowed next some held pattern is_values pushed ok =
     IfOk-weaker r (λ _. Unmaps s x values mid new) (λ _. FillsNext s old new (b ∷ [])) (λ _ unmaps. by_reference b.reference some next
-      (subst (λ mid. Unmaps s x (drop 1 b.values) mid new) pushed (subst (λ vs. Unmaps s x vs mid new) is_values unmaps))) ok
+    (subst (λ mid. Unmaps s x (drop 1 b.values) mid new) pushed (subst (λ vs. Unmaps s x vs mid new) is_values unmaps))) ok
   where
     by_reference : (reference : Option ℕ) → reference ≡ Some q → IsNextBlock s old (block_of reference b.values) → Unmaps s x (drop 1 b.values) (old ++ x ∷ []) new
         → FillsNext s old new (block_of reference b.values ∷ [])

@@ -64,7 +64,7 @@ single_next s i samples reference (split_values k values) allowed filled shape s
     record { whole = parts.0; small = parts.1.0; reference = HasReference-next s i samples reference allowed filled shape.reference; placed = parts.1.1 }
 single_next s i samples reference (value_pairs members) allowed filled shape small single =
     let parts = members_next s (is_reference_block s (i % s.interval)) samples reference members (block_size-some s allowed) shape.reference shape.body
-          (small_values s (judged_in reference (value_pairs members)) small) in
+    (small_values s (judged_in reference (value_pairs members)) small) in
     record { whole = parts.0; small = parts.1.0; reference = HasReference-next s i samples reference allowed filled shape.reference; placed = parts.1.1 }
 
 pub single_blocks : (s : Settings) (p : ℕ) (reference : Option ℕ) (body : Body) → IsSingle body

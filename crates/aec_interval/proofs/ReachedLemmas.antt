@@ -48,7 +48,10 @@ kept_blocks-wanted s (Some count) bits i b blocks len wanted =
 
 pub IsReached-start : (s : Settings) (count : Option ℕ) (limit : ℕ) (bits : List Bool) → IsAllowed s → IsReached s count limit bits 0 0 []
 IsReached-start s count limit bits allowed = record {
-  sets = []; leads = (refl, refl); filled = subst (λ blocks. FillBlocks s [] blocks) (sym (nothing_kept count)) (FillBlocks-nil s (mul-pos (block_size-some s allowed) (interval-some s allowed))) }
+  sets = [];
+  leads = (refl, refl);
+  filled = subst (λ blocks. FillBlocks s [] blocks) (sym (nothing_kept count)) (FillBlocks-nil s (mul-pos (block_size-some s allowed) (interval-some s allowed)));
+}
   where
     nothing_kept : (count : Option ℕ) → kept_blocks s count 0 [] ≡ []
     nothing_kept None = refl
@@ -72,6 +75,7 @@ IsReached-more s count limit bits i b old new c allowed reached wanted stands la
       sets = reached.sets ++ c ∷ [];
       leads = LeadsTo-push s count limit bits 0 0 reached.sets i b c reached.leads wanted stands lawful within;
       filled = subst (FillBlocks s new)
-        (sym (ap (kept_blocks s count 0) (stream_blocks-push s count limit bits 0 0 reached.sets i b c reached.leads)
+          (sym (ap (kept_blocks s count 0) (stream_blocks-push s count limit bits 0 0 reached.sets i b c reached.leads)
           ∙ kept_blocks-append s count bits i b blocks (cds_blocks s (i % s.interval) c) len wanted))
-        (fills blocks (subst (FillBlocks s old) (kept_blocks-wanted s count bits i b blocks len wanted) reached.filled)) }
+          (fills blocks (subst (FillBlocks s old) (kept_blocks-wanted s count bits i b blocks len wanted) reached.filled));
+    }

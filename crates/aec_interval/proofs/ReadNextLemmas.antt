@@ -49,7 +49,6 @@ count-some s p c within = of_body c.body
 
 module _ (s : Settings) (count : Option ℕ) (limit : ℕ) (old new : Cursor) (i : ℕ) (samples : List ℤ) (allowed : IsAllowed s)
     (reached : IsReached s count limit old.list i old.pos samples) (wanted : is_wanted s count old.list i old.pos ≡ true) where
-
   pub unread-refuses : {X : Type 0} (r : Result X Fault) (fault : Fault) → r ≡ Err fault → IsNotRead s (is_reference_block s (i % s.interval)) old.list old.pos fault
       → IfErr r (λ fault. RefusesReading s count limit old.list fault)
   unread-refuses r fault is not_read =
@@ -63,7 +62,6 @@ module _ (s : Settings) (count : Option ℕ) (limit : ℕ) (old new : Cursor) (i
 
   module _ (c : CodedDataSet) (cds : Cds) (blocks left : ℕ) (read : IsReadAs s (is_reference_block s (i % s.interval)) old new c cds)
       (counted : blocks ≡ cds_count s (i % s.interval) cds) (left_is : left ≡ segment_left s (i % s.interval)) where
-
     blocks-is : blocks ≡ block_count s (i % s.interval) c
     blocks-is = count-read s (i % s.interval) (is_reference_block s (i % s.interval)) old new c cds blocks read counted
 
@@ -96,20 +94,20 @@ module _ (s : Settings) (count : Option ℕ) (limit : ℕ) (old new : Cursor) (i
     next-cds kept within is =
         let bounds = kept-bounds kept is in
         subst (IsNextCds s i samples kept) (sym read.answer)
-          (next-answer_of s i samples kept c.reference c.body allowed (AreFilled-reached s count limit old.list i old.pos samples allowed reached wanted)
-            read.set.shape read.small bounds.0 (omega (arith, bounds.1, within, left_is)))
+        (next-answer_of s i samples kept c.reference c.body allowed (AreFilled-reached s count limit old.list i old.pos samples allowed reached wanted)
+        read.set.shape read.small bounds.0 (omega (arith, bounds.1, within, left_is)))
 
     pub reached-next : (kept : ℕ) (more : List ℤ) (e : ℕ) → blocks ≤ left → kept ≡ kept_count s count i blocks → keeps_limit s count limit (i + blocks) ≡ true
         → FillsNext s samples more (cds_front s kept cds) → e ≡ begin_of s old.list (i + blocks) new.pos → IsReached s count limit old.list (i + blocks) e more
     reached-next kept more e within is keeps fills begins =
         let front : cds_front s kept cds ≡ kept_blocks s count i (cds_blocks s (i % s.interval) c) =
-              ap (λ k. cds_front s k cds) (is ∙ ap (kept_count s count i) blocks-is) ∙ (ap (cds_front s (kept_count s count i (block_count s (i % s.interval) c))) read.answer
-              ∙ front-answer_of s count old.list i old.pos c.reference c.body (omega (arith, blocks-is, blocks-some)) wanted) in
+        ap (λ k. cds_front s k cds) (is ∙ ap (kept_count s count i) blocks-is) ∙ (ap (cds_front s (kept_count s count i (block_count s (i % s.interval) c))) read.answer
+        ∙ front-answer_of s count old.list i old.pos c.reference c.body (omega (arith, blocks-is, blocks-some)) wanted) in
         let whole = IsReached-more s count limit old.list i old.pos samples more c allowed reached wanted read.set.stands (lawful within)
-              (ap (λ z. keeps_limit s count limit (i + z)) (sym blocks-is) ∙ keeps) (subst (FillsNext s samples more) front fills) in
+        (ap (λ z. keeps_limit s count limit (i + z)) (sym blocks-is) ∙ keeps) (subst (FillsNext s samples more) front fills) in
         subst (λ z. IsReached s count limit old.list (i + z) e more) (sym blocks-is)
-          (subst (λ e. IsReached s count limit old.list (next_block s i c) e more)
-            (sym (begins ∙ (ap (λ z. begin_of s old.list (i + z) new.pos) blocks-is ∙ ap (begin_of s old.list (next_block s i c)) (ap (λ (cursor : Cursor). cursor.pos) read.behind)))) whole)
+        (subst (λ e. IsReached s count limit old.list (next_block s i c) e more)
+        (sym (begins ∙ (ap (λ z. begin_of s old.list (i + z) new.pos) blocks-is ∙ ap (begin_of s old.list (next_block s i c)) (ap (λ (cursor : Cursor). cursor.pos) read.behind)))) whole)
 
     pub forward-next : i < i + blocks
     forward-next = omega (arith, blocks-some)
@@ -119,6 +117,7 @@ module _ (s : Settings) (count : Option ℕ) (limit : ℕ) (old new : Cursor) (i
       where
         positive : 0 < s.block_size
         positive = block_size-some s allowed
+
         by_count : (count : Option ℕ) → is_wanted s count old.list i old.pos ≡ true → keeps_limit s count limit (i + blocks) ≡ true → IfSome count (λ n. n ≤ 2 ^ 32) → i + blocks < 2 ^ 34
         by_count None wanted keeps counted =
             let kept = leb-true ((i + blocks) * s.block_size) limit keeps in
@@ -137,7 +136,10 @@ pub reading-done : (s : Settings) (count : Option ℕ) (limit : ℕ) (bits : Lis
 reading-done s count limit bits i b samples reached done = record {
   blocks = kept_blocks s count 0 (stream_blocks s 0 reached.sets);
   read = record { sets = reached.sets; end_block = i; end_bit = b; leads = reached.leads; done = done; kept = refl };
-  all_samples = samples; filled = reached.filled; counted = refl }
+  all_samples = samples;
+  filled = reached.filled;
+  counted = refl;
+}
 
 -- a count that is not refused is within the limit
 pub count-within : (limit : ℕ) (count : Option ℕ) → count_refusal limit count ≡ None → limit ≤ 2 ^ 32 → IfSome count (λ n. n ≤ 2 ^ 32)
@@ -152,15 +154,18 @@ count-within limit (Some n) none low = by_test (nat_lt limit n) refl none
 pub reached-start : (s : Settings) (count : Option ℕ) (limit : ℕ) (bits : List Bool) (b : ℕ) (samples : List ℤ) → b ≡ 0 → samples ≡ [] → IsReached s count limit bits 0 b samples
 reached-start s count limit bits b samples start none =
     subst (λ b. IsReached s count limit bits 0 b samples) (sym start) (subst (λ samples. IsReached s count limit bits 0 0 samples) (sym none)
-      (record { sets = []; leads = (refl, refl); filled = record { held = tt; whole = sym (no_blocks count); mapped = nothing ∙ sym (nothing_kept count) } }))
+    (record { sets = []; leads = (refl, refl); filled = record { held = tt; whole = sym (no_blocks count); mapped = nothing ∙ sym (nothing_kept count) } }))
   where
     no_pieces : div_ceil 0 (interval_len s) ≡ 0
     no_pieces = omega (arith, zero-div (interval_len s), zero-mod (interval_len s))
+
     nothing : all_blocks_of s [] ≡ []
     nothing = ap (λ k. flat_map (blocks_of s) (first_chunks (interval_len s) k [])) no_pieces
+
     nothing_kept : (count : Option ℕ) → kept_blocks s count 0 [] ≡ []
     nothing_kept None = refl
     nothing_kept (Some n) = take_all (div_ceil n s.block_size - 0) [] (omega arith)
+
     no_blocks : (count : Option ℕ) → length (kept_blocks s count 0 []) * s.block_size ≡ 0
     no_blocks count = ap (λ blocks. length blocks * s.block_size) (nothing_kept count) ∙ zero-mul s.block_size
 

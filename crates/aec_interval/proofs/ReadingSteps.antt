@@ -25,7 +25,8 @@ pub FillBlocks-push : (s : Settings) (samples more : List ℤ) (blocks : List Bl
 FillBlocks-push s samples more blocks b block interval filled held len is_next = record {
   held = all-append samples more filled.held held;
   whole = length-append samples more ∙ (ap₂ ◌+◌ filled.whole len ∙ (sym (suc-mul (length blocks) s.block_size) ∙ ap (λ n. n * s.block_size) (sym (add-one (length blocks)) ∙ sym (length-append blocks (b ∷ [])))));
-  mapped = all_blocks_of-push s samples more (length blocks) block interval filled.whole len ∙ ap₂ (λ bs b. bs ++ b ∷ []) filled.mapped is_next }
+  mapped = all_blocks_of-push s samples more (length blocks) block interval filled.whole len ∙ ap₂ (λ bs b. bs ++ b ∷ []) filled.mapped is_next;
+}
   where
     all-append : (xs ys : List ℤ) → AllByRecursion (IsHeld s) xs → AllByRecursion (IsHeld s) ys → AllByRecursion (IsHeld s) (xs ++ ys)
     all-append [] ys h k = k
@@ -39,7 +40,7 @@ pub LeadsTo-push : (s : Settings) (count : Option ℕ) (limit : ℕ) (bits : Lis
     → LeadsTo s count limit bits i b (sets ++ c ∷ []) (next_block s j c) (next_begin s bits j e c)
 LeadsTo-push s count limit bits i b [] j e c leads wanted stands lawful within =
     let P : ℕ → ℕ → Type 0 = λ i b. (is_wanted s count bits i b ≡ true) × StandsAt s bits b c × IsLawful s (i % s.interval) c × (keeps_limit s count limit (next_block s i c) ≡ true)
-          × ((next_block s j c ≡ next_block s i c) × (next_begin s bits j e c ≡ next_begin s bits i b c)) in
+    × ((next_block s j c ≡ next_block s i c) × (next_begin s bits j e c ≡ next_begin s bits i b c)) in
     let here : P j e = (wanted, stands, lawful, within, (refl, refl)) in
     subst (λ i. P i b) leads.0 (subst (λ b. P j b) leads.1 here)
 LeadsTo-push s count limit bits i b (d ∷ sets) j e c leads wanted stands lawful within =

@@ -22,8 +22,10 @@ starts_alike j r i some positive =
   where
     whole : i * j ≡ i / r * (j * r) + i % r * j
     whole = omega (arith, ap (λ n. n * j) (div-add-mod' i r))
+
     below : i % r * j < j * r
     below = omega (arith, mul-lt-mul_of_pos_right (mod-lt i positive) some, mul_comm j r)
+
     zero_alike : (m : ℕ) → (m * j == 0) ≡ (m == 0)
     zero_alike zero = ap (λ n. n == 0) (zero-mul j)
     zero_alike (suc m) = ne_eqb (suc m * j) 0 (λ e. absurd (omega (arith, suc-mul m j))) ∙ sym (ne_eqb (suc m) 0 (λ e. absurd (omega arith)))
@@ -32,7 +34,7 @@ pub HasReference-next : (s : Settings) (i : ℕ) (samples : List ℤ) (reference
     → HasReference s (s.preprocess && (length samples % interval_len s == 0)) reference
 HasReference-next s i samples reference allowed filled due =
     subst (λ b. HasReference s (s.preprocess && b) reference)
-      (sym (ap (λ n. n % interval_len s == 0) (filled.filled.whole ∙ ap (λ k. k * s.block_size) filled.count_is) ∙ starts_alike s.block_size s.interval i (block_size-some s allowed) (interval-some s allowed))) due
+    (sym (ap (λ n. n % interval_len s == 0) (filled.filled.whole ∙ ap (λ k. k * s.block_size) filled.count_is) ∙ starts_alike s.block_size s.interval i (block_size-some s allowed) (interval-some s allowed))) due
 
 pub zero_block-next : (s : Settings) (i : ℕ) (samples : List ℤ) (reference : Option ℕ) → IsAllowed s → AreFilled s i samples → HasReference s (is_reference_block s (i % s.interval)) reference
     → IsNextBlock s samples (zero_block s reference)
@@ -40,11 +42,13 @@ zero_block-next s i samples reference allowed filled due = record {
   whole = length-replicate s.block_size 0;
   small = all_small s.block_size;
   reference = HasReference-next s i samples reference allowed filled due;
-  placed = in_place reference s.block_size (block_size-some s allowed) }
+  placed = in_place reference s.block_size (block_size-some s allowed);
+}
   where
     all_small : (n : ℕ) → AllByRecursion (λ v. v < 2 ^ s.bits) (replicate n 0)
     all_small zero = tt
     all_small (suc n) = (pow_pos s.bits, all_small n)
+
     in_place : (reference : Option ℕ) (n : ℕ) → 0 < n → Placed reference (replicate n 0)
     in_place None n some = tt
     in_place (Some r) zero some = absurd (omega arith)
@@ -58,7 +62,8 @@ pub AreFilled-next : (s : Settings) (i k : ℕ) (old new : List ℤ) (more : Lis
 AreFilled-next s i k old new more filled fills len = record {
   blocks = filled.blocks ++ more;
   filled = fills filled.blocks filled.filled;
-  count_is = length-append filled.blocks more ∙ ap₂ ◌+◌ filled.count_is len }
+  count_is = length-append filled.blocks more ∙ ap₂ ◌+◌ filled.count_is len;
+}
 
 -- a block within an interval has no reference
 pub no_reference-later : (s : Settings) (i k : ℕ) → 1 ≤ k → i % s.interval + k < s.interval → HasReference s (is_reference_block s ((i + k) % s.interval)) None
@@ -66,9 +71,11 @@ no_reference-later s i k some within = subst (λ b. HasReference s b None) (sym 
   where
     place : (i + k) % s.interval ≡ i % s.interval + k
     place = ap (λ n. n % s.interval) (omega (arith, div-add-mod' i s.interval)) ∙ mod-mul-add (i / s.interval) s.interval (i % s.interval + k) within
+
     and_false : (b : Bool) → (b && false) ≡ false
     and_false true = refl
     and_false false = refl
+
     not_first : is_reference_block s ((i + k) % s.interval) ≡ false
     not_first = ap (λ p. s.preprocess && (p == 0)) place ∙ (ap (λ b. s.preprocess && b) (ne_eqb (i % s.interval + k) 0 (λ e. absurd (omega arith))) ∙ and_false s.preprocess)
 
@@ -86,5 +93,4 @@ pub FillsNext-push : (s : Settings) (old mid new : List ℤ) (reference : Option
     → FillsNext s old new (run_blocks s reference (z + 1))
 FillsNext-push s old mid new reference z some first then blocks filled =
     subst (FillBlocks s new) (append_assoc blocks (run_blocks s reference z) (zero_block s None ∷ []) ∙ ap (λ more. blocks ++ more) (sym (run_blocks-push s reference z some)))
-      (then (blocks ++ run_blocks s reference z) (first blocks filled))
-
+    (then (blocks ++ run_blocks s reference z) (first blocks filled))

@@ -39,7 +39,11 @@ fn push_unmapped(
 }
 
 /// Appends the samples of the block that comes next.
-pub(crate) fn push_block(params: &Params, block: &Block, samples: &mut Vec<i64>) -> Result<(), Fault>
+pub(crate) fn push_block(
+    params: &Params,
+    block: &Block,
+    samples: &mut Vec<i64>,
+) -> Result<(), Fault>
     requires allowed { IsAllowed params.now }
     requires next { IsNextBlock params.now samples.old.items block.now }
     requires held { AllByRecursion (IsHeld params.now) samples.old.items }

@@ -78,8 +78,14 @@ fn block_count(params: &Params, place: u64, cds: &Cds) -> u64
 {
     match cds {
         Cds::Single(_) => 1,
-        Cds::Zeros { len: RunLen::Blocks(blocks), .. } => *blocks,
-        Cds::Zeros { len: RunLen::Rest, .. } => segment_left(params, place),
+        Cds::Zeros {
+            len: RunLen::Blocks(blocks),
+            ..
+        } => *blocks,
+        Cds::Zeros {
+            len: RunLen::Rest,
+            ..
+        } => segment_left(params, place),
     }
 }
 
@@ -146,7 +152,9 @@ fn read_next(
     }
     let next = block + blocks;
     if !keeps_limit(params, wanted, next) {
-        return Err(Fault::TooManySamples { limit: wanted.limit });
+        return Err(Fault::TooManySamples {
+            limit: wanted.limit,
+        });
     }
     let kept = kept_count(params, wanted, block, blocks);
     push_cds(alloc, params, &cds, kept, block, samples)?;

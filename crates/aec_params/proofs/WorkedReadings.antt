@@ -25,23 +25,33 @@ pub ramp_with_count : IsReading usual (Some 8) 4096 (bits_of_bytes ramp_bytes) r
 ramp_with_count = record {
   blocks = ramp_block ∷ [];
   read = record {
-    sets = ramp_set ∷ []; end_block = 1; end_bit = 31;
+    sets = ramp_set ∷ [];
+    end_block = 1;
+    end_bit = 31;
     leads = (refl, refl, record { shape = record { reference = lit< tt; body = (lit< tt, refl) }; small = refl; within = refl }, refl, (refl, refl));
-    done = refl; kept = refl };
+    done = refl;
+    kept = refl;
+  };
   all_samples = ramp;
   filled = record { held = search rules; whole = refl; mapped = refl };
-  counted = refl }
+  counted = refl;
+}
 
 pub ramp_without_count : IsReading usual None 4096 (bits_of_bytes ramp_bytes) ramp
 ramp_without_count = record {
   blocks = ramp_block ∷ [];
   read = record {
-    sets = ramp_set ∷ []; end_block = 1; end_bit = 31;
+    sets = ramp_set ∷ [];
+    end_block = 1;
+    end_bit = 31;
     leads = (refl, refl, record { shape = record { reference = lit< tt; body = (lit< tt, refl) }; small = refl; within = refl }, refl, (refl, refl));
-    done = refl; kept = refl };
+    done = refl;
+    kept = refl;
+  };
   all_samples = ramp;
   filled = record { held = search rules; whole = refl; mapped = refl };
-  counted = refl }
+  counted = refl;
+}
 
 -- ---- five sevens: with the count of five, and the whole block without one
 
@@ -55,23 +65,33 @@ pub five_sevens : IsReading usual (Some 5) 4096 (bits_of_bytes (0x00 ∷ 0x78 �
 five_sevens = record {
   blocks = zero_block usual (Some 7) ∷ [];
   read = record {
-    sets = sevens_set ∷ []; end_block = 1; end_bit = 13;
+    sets = sevens_set ∷ [];
+    end_block = 1;
+    end_bit = 13;
     leads = (refl, refl, record { shape = record { reference = lit< tt; body = tt }; small = refl; within = refl }, refl, (refl, refl));
-    done = refl; kept = refl };
+    done = refl;
+    kept = refl;
+  };
   all_samples = sevens 8;
   filled = record { held = search rules; whole = refl; mapped = refl };
-  counted = refl }
+  counted = refl;
+}
 
 pub eight_sevens : IsReading usual None 4096 (bits_of_bytes (0x00 ∷ 0x78 ∷ [])) (sevens 8)
 eight_sevens = record {
   blocks = zero_block usual (Some 7) ∷ [];
   read = record {
-    sets = sevens_set ∷ []; end_block = 1; end_bit = 13;
+    sets = sevens_set ∷ [];
+    end_block = 1;
+    end_bit = 13;
     leads = (refl, refl, record { shape = record { reference = lit< tt; body = tt }; small = refl; within = refl }, refl, (refl, refl));
-    done = refl; kept = refl };
+    done = refl;
+    kept = refl;
+  };
   all_samples = sevens 8;
   filled = record { held = search rules; whole = refl; mapped = refl };
-  counted = refl }
+  counted = refl;
+}
 
 -- ---- zeros in two intervals, and with padding
 
@@ -85,23 +105,43 @@ pub seventeen_zeros : IsReading usual (Some 17) 4096 (bits_of_bytes (0x00 ∷ 0x
 seventeen_zeros = record {
   blocks = zero_block usual (Some 0) ∷ zero_block usual None ∷ zero_block usual (Some 0) ∷ [];
   read = record {
-    sets = run_from_the_start 1 ∷ run_from_the_start 0 ∷ []; end_block = 3; end_bit = 27;
-    leads = (refl, refl, record { shape = record { reference = lit< tt; body = tt }; small = refl; within = refl }, refl,
-            (refl, refl, record { shape = record { reference = lit< tt; body = tt }; small = refl; within = refl }, refl, (refl, refl)));
-    done = refl; kept = refl };
+    sets = run_from_the_start 1 ∷ run_from_the_start 0 ∷ [];
+    end_block = 3;
+    end_bit = 27;
+    leads = (
+      refl,
+      refl,
+      record { shape = record { reference = lit< tt; body = tt }; small = refl; within = refl },
+      refl,
+      (refl, refl, record { shape = record { reference = lit< tt; body = tt }; small = refl; within = refl }, refl, (refl, refl)),
+    );
+    done = refl;
+    kept = refl;
+  };
   all_samples = zeros 24;
   filled = record { held = search rules; whole = refl; mapped = refl };
-  counted = refl }
+  counted = refl;
+}
 
 -- the second interval begins behind the padding, and a rest of zero bits ends the stream
 pub padded_zeros : IsReading padded None 4096 (bits_of_bytes (0x00 ∷ 0x04 ∷ 0x00 ∷ 0x08 ∷ [])) (zeros 24)
 padded_zeros = record {
   blocks = zero_block usual (Some 0) ∷ zero_block usual None ∷ zero_block usual (Some 0) ∷ [];
   read = record {
-    sets = run_from_the_start 1 ∷ run_from_the_start 0 ∷ []; end_block = 3; end_bit = 29;
-    leads = (refl, refl, record { shape = record { reference = lit< tt; body = tt }; small = refl; within = refl }, refl,
-            (refl, refl, record { shape = record { reference = lit< tt; body = tt }; small = refl; within = refl }, refl, (refl, refl)));
-    done = refl; kept = refl };
+    sets = run_from_the_start 1 ∷ run_from_the_start 0 ∷ [];
+    end_block = 3;
+    end_bit = 29;
+    leads = (
+      refl,
+      refl,
+      record { shape = record { reference = lit< tt; body = tt }; small = refl; within = refl },
+      refl,
+      (refl, refl, record { shape = record { reference = lit< tt; body = tt }; small = refl; within = refl }, refl, (refl, refl)),
+    );
+    done = refl;
+    kept = refl;
+  };
   all_samples = zeros 24;
   filled = record { held = search rules; whole = refl; mapped = refl };
-  counted = refl }
+  counted = refl;
+}

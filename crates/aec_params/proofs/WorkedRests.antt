@@ -31,23 +31,33 @@ pub forty_zeros : IsReading (with_interval 64) (Some 40) 4096 (bits_of_bytes (0x
 forty_zeros = record {
   blocks = zero_run_blocks 4;
   read = record {
-    sets = remainder_set ∷ []; end_block = 64; end_bit = 17;
+    sets = remainder_set ∷ [];
+    end_block = 64;
+    end_bit = 17;
     leads = (refl, refl, record { shape = record { reference = lit< tt; body = tt }; small = refl; within = refl }, refl, (refl, refl));
-    done = refl; kept = refl };
+    done = refl;
+    kept = refl;
+  };
   all_samples = zeros 40;
   filled = record { held = search rules; whole = refl; mapped = refl };
-  counted = refl }
+  counted = refl;
+}
 
 pub whole_segment_of_zeros : IsReading (with_interval 64) None 4096 (bits_of_bytes (0x00 ∷ 0x00 ∷ 0x80 ∷ [])) (zeros 512)
 whole_segment_of_zeros = record {
   blocks = zero_run_blocks 63;
   read = record {
-    sets = remainder_set ∷ []; end_block = 64; end_bit = 17;
+    sets = remainder_set ∷ [];
+    end_block = 64;
+    end_bit = 17;
     leads = (refl, refl, record { shape = record { reference = lit< tt; body = tt }; small = refl; within = refl }, refl, (refl, refl));
-    done = refl; kept = refl };
+    done = refl;
+    kept = refl;
+  };
   all_samples = zeros 512;
   filled = record { held = held_zeros 512; whole = refl; mapped = refl };
-  counted = refl }
+  counted = refl;
+}
 
 -- ---- an uncompressed block without preprocessing
 
@@ -59,12 +69,17 @@ pub uncompressed_block :
 uncompressed_block = record {
   blocks = (record { reference = None; values = eight_values }) ∷ [];
   read = record {
-    sets = (record { reference = None; body = plain_values eight_values }) ∷ []; end_block = 1; end_bit = 67;
+    sets = (record { reference = None; body = plain_values eight_values }) ∷ [];
+    end_block = 1;
+    end_bit = 67;
     leads = (refl, refl, record { shape = record { reference = tt; body = (refl, search rules) }; small = refl; within = refl }, refl, (refl, refl));
-    done = refl; kept = refl };
+    done = refl;
+    kept = refl;
+  };
   all_samples = map pos eight_values;
   filled = record { held = search rules; whole = refl; mapped = refl };
-  counted = refl }
+  counted = refl;
+}
 
 -- ---- faults
 
@@ -74,21 +89,36 @@ one_bit = record unprocessed { bits = 1 }
 -- a value of 2 in one bit
 pub two_in_one_bit : IsFault one_bit (Some 8) 4096 (bits_of_bytes (0x27 ∷ 0xF8 ∷ [])) 0 0 (ValueTooLarge 0)
 two_in_one_bit = record {
-  sets = []; block = 0; bit = 0; leads = (refl, refl); wanted = refl;
+  sets = [];
+  block = 0;
+  bit = 0;
+  leads = (refl, refl);
+  wanted = refl;
   wrong = too_large (record { reference = None; body = split_values 0 (2 ∷ replicate 7 0) })
-      (record { shape = record { reference = tt; body = (lit< tt, refl) }; stands = refl }) refl }
+      (record { shape = record { reference = tt; body = (lit< tt, refl) }; stands = refl }) refl;
+}
 
 -- a run of three blocks in an interval of two
 pub three_blocks_in_two : IsFault usual None 4096 (bits_of_bytes (0x00 ∷ 0x02 ∷ [])) 0 0 (RunTooLong 0)
 three_blocks_in_two = record {
-  sets = []; block = 0; bit = 0; leads = (refl, refl); wanted = refl;
+  sets = [];
+  block = 0;
+  bit = 0;
+  leads = (refl, refl);
+  wanted = refl;
   wrong = too_long (record { reference = Some 0; body = zero_blocks 2 })
-      (record { shape = record { reference = lit< tt; body = tt }; stands = refl }) refl refl }
+      (record { shape = record { reference = lit< tt; body = tt }; stands = refl }) refl refl;
+}
 
 -- 512 samples where 100 are the limit
 pub past_the_limit : IsFault (with_interval 64) None 100 (bits_of_bytes (0x00 ∷ 0x00 ∷ 0x80 ∷ [])) 0 0 (TooManySamples 100)
 past_the_limit = record {
-  sets = []; block = 0; bit = 0; leads = (refl, refl); wanted = refl;
+  sets = [];
+  block = 0;
+  bit = 0;
+  leads = (refl, refl);
+  wanted = refl;
   wrong = too_many remainder_set
       (record { shape = record { reference = lit< tt; body = tt }; stands = refl })
-      (record { shape = record { reference = lit< tt; body = tt }; small = refl; within = refl }) refl }
+      (record { shape = record { reference = lit< tt; body = tt }; small = refl; within = refl }) refl;
+}

@@ -12,7 +12,7 @@ pub loop-value-preserved : goal.loop-value-preserved
 loop-value-preserved c =
     let fits : FitsSigned w64 c.unmap-last.result = search (rules, c.unmap-last.type_inv) in
     unmaps_more_kept _ _ _ c.unmap-last.result _ _ _ _ c.loop-value.samples.items _ (omega arith) (to_z-of_z w64 c.unmap-last.result fits) (c.in_ok-push.ensures.items)
-      c.loop-value.invariant c.unmap-last.ensures.held c.unmap-last.ensures.undone
+    c.loop-value.invariant c.unmap-last.ensures.held c.unmap-last.ensures.undone
 
 pub returns-clause-ok : goal.returns-clause-ok
 returns-clause-ok c =

@@ -14,11 +14,12 @@ pub loop-reader-init : goal.loop-reader-init
 loop-reader-init c = record {
   reached = reached-start c.args.params.now c.args.count c.args.limit c.args.bits.now.list c.new-reader.result.pos c.new-samples.result.items c.new-reader.ensures.pos c.new-samples.ensures.items;
   list = c.new-reader.ensures.list;
-  few = omega arith }
+  few = omega arith;
+}
 
 pub returns-in_err-block-clause-refuses : goal.returns-in_err-block-clause-refuses
 returns-in_err-block-clause-refuses c =
     let exit = err_from_is_err_and c.from_residual-in_err-block.result c.from_residual-in_err-block.ensures.1 in
     reading-refuses _ exit.0 _ _ _ _ exit.1 c.in_ok-judge_count.ensures
-      (subst (λ (f : Fault). RefusesReading c.args.params.now c.args.count c.args.limit c.args.bits.now.list f) (sym exit.2)
-        (subst (λ (bits : List Bool). RefusesReading c.args.params.now c.args.count c.args.limit bits c.in_err-block.field-0.0) c.loop-reader.invariant.list c.in_err-block.ensures.refuses))
+    (subst (λ (f : Fault). RefusesReading c.args.params.now c.args.count c.args.limit c.args.bits.now.list f) (sym exit.2)
+    (subst (λ (bits : List Bool). RefusesReading c.args.params.now c.args.count c.args.limit bits c.in_err-block.field-0.0) c.loop-reader.invariant.list c.in_err-block.ensures.refuses))

@@ -9,21 +9,21 @@ use Rattle.aec_interval.proofs.zero_runs.push_zero_run.Goals as goal
 pub push_block-requires-clause-next : goal.push_block-requires-clause-next
 push_block-requires-clause-next c =
     subst (λ (b : Block). IsNextBlock c.args.params.now c.args.samples.now.items b) (sym c.zero_block.ensures)
-      (zero_block-next c.args.params.now c.args.block c.args.samples.now.items c.args.reference c.requires.allowed c.requires.filled c.requires.due)
+    (zero_block-next c.args.params.now c.args.block c.args.samples.now.items c.args.reference c.requires.allowed c.requires.filled c.requires.due)
 
 pub push_block-requires-in-loop-clause-next : goal.push_block-requires-in-loop-clause-next
 push_block-requires-in-loop-clause-next c =
     let filled : AreFilled c.args.params.now (c.args.block + c.loop.counter) c.loop.samples.items =
-        AreFilled-next c.args.params.now c.args.block c.loop.counter c.args.samples.now.items c.loop.samples.items (run_blocks c.args.params.now c.args.reference c.loop.counter)
-          c.requires.filled c.loop.invariant (length-run_blocks c.args.params.now c.args.reference c.loop.counter) in
+    AreFilled-next c.args.params.now c.args.block c.loop.counter c.args.samples.now.items c.loop.samples.items (run_blocks c.args.params.now c.args.reference c.loop.counter)
+    c.requires.filled c.loop.invariant (length-run_blocks c.args.params.now c.args.reference c.loop.counter) in
     subst (λ (b : Block). IsNextBlock c.args.params.now c.loop.samples.items b) (sym c.zero_block-later.ensures)
-      (zero_block-next c.args.params.now (c.args.block + c.loop.counter) c.loop.samples.items None c.requires.allowed filled
-        (no_reference-later c.args.params.now c.args.block c.loop.counter c.loop.auto.counter (omega (arith, c.requires.within, c.loop-test.true))))
+    (zero_block-next c.args.params.now (c.args.block + c.loop.counter) c.loop.samples.items None c.requires.allowed filled
+    (no_reference-later c.args.params.now c.args.block c.loop.counter c.loop.auto.counter (omega (arith, c.requires.within, c.loop-test.true))))
 
 pub loop-preserved : goal.loop-preserved
 loop-preserved c =
     FillsNext-push c.args.params.now c.args.samples.now.items c.loop.samples.items c.push_block-in-loop.new.samples.items c.args.reference c.loop.counter c.loop.auto.counter c.loop.invariant
-      (subst (λ (b : Block). FillsNext c.args.params.now c.loop.samples.items c.push_block-in-loop.new.samples.items (b ∷ [])) c.zero_block-later.ensures c.in_ok-push_block-2.ensures.ok)
+    (subst (λ (b : Block). FillsNext c.args.params.now c.loop.samples.items c.push_block-in-loop.new.samples.items (b ∷ [])) c.zero_block-later.ensures c.in_ok-push_block-2.ensures.ok)
 
 pub returns-clause-ok : goal.returns-clause-ok
 returns-clause-ok c =
