@@ -1,3 +1,6 @@
 pub mod JobLemmas
 pub mod StatusLemmas
 pub mod WordLemmas
+pub mod DeviceLemmas
+pub mod OutputLemmas
+pub mod StoringLemmas

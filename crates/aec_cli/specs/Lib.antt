@@ -4,3 +4,5 @@ pub mod Jobs
 pub mod Openings
 pub mod Statuses
 pub mod Tallies
+pub mod Devices
+pub mod Output

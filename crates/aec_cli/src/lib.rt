@@ -1,6 +1,7 @@
 //! The command `aec`: its words, its job, the files that it reads and writes, and one whole run.
 #![tactic(auto)]
 
+mod engine;
 mod failure;
 mod files;
 mod job;
@@ -8,6 +9,7 @@ mod program;
 mod usage;
 mod words;
 
+pub use engine::decode;
 pub use failure::{Failure, status};
 pub use files::{DestSink, FileSource};
 pub use job::{Action, Job, settings};

@@ -7,10 +7,13 @@ ghost use Rattle.clap.specs.Values.{kind_of};
 ghost use Rattle.aec_cli.specs.Commands.{aec_app};
 ghost use Rattle.aec_cli.specs.Statuses.{EndsByMistake, parse_status, status_of};
 
+use crate::engine::decode;
 use crate::failure::{Failure, status};
+use crate::files::{DestSink, FileSource};
 use crate::job::{Action, Job, settings};
 use crate::usage::Usage;
 use crate::words::parse;
+use aec_params::Limits;
 use clap::error::ErrorKind;
 use std::alloc::Global;
 use std::io::Write;
@@ -43,10 +46,30 @@ pub fn perform<F: Files, O: Write, E: Write>(
     }
 }
 
-// Does the job. `NotYet` for every one.
-fn run<F: Files>(_rt: &F, _alloc: Global, job: Job) -> Result<(), Failure> {
-    match job.action {
-        Action::Encode | Action::Decode { .. } => Err(Failure::NotYet),
+// The limits of the program: 2^32 samples, and 2^35 bytes of coded data.
+fn limits() -> Limits {
+    match Limits::new(1 << 32, 1 << 35) {
+        Some(limits) => limits,
+        None => unreachable!(),
+    }
+}
+
+// Does the job: decodes. `NotYet` where samples are to be coded.
+fn run<F: Files>(rt: &F, alloc: Global, job: Job) -> Result<(), Failure> {
+    let Job {
+        params,
+        action,
+        source,
+        dest,
+    } = job;
+    match action {
+        Action::Encode => Err(Failure::NotYet),
+        Action::Decode { count } => {
+            let mut source = FileSource::new(rt, source);
+            let mut sink = DestSink::new(rt, dest);
+            decode(alloc, &params, limits(), count, &mut source, &mut sink)
+                .map_err(Failure::Fault)
+        }
     }
 }
 

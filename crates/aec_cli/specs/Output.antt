@@ -1,0 +1,33 @@
+-- What a run writes: a function of its inputs, or one refusal.
+use Rattle.std.specs.Prelude.{◌≡◌, ℕ, ◌+◌, ◌^◌, min, Bool, nat_lt, if◌then◌else◌, Option, Some, None, Result, Ok, Err, ℤ, List, ◌++◌, length}
+use Rattle.std.specs.List.{flat_map}
+use Rattle.aec_params.specs.declared.settings.Settings.{Settings}
+use Rattle.aec_params.specs.declared.fault.Fault.{Fault}
+use Rattle.aec_params.specs.declared.fault.Fault.TheVariants.{TooManySamples, Read, StreamTooLong}
+use Rattle.aec_params.specs.Limits.{Caps}
+use Rattle.aec_params.specs.Stored.{stored_bytes}
+use Rattle.aec_params.specs.Codewords.{bits_of_bytes}
+use Rattle.aec_params.specs.Reading.{IsReading}
+use Rattle.aec_params.specs.Faults.{IsFault}
+use Rattle.aec_interval.specs.Reached.{count_refusal}
+use Rattle.aec_cli.specs.Devices.{Input}
+
+-- samples as bytes, one behind the other
+abbrev pub all_stored : Settings → List ℤ → List ℕ
+all_stored s samples = flat_map (stored_bytes s) samples
+
+-- the refusal of an input that is read whole
+abbrev pub intake_refusal : ℕ → Input → Option Fault
+intake_refusal limit input = if nat_lt limit (length input.bytes) then Some (StreamTooLong limit) else (if input.failed then Some Read else None)
+
+-- what decoding answers
+pub data IsDecoded (s : Settings) (caps : Caps) (count : Option ℕ) (input : Input) : Result (List ℕ) Fault → Type 0 where
+  -- the input is refused before it is read as coded data
+  not_taken : (fault : Fault) → intake_refusal caps.bytes input ≡ Some fault → IsDecoded s caps count input (Err fault)
+  not_counted : (fault : Fault) → intake_refusal caps.bytes input ≡ None → count_refusal caps.samples count ≡ Some fault
+      → IsDecoded s caps count input (Err fault)
+  -- the samples that the bits are read as, or their fault
+  decoded : (samples : List ℤ) → intake_refusal caps.bytes input ≡ None → count_refusal caps.samples count ≡ None
+      → IsReading s count caps.samples (bits_of_bytes input.bytes) samples → IsDecoded s caps count input (Ok (all_stored s samples))
+  faulty : (fault : Fault) → intake_refusal caps.bytes input ≡ None → count_refusal caps.samples count ≡ None
+      → IsFault s count caps.samples (bits_of_bytes input.bytes) 0 0 fault → IsDecoded s caps count input (Err fault)

@@ -1,0 +1,47 @@
+//! Coded data back to stored samples.
+
+ghost use Rattle.std.specs.Prelude.{Ok, Err, IfOk, IfErr};
+ghost use Rattle.aec_cli.specs.Devices.{Taking, Putting, GivesAnswer, Leaves};
+ghost use Rattle.aec_cli.specs.Output.{IsDecoded};
+
+use crate::engine::intake::read_whole;
+use crate::engine::outlet::{deliver, stored};
+use aec_bits::{BitBuf, Sink, Source};
+use aec_interval::decode_all;
+use aec_params::{Fault, Limits, Params};
+use std::alloc::Global;
+
+/// What decoding a source answers: the bytes of its samples.
+fn decoded<R: Source>(
+    alloc: Global,
+    params: &Params,
+    limits: Limits,
+    count: Option<u64>,
+    source: &mut R,
+) -> Result<Vec<u8>, Fault>
+    ensures ok { IfOk result (λ bytes. GivesAnswer (IsDecoded params.now limits count) (record { before = R.left source.old; after = R.left source.new; failures = R.failed source.new }) limits.bytes (Ok bytes.items)) }
+    ensures refuses { IfErr result (λ fault. GivesAnswer (IsDecoded params.now limits count) (record { before = R.left source.old; after = R.left source.new; failures = R.failed source.new }) limits.bytes (Err fault)) }
+{
+    let coded = read_whole(alloc, source, limits.bytes())?;
+    let bits = BitBuf::from_bytes(alloc, &coded)?;
+    let samples = decode_all(alloc, params, &bits, count, limits.samples())?;
+    stored(alloc, params, &samples)
+}
+
+/// Reads the source whole, and writes the bytes of the samples that it codes: with a count the first `count`, without one
+/// all. The refusals in their order: `Read`, `StreamTooLong` and `Memory` as they are met while the source is read; then
+/// those of `decode_all`. Nothing has been written then and `begin` was not called. After `begin` only `Write` can come,
+/// and a front of the answer has been written.
+pub fn decode<R: Source, W: Sink>(
+    alloc: Global,
+    params: &Params,
+    limits: Limits,
+    count: Option<u64>,
+    source: &mut R,
+    sink: &mut W,
+) -> Result<(), Fault>
+    ensures { Leaves (IsDecoded params.now limits count) (record { before = R.left source.old; after = R.left source.new; failures = R.failed source.new }) limits.bytes (record { before = W.taken sink.old; after = W.taken sink.new; begun_before = W.begun sink.old; begun_after = W.begun sink.new; failures = W.failed sink.new }) result }
+{
+    let bytes = decoded(alloc, params, limits, count, source)?;
+    deliver(&bytes, sink)
+}
