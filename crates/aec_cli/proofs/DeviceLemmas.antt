@@ -26,7 +26,7 @@ pub refused_by_source : {X : Type 0} (r : Result X Fault) (fault : Fault) (befor
 refused_by_source {X} r fault before mid after bytes failures limit is_err is_read failed taken kept within =
     let P : Result X Fault → Type 0 = λ r. IfErr r (λ f. RefusesIntake before after failures limit f) in
     let refuses : RefusesIntake before after failures limit Read =
-        source_failed bytes (record { taken = Consumes-kept before mid after bytes taken kept; failed = failed; within = within }) in
+    source_failed bytes (record { taken = Consumes-kept before mid after bytes taken kept; failed = failed; within = within }) in
     subst P (sym (is_err ∙ ap Err is_read)) refuses
 
 -- a growth that is refused

@@ -42,7 +42,11 @@ failed_input bytes = record { bytes = bytes; failed = true }
 pub gave_whole : (before after : Option (List ℕ)) (failures limit : ℕ) (bytes : List ℕ) → IsTakenWhole before after failures limit bytes
     → Gave (record { before = before; after = after; failures = failures }) limit (sound_input bytes)
 gave_whole before after failures limit bytes taken = record {
-  taken = taken.taken; failed = λ e. absurd (cc); sound = λ e. taken.sound; whole = λ within e. taken.at_end }
+  taken = taken.taken;
+  failed = λ e. absurd (cc);
+  sound = λ e. taken.sound;
+  whole = λ within e. taken.at_end;
+}
 
 pub none_refused : (limit : ℕ) (bytes : List ℕ) → length bytes ≤ limit → intake_refusal limit (sound_input bytes) ≡ None
 none_refused limit bytes within = ap (λ b. if b then Some (StreamTooLong limit) else None) (le-ltb limit (length bytes) within)
@@ -52,10 +56,10 @@ pub refused_intake : (s : Settings) (caps : Caps) (count : Option ℕ) (before a
 refused_intake s caps count before after failures fault devices.no_memory = lacks_memory
 refused_intake s caps count before after failures fault (source_failed bytes fails) =
     given (failed_input bytes) (Err Read) (record { taken = fails.taken; failed = λ e. fails.failed; sound = λ e. absurd (cc); whole = λ within e. absurd (cc) })
-      (not_taken Read (ap (λ b. if b then Some (StreamTooLong caps.bytes) else Some Read) (le-ltb caps.bytes (length bytes) fails.within)))
+    (not_taken Read (ap (λ b. if b then Some (StreamTooLong caps.bytes) else Some Read) (le-ltb caps.bytes (length bytes) fails.within)))
 refused_intake s caps count before after failures fault (too_many_bytes bytes passes) =
     given (sound_input bytes) (Err (StreamTooLong caps.bytes)) (record { taken = passes.taken; failed = λ e. absurd (cc); sound = λ e. passes.sound; whole = λ within e. absurd (omega arith) })
-      (not_taken (StreamTooLong caps.bytes) (ap (λ b. if b then Some (StreamTooLong caps.bytes) else None) (lt-ltb caps.bytes (length bytes) passes.past)))
+    (not_taken (StreamTooLong caps.bytes) (ap (λ b. if b then Some (StreamTooLong caps.bytes) else None) (lt-ltb caps.bytes (length bytes) passes.past)))
 
 pub refused_decoding : (s : Settings) (caps : Caps) (count : Option ℕ) (before after : Option (List ℕ)) (failures : ℕ) (bytes : List ℕ) (fault : Fault) → IsTakenWhole before after failures caps.bytes bytes
     → RefusesDecoding s count caps.samples (bits_of_bytes bytes) fault → GivesAnswer (IsDecoded s caps count) (record { before = before; after = after; failures = failures }) caps.bytes (Err fault)
@@ -85,7 +89,7 @@ pub answers_intake : {X : Type 0} (r : Result X Fault) (fault f : Fault) (s : Se
     → limit ≡ caps.bytes → RefusesIntake before after failures limit f → IfErr r (λ e. GivesAnswer (IsDecoded s caps count) (taking before after failures) caps.bytes (Err e))
 answers_intake r fault f s caps count before after failures limit is same limited refuses =
     answers_err r fault f (IsDecoded s caps count) (taking before after failures) caps.bytes is same
-      (refused_intake s caps count before after failures f (subst (λ limit. RefusesIntake before after failures limit f) limited refuses))
+    (refused_intake s caps count before after failures f (subst (λ limit. RefusesIntake before after failures limit f) limited refuses))
 
 pub answers_memory : {X : Type 0} (r : Result X Fault) (fault f : Fault) (answers : Input → Result (List ℕ) Fault → Type 0) (source : Taking) (limit : ℕ) → r ≡ Err fault → fault ≡ f → f ≡ Memory
     → IfErr r (λ e. GivesAnswer answers source limit (Err e))
@@ -96,8 +100,8 @@ pub answers_decoding : {X : Type 0} (r : Result X Fault) (fault f : Fault) (s : 
     → RefusesDecoding s count most bits f → IfErr r (λ e. GivesAnswer (IsDecoded s caps count) (taking before after failures) caps.bytes (Err e))
 answers_decoding r fault f s caps count before after failures limit most bytes bits is same limited counted spelled taken refuses =
     answers_err r fault f (IsDecoded s caps count) (taking before after failures) caps.bytes is same
-      (refused_decoding s caps count before after failures bytes f (subst (λ limit. IsTakenWhole before after failures limit bytes) limited taken)
-        (subst (λ bits. RefusesDecoding s count caps.samples bits f) spelled (subst (λ most. RefusesDecoding s count most bits f) counted refuses)))
+    (refused_decoding s caps count before after failures bytes f (subst (λ limit. IsTakenWhole before after failures limit bytes) limited taken)
+    (subst (λ bits. RefusesDecoding s count caps.samples bits f) spelled (subst (λ most. RefusesDecoding s count most bits f) counted refuses)))
 
 pub answers_samples : {X : Type 0} (view : X → List ℕ) (r : Result X Fault) (s : Settings) (caps : Caps) (count : Option ℕ) (before after : Option (List ℕ)) (failures limit most : ℕ) (bytes : List ℕ) (bits : List Bool) (samples stored : List ℤ)
     → limit ≡ caps.bytes → most ≡ caps.samples → bits ≡ bits_of_bytes bytes → stored ≡ samples → IsTakenWhole before after failures limit bytes
@@ -105,10 +109,10 @@ pub answers_samples : {X : Type 0} (view : X → List ℕ) (r : Result X Fault) 
     → IfOk r (λ x. GivesAnswer (IsDecoded s caps count) (taking before after failures) caps.bytes (Ok (view x)))
 answers_samples view r s caps count before after failures limit most bytes bits samples stored limited counted spelled same taken within reading ok =
     IfOk-weaker r (λ x. view x ≡ all_stored s stored) (λ x. GivesAnswer (IsDecoded s caps count) (taking before after failures) caps.bytes (Ok (view x)))
-      (λ x e. subst (λ items. GivesAnswer (IsDecoded s caps count) (taking before after failures) caps.bytes (Ok items)) (sym (e ∙ ap (all_stored s) same))
-        (given_samples s caps count before after failures bytes samples (subst (λ limit. IsTakenWhole before after failures limit bytes) limited taken)
-          (subst (λ most. count_refusal most count ≡ None) counted within)
-          (subst (λ bits. IsReading s count caps.samples bits samples) spelled (subst (λ most. IsReading s count most bits samples) counted reading)))) ok
+    (λ x e. subst (λ items. GivesAnswer (IsDecoded s caps count) (taking before after failures) caps.bytes (Ok items)) (sym (e ∙ ap (all_stored s) same))
+    (given_samples s caps count before after failures bytes samples (subst (λ limit. IsTakenWhole before after failures limit bytes) limited taken)
+    (subst (λ most. count_refusal most count ≡ None) counted within)
+    (subst (λ bits. IsReading s count caps.samples bits samples) spelled (subst (λ most. IsReading s count most bits samples) counted reading)))) ok
 
 pub answers_storing : {X : Type 0} (r : Result X Fault) (answers : Input → Result (List ℕ) Fault → Type 0) (source : Taking) (limit : ℕ) → IfErr r (λ e. e ≡ Memory) → IfErr r (λ e. GivesAnswer answers source limit (Err e))
 answers_storing r answers source limit memory =
@@ -152,4 +156,4 @@ pub leaves_delivered : (r : Result (Unit {0}) Fault) (answers : Input → Result
     → Leaves answers source limit (record { before = before; after = after; begun_before = begun; begun_after = begun_after; failures = failures }) r
 leaves_delivered r answers source limit before after begun begun_after failures bytes written_bytes same gives ok front counts fault =
     leaves_ok r answers source limit before after begun begun_after failures (Ok written_bytes) written_bytes refl
-      (subst (λ bytes. GivesAnswer answers source limit (Ok bytes)) (sym same) gives) ok front counts fault
+    (subst (λ bytes. GivesAnswer answers source limit (Ok bytes)) (sym same) gives) ok front counts fault

@@ -21,6 +21,6 @@ pub stored-more : (s : Settings) (samples : List ℤ) (i : ℕ) (bytes group old
     → bytes ++ take width group ≡ all_stored s (take (i + 1) samples)
 stored-more s samples i bytes group old width x within is grouped wide so_far =
     ap₂ (λ front back. front ++ back) so_far
-      (ap₂ take wide grouped ∙ (take_at (stored_bytes s x) (drop (storage_len s) old) (storage_len s) (length-stored_bytes s x) ∙ sym (append-nil (stored_bytes s x))))
+    (ap₂ take wide grouped ∙ (take_at (stored_bytes s x) (drop (storage_len s) old) (storage_len s) (length-stored_bytes s x) ∙ sym (append-nil (stored_bytes s x))))
     ∙ (ap (λ y. all_stored s (take i samples) ++ all_stored s (y ∷ [])) is
     ∙ (sym (flat_map-append (stored_bytes s) (take i samples) (get_or samples i (pos 0) ∷ [])) ∙ ap (all_stored s) (sym (take_more samples i (pos 0) within))))

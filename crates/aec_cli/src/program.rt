@@ -67,8 +67,7 @@ fn run<F: Files>(rt: &F, alloc: Global, job: Job) -> Result<(), Failure> {
         Action::Decode { count } => {
             let mut source = FileSource::new(rt, source);
             let mut sink = DestSink::new(rt, dest);
-            decode(alloc, &params, limits(), count, &mut source, &mut sink)
-                .map_err(Failure::Fault)
+            decode(alloc, &params, limits(), count, &mut source, &mut sink).map_err(Failure::Fault)
         }
     }
 }

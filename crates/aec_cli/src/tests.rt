@@ -1,5 +1,7 @@
 //! What no clause says: texts, that calls succeed, what `perform` prints, and files.
 
+mod decoded_files;
+
 use super::*;
 use aec_bits::{Sink, Source};
 use aec_params::{Fault, Params, Settings};

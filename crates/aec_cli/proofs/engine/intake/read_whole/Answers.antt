@@ -12,7 +12,7 @@ returns-in_err-count-clause-refuses g c =
 pub returns-then-count-limit-clause-refuses : goal.returns-then-count-limit-clause-refuses
 returns-then-count-limit-clause-refuses g c =
     too_many_bytes (c.loop-bytes.bytes.items ++ take c.in_ok-count.count c.take.new.buf)
-      (record { taken = Consumes-append _ _ _ _ _ c.loop-bytes.invariant.1 c.in_ok-count.ensures.bytes.0; sound = c.in_ok-count.ensures.failure.1; past = past_limit _ _ _ _ (omega (arith, c.loop-bytes.bytes.ok)) c.in_ok-count.ensures.bound (omega (arith, c.loop-bytes.bytes.ok)) })
+    (record { taken = Consumes-append _ _ _ _ _ c.loop-bytes.invariant.1 c.in_ok-count.ensures.bytes.0; sound = c.in_ok-count.ensures.failure.1; past = past_limit _ _ _ _ (omega (arith, c.loop-bytes.bytes.ok)) c.in_ok-count.ensures.bound (omega (arith, c.loop-bytes.bytes.ok)) })
 
 pub returns-in_err-extend_from_slice-clause-refuses : goal.returns-in_err-extend_from_slice-clause-refuses
 returns-in_err-extend_from_slice-clause-refuses g c =

@@ -1,0 +1,95 @@
+//! Runs that decode files which the tests make.
+
+use super::*;
+
+// Decodes the coded bytes by these options. The status, what was printed as a fault, and what DEST holds, if it is there.
+fn decoded(
+    rt: &HostRuntime,
+    name: &str,
+    options: &[&str],
+    coded: &[u8],
+) -> Result<(u8, Vec<u8>, Vec<u8>), Fail> {
+    let source = format!(in rt.alloc(); "{name}.aec")?;
+    let dest = format!(in rt.alloc(); "{name}.raw")?;
+    fs::write(rt, source.as_str(), coded)?;
+    let mut words = vec![in rt.alloc(); "aec", "-d"]?;
+    words.extend_from_slice(options)?;
+    words.push(source.as_str())?;
+    words.push(dest.as_str())?;
+    let (status, _out, err) = run_of(rt, words.as_slice())?;
+    let raw = if status == 0 {
+        fs::read(rt, dest.as_str())?
+    } else {
+        Vec::new(rt.alloc())
+    };
+    Ok((status, err, raw))
+}
+
+#[test]
+fn streams_are_decoded(rt: HostRuntime) -> Result<(), Fail> {
+    let ramp: [u8; 8] = [0, 1, 2, 3, 4, 5, 6, 7];
+    let uncompressed: [u8; 9] = [0xE0, 0, 0x20, 0x40, 0x60, 0x80, 0xA0, 0xC0, 0xE0];
+    let (status, _err, raw) = decoded(&rt, "uncompressed", &["-N"], &uncompressed)?;
+    assert_eq!(rt; status, 0);
+    assert_eq!(rt; raw.as_slice(), ramp.as_slice());
+    let (status, _err, raw) = decoded(&rt, "ramp", &[], &[0x20, 0x09, 0x24, 0x92])?;
+    assert_eq!(rt; status, 0);
+    assert_eq!(rt; raw.as_slice(), ramp.as_slice());
+    let (status, _err, raw) = decoded(&rt, "sevens", &[], &[0x00, 0x78])?;
+    assert_eq!(rt; status, 0);
+    assert_eq!(rt; raw.as_slice(), [7u8; 8].as_slice());
+    let (status, _err, raw) = decoded(&rt, "padded", &["-p"], &[0x00, 0x04, 0x00, 0x08])?;
+    assert_eq!(rt; status, 0);
+    assert_eq!(rt; raw.as_slice(), [0u8; 24].as_slice());
+    let (status, _err, raw) = decoded(&rt, "nothing", &[], &[0x00])?;
+    assert_eq!(rt; status, 0);
+    assert!(rt; raw.is_empty());
+    Ok(())
+}
+
+#[test]
+fn broken_streams_leave_no_file(rt: HostRuntime) -> Result<(), Fail> {
+    let (status, err, _raw) = decoded(&rt, "cut", &[], &[0x20, 0x09, 0x24])?;
+    assert_eq!(rt; status, 1);
+    assert_eq!(rt;
+        err.as_slice(),
+        b"aec: coded data is cut short at bit 0\n".as_slice()
+    );
+    assert!(rt; fs::read(&rt, "cut.raw").is_err());
+    let (status, err, _raw) = decoded(&rt, "long", &[], &[0x00, 0x02])?;
+    assert_eq!(rt; status, 1);
+    assert_eq!(rt;
+        err.as_slice(),
+        b"aec: zero run too long at bit 0\n".as_slice()
+    );
+    let (status, err, _raw) = decoded(&rt, "large", &["-N", "-n", "1"], &[0x27, 0xF8])?;
+    assert_eq!(rt; status, 1);
+    assert_eq!(rt;
+        err.as_slice(),
+        b"aec: value too large at bit 0\n".as_slice()
+    );
+    Ok(())
+}
+
+#[test]
+fn files_that_fail_are_named(rt: HostRuntime) -> Result<(), Fail> {
+    let (status, _out, err) = run_of(&rt, &["aec", "-d", "no_such_source", "not_made"])?;
+    assert_eq!(rt; status, 1);
+    assert_eq!(rt; err.as_slice(), b"aec: read failed\n".as_slice());
+    assert!(rt; fs::read(&rt, "not_made").is_err());
+    fs::write(&rt, "sound.aec", [0x20u8, 0x09, 0x24, 0x92].as_slice())?;
+    let (status, _out, err) = run_of(&rt, &["aec", "-d", "sound.aec", "no_such_folder/dest"])?;
+    assert_eq!(rt; status, 1);
+    assert_eq!(rt; err.as_slice(), b"aec: write failed\n".as_slice());
+    Ok(())
+}
+
+#[test]
+fn one_name_may_stand_for_both(rt: HostRuntime) -> Result<(), Fail> {
+    fs::write(&rt, "both", [0x20u8, 0x09, 0x24, 0x92].as_slice())?;
+    let (status, _out, _err) = run_of(&rt, &["aec", "-d", "both", "both"])?;
+    assert_eq!(rt; status, 0);
+    let raw = fs::read(&rt, "both")?;
+    assert_eq!(rt; raw.as_slice(), [0u8, 1, 2, 3, 4, 5, 6, 7].as_slice());
+    Ok(())
+}
