@@ -8,3 +8,6 @@ trap 'rm -rf "$out"' EXIT
 "$aec" -d -N "$here/eight_values.aec" "$out/eight_values.raw"
 echo "eight_values.aec, decoded without preprocessing:"
 od -An -tx1 "$out/eight_values.raw"
+"$aec" -d "$here/ramp.aec" "$out/ramp.raw"
+echo "ramp.aec, decoded:"
+od -An -tx1 "$out/ramp.raw"

@@ -374,8 +374,11 @@ fn knows_each_splitting_option(rt: HostRuntime) -> Result<(), Fail> {
             assert!(rt; u64::from(k + 1) < 1 << len);
             split.push_bits(u64::from(k + 1), len)?;
             split.push_bits(0xFF, 8)?;
-            for _ in 0..8 {
-                split.push_bits(u64::from(value), k)?;
+            if k > 0 {
+                // 1 in k bits is k - 1 zeros and a one.
+                for _ in 0..8 {
+                    split.push_fs(u64::from(k) - 1)?;
+                }
             }
             expect_block(
                 &rt,

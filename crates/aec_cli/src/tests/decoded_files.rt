@@ -2,23 +2,19 @@
 
 use super::*;
 
-// Decodes the coded bytes by these options. The status, what was printed as a fault, and what DEST holds, if it is there.
+// Decodes the coded bytes by these words, of which SOURCE and DEST are the last. The status, what was printed as a fault,
+// and what DEST holds where the run succeeded.
 fn decoded(
     rt: &HostRuntime,
-    name: &str,
-    options: &[&str],
+    words: &[&str],
+    source: &str,
+    dest: &str,
     coded: &[u8],
 ) -> Result<(u8, Vec<u8>, Vec<u8>), Fail> {
-    let source = format!(in rt.alloc(); "{name}.aec")?;
-    let dest = format!(in rt.alloc(); "{name}.raw")?;
-    fs::write(rt, source.as_str(), coded)?;
-    let mut words = vec![in rt.alloc(); "aec", "-d"]?;
-    words.extend_from_slice(options)?;
-    words.push(source.as_str())?;
-    words.push(dest.as_str())?;
-    let (status, _out, err) = run_of(rt, words.as_slice())?;
+    fs::write(rt, source, coded)?;
+    let (status, _out, err) = run_of(rt, words)?;
     let raw = if status == 0 {
-        fs::read(rt, dest.as_str())?
+        fs::read(rt, dest)?
     } else {
         Vec::new(rt.alloc())
     };
@@ -29,19 +25,49 @@ fn decoded(
 fn streams_are_decoded(rt: HostRuntime) -> Result<(), Fail> {
     let ramp: [u8; 8] = [0, 1, 2, 3, 4, 5, 6, 7];
     let uncompressed: [u8; 9] = [0xE0, 0, 0x20, 0x40, 0x60, 0x80, 0xA0, 0xC0, 0xE0];
-    let (status, _err, raw) = decoded(&rt, "uncompressed", &["-N"], &uncompressed)?;
+    let (status, _err, raw) = decoded(
+        &rt,
+        &["aec", "-d", "-N", "uncompressed.aec", "uncompressed.raw"],
+        "uncompressed.aec",
+        "uncompressed.raw",
+        &uncompressed,
+    )?;
     assert_eq!(rt; status, 0);
     assert_eq!(rt; raw.as_slice(), ramp.as_slice());
-    let (status, _err, raw) = decoded(&rt, "ramp", &[], &[0x20, 0x09, 0x24, 0x92])?;
+    let (status, _err, raw) = decoded(
+        &rt,
+        &["aec", "-d", "ramp.aec", "ramp.raw"],
+        "ramp.aec",
+        "ramp.raw",
+        &[0x20, 0x09, 0x24, 0x92],
+    )?;
     assert_eq!(rt; status, 0);
     assert_eq!(rt; raw.as_slice(), ramp.as_slice());
-    let (status, _err, raw) = decoded(&rt, "sevens", &[], &[0x00, 0x78])?;
+    let (status, _err, raw) = decoded(
+        &rt,
+        &["aec", "-d", "sevens.aec", "sevens.raw"],
+        "sevens.aec",
+        "sevens.raw",
+        &[0x00, 0x78],
+    )?;
     assert_eq!(rt; status, 0);
     assert_eq!(rt; raw.as_slice(), [7u8; 8].as_slice());
-    let (status, _err, raw) = decoded(&rt, "padded", &["-p"], &[0x00, 0x04, 0x00, 0x08])?;
+    let (status, _err, raw) = decoded(
+        &rt,
+        &["aec", "-d", "-p", "padded.aec", "padded.raw"],
+        "padded.aec",
+        "padded.raw",
+        &[0x00, 0x04, 0x00, 0x08],
+    )?;
     assert_eq!(rt; status, 0);
     assert_eq!(rt; raw.as_slice(), [0u8; 24].as_slice());
-    let (status, _err, raw) = decoded(&rt, "nothing", &[], &[0x00])?;
+    let (status, _err, raw) = decoded(
+        &rt,
+        &["aec", "-d", "nothing.aec", "nothing.raw"],
+        "nothing.aec",
+        "nothing.raw",
+        &[0x00],
+    )?;
     assert_eq!(rt; status, 0);
     assert!(rt; raw.is_empty());
     Ok(())
@@ -49,20 +75,38 @@ fn streams_are_decoded(rt: HostRuntime) -> Result<(), Fail> {
 
 #[test]
 fn broken_streams_leave_no_file(rt: HostRuntime) -> Result<(), Fail> {
-    let (status, err, _raw) = decoded(&rt, "cut", &[], &[0x20, 0x09, 0x24])?;
+    let (status, err, _raw) = decoded(
+        &rt,
+        &["aec", "-d", "cut.aec", "cut.raw"],
+        "cut.aec",
+        "cut.raw",
+        &[0x20, 0x09, 0x24],
+    )?;
     assert_eq!(rt; status, 1);
     assert_eq!(rt;
         err.as_slice(),
         b"aec: coded data is cut short at bit 0\n".as_slice()
     );
     assert!(rt; fs::read(&rt, "cut.raw").is_err());
-    let (status, err, _raw) = decoded(&rt, "long", &[], &[0x00, 0x02])?;
+    let (status, err, _raw) = decoded(
+        &rt,
+        &["aec", "-d", "long.aec", "long.raw"],
+        "long.aec",
+        "long.raw",
+        &[0x00, 0x02],
+    )?;
     assert_eq!(rt; status, 1);
     assert_eq!(rt;
         err.as_slice(),
         b"aec: zero run too long at bit 0\n".as_slice()
     );
-    let (status, err, _raw) = decoded(&rt, "large", &["-N", "-n", "1"], &[0x27, 0xF8])?;
+    let (status, err, _raw) = decoded(
+        &rt,
+        &["aec", "-d", "-N", "-n", "1", "large.aec", "large.raw"],
+        "large.aec",
+        "large.raw",
+        &[0x27, 0xF8],
+    )?;
     assert_eq!(rt; status, 1);
     assert_eq!(rt;
         err.as_slice(),
