@@ -1,13 +1,6 @@
 //! Worked streams, their bits written out by hand.
 
-ghost use Rattle.std.specs.Prelude.{◌≡◌};
-ghost use Rattle.std.specs.Bool.{OnTrue};
-ghost use Rattle.std.specs.List.{AllByRecursion};
-ghost use Rattle.aec_params.specs.Params.{IsHeld};
-ghost use Rattle.aec_interval.specs.Laws.{AreOfInterval};
-
 use crate::encode_all;
-use crate::interval::write_interval;
 use aec_bits::BitBuf;
 use aec_params::{Fault, Params, Settings};
 use std::alloc::Global;
@@ -221,36 +214,6 @@ fn codes_long_and_short_runs(rt: HostRuntime) -> Result<(), Fail> {
     let mut samples = [0; 56];
     samples[48] = 1;
     expect_code(&rt, rt.alloc(), plain, &samples, 20, &[0x00, 0x22, 0xF0])
-}
-
-/// Whether samples are those of one interval.
-fn are_of_interval(params: &Params, samples: &[i64]) -> bool
-    ensures { OnTrue result (AreOfInterval params.now samples.now) }
-{
-    !samples.is_empty()
-        && samples.len() as u64 <= params.interval_len()
-        && are_held(params, samples)
-}
-
-fn are_held(params: &Params, samples: &[i64]) -> bool
-    ensures { OnTrue result (AllByRecursion (IsHeld params.now) samples.now) }
-{
-    samples.iter().all(|x| params.holds(*x))
-}
-
-#[test]
-fn pads_by_the_length_of_an_interval(rt: HostRuntime) -> Result<(), Fail> {
-    let params = Params::new(Settings {
-        pad: true,
-        ..settings()
-    })?;
-    let zeros = [0; 8];
-    assert!(rt; are_of_interval(&params, &zeros));
-    let mut bits = BitBuf::new(rt.alloc());
-    bits.push_bits(5, 3)?;
-    write_interval(rt.alloc(), &params, &zeros, &mut bits)?;
-    expect_bits(&rt, &bits, 19, &[0xA0, 0x01, 0x00]);
-    Ok(())
 }
 
 #[test]
