@@ -6,6 +6,7 @@ pub mod WorkedBlocks
 pub mod WorkedEdits
 pub mod WorkedReadings
 pub mod WorkedRests
+pub mod WorkedCorners
 pub mod ListLaws
 pub mod SettingLaws
 pub mod CodewordLaws

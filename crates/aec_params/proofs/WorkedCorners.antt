@@ -1,0 +1,124 @@
+-- Readings at the corners: nothing needed, bits skipped unread, choices that this coder wouldn't make, and bits that end.
+use Rattle.std.proofs.Common.{rules, lit<, ℕ, ℤ, pos, ◌≡◌, Bool, Some, None, List, [], ◌∷◌, ◌++◌, map, replicate, refl, ◌∙◌, append_assoc}
+use Rattle.aec_params.specs.declared.settings.Settings.{Settings}
+use Rattle.aec_params.specs.declared.fault.Fault.TheVariants.{Truncated}
+use Rattle.aec_params.specs.Codewords.{bits_of_bytes}
+use Rattle.aec_params.specs.CodedDataSets.{CodedDataSet, plain_values, value_pairs, split_values, zero_blocks, Body, identifier}
+use Rattle.aec_params.specs.Blocks.{Block}
+use Rattle.aec_params.specs.Places.{zero_block}
+use Rattle.aec_params.specs.Reading.{IsReading}
+use Rattle.aec_params.specs.Faults.{IsFault, HasSetAt, cut_short}
+use Rattle.aec_params.proofs.WorkedSettings.{usual, padded}
+
+-- no samples are wanted: no bit is read
+pub nothing_needed : IsReading usual (Some 0) 4096 (bits_of_bytes (0xFF ∷ [])) []
+nothing_needed = record {
+  blocks = [];
+  read = record { sets = []; end_block = 0; end_bit = 0; leads = (refl, refl); done = refl; kept = refl };
+  all_samples = [];
+  filled = record { held = tt; whole = refl; mapped = refl };
+  counted = refl;
+}
+
+-- ---- with padding the bits behind a full interval are skipped, whatever they are
+
+abbrev zeros : ℕ → List ℤ
+zeros n = map pos (replicate n 0)
+
+abbrev run_from_the_start : ℕ → CodedDataSet
+run_from_the_start m = record { reference = Some 0; body = zero_blocks m }
+
+pub ones_skipped : IsReading padded None 4096 (bits_of_bytes (0x00 ∷ 0x07 ∷ [])) (zeros 16)
+ones_skipped = record {
+  blocks = zero_block usual (Some 0) ∷ zero_block usual None ∷ [];
+  read = record {
+    sets = run_from_the_start 1 ∷ [];
+    end_block = 2;
+    end_bit = 16;
+    leads = (refl, refl, record { shape = record { reference = lit< tt; body = tt }; small = refl; within = refl }, refl, (refl, refl));
+    done = refl;
+    kept = refl;
+  };
+  all_samples = zeros 16;
+  filled = record { held = search rules; whole = refl; mapped = refl };
+  counted = refl;
+}
+
+pub ones_skipped_between : IsReading padded None 4096 (bits_of_bytes (0x00 ∷ 0x07 ∷ 0x00 ∷ 0x08 ∷ [])) (zeros 24)
+ones_skipped_between = record {
+  blocks = zero_block usual (Some 0) ∷ zero_block usual None ∷ zero_block usual (Some 0) ∷ [];
+  read = record {
+    sets = run_from_the_start 1 ∷ run_from_the_start 0 ∷ [];
+    end_block = 3;
+    end_bit = 29;
+    leads = (
+      refl,
+      refl,
+      record { shape = record { reference = lit< tt; body = tt }; small = refl; within = refl },
+      refl,
+      (refl, refl, record { shape = record { reference = lit< tt; body = tt }; small = refl; within = refl }, refl, (refl, refl)),
+    );
+    done = refl;
+    kept = refl;
+  };
+  all_samples = zeros 24;
+  filled = record { held = search rules; whole = refl; mapped = refl };
+  counted = refl;
+}
+
+-- ---- choices of other coders
+
+-- the second extension for zeros, its first pair being (1, 0): the 1 stands in the reference place and is no value
+pub first_member_ignored : IsReading usual (Some 8) 4096 (bits_of_bytes (0x10 ∷ 0x07 ∷ 0x80 ∷ [])) (zeros 8)
+first_member_ignored = record {
+  blocks = zero_block usual (Some 0) ∷ [];
+  read = record {
+    sets = (record { reference = Some 0; body = value_pairs (1 ∷ replicate 7 0) }) ∷ [];
+    end_block = 1;
+    end_bit = 17;
+    leads = (refl, refl, record { shape = record { reference = lit< tt; body = refl }; small = refl; within = refl }, refl, (refl, refl));
+    done = refl;
+    kept = refl;
+  };
+  all_samples = zeros 8;
+  filled = record { held = search rules; whole = refl; mapped = refl };
+  counted = refl;
+}
+
+-- a ramp split with k = 1, where k = 0 is as short
+abbrev ramp : List ℤ
+ramp = map pos (0 ∷ 1 ∷ 2 ∷ 3 ∷ 4 ∷ 5 ∷ 6 ∷ 7 ∷ [])
+
+pub ramp_by_the_greater_split : IsReading usual (Some 8) 4096 (bits_of_bytes (0x40 ∷ 0x15 ∷ 0x55 ∷ 0x80 ∷ [])) ramp
+ramp_by_the_greater_split = record {
+  blocks = (record { reference = Some 0; values = 0 ∷ 1 ∷ 2 ∷ 2 ∷ 2 ∷ 2 ∷ 2 ∷ 2 ∷ [] }) ∷ [];
+  read = record {
+    sets = (record { reference = Some 0; body = split_values 1 (1 ∷ 2 ∷ 2 ∷ 2 ∷ 2 ∷ 2 ∷ 2 ∷ []) }) ∷ [];
+    end_block = 1;
+    end_bit = 31;
+    leads = (refl, refl, record { shape = record { reference = lit< tt; body = (lit< tt, refl) }; small = refl; within = refl }, refl, (refl, refl));
+    done = refl;
+    kept = refl;
+  };
+  all_samples = ramp;
+  filled = record { held = search rules; whole = refl; mapped = refl };
+  counted = refl;
+}
+
+-- ---- no bits where a block is needed
+
+identified : (body : Body) → (rest : List Bool) → ([] ≡ identifier usual body ++ rest) → ⊥
+identified (plain_values values) rest e = absurd (cc)
+identified (value_pairs members) rest e = absurd (cc)
+identified (split_values k values) rest e = absurd (cc)
+identified (zero_blocks m) rest e = absurd (cc)
+
+pub no_bits : IsFault usual (Some 8) 4096 [] 0 0 (Truncated 0)
+no_bits = record {
+  sets = [];
+  block = 0;
+  bit = 0;
+  leads = (refl, refl);
+  wanted = refl;
+  wrong = cut_short (λ c has. identified c.body _ (has.stands ∙ append_assoc (identifier usual c.body) _ _));
+}
