@@ -23,20 +23,24 @@ abbrev pub HasOneList : Type 0
 HasOneList = (f : Format) (a b : List ℤ) (x y : List Bool) → IsLawful f → AreHeld f a → AreHeld f b → length a ≡ length b
     → code_of f a ++ x ≡ code_of f b ++ y → (a ≡ b) × (x ≡ y)
 
--- a place past the samples is refused whatever the values are
+-- a place past the samples is refused, for an overwrite whatever its values are
 abbrev pub JudgesPlacesFirst : Type 0
-JudgesPlacesFirst = (f : Format) (limit first : ℕ) (s values : List ℤ) → length s < first + length values
-    → refusal_of f limit s (Overwrite first values) ≡ Some (OutOfRange (length s))
+JudgesPlacesFirst = (f : Format) (limit first : ℕ) (s values : List ℤ)
+    → (length s < first + length values → refusal_of f limit s (Overwrite first values) ≡ Some (OutOfRange (length s)))
+    × (length s < first → refusal_of f limit s (Truncate first) ≡ Some (OutOfRange (length s)))
 
 -- a number of samples past the limit is refused whatever the values are
 abbrev pub JudgesTheLimitFirst : Type 0
 JudgesTheLimitFirst = (f : Format) (limit : ℕ) (s values : List ℤ) → limit < length s + length values
     → refusal_of f limit s (Append values) ≡ Some (TooManySamples limit)
 
--- an append within the limit is refused for the first value that is no sample, and for no other
+-- an overwrite within the samples and an append within the limit are refused for the first value that is no sample, and for
+-- no other
 abbrev pub NamesTheFirstValue : Type 0
-NamesTheFirstValue = (f : Format) (limit : ℕ) (s values : List ℤ) (i : ℕ) → length s + length values ≤ limit → i < length values
-    → AreHeld f (take i values) → f.holds (slice_index_or values i (pos 0)) ≡ false → refusal_of f limit s (Append values) ≡ Some (SampleRange i)
+NamesTheFirstValue = (f : Format) (limit first : ℕ) (s values : List ℤ) (i : ℕ) → i < length values → AreHeld f (take i values)
+    → f.holds (slice_index_or values i (pos 0)) ≡ false
+    → (first + length values ≤ length s → refusal_of f limit s (Overwrite first values) ≡ Some (SampleRange i))
+    × (length s + length values ≤ limit → refusal_of f limit s (Append values) ≡ Some (SampleRange i))
 
 -- an edit whose values are samples, within the limit and the samples present, is not refused
 abbrev pub AllowsWhatFits : Type 0

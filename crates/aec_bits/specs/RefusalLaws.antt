@@ -45,9 +45,18 @@ pub overwrite_past : (f : Format) (limit first : ℕ) (s values : List ℤ) → 
     → refusal_of f limit s (Overwrite first values) ≡ Some (OutOfRange (length s))
 overwrite_past f limit first s values h = rw (past (length s) (first + length values) h) refl
 
+pub truncate_past : (f : Format) (limit count : ℕ) (s : List ℤ) → length s < count
+    → refusal_of f limit s (Truncate count) ≡ Some (OutOfRange (length s))
+truncate_past f limit count s h = rw (past (length s) count h) refl
+
 pub append_past : (f : Format) (limit : ℕ) (s values : List ℤ) → limit < length s + length values
     → refusal_of f limit s (Append values) ≡ Some (TooManySamples limit)
 append_past f limit s values h = rw (past limit (length s + length values) h) refl
+
+pub overwrite_first_value : (f : Format) (limit first : ℕ) (s values : List ℤ) (i : ℕ) (d : ℤ) → first + length values ≤ length s → i < length values
+    → AreHeld f (take i values) → f.holds (get_or values i d) ≡ false → refusal_of f limit s (Overwrite first values) ≡ Some (SampleRange i)
+overwrite_first_value f limit first s values i d fits within held bad =
+    rw (not_past (length s) (first + length values) fits, first_unheld_at f.holds 0 i values d within held bad) (let e : 0 + i ≡ i = omega arith in rw e refl)
 
 pub append_first_value : (f : Format) (limit : ℕ) (s values : List ℤ) (i : ℕ) (d : ℤ) → length s + length values ≤ limit → i < length values
     → AreHeld f (take i values) → f.holds (get_or values i d) ≡ false → refusal_of f limit s (Append values) ≡ Some (SampleRange i)

@@ -107,7 +107,7 @@ pub fn has_one_list()
     ensures { HasOneList }
 {}
 
-/// An overwrite past the samples is refused for its place, whatever its values are.
+/// An overwrite past the samples is refused for its place, whatever its values are; so is a truncate.
 pub fn judges_places_first()
     ensures { JudgesPlacesFirst }
 {}
@@ -117,7 +117,7 @@ pub fn judges_the_limit_first()
     ensures { JudgesTheLimitFirst }
 {}
 
-/// An append within the limit is refused for the first value that is no sample.
+/// An overwrite within the samples and an append within the limit are refused for the first value that is no sample.
 pub fn names_the_first_value()
     ensures { NamesTheFirstValue }
 {}

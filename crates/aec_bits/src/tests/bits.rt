@@ -107,6 +107,20 @@ fn builds_and_edits(rt: HostRuntime) -> Result<(), Fail> {
 }
 
 #[test]
+fn grows_where_nothing_was_reserved(rt: HostRuntime) -> Result<(), Fail> {
+    let alloc = rt.alloc();
+    let mut buf = BitBuf::new(alloc);
+    buf.append(&bits(alloc, &[true, false, true])?)?;
+    buf.pad_to_byte()?;
+    assert_eq!(rt; bytes(alloc, &buf)?.as_slice(), [0xA0].as_slice());
+    assert_eq!(rt; buf.len(), 8);
+    let mut other = BitBuf::new(alloc);
+    other.splice(0, 0, &buf)?;
+    assert_eq!(rt; bytes(alloc, &other)?.as_slice(), [0xA0].as_slice());
+    Ok(())
+}
+
+#[test]
 fn reads_and_stays(rt: HostRuntime) -> Result<(), Fail> {
     let buf = bits_in(rt.alloc(), &[0x98])?;
     let mut reader = BitReader::new(&buf);

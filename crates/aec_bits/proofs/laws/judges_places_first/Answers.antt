@@ -1,5 +1,5 @@
-use Rattle.aec_bits.specs.RefusalLaws.{overwrite_past}
+use Rattle.aec_bits.specs.RefusalLaws.{overwrite_past, truncate_past}
 use Rattle.aec_bits.proofs.laws.judges_places_first.Goals as goal
 
 pub returns : goal.returns
-returns c = overwrite_past
+returns c = λ f limit first s values. (overwrite_past f limit first s values, truncate_past f limit first s)
