@@ -2,10 +2,11 @@
 #![tactic(auto)]
 
 use aec_cli::perform;
+use std::io::ErrorKind;
 use std::process::ExitCode;
 use std::{env, io};
 
-// Runs the program on its words. Words that can't be had, as those that are no text, are answered like wrong ones.
+// Runs the program on its words. Words that are no text are answered like wrong ones, with 2; want of memory with 1.
 fn main(rt: HostRuntime) -> ExitCode {
     match words(&rt) {
         Ok(words) => {
@@ -14,7 +15,11 @@ fn main(rt: HostRuntime) -> ExitCode {
         }
         Err(error) => {
             let _ = eprintln!(rt; "aec: {error}");
-            ExitCode::from(2)
+            ExitCode::from(if error.kind() == ErrorKind::OutOfMemory {
+                1
+            } else {
+                2
+            })
         }
     }
 }
