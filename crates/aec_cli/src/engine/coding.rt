@@ -3,7 +3,7 @@
 ghost use Rattle.std.specs.Prelude.{◌≡◌, ◌⊎◌, Ok, Err, Some, None, IfOk, IfErr};
 ghost use Rattle.aec_params.specs.declared.fault.Fault.TheVariants.{Memory};
 ghost use Rattle.aec_params.specs.Codewords.{bytes_of};
-ghost use Rattle.aec_params.specs.Limits.{AreLimits};
+ghost use Rattle.aec_params.specs.Params.{IsAllowed};
 ghost use Rattle.aec_params.specs.Stored.{samples_of_bytes};
 ghost use Rattle.aec_cli.specs.Devices.{Taking, Putting, GivesAnswer, Leaves};
 ghost use Rattle.aec_cli.specs.Output.{IsEncoded, bytes_within, samples_refusal};
@@ -17,7 +17,8 @@ use std::alloc::Global;
 
 /// The most bytes that hold no more whole samples than the limits.
 fn most_bytes(params: &Params, limits: Limits) -> u64
-    ensures { result ≡ bytes_within params.now limits.samples }
+    ensures value { result ≡ bytes_within params.now limits.samples }
+    ensures allowed { IsAllowed params.now }
 {
     (limits.samples() + 1) * params.storage() as u64 - 1
 }
