@@ -1,12 +1,19 @@
 //! What no clause says: texts, that calls succeed, what `perform` prints, and files.
 
+mod coded_files;
+mod cut_streams;
 mod decoded_files;
+mod devices;
+mod engines;
+mod widths;
 
 use super::*;
 use aec_bits::{Sink, Source};
 use aec_params::{Fault, Params, Settings};
-use std::alloc::{AllocError, Global};
+use std::alloc::{Alloc, AllocError, Global};
 use std::io::Write;
+use std::process::Abort;
+use std::rt::Files;
 use std::test::Fail;
 use std::{fs, io};
 
@@ -156,26 +163,51 @@ fn failures_have_their_texts(rt: HostRuntime) -> Result<(), Fail> {
     Ok(())
 }
 
-fn words_of(rt: &HostRuntime, words: &[&str]) -> Result<Vec<String>, AllocError> {
-    let mut owned = Vec::new(rt.alloc());
+fn words_of(alloc: Global, words: &[&str]) -> Result<Vec<String>, AllocError> {
+    let mut owned = Vec::new(alloc);
     for word in words {
-        owned.push(String::from_str(rt.alloc(), *word)?)?;
+        owned.push(String::from_str(alloc, *word)?)?;
     }
     Ok(owned)
 }
 
 // A run of the program: its status, and what it wrote to standard output and to standard error.
-fn run_of(rt: &HostRuntime, words: &[&str]) -> Result<(u8, Vec<u8>, Vec<u8>), AllocError> {
-    let words = words_of(rt, words)?;
-    let mut out = Vec::new(rt.alloc());
-    let mut err = Vec::new(rt.alloc());
-    let status = perform(rt, rt.alloc(), words, &mut out, &mut err);
+fn run_of<F: Files>(
+    rt: &F,
+    alloc: Global,
+    words: &[&str],
+) -> Result<(u8, Vec<u8>, Vec<u8>), AllocError> {
+    let words = words_of(alloc, words)?;
+    let mut out = Vec::new(alloc);
+    let mut err = Vec::new(alloc);
+    let status = perform(rt, alloc, words, &mut out, &mut err);
     Ok((status, out, err))
+}
+
+// A run on a SOURCE of these bytes, whose name and that of DEST are the last of the words: the status, what was printed as
+// a fault, and what DEST holds where the run succeeded. Both files are gone then.
+fn run_on<F: Files + Alloc<A = Global>>(
+    rt: &F,
+    alloc: Global,
+    words: &[&str],
+    source: &str,
+    dest: &str,
+    bytes: &[u8],
+) -> Result<(u8, Vec<u8>, Vec<u8>), Fail> {
+    fs::write(rt, source, bytes)?;
+    let (status, _out, err) = run_of(rt, alloc, words)?;
+    fs::remove_file(rt, source)?;
+    if status != 0 {
+        return Ok((status, err, Vec::new(alloc)));
+    }
+    let written = fs::read(rt, dest)?;
+    fs::remove_file(rt, dest)?;
+    Ok((status, err, written))
 }
 
 #[test]
 fn a_refused_setting_is_one_line(rt: HostRuntime) -> Result<(), Fail> {
-    let (status, out, err) = run_of(&rt, &["aec", "-n", "40", "a", "b"])?;
+    let (status, out, err) = run_of(&rt, rt.alloc(), &["aec", "-n", "40", "a", "b"])?;
     assert_eq!(rt; status, 2);
     assert_eq!(rt; out.as_slice(), b"".as_slice());
     assert_eq!(rt;
@@ -197,7 +229,7 @@ fn faults_of_the_words_go_to_standard_error(rt: HostRuntime) -> Result<(), Fail>
         ["aec", "-x", "a", "b"].as_slice(),
     ];
     for words in cases {
-        let (status, out, err) = run_of(&rt, words)?;
+        let (status, out, err) = run_of(&rt, rt.alloc(), words)?;
         assert_eq!(rt; status, 2, "at {words:?}");
         assert!(rt; out.is_empty());
         assert!(rt; err.starts_with(b"error: "), "at {words:?}");
@@ -207,7 +239,7 @@ fn faults_of_the_words_go_to_standard_error(rt: HostRuntime) -> Result<(), Fail>
 
 #[test]
 fn help_goes_to_standard_output(rt: HostRuntime) -> Result<(), Fail> {
-    let (status, out, err) = run_of(&rt, &["aec", "--help"])?;
+    let (status, out, err) = run_of(&rt, rt.alloc(), &["aec", "--help"])?;
     assert_eq!(rt; status, 0);
     assert!(rt; err.is_empty());
     let text = str::from_utf8(out.as_slice())?;
@@ -237,7 +269,7 @@ impl Write for Broken {
 #[test]
 fn broken_streams_change_no_status(rt: HostRuntime) -> Result<(), Fail> {
     for (last, expected) in [("--help", 0), ("-x", 2), ("-n40", 2)] {
-        let words = words_of(&rt, &["aec", "a", "b", last])?;
+        let words = words_of(rt.alloc(), &["aec", "a", "b", last])?;
         assert_eq!(rt;
             perform(&rt, rt.alloc(), words, &mut Broken, &mut Broken),
             expected
