@@ -1,6 +1,6 @@
 //! One whole run of the program.
 
-ghost use Rattle.std.specs.Prelude.{◌≡◌, ◌≤◌, map};
+ghost use Rattle.std.specs.Prelude.{◌≡◌, ◌^◌, ◌≤◌, map};
 ghost use Rattle.std.specs.String.{string_bytes};
 ghost use Rattle.clap.specs.Faults.{fault_of};
 ghost use Rattle.clap.specs.Values.{kind_of};
@@ -47,7 +47,9 @@ pub fn perform<F: Files, O: Write, E: Write>(
 }
 
 // The limits of the program: 2^32 samples, and 2^35 bytes of coded data.
-fn limits() -> Limits {
+fn limits() -> Limits
+    ensures { result ≡ record { samples = 2 ^ 32; bytes = 2 ^ 35 } }
+{
     match Limits::new(1 << 32, 1 << 35) {
         Some(limits) => limits,
         None => unreachable!(),
