@@ -1,17 +1,17 @@
 -- Answers of coding from what its parts answer.
-use Rattle.std.proofs.Common.{◌≡◌, ℕ, ◌+◌, ◌-◌, ◌<◌, ◌%◌, ◌^◌, Bool, true, false, ◌&&◌, nat_lt, nat_le, if◌then◌else◌, Option, Some, None, Result, Ok, Err, IfOk, IfErr, IsTrue, ℤ, List, [], ◌∷◌, refl, sym, ap, ◌∙◌, ◌⊎◌, inl, inr, subst, arith}
+use Rattle.std.proofs.Common.{◌≡◌, ℕ, ◌+◌, ◌<◌, ◌%◌, ◌^◌, Bool, true, false, ◌&&◌, nat_lt, if◌then◌else◌, Option, Some, None, Result, Ok, Err, IfOk, IfErr, ℤ, List, [], ◌∷◌, refl, sym, ap, ◌∙◌, ◌⊎◌, inl, inr, subst}
 use Rattle.std.specs.Prelude.{MatchOption}
 use Rattle.std.specs.List.{list_all}
 use Rattle.std.specs.Result.{result_err}
 use Rattle.std.proofs.lemmas.Bool.{and_from, ltb-true}
 use Rattle.std.proofs.lemmas.Nat.{pow_pos}
-use Rattle.std.proofs.lemmas.Result.{IfOk-weaker, IfErr-weaker}
+use Rattle.std.proofs.lemmas.Result.{IfOk-weaker}
 use Rattle.std.proofs.Math.Nat.{mod-lt}
 use Rattle.aec_params.specs.declared.settings.Settings.{Settings}
 use Rattle.aec_params.specs.declared.fault.Fault.{Fault}
 use Rattle.aec_params.specs.declared.fault.Fault.TheVariants.{Memory, Read, SampleRange}
 use Rattle.aec_params.specs.Limits.{Caps}
-use Rattle.aec_params.specs.Params.{IsAllowed, IsHeld, is_held, pattern_value}
+use Rattle.aec_params.specs.Params.{IsAllowed, is_held, pattern_value}
 use Rattle.aec_params.specs.Stored.{number_in, has_sign_above, sample_of_number, sample_before, samples_of_groups, samples_of_bytes, byte_groups}
 use Rattle.aec_params.specs.Codewords.{bytes_of}
 use Rattle.aec_params.specs.Streams.{stream_of}
@@ -21,7 +21,7 @@ use Rattle.aec_bits.specs.Refusals.{first_unheld}
 use Rattle.aec_bits.specs.RefusalLaws.{first_unheld-held}
 use Rattle.aec_cli.specs.Devices.{Input, Taking, Gave, GivesAnswer, given, lacks_memory}
 use Rattle.aec_cli.specs.Output.{IsEncoded, bytes_within, samples_refusal, not_samples, not_whole, encoded}
-use Rattle.aec_cli.proofs.OutputLemmas.{answers_err, answers_storing, taking}
+use Rattle.aec_cli.proofs.OutputLemmas.{answers_err, answers_storing}
 
 -- ---- stored samples are held
 

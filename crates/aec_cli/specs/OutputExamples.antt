@@ -1,5 +1,5 @@
 -- What coding answers to inputs that are written out. A wrong line here fails the check.
-use Rattle.std.specs.Prelude.{◌≡◌, ℕ, true, false, Some, None, Ok, Err, pos, [], ◌∷◌, List, Bool, refl}
+use Rattle.std.specs.Prelude.{◌≡◌, ℕ, true, false, Some, Ok, Err, pos, [], ◌∷◌, List, Bool, refl}
 use Rattle.aec_params.specs.declared.fault.Fault.TheVariants.{SampleRange, TooManySamples, Read}
 use Rattle.aec_params.specs.Limits.{Caps}
 use Rattle.aec_params.specs.Stored.{samples_of_bytes}

@@ -1,5 +1,5 @@
 use Rattle.std.proofs.lemmas.Result.{err_from_is_err_and}
-use Rattle.std.proofs.Common.{refl, ◌≡◌}
+use Rattle.std.proofs.Common.{refl}
 use Rattle.aec_params.specs.Codewords.{bytes_of}
 use Rattle.aec_cli.proofs.OutputLemmas.{leaves_refused, leaves_delivered}
 use Rattle.aec_cli.proofs.engine.coding.encode.Goals as goal
