@@ -1,9 +1,9 @@
 -- What is known of the bytes of a source and a sink over several calls.
-use Rattle.std.proofs.Common.{arith, length-append, length-take, take, ◌-◌, ◌≡◌, ℕ, ◌<◌, ◌≤◌, Option, Some, None, Result, Ok, Err, List, [], ◌++◌, IfErr, length, refl, ap, ◌∙◌, sym, subst, append_assoc}
-use Rattle.std.specs.Io.KnownBytes.{Consumes, Keeps, Appends}
+use Rattle.std.proofs.Common.{arith, length-append, length-take, take, ◌-◌, ◌≡◌, ℕ, ◌<◌, ◌≤◌, Option, Some, None, Result, Err, List, ◌++◌, IfErr, length, ap, ◌∙◌, sym, subst, append_assoc}
+use Rattle.std.specs.Io.KnownBytes.{Consumes, Keeps}
 use Rattle.aec_params.specs.declared.fault.Fault.{Fault}
-use Rattle.aec_params.specs.declared.fault.Fault.TheVariants.{Read, Memory, StreamTooLong}
-use Rattle.aec_cli.specs.Devices.{RefusesIntake, no_memory, source_failed, too_many_bytes}
+use Rattle.aec_params.specs.declared.fault.Fault.TheVariants.{Read, Memory}
+use Rattle.aec_cli.specs.Devices.{RefusesIntake, no_memory, source_failed}
 
 -- bytes taken, and then more
 pub Consumes-append : (before mid after : Option (List ℕ)) (xs ys : List ℕ) → Consumes before mid xs → Consumes mid after ys → Consumes before after (xs ++ ys)

@@ -1,5 +1,5 @@
 -- Answers of the engines from what their parts answer.
-use Rattle.std.proofs.Common.{◌≡◌, ℕ, zero, suc, ◌<◌, ◌≤◌, Bool, true, false, nat_lt, if◌then◌else◌, Option, Some, None, Result, Ok, Err, IfOk, IfErr, ℤ, List, [], ◌∷◌, length, take, refl, sym, ap, ◌∙◌, subst, arith}
+use Rattle.std.proofs.Common.{◌≡◌, ℕ, zero, suc, ◌≤◌, Bool, true, false, if◌then◌else◌, Option, Some, None, Result, Ok, Err, IfOk, IfErr, ℤ, List, [], ◌∷◌, length, take, refl, sym, ap, ◌∙◌, subst, arith}
 use Rattle.std.proofs.lemmas.Bool.{lt-ltb, le-ltb}
 use Rattle.std.proofs.lemmas.Result.{IfOk-weaker, IfErr-weaker}
 use Rattle.std.specs.Io.KnownBytes.{Keeps, Appends}
@@ -13,7 +13,7 @@ use Rattle.aec_params.specs.Limits.{Caps}
 use Rattle.aec_params.specs.Params.{IsHeld}
 use Rattle.aec_params.specs.Codewords.{bits_of_bytes}
 use Rattle.aec_params.specs.Reading.{counted_samples, IsReading}
-use Rattle.aec_interval.specs.Reached.{count_refusal, RefusesReading, no_memory, faulty, RefusesDecoding, above_limit, unread}
+use Rattle.aec_interval.specs.Reached.{count_refusal, no_memory, faulty, RefusesDecoding, above_limit, unread}
 use Rattle.aec_cli.specs.Devices as devices
 use Rattle.aec_cli.specs.Devices.{Input, Taking, Gave, IsTakenWhole, RefusesIntake, source_failed, too_many_bytes, GivesAnswer, given, lacks_memory, Leaves, written, refused, no_answer, not_written}
 use Rattle.aec_cli.specs.Output as output
@@ -77,7 +77,7 @@ given_samples s caps count before after failures bytes samples taken within read
 
 -- ---- in the form in which the code has the facts
 
-abbrev taking : Option (List ℕ) → Option (List ℕ) → ℕ → Taking
+abbrev pub taking : Option (List ℕ) → Option (List ℕ) → ℕ → Taking
 taking before after failures = record { before = before; after = after; failures = failures }
 
 pub answers_err : {X : Type 0} (r : Result X Fault) (fault f : Fault) (answers : Input → Result (List ℕ) Fault → Type 0) (source : Taking) (limit : ℕ) → r ≡ Err fault → fault ≡ f

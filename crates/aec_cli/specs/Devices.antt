@@ -1,5 +1,5 @@
 -- What an engine takes from a source and leaves in a sink.
-use Rattle.std.specs.Prelude.{◌≡◌, ℕ, ◌<◌, ◌≤◌, ◌⊎◌, Bool, true, false, Option, Result, Ok, Err, List, ◌++◌, length, MatchResult}
+use Rattle.std.specs.Prelude.{◌≡◌, ℕ, ◌<◌, ◌≤◌, Bool, true, false, Option, Result, Ok, Err, List, length}
 use Rattle.std.specs.Io.KnownBytes.{Consumes, IsAtEnd, Appends, Keeps}
 use Rattle.aec_bits.specs.Devices.{counted, AppendsFront}
 use Rattle.aec_params.specs.declared.fault.Fault.{Fault}

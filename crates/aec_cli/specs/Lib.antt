@@ -3,6 +3,6 @@ pub mod Commands
 pub mod Jobs
 pub mod Openings
 pub mod Statuses
-pub mod Tallies
 pub mod Devices
 pub mod Output
+pub mod OutputExamples

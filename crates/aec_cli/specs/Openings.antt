@@ -3,11 +3,11 @@ use Rattle.std.specs.Prelude.{ℕ, Bool, true, false}
 use Rattle.aec_cli.specs.declared.files.Opening.{Opening}
 use Rattle.aec_cli.specs.declared.files.Opening.TheVariants.{Unopened, Open, Failed}
 
--- a device fails once: from then on it has failed
-abbrev pub failures_of : {T : Type 0} → Opening T → ℕ
-failures_of Unopened = 0
-failures_of (Open file) = 0
-failures_of Failed = 1
+-- a device has failed where its file has, or couldn't be opened; `failed` counts the failures of an open file
+abbrev pub failures_of : {T : Type 0} → (T → ℕ) → Opening T → ℕ
+failures_of failed Unopened = 0
+failures_of failed (Open file) = failed file
+failures_of failed Failed = 1
 
 abbrev pub is_open : {T : Type 0} → Opening T → Bool
 is_open Unopened = false

@@ -1,13 +1,13 @@
 //! One whole run of the program.
 
-ghost use Rattle.std.specs.Prelude.{◌≡◌, ◌≤◌, map};
+ghost use Rattle.std.specs.Prelude.{◌≡◌, ◌^◌, ◌≤◌, map};
 ghost use Rattle.std.specs.String.{string_bytes};
 ghost use Rattle.clap.specs.Faults.{fault_of};
 ghost use Rattle.clap.specs.Values.{kind_of};
 ghost use Rattle.aec_cli.specs.Commands.{aec_app};
 ghost use Rattle.aec_cli.specs.Statuses.{EndsByMistake, parse_status, status_of};
 
-use crate::engine::decode;
+use crate::engine::{decode, encode};
 use crate::failure::{Failure, status};
 use crate::files::{DestSink, FileSource};
 use crate::job::{Action, Job, settings};
@@ -47,14 +47,16 @@ pub fn perform<F: Files, O: Write, E: Write>(
 }
 
 // The limits of the program: 2^32 samples, and 2^35 bytes of coded data.
-fn limits() -> Limits {
+fn limits() -> Limits
+    ensures { result ≡ record { samples = 2 ^ 32; bytes = 2 ^ 35 } }
+{
     match Limits::new(1 << 32, 1 << 35) {
         Some(limits) => limits,
         None => unreachable!(),
     }
 }
 
-// Does the job: decodes. `NotYet` where samples are to be coded.
+// Does the job: codes or decodes.
 fn run<F: Files>(rt: &F, alloc: Global, job: Job) -> Result<(), Failure> {
     let Job {
         params,
@@ -62,14 +64,13 @@ fn run<F: Files>(rt: &F, alloc: Global, job: Job) -> Result<(), Failure> {
         source,
         dest,
     } = job;
-    match action {
-        Action::Encode => Err(Failure::NotYet),
-        Action::Decode { count } => {
-            let mut source = FileSource::new(rt, source);
-            let mut sink = DestSink::new(rt, dest);
-            decode(alloc, &params, limits(), count, &mut source, &mut sink).map_err(Failure::Fault)
-        }
-    }
+    let mut source = FileSource::new(rt, source);
+    let mut sink = DestSink::new(rt, dest);
+    let done = match action {
+        Action::Encode => encode(alloc, &params, limits(), &mut source, &mut sink),
+        Action::Decode { count } => decode(alloc, &params, limits(), count, &mut source, &mut sink),
+    };
+    done.map_err(Failure::Fault)
 }
 
 // Prints the line of a failure, and answers its status.

@@ -1,12 +1,20 @@
 //! What no clause says: texts, that calls succeed, what `perform` prints, and files.
 
+mod coded_files;
+mod cut_streams;
 mod decoded_files;
+mod devices;
+mod engines;
+mod files;
+mod widths;
 
 use super::*;
 use aec_bits::{Sink, Source};
 use aec_params::{Fault, Params, Settings};
-use std::alloc::{AllocError, Global};
+use std::alloc::{Alloc, AllocError, Global};
 use std::io::Write;
+use std::process::Abort;
+use std::rt::Files;
 use std::test::Fail;
 use std::{fs, io};
 
@@ -148,7 +156,6 @@ fn failures_have_their_texts(rt: HostRuntime) -> Result<(), Fail> {
             "coded data is cut short at bit 13",
             1,
         ),
-        (Failure::NotYet, "not yet", 1),
     ];
     for (failure, text, expected) in cases {
         assert_eq!(rt; failure.to_string(rt.alloc())?.as_str(), text);
@@ -157,26 +164,51 @@ fn failures_have_their_texts(rt: HostRuntime) -> Result<(), Fail> {
     Ok(())
 }
 
-fn words_of(rt: &HostRuntime, words: &[&str]) -> Result<Vec<String>, AllocError> {
-    let mut owned = Vec::new(rt.alloc());
+fn words_of(alloc: Global, words: &[&str]) -> Result<Vec<String>, AllocError> {
+    let mut owned = Vec::new(alloc);
     for word in words {
-        owned.push(String::from_str(rt.alloc(), *word)?)?;
+        owned.push(String::from_str(alloc, *word)?)?;
     }
     Ok(owned)
 }
 
 // A run of the program: its status, and what it wrote to standard output and to standard error.
-fn run_of(rt: &HostRuntime, words: &[&str]) -> Result<(u8, Vec<u8>, Vec<u8>), AllocError> {
-    let words = words_of(rt, words)?;
-    let mut out = Vec::new(rt.alloc());
-    let mut err = Vec::new(rt.alloc());
-    let status = perform(rt, rt.alloc(), words, &mut out, &mut err);
+fn run_of<F: Files>(
+    rt: &F,
+    alloc: Global,
+    words: &[&str],
+) -> Result<(u8, Vec<u8>, Vec<u8>), AllocError> {
+    let words = words_of(alloc, words)?;
+    let mut out = Vec::new(alloc);
+    let mut err = Vec::new(alloc);
+    let status = perform(rt, alloc, words, &mut out, &mut err);
     Ok((status, out, err))
+}
+
+// A run on a SOURCE of these bytes, whose name and that of DEST are the last of the words: the status, what was printed as
+// a fault, and what DEST holds where the run succeeded. Both files are gone then.
+fn run_on<F: Files + Alloc<A = Global>>(
+    rt: &F,
+    alloc: Global,
+    words: &[&str],
+    source: &str,
+    dest: &str,
+    bytes: &[u8],
+) -> Result<(u8, Vec<u8>, Vec<u8>), Fail> {
+    fs::write(rt, source, bytes)?;
+    let (status, _out, err) = run_of(rt, alloc, words)?;
+    fs::remove_file(rt, source)?;
+    if status != 0 {
+        return Ok((status, err, Vec::new(alloc)));
+    }
+    let written = fs::read(rt, dest)?;
+    fs::remove_file(rt, dest)?;
+    Ok((status, err, written))
 }
 
 #[test]
 fn a_refused_setting_is_one_line(rt: HostRuntime) -> Result<(), Fail> {
-    let (status, out, err) = run_of(&rt, &["aec", "-n", "40", "a", "b"])?;
+    let (status, out, err) = run_of(&rt, rt.alloc(), &["aec", "-n", "40", "a", "b"])?;
     assert_eq!(rt; status, 2);
     assert_eq!(rt; out.as_slice(), b"".as_slice());
     assert_eq!(rt;
@@ -198,7 +230,7 @@ fn faults_of_the_words_go_to_standard_error(rt: HostRuntime) -> Result<(), Fail>
         ["aec", "-x", "a", "b"].as_slice(),
     ];
     for words in cases {
-        let (status, out, err) = run_of(&rt, words)?;
+        let (status, out, err) = run_of(&rt, rt.alloc(), words)?;
         assert_eq!(rt; status, 2, "at {words:?}");
         assert!(rt; out.is_empty());
         assert!(rt; err.starts_with(b"error: "), "at {words:?}");
@@ -208,7 +240,7 @@ fn faults_of_the_words_go_to_standard_error(rt: HostRuntime) -> Result<(), Fail>
 
 #[test]
 fn help_goes_to_standard_output(rt: HostRuntime) -> Result<(), Fail> {
-    let (status, out, err) = run_of(&rt, &["aec", "--help"])?;
+    let (status, out, err) = run_of(&rt, rt.alloc(), &["aec", "--help"])?;
     assert_eq!(rt; status, 0);
     assert!(rt; err.is_empty());
     let text = str::from_utf8(out.as_slice())?;
@@ -238,90 +270,11 @@ impl Write for Broken {
 #[test]
 fn broken_streams_change_no_status(rt: HostRuntime) -> Result<(), Fail> {
     for (last, expected) in [("--help", 0), ("-x", 2), ("-n40", 2)] {
-        let words = words_of(&rt, &["aec", "a", "b", last])?;
+        let words = words_of(rt.alloc(), &["aec", "a", "b", last])?;
         assert_eq!(rt;
             perform(&rt, rt.alloc(), words, &mut Broken, &mut Broken),
             expected
         );
     }
-    Ok(())
-}
-
-#[test]
-fn a_job_that_waits_is_refused(rt: HostRuntime) -> Result<(), Fail> {
-    let (status, out, err) = run_of(&rt, &["aec", "a", "b"])?;
-    assert_eq!(rt; status, 1);
-    assert!(rt; out.is_empty());
-    assert_eq!(rt; err.as_slice(), b"aec: not yet\n".as_slice());
-    Ok(())
-}
-
-fn taken<R: Source>(source: &mut R, buf: &mut [u8]) -> Result<usize, Fault> {
-    source.take(buf)
-}
-
-fn written<W: Sink>(sink: &mut W, piece: &[u8]) -> Result<usize, Fault> {
-    sink.put(piece)
-}
-
-#[test]
-fn a_file_is_taken_in_pieces(rt: HostRuntime) -> Result<(), Fail> {
-    fs::write(&rt, "taken", "seven..")?;
-    let path = String::from_str(rt.alloc(), "taken")?;
-    let mut source = FileSource::new(&rt, path);
-    let mut buf = [0u8; 4];
-    assert_eq!(rt; taken(&mut source, &mut [])?, 0);
-    assert_eq!(rt; taken(&mut source, &mut buf)?, 4);
-    assert_eq!(rt; buf, *b"seve");
-    assert_eq!(rt; taken(&mut source, &mut buf)?, 3);
-    assert_eq!(rt; buf, *b"n..e");
-    assert_eq!(rt; taken(&mut source, &mut buf)?, 0);
-    assert_eq!(rt; source.failures(), 0);
-    fs::remove_file(&rt, "taken")?;
-    Ok(())
-}
-
-#[test]
-fn a_missing_file_fails_for_good(rt: HostRuntime) -> Result<(), Fail> {
-    let mut source = FileSource::new(&rt, String::from_str(rt.alloc(), "late")?);
-    let mut buf = [0u8; 4];
-    assert_eq!(rt; source.failures(), 0);
-    assert_eq!(rt; taken(&mut source, &mut buf), Err(Fault::Read));
-    fs::write(&rt, "late", "here now")?;
-    assert_eq!(rt; taken(&mut source, &mut buf), Err(Fault::Read));
-    assert_eq!(rt; source.failures(), 1);
-    fs::remove_file(&rt, "late")?;
-    Ok(())
-}
-
-#[test]
-fn a_sink_creates_or_empties_its_file(rt: HostRuntime) -> Result<(), Fail> {
-    fs::write(&rt, "written", "what was there before")?;
-    let mut sink = DestSink::new(&rt, String::from_str(rt.alloc(), "written")?);
-    assert_eq!(rt;
-        fs::read(&rt, "written")?.as_slice(),
-        b"what was there before".as_slice()
-    );
-    sink.begin()?;
-    assert_eq!(rt; written(&mut sink, b"abc")?, 3);
-    assert_eq!(rt; written(&mut sink, b"")?, 0);
-    assert_eq!(rt; written(&mut sink, b"de")?, 2);
-    assert_eq!(rt; (sink.failures(), sink.begins()), (0, 1));
-    assert_eq!(rt; fs::read(&rt, "written")?.as_slice(), b"abcde".as_slice());
-    fs::remove_file(&rt, "written")?;
-    Ok(())
-}
-
-#[test]
-fn a_sink_fails_for_good(rt: HostRuntime) -> Result<(), Fail> {
-    let mut early = DestSink::new(&rt, String::from_str(rt.alloc(), "early")?);
-    assert_eq!(rt; written(&mut early, b"abc"), Err(Fault::Write));
-    assert_eq!(rt; early.begin(), Err(Fault::Write));
-    assert_eq!(rt; (early.failures(), early.begins()), (1, 1));
-    assert!(rt; !fs::exists(&rt, "early")?);
-    let mut lost = DestSink::new(&rt, String::from_str(rt.alloc(), "no/such/folder")?);
-    assert_eq!(rt; lost.begin(), Err(Fault::Write));
-    assert_eq!(rt; written(&mut lost, b"abc"), Err(Fault::Write));
-    assert_eq!(rt; (lost.failures(), lost.begins()), (1, 1));
     Ok(())
 }

@@ -2,31 +2,13 @@
 
 use super::*;
 
-// Decodes the coded bytes by these words, of which SOURCE and DEST are the last. The status, what was printed as a fault,
-// and what DEST holds where the run succeeded.
-fn decoded(
-    rt: &HostRuntime,
-    words: &[&str],
-    source: &str,
-    dest: &str,
-    coded: &[u8],
-) -> Result<(u8, Vec<u8>, Vec<u8>), Fail> {
-    fs::write(rt, source, coded)?;
-    let (status, _out, err) = run_of(rt, words)?;
-    let raw = if status == 0 {
-        fs::read(rt, dest)?
-    } else {
-        Vec::new(rt.alloc())
-    };
-    Ok((status, err, raw))
-}
-
 #[test]
 fn streams_are_decoded(rt: HostRuntime) -> Result<(), Fail> {
     let ramp: [u8; 8] = [0, 1, 2, 3, 4, 5, 6, 7];
     let uncompressed: [u8; 9] = [0xE0, 0, 0x20, 0x40, 0x60, 0x80, 0xA0, 0xC0, 0xE0];
-    let (status, _err, raw) = decoded(
+    let (status, _err, raw) = run_on(
         &rt,
+        rt.alloc(),
         &["aec", "-d", "-N", "uncompressed.aec", "uncompressed.raw"],
         "uncompressed.aec",
         "uncompressed.raw",
@@ -34,8 +16,9 @@ fn streams_are_decoded(rt: HostRuntime) -> Result<(), Fail> {
     )?;
     assert_eq!(rt; status, 0);
     assert_eq!(rt; raw.as_slice(), ramp.as_slice());
-    let (status, _err, raw) = decoded(
+    let (status, _err, raw) = run_on(
         &rt,
+        rt.alloc(),
         &["aec", "-d", "ramp.aec", "ramp.raw"],
         "ramp.aec",
         "ramp.raw",
@@ -43,8 +26,9 @@ fn streams_are_decoded(rt: HostRuntime) -> Result<(), Fail> {
     )?;
     assert_eq!(rt; status, 0);
     assert_eq!(rt; raw.as_slice(), ramp.as_slice());
-    let (status, _err, raw) = decoded(
+    let (status, _err, raw) = run_on(
         &rt,
+        rt.alloc(),
         &["aec", "-d", "sevens.aec", "sevens.raw"],
         "sevens.aec",
         "sevens.raw",
@@ -52,8 +36,9 @@ fn streams_are_decoded(rt: HostRuntime) -> Result<(), Fail> {
     )?;
     assert_eq!(rt; status, 0);
     assert_eq!(rt; raw.as_slice(), [7u8; 8].as_slice());
-    let (status, _err, raw) = decoded(
+    let (status, _err, raw) = run_on(
         &rt,
+        rt.alloc(),
         &["aec", "-d", "-p", "padded.aec", "padded.raw"],
         "padded.aec",
         "padded.raw",
@@ -61,8 +46,9 @@ fn streams_are_decoded(rt: HostRuntime) -> Result<(), Fail> {
     )?;
     assert_eq!(rt; status, 0);
     assert_eq!(rt; raw.as_slice(), [0u8; 24].as_slice());
-    let (status, _err, raw) = decoded(
+    let (status, _err, raw) = run_on(
         &rt,
+        rt.alloc(),
         &["aec", "-d", "nothing.aec", "nothing.raw"],
         "nothing.aec",
         "nothing.raw",
@@ -75,8 +61,9 @@ fn streams_are_decoded(rt: HostRuntime) -> Result<(), Fail> {
 
 #[test]
 fn broken_streams_leave_no_file(rt: HostRuntime) -> Result<(), Fail> {
-    let (status, err, _raw) = decoded(
+    let (status, err, _raw) = run_on(
         &rt,
+        rt.alloc(),
         &["aec", "-d", "cut.aec", "cut.raw"],
         "cut.aec",
         "cut.raw",
@@ -88,8 +75,9 @@ fn broken_streams_leave_no_file(rt: HostRuntime) -> Result<(), Fail> {
         b"aec: coded data is cut short at bit 0\n".as_slice()
     );
     assert!(rt; fs::read(&rt, "cut.raw").is_err());
-    let (status, err, _raw) = decoded(
+    let (status, err, _raw) = run_on(
         &rt,
+        rt.alloc(),
         &["aec", "-d", "long.aec", "long.raw"],
         "long.aec",
         "long.raw",
@@ -100,8 +88,9 @@ fn broken_streams_leave_no_file(rt: HostRuntime) -> Result<(), Fail> {
         err.as_slice(),
         b"aec: zero run too long at bit 0\n".as_slice()
     );
-    let (status, err, _raw) = decoded(
+    let (status, err, _raw) = run_on(
         &rt,
+        rt.alloc(),
         &["aec", "-d", "-N", "-n", "1", "large.aec", "large.raw"],
         "large.aec",
         "large.raw",
@@ -117,23 +106,33 @@ fn broken_streams_leave_no_file(rt: HostRuntime) -> Result<(), Fail> {
 
 #[test]
 fn files_that_fail_are_named(rt: HostRuntime) -> Result<(), Fail> {
-    let (status, _out, err) = run_of(&rt, &["aec", "-d", "no_such_source", "not_made"])?;
+    let (status, _out, err) = run_of(
+        &rt,
+        rt.alloc(),
+        &["aec", "-d", "no_such_source", "not_made"],
+    )?;
     assert_eq!(rt; status, 1);
     assert_eq!(rt; err.as_slice(), b"aec: read failed\n".as_slice());
     assert!(rt; fs::read(&rt, "not_made").is_err());
     fs::write(&rt, "sound.aec", [0x20u8, 0x09, 0x24, 0x92].as_slice())?;
-    let (status, _out, err) = run_of(&rt, &["aec", "-d", "sound.aec", "no_such_folder/dest"])?;
+    let (status, _out, err) = run_of(
+        &rt,
+        rt.alloc(),
+        &["aec", "-d", "sound.aec", "no_such_folder/dest"],
+    )?;
     assert_eq!(rt; status, 1);
     assert_eq!(rt; err.as_slice(), b"aec: write failed\n".as_slice());
+    fs::remove_file(&rt, "sound.aec")?;
     Ok(())
 }
 
 #[test]
 fn one_name_may_stand_for_both(rt: HostRuntime) -> Result<(), Fail> {
     fs::write(&rt, "both", [0x20u8, 0x09, 0x24, 0x92].as_slice())?;
-    let (status, _out, _err) = run_of(&rt, &["aec", "-d", "both", "both"])?;
+    let (status, _out, _err) = run_of(&rt, rt.alloc(), &["aec", "-d", "both", "both"])?;
     assert_eq!(rt; status, 0);
     let raw = fs::read(&rt, "both")?;
     assert_eq!(rt; raw.as_slice(), [0u8, 1, 2, 3, 4, 5, 6, 7].as_slice());
+    fs::remove_file(&rt, "both")?;
     Ok(())
 }

@@ -1,4 +1,3 @@
-use Rattle.std.proofs.Common.{◌∙◌, ◌≡◌, ap, sym, subst}
 use Rattle.std.proofs.lemmas.Result.{err_from_is_err_and}
 use Rattle.aec_cli.proofs.OutputLemmas.{leaves_refused, leaves_delivered}
 use Rattle.aec_cli.proofs.engine.decoding.decode.Goals as goal

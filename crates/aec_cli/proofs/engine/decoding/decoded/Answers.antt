@@ -1,4 +1,4 @@
-use Rattle.std.proofs.Common.{◌∙◌, ◌≡◌, ap, Vec, List, ℕ}
+use Rattle.std.proofs.Common.{◌∙◌, ap}
 use Rattle.std.proofs.lemmas.Result.{err_from_is_err_and}
 use Rattle.aec_params.specs.Codewords.{bits_of_bytes}
 use Rattle.aec_cli.proofs.OutputLemmas.{answers_intake, answers_memory, answers_decoding, answers_samples, answers_storing}

@@ -1,6 +1,6 @@
-use Rattle.std.proofs.Common.{◌∙◌, ◌≡◌, ◌<◌, ◌≤◌, ◌++◌, ◌-◌, ◌+◌, take, length, vec_len, arith, sym}
+use Rattle.std.proofs.Common.{◌∙◌, ◌++◌, take, arith}
 use Rattle.std.proofs.lemmas.Result.{err_from_is_err_and}
-use Rattle.aec_cli.specs.Devices.{RefusesIntake, too_many_bytes, PassesLimit}
+use Rattle.aec_cli.specs.Devices.{too_many_bytes}
 use Rattle.aec_cli.proofs.DeviceLemmas.{Consumes-append, refused_by_source, refused_by_memory, past_limit}
 use Rattle.aec_cli.proofs.engine.intake.read_whole.Goals as goal
 

@@ -1,4 +1,4 @@
-use Rattle.std.proofs.Common.{rules, ◌∙◌, ◌≡◌, arith, refl, get_or, pos, w64, to_z, of_z, FitsSigned}
+use Rattle.std.proofs.Common.{rules, ◌∙◌, get_or, pos, w64, to_z, of_z, FitsSigned}
 use Rattle.std.proofs.lemmas.Int.{to_z-of_z}
 use Rattle.aec_cli.proofs.StoringLemmas.{stored-more}
 use Rattle.aec_cli.proofs.engine.outlet.stored.Goals as goal
