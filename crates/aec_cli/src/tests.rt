@@ -2,9 +2,10 @@
 
 mod coded_files;
 mod cut_streams;
-mod decoded_files;
 mod devices;
 mod engines;
+mod limits;
+mod refused_files;
 mod widths;
 
 use super::*;
