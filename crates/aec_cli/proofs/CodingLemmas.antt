@@ -35,7 +35,9 @@ held-stored : (s : Settings) (u : ℕ) (x : ℤ) → IsAllowed s → sample_of_n
 held-stored s u x allowed e = by_size (nat_lt u (2 ^ s.bits)) refl e
   where
     by_sign : (t : Bool) → (if t then Some (pattern_value s (u % 2 ^ s.bits)) else None) ≡ Some x → is_held s x ≡ true
-    by_sign true e = let is : pattern_value s (u % 2 ^ s.bits) ≡ x = cc in subst (λ x. is_held s x ≡ true) is (held-value s (u % 2 ^ s.bits) allowed (mod-lt u (pow_pos s.bits)))
+    by_sign true e =
+        let is : pattern_value s (u % 2 ^ s.bits) ≡ x = cc in
+        subst (λ x. is_held s x ≡ true) is (held-value s (u % 2 ^ s.bits) allowed (mod-lt u (pow_pos s.bits)))
     by_sign false e = absurd (cc)
 
     by_size : (t : Bool) → nat_lt u (2 ^ s.bits) ≡ t
@@ -72,7 +74,8 @@ at_input : (P : List ℕ → ℕ → Type 0) (bytes judged : List ℕ) (limit mo
 at_input P bytes judged limit most same counted p = subst (P bytes) counted (subst (λ b. P b most) same p)
 
 -- samples that are refused
-pub answers_judging : {X : Type 0} (r : Result X Fault) (fault f : Fault) (s : Settings) (caps : Caps) (source : Taking) (limit most : ℕ) (bytes judged : List ℕ) (failed : Bool)
+pub answers_judging : {X : Type 0} (r : Result X Fault) (fault f : Fault) (s : Settings) (caps : Caps) (source : Taking) (limit most : ℕ)
+    (bytes judged : List ℕ) (failed : Bool)
     → r ≡ Err fault → fault ≡ f → limit ≡ bytes_within s caps.samples → most ≡ caps.samples → judged ≡ bytes → Gave source limit (input_of bytes failed)
     → (f ≡ Memory) ⊎ (samples_refusal most (samples_of_bytes s judged) ≡ Some f)
     → IfErr r (λ e. GivesAnswer (IsEncoded s caps) source (bytes_within s caps.samples) (Err e))
@@ -93,7 +96,8 @@ answers_failed s caps source limit most bytes judged failed limited counted whol
     (not_whole (at_input (λ b n. samples_refusal n (samples_of_bytes s b) ≡ None) bytes judged caps.samples most whole counted sound) fails)
 
 -- samples that are coded
-pub answers_code : {X : Type 0} (view : X → List Bool) (r : Result X Fault) (s : Settings) (caps : Caps) (source : Taking) (limit most : ℕ) (bytes judged : List ℕ) (failed : Bool) (samples coded : List ℤ)
+pub answers_code : {X : Type 0} (view : X → List Bool) (r : Result X Fault) (s : Settings) (caps : Caps) (source : Taking) (limit most : ℕ)
+    (bytes judged : List ℕ) (failed : Bool) (samples coded : List ℤ)
     → limit ≡ bytes_within s caps.samples → most ≡ caps.samples → judged ≡ bytes → Gave source limit (input_of bytes failed)
     → samples_refusal most (samples_of_bytes s judged) ≡ None → failed ≡ false → samples_of_bytes s judged ≡ Ok samples → coded ≡ samples
     → IfOk r (λ b. view b ≡ stream_of s coded) → IfOk r (λ b. GivesAnswer (IsEncoded s caps) source (bytes_within s caps.samples) (Ok (bytes_of (view b))))
@@ -106,7 +110,8 @@ answers_code view r s caps source limit most bytes judged failed samples coded l
     IfOk-weaker r (λ b. view b ≡ stream_of s coded) (λ b. P (view b)) (λ b e. subst P (sym (e ∙ ap (stream_of s) same)) code) ok
 
 -- samples that are stored are not refused by the coder, for want of memory alone
-pub answers_coder : {X : Type 0} (r : Result X Fault) (s : Settings) (answers : Input → Result (List ℕ) Fault → Type 0) (source : Taking) (limit : ℕ) (judged : List ℕ) (samples coded : List ℤ)
+pub answers_coder : {X : Type 0} (r : Result X Fault) (s : Settings) (answers : Input → Result (List ℕ) Fault → Type 0) (source : Taking)
+    (limit : ℕ) (judged : List ℕ) (samples coded : List ℤ)
     → IsAllowed s → samples_of_bytes s judged ≡ Ok samples → coded ≡ samples
     → MatchOption (first_unheld (is_held s) 0 coded) (IfErr r (λ e. e ≡ Memory)) (λ index. result_err r ≡ Some (SampleRange index))
     → IfErr r (λ e. GivesAnswer answers source limit (Err e))

@@ -67,7 +67,8 @@ pub record WroteNothing (sink : Putting) : Type 0 where
 pub data Leaves (answers : Input → Result (List ℕ) Fault → Type 0) (source : Taking) (limit : ℕ) (sink : Putting) : Result (Unit {0}) Fault → Type 0 where
   written : (input : Input) (bytes : List ℕ) → Gave source limit input → answers input (Ok bytes) → Appends sink.before sink.after bytes
       → sink.begun_after ≡ counted sink.begun_before → Leaves answers source limit sink (Ok tt)
-  refused : (input : Input) (fault : Fault) → Gave source limit input → answers input (Err fault) → WroteNothing sink → Leaves answers source limit sink (Err fault)
+  refused : (input : Input) (fault : Fault) → Gave source limit input → answers input (Err fault) → WroteNothing sink
+      → Leaves answers source limit sink (Err fault)
   no_answer : WroteNothing sink → Leaves answers source limit sink (Err Memory)
   not_written : (input : Input) (bytes : List ℕ) → Gave source limit input → answers input (Ok bytes) → AppendsFront sink.before sink.after bytes
       → sink.begun_after ≡ counted sink.begun_before → sink.failures ≡ 1 → Leaves answers source limit sink (Err Write)

@@ -2,10 +2,11 @@
 
 mod coded_files;
 mod cut_streams;
-mod decoded_files;
 mod devices;
 mod engines;
 mod files;
+mod limits;
+mod refused_files;
 mod widths;
 
 use super::*;

@@ -159,22 +159,32 @@ fn files_are_coded_in_either_order_of_bytes(rt: HostRuntime) -> Result<(), Fail>
 }
 
 #[test]
-fn sources_that_are_missing_make_no_file(rt: HostRuntime) -> Result<(), Fail> {
-    let (status, out, err) = run_of(&rt, rt.alloc(), &["aec", "no_such_samples", "no_such_code"])?;
-    assert_eq!(rt; (status, out.len()), (1, 0));
-    assert_eq!(rt; err.as_slice(), b"aec: read failed\n".as_slice());
-    assert!(rt; !fs::exists(&rt, "no_such_code")?);
+fn blocks_without_compression_are_decoded(rt: HostRuntime) -> Result<(), Fail> {
+    let coded: [u8; 9] = [0xE0, 0, 0x20, 0x40, 0x60, 0x80, 0xA0, 0xC0, 0xE0];
+    let (status, _err, raw) = run_on(
+        &rt,
+        rt.alloc(),
+        &["aec", "-d", "-N", "plain.aec", "plain.raw"],
+        "plain.aec",
+        "plain.raw",
+        &coded,
+    )?;
+    assert_eq!(rt; status, 0);
+    assert_eq!(rt; raw.as_slice(), [0u8, 1, 2, 3, 4, 5, 6, 7].as_slice());
     Ok(())
 }
 
 #[test]
-fn folders_that_are_missing_are_not_made(rt: HostRuntime) -> Result<(), Fail> {
-    fs::write(&rt, "homeless", [0u8, 1, 2].as_slice())?;
-    let (status, out, err) = run_of(&rt, rt.alloc(), &["aec", "homeless", "no_such_folder/code"])?;
-    assert_eq!(rt; (status, out.len()), (1, 0));
-    assert_eq!(rt; err.as_slice(), b"aec: write failed\n".as_slice());
-    assert!(rt; !fs::exists(&rt, "no_such_folder")?);
-    fs::remove_file(&rt, "homeless")?;
+fn zero_bits_are_no_samples(rt: HostRuntime) -> Result<(), Fail> {
+    let (status, _err, raw) = run_on(
+        &rt,
+        rt.alloc(),
+        &["aec", "-d", "empty.aec", "empty.raw"],
+        "empty.aec",
+        "empty.raw",
+        &[0x00],
+    )?;
+    assert_eq!(rt; (status, raw.len()), (0, 0));
     Ok(())
 }
 
@@ -192,94 +202,4 @@ fn a_file_is_coded_into_itself(rt: HostRuntime) -> Result<(), Fail> {
     assert_eq!(rt; raw.as_slice(), ramp.as_slice());
     fs::remove_file(&rt, "itself")?;
     Ok(())
-}
-
-// A run that is refused, with a DEST that is there before and stays as it was.
-fn refused<R: Abort + Alloc<A = Global> + Files>(
-    rt: &R,
-    alloc: Global,
-    words: &[&str],
-    source: &[u8],
-    status: u8,
-    line: &[u8],
-) -> Result<(), Fail> {
-    fs::write(rt, "refused.in", source)?;
-    fs::write(rt, "refused.out", "as it was")?;
-    let (ended, out, err) = run_of(rt, alloc, words)?;
-    assert_eq!(rt; (ended, out.len()), (status, 0), "at {words:?}");
-    assert!(rt; err.starts_with(line), "at {words:?}");
-    let kept = fs::read(rt, "refused.out")?;
-    assert_eq!(rt; kept.as_slice(), b"as it was".as_slice(), "at {words:?}");
-    fs::remove_file(rt, "refused.in")?;
-    fs::remove_file(rt, "refused.out")?;
-    Ok(())
-}
-
-#[test]
-fn refusals_leave_a_file_as_it_was(rt: HostRuntime) -> Result<(), Fail> {
-    let missing: &[u8] = b"aec: read failed\n";
-    refused(
-        &rt,
-        rt.alloc(),
-        &["aec", "none", "refused.out"],
-        &[],
-        1,
-        missing,
-    )?;
-    refused(
-        &rt,
-        rt.alloc(),
-        &["aec", "-d", "none", "refused.out"],
-        &[],
-        1,
-        missing,
-    )?;
-    refused(
-        &rt,
-        rt.alloc(),
-        &["aec", "-n", "5", "refused.in", "refused.out"],
-        &[31, 32],
-        1,
-        b"aec: sample 1 is out of range\n",
-    )?;
-    refused(
-        &rt,
-        rt.alloc(),
-        &["aec", "-d", "refused.in", "refused.out"],
-        &[0x20, 0x09, 0x24],
-        1,
-        b"aec: coded data is cut short at bit 0\n",
-    )?;
-    refused(
-        &rt,
-        rt.alloc(),
-        &["aec", "-d", "refused.in", "refused.out"],
-        &[0x00, 0x02],
-        1,
-        b"aec: zero run too long at bit 0\n",
-    )?;
-    refused(
-        &rt,
-        rt.alloc(),
-        &["aec", "-d", "-N", "-n", "1", "refused.in", "refused.out"],
-        &[0x27, 0xF8],
-        1,
-        b"aec: value too large at bit 0\n",
-    )?;
-    refused(
-        &rt,
-        rt.alloc(),
-        &["aec", "-r", "0", "refused.in", "refused.out"],
-        &[0],
-        2,
-        b"aec: reference sample interval must be 1 to 4096\n",
-    )?;
-    refused(
-        &rt,
-        rt.alloc(),
-        &["aec", "-x", "refused.in", "refused.out"],
-        &[0],
-        2,
-        b"error: ",
-    )
 }
