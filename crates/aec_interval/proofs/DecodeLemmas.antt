@@ -1,5 +1,5 @@
 -- What a coded data set that was read gives a reading: the blocks that come next, or its fault.
-use Rattle.std.proofs.Common.{◌≡◌, ℕ, zero, suc, ◌+◌, ◌-◌, ◌%◌, ◌<◌, ◌≤◌, ◌==◌, min, Bool, true, false, if◌then◌else◌, nat_lt, nat_le, Option, Some, None, ℤ, List, [], ◌∷◌, length, take, drop, replicate, refl, sym, ap, ◌∙◌, subst, arith, rules, ⊎_elim}
+use Rattle.std.proofs.Common.{◌≡◌, ℕ, suc, ◌+◌, ◌-◌, ◌%◌, ◌<◌, ◌≤◌, ◌==◌, min, Bool, true, false, if◌then◌else◌, nat_lt, Option, Some, None, ℤ, List, [], ◌∷◌, length, replicate, refl, sym, ap, ◌∙◌, arith, ⊎_elim}
 use Rattle.std.proofs.lemmas.Bool.{cases_lt, ltb-true}
 use Rattle.std.proofs.lemmas.List.{take_all, length-replicate}
 use Rattle.std.specs.Int.{div_ceil}
@@ -8,19 +8,17 @@ use Rattle.aec_params.specs.declared.fault.Fault.{Fault}
 use Rattle.aec_params.specs.declared.fault.Fault.TheVariants.{RunTooLong, TooManySamples}
 use Rattle.aec_params.specs.Params.{IsAllowed}
 use Rattle.aec_params.specs.Blocks.{Block}
-use Rattle.aec_params.specs.CodedDataSets.{Body, plain_values, value_pairs, split_values, zero_blocks, CodedDataSet, cds_bits, HasShape, has_small_values}
-use Rattle.aec_params.specs.Places.{segment_left, run_len, body_blocks, block_count, stays_in_segment, is_reference_block, zero_block, blocks_in, cds_blocks, IsLawful}
-use Rattle.aec_params.specs.Reading.{StandsAt, next_block, is_wanted, keeps_limit, kept_blocks}
-use Rattle.aec_params.specs.Faults.{HasSetAt, IsWrongAt, IsFault, cut_short, too_large, too_long, too_many}
-use Rattle.aec_bits.specs.BitReader.{Cursor}
-use Rattle.aec_block.specs.declared.cds.RunLen.{RunLen}
+use Rattle.aec_params.specs.CodedDataSets.{Body, plain_values, value_pairs, split_values, zero_blocks, CodedDataSet, HasShape, has_small_values}
+use Rattle.aec_params.specs.Places.{run_len, body_blocks, stays_in_segment, is_reference_block, zero_block, blocks_in, IsLawful}
+use Rattle.aec_params.specs.Reading.{next_block, is_wanted, keeps_limit, kept_blocks}
+use Rattle.aec_params.specs.Faults.{IsWrongAt, cut_short, too_large, too_long, too_many}
 use Rattle.aec_block.specs.declared.cds.RunLen.TheVariants.{Blocks, Rest}
 use Rattle.aec_block.specs.ReadCds as read
 use Rattle.aec_block.specs.ReadCds.{run_len_of, answer_of, cds_of, IsSetAt, IsReadAs, IsNotRead}
-use Rattle.aec_interval.specs.NextBlock.{IsNextBlock, run_blocks}
+use Rattle.aec_interval.specs.NextBlock.{run_blocks}
 use Rattle.aec_interval.specs.NextSet.{run_count, cds_count, kept_count, IsNextCds, cds_front}
 use Rattle.aec_interval.specs.Reached.{AreFilled, IsReached, RefusesReading, faulty}
-use Rattle.aec_interval.proofs.NextSetLemmas.{single_next, single_blocks, run_front}
+use Rattle.aec_interval.proofs.NextSetLemmas.{single_next, run_front}
 
 if_ap : {A B : Type 0} (f : A → B) (b : Bool) (x y : A) → f (if b then x else y) ≡ (if b then f x else f y)
 if_ap f true x y = refl
@@ -96,18 +94,18 @@ front-answer_of s count bits i b reference (zero_blocks m) some wanted = kept_ru
 
 -- ---- faults
 
-module _ (s : Settings) (count : Option ℕ) (limit : ℕ) (bits : List Bool) (i b : ℕ) (samples : List ℤ) (reached : IsReached s count limit bits i b samples) (wanted : is_wanted s count bits i b ≡ true) where
-  wrong_here : (fault : Fault) → IsWrongAt s count limit bits i b fault → RefusesReading s count limit bits fault
+module _ (s : Settings) (count : Option ℕ) (limit : ℕ) (bits : List Bool) (start i b : ℕ) (samples : List ℤ) (reached : IsReached s count limit bits start i b samples) (wanted : is_wanted s count bits i b ≡ true) where
+  wrong_here : (fault : Fault) → IsWrongAt s count limit bits i b fault → RefusesReading s count limit bits start fault
   wrong_here fault wrong = faulty fault (record { sets = reached.sets; block = i; bit = b; leads = reached.leads; wanted = wanted; wrong = wrong })
 
-  pub refuses_unread : (fault : Fault) → IsNotRead s (is_reference_block s (i % s.interval)) bits b fault → RefusesReading s count limit bits fault
+  pub refuses_unread : (fault : Fault) → IsNotRead s (is_reference_block s (i % s.interval)) bits b fault → RefusesReading s count limit bits start fault
   refuses_unread fault (read.cut_short none) = wrong_here _ (cut_short (λ c at. none c (record { shape = at.shape; stands = at.stands })))
   refuses_unread fault (read.too_large c at large) = wrong_here _ (too_large c (record { shape = at.shape; stands = at.stands }) large)
 
   pub refuses_long : (c : CodedDataSet) → IsSetAt s (is_reference_block s (i % s.interval)) bits b c → has_small_values s c ≡ true → stays_in_segment s (i % s.interval) c ≡ false
-      → RefusesReading s count limit bits (RunTooLong b)
+      → RefusesReading s count limit bits start (RunTooLong b)
   refuses_long c at small long = wrong_here _ (too_long c (record { shape = at.shape; stands = at.stands }) small long)
 
   pub refuses_many : (c : CodedDataSet) → IsSetAt s (is_reference_block s (i % s.interval)) bits b c → IsLawful s (i % s.interval) c → keeps_limit s count limit (next_block s i c) ≡ false
-      → RefusesReading s count limit bits (TooManySamples limit)
+      → RefusesReading s count limit bits start (TooManySamples limit)
   refuses_many c at lawful many = wrong_here _ (too_many c (record { shape = at.shape; stands = at.stands }) lawful many)

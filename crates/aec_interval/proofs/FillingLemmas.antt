@@ -1,10 +1,10 @@
 -- Samples taken back from values, one behind the other.
-use Rattle.std.proofs.Common.{◌≡◌, ℕ, suc, ◌+◌, ◌<◌, ◌^◌, Option, Some, None, ℤ, pos, List, [], ◌∷◌, ◌++◌, length, take, unwrap_or, get_or, slice_get, sub-one, ◌-◌, subst, refl, sym, ap, ap₂, ◌∙◌, append-nil, append_assoc}
+use Rattle.std.proofs.Common.{◌≡◌, ℕ, suc, ◌+◌, ◌<◌, Option, Some, None, ℤ, pos, List, [], ◌∷◌, ◌++◌, length, take, unwrap_or, get_or, slice_get, sub-one, ◌-◌, subst, refl, sym, ap, ap₂, ◌∙◌, append-nil, append_assoc}
 use Rattle.std.proofs.lemmas.List.{take_more}
 use Rattle.std.specs.List.{AllByRecursion, last_or}
 use Rattle.aec_params.specs.declared.settings.Settings.{Settings}
 use Rattle.aec_params.specs.Params.{IsHeld}
-use Rattle.aec_params.specs.Mapping.{mapped_value, mapped_after}
+use Rattle.aec_params.specs.Mapping.{mapped_value}
 use Rattle.aec_interval.specs.NextBlock.{Unmaps}
 use Rattle.aec_interval.proofs.NextBlockLemmas.{last_or-append, mapped_after-append}
 

@@ -30,3 +30,5 @@ pub mod ZeroRunLemmas
 pub mod NextSetLemmas
 pub mod DecodeLemmas
 pub mod ReadNextLemmas
+pub mod IntervalFormatLemmas
+pub mod IntervalReadingLemmas

@@ -1,13 +1,13 @@
 -- The blocks of samples with one block more: the blocks as they were, and that block.
-use Rattle.std.proofs.Common.{◌≡◌, ℕ, zero, suc, ◌+◌, ◌-◌, ◌*◌, ◌/◌, ◌%◌, ◌<◌, ◌≤◌, ◌==◌, if◌then◌else◌, Bool, true, false, Option, Some, None, ℤ, pos, List, [], ◌∷◌, ◌++◌, map, length, replicate, unwrap_or, refl, sym, ap, ap₂, append-nil, append_assoc, ◌∙◌, subst, arith, rules, inl, inr, ⊎_elim}
+use Rattle.std.proofs.Common.{◌≡◌, ℕ, zero, suc, ◌+◌, ◌-◌, ◌*◌, ◌%◌, ◌<◌, ◌≤◌, ◌==◌, if◌then◌else◌, Option, Some, None, ℤ, pos, List, [], ◌∷◌, ◌++◌, length, replicate, unwrap_or, refl, sym, ap, ap₂, append-nil, append_assoc, ◌∙◌, subst, arith, ⊎_elim}
 use Rattle.std.proofs.lemmas.List.{length-append}
 use Rattle.std.proofs.lemmas.Bool.{cases_lt, ne_eqb}
 use Rattle.std.specs.List.{flat_map, last_or}
 use Rattle.aec_params.specs.declared.settings.Settings.{Settings}
-use Rattle.aec_params.specs.Params.{IsAllowed, interval_len, sample_pattern}
+use Rattle.aec_params.specs.Params.{interval_len, sample_pattern}
 use Rattle.aec_params.specs.Cutting.{pieces_of, up_to_multiple}
 use Rattle.aec_params.specs.Mapping.{mapped_value, mapped_after, mapped_values}
-use Rattle.aec_params.specs.Blocks.{Block, intervals_of, filled_samples, reference_of, with_reference, blocks_of, all_blocks_of}
+use Rattle.aec_params.specs.Blocks.{Block, filled_samples, reference_of, with_reference, blocks_of, all_blocks_of}
 use Rattle.aec_interval.specs.NextBlock.{last_sample, next_block_at, next_block_of}
 use Rattle.std.proofs.lemmas.List.{map-append}
 use Rattle.std.proofs.Math.Nat.{mul-mod_left, mod_self, mod-eq_of_lt, add-mod_left, suc-mul, zero-mul, one-mul, sub-zero, mul-pos, mul-le-mul_right, le-mul_of_pos_right, mul_comm, mul-sub}

@@ -1,19 +1,18 @@
 -- Samples taken back from the values of a block fill that block behind the blocks before.
-use Rattle.std.proofs.Common.{◌≡◌, ℕ, zero, suc, ◌+◌, ◌*◌, ◌%◌, ◌<◌, ◌≤◌, ◌^◌, ◌==◌, ◌&&◌, if◌then◌else◌, Bool, true, false, Option, Some, None, ℤ, pos, List, [], ◌∷◌, ◌++◌, length, take, drop, unwrap_or, refl, sym, ap, ap₂, ◌∙◌, subst, append_assoc, append-nil, arith, rules, IsTrue, ◌-◌, neg_ℤ, int_le}
+use Rattle.std.proofs.Common.{◌≡◌, ℕ, zero, suc, ◌%◌, ◌<◌, ◌^◌, ◌==◌, ◌&&◌, if◌then◌else◌, Bool, true, false, Option, Some, None, ℤ, pos, List, [], ◌∷◌, ◌++◌, length, take, drop, unwrap_or, refl, sym, ap, ap₂, ◌∙◌, subst, append_assoc, arith, ◌-◌, neg_ℤ, int_le}
 use Rattle.std.proofs.lemmas.Bool.Decides.{nat_tests}
 use Rattle.std.proofs.lemmas.Bool.{le-leb}
 use Rattle.std.proofs.lemmas.Result.{IfOk-weaker}
-use Rattle.std.proofs.Common.{Result, Ok, Err, IfOk}
+use Rattle.std.proofs.Common.{Result, IfOk}
 use Rattle.aec_params.specs.declared.fault.Fault.{Fault}
-use Rattle.std.proofs.lemmas.List.{length-append}
 use Rattle.std.specs.List.{AllByRecursion, last_or}
 use Rattle.aec_params.specs.declared.settings.Settings.{Settings}
-use Rattle.aec_params.specs.Params.{IsAllowed, IsHeld, is_held, is_between, is_block_size, interval_len, sample_pattern}
+use Rattle.aec_params.specs.Params.{IsAllowed, IsHeld, interval_len, sample_pattern}
 use Rattle.aec_params.specs.Mapping.{mapped_value, mapped_after, mapped_values}
 use Rattle.aec_params.specs.Blocks.{Block, reference_of}
 use Rattle.aec_params.specs.CodedDataSets.{HasReference}
 use Rattle.aec_params.specs.Reading.{FillBlocks}
-use Rattle.aec_interval.specs.NextBlock.{last_sample, next_block_at, next_block_of, Unmaps, Placed, IsNextBlock, FillsNext}
+use Rattle.aec_interval.specs.NextBlock.{last_sample, next_block_at, Unmaps, Placed, IsNextBlock, FillsNext}
 use Rattle.aec_interval.proofs.NextBlockLemmas.{length-mapped_after}
 use Rattle.aec_interval.proofs.ReadingSteps.{FillBlocks-push}
 

@@ -1,14 +1,13 @@
 -- The block of a coded data set comes next where the coded data set does.
-use Rattle.std.proofs.Common.{◌≡◌, ℕ, zero, suc, ◌+◌, ◌-◌, ◌%◌, ◌<◌, ◌≤◌, ◌^◌, ◌&&◌, Bool, true, false, if◌then◌else◌, nat_lt, min, Option, Some, None, ℤ, List, [], ◌∷◌, ◌++◌, length, take, drop, replicate, refl, sym, ap, ◌∙◌, subst, sub-one, add-one, arith, rules}
+use Rattle.std.proofs.Common.{◌≡◌, ℕ, zero, suc, ◌-◌, ◌%◌, ◌<◌, ◌≤◌, ◌^◌, ◌&&◌, Bool, true, false, nat_lt, Option, Some, None, ℤ, List, [], ◌∷◌, length, take, replicate, refl, ap, ◌∙◌, sub-one, arith}
 use Rattle.std.proofs.lemmas.Nat.{pow_pos}
 use Rattle.std.proofs.lemmas.Bool.{ltb-true}
 use Rattle.std.proofs.lemmas.List.{length-drop}
 use Rattle.std.specs.List.{AllByRecursion, list_all}
 use Rattle.aec_params.specs.declared.settings.Settings.{Settings}
 use Rattle.aec_params.specs.Params.{IsAllowed}
-use Rattle.aec_params.specs.Blocks.{Block}
-use Rattle.aec_params.specs.CodedDataSets.{Body, plain_values, value_pairs, split_values, zero_blocks, CodedDataSet, HasReference, HasBody, HasShape, written_count, judged_in, has_small_values}
-use Rattle.aec_params.specs.Places.{is_reference_block, placed_values, placed_members, zero_block, blocks_in, run_len}
+use Rattle.aec_params.specs.CodedDataSets.{Body, plain_values, value_pairs, split_values, zero_blocks, HasReference, HasShape, written_count, judged_in, has_small_values}
+use Rattle.aec_params.specs.Places.{is_reference_block, placed_values, placed_members, zero_block, blocks_in}
 use Rattle.aec_interval.specs.NextBlock.{Placed, IsNextBlock, run_blocks}
 use Rattle.aec_interval.specs.Reached.{AreFilled}
 use Rattle.aec_interval.proofs.NextFillLemmas.{block_size-some}

@@ -1,13 +1,13 @@
 -- A reading that has come so far comes one coded data set further.
-use Rattle.std.proofs.Common.{◌≡◌, ℕ, zero, suc, ◌+◌, ◌-◌, ◌*◌, ◌/◌, ◌%◌, ◌<◌, ◌≤◌, ◌==◌, ◌&&◌, min, Bool, true, false, nat_lt, Option, Some, None, ℤ, List, [], ◌∷◌, ◌++◌, length, take, drop, replicate, refl, sym, ap, ap₂, append-nil, append_assoc, ◌∙◌, subst, arith, rules}
+use Rattle.std.proofs.Common.{◌≡◌, ℕ, zero, suc, ◌+◌, ◌-◌, ◌%◌, ◌<◌, ◌≤◌, Bool, true, Option, Some, None, ℤ, List, [], ◌∷◌, ◌++◌, length, take, refl, sym, ap, ◌∙◌, subst, arith}
 use Rattle.std.proofs.Math.Nat.{mod-lt, mul-pos, sub-zero, suc-sub-suc}
 use Rattle.std.proofs.lemmas.List.{length-append, take_all}
 use Rattle.std.proofs.lemmas.Bool.{ltb-true}
 use Rattle.std.specs.Int.{div_ceil}
 use Rattle.aec_params.specs.declared.settings.Settings.{Settings}
-use Rattle.aec_params.specs.Params.{IsAllowed, interval_len}
+use Rattle.aec_params.specs.Params.{IsAllowed}
 use Rattle.aec_params.specs.Blocks.{Block}
-use Rattle.aec_params.specs.CodedDataSets.{CodedDataSet, cds_bits}
+use Rattle.aec_params.specs.CodedDataSets.{CodedDataSet}
 use Rattle.aec_params.specs.Places.{block_count, cds_blocks, IsLawful}
 use Rattle.aec_params.specs.Reading.{StandsAt, next_block, next_begin, is_wanted, keeps_limit, LeadsTo, stream_blocks, kept_blocks, FillBlocks}
 use Rattle.aec_interval.specs.NextBlock.{FillsNext}
@@ -46,8 +46,8 @@ kept_blocks-wanted s (Some count) bits i b blocks len wanted =
     let below = ltb-true i (div_ceil count s.block_size) wanted in
     take_all (div_ceil count s.block_size - 0) blocks (omega arith)
 
-pub IsReached-start : (s : Settings) (count : Option ℕ) (limit : ℕ) (bits : List Bool) → IsAllowed s → IsReached s count limit bits 0 0 []
-IsReached-start s count limit bits allowed = record {
+pub IsReached-start : (s : Settings) (count : Option ℕ) (limit : ℕ) (bits : List Bool) (start : ℕ) → IsAllowed s → IsReached s count limit bits start 0 start []
+IsReached-start s count limit bits start allowed = record {
   sets = [];
   leads = (refl, refl);
   filled = subst (λ blocks. FillBlocks s [] blocks) (sym (nothing_kept count)) (FillBlocks-nil s (mul-pos (block_size-some s allowed) (interval-some s allowed)));
@@ -58,24 +58,24 @@ IsReached-start s count limit bits allowed = record {
     nothing_kept (Some count) = take_all (div_ceil count s.block_size - 0) [] (omega arith)
 
 -- where more is wanted, the samples fill as many blocks as were read
-pub AreFilled-reached : (s : Settings) (count : Option ℕ) (limit : ℕ) (bits : List Bool) (i b : ℕ) (samples : List ℤ) → IsAllowed s → IsReached s count limit bits i b samples
+pub AreFilled-reached : (s : Settings) (count : Option ℕ) (limit : ℕ) (bits : List Bool) (start i b : ℕ) (samples : List ℤ) → IsAllowed s → IsReached s count limit bits start i b samples
     → is_wanted s count bits i b ≡ true → AreFilled s i samples
-AreFilled-reached s count limit bits i b samples allowed reached wanted =
-    let len : length (stream_blocks s 0 reached.sets) ≡ i = omega (arith, length-stream_blocks s count limit bits 0 0 reached.sets i b (interval-some s allowed) reached.leads) in
+AreFilled-reached s count limit bits start i b samples allowed reached wanted =
+    let len : length (stream_blocks s 0 reached.sets) ≡ i = omega (arith, length-stream_blocks s count limit bits 0 start reached.sets i b (interval-some s allowed) reached.leads) in
     record { blocks = stream_blocks s 0 reached.sets; filled = subst (FillBlocks s samples) (kept_blocks-wanted s count bits i b (stream_blocks s 0 reached.sets) len wanted) reached.filled; count_is = len }
 
-pub IsReached-more : (s : Settings) (count : Option ℕ) (limit : ℕ) (bits : List Bool) (i b : ℕ) (old new : List ℤ) (c : CodedDataSet) → IsAllowed s
-    → IsReached s count limit bits i b old → is_wanted s count bits i b ≡ true → StandsAt s bits b c → IsLawful s (i % s.interval) c → keeps_limit s count limit (next_block s i c) ≡ true
+pub IsReached-more : (s : Settings) (count : Option ℕ) (limit : ℕ) (bits : List Bool) (start i b : ℕ) (old new : List ℤ) (c : CodedDataSet) → IsAllowed s
+    → IsReached s count limit bits start i b old → is_wanted s count bits i b ≡ true → StandsAt s bits b c → IsLawful s (i % s.interval) c → keeps_limit s count limit (next_block s i c) ≡ true
     → FillsNext s old new (kept_blocks s count i (cds_blocks s (i % s.interval) c))
-    → IsReached s count limit bits (next_block s i c) (next_begin s bits i b c) new
-IsReached-more s count limit bits i b old new c allowed reached wanted stands lawful within fills =
+    → IsReached s count limit bits start (next_block s i c) (next_begin s bits i b c) new
+IsReached-more s count limit bits start i b old new c allowed reached wanted stands lawful within fills =
     let blocks : List Block = stream_blocks s 0 reached.sets in
-    let len : length blocks ≡ i = omega (arith, length-stream_blocks s count limit bits 0 0 reached.sets i b (interval-some s allowed) reached.leads) in
+    let len : length blocks ≡ i = omega (arith, length-stream_blocks s count limit bits 0 start reached.sets i b (interval-some s allowed) reached.leads) in
     record {
       sets = reached.sets ++ c ∷ [];
-      leads = LeadsTo-push s count limit bits 0 0 reached.sets i b c reached.leads wanted stands lawful within;
+      leads = LeadsTo-push s count limit bits 0 start reached.sets i b c reached.leads wanted stands lawful within;
       filled = subst (FillBlocks s new)
-          (sym (ap (kept_blocks s count 0) (stream_blocks-push s count limit bits 0 0 reached.sets i b c reached.leads)
+          (sym (ap (kept_blocks s count 0) (stream_blocks-push s count limit bits 0 start reached.sets i b c reached.leads)
           ∙ kept_blocks-append s count bits i b blocks (cds_blocks s (i % s.interval) c) len wanted))
           (fills blocks (subst (FillBlocks s old) (kept_blocks-wanted s count bits i b blocks len wanted) reached.filled));
     }

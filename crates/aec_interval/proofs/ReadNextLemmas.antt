@@ -1,5 +1,5 @@
 -- One coded data set more, in the form in which the reader has the facts.
-use Rattle.std.proofs.Common.{◌≡◌, ℕ, ◌+◌, ◌-◌, ◌%◌, ◌<◌, ◌≤◌, min, Bool, true, false, nat_le, Option, Some, None, ℤ, List, [], ◌++◌, length, drop, refl, sym, ap, ◌∙◌, subst, arith, Result, Err, IfErr, IfSome}
+use Rattle.std.proofs.Common.{◌≡◌, ℕ, ◌+◌, ◌-◌, ◌%◌, ◌<◌, ◌≤◌, Bool, true, false, Option, Some, None, ℤ, List, [], length, refl, sym, ap, ◌∙◌, subst, arith, Result, Ok, Err, IfErr, IfSome}
 use Rattle.std.proofs.Math.Nat.{mod-lt, le-mul_of_pos_right, zero-div, zero-mod, zero-mul}
 use Rattle.std.proofs.lemmas.List.{take_all}
 use Rattle.std.specs.List.{flat_map}
@@ -16,15 +16,15 @@ use Rattle.aec_params.specs.declared.fault.Fault.TheVariants.{RunTooLong, TooMan
 use Rattle.aec_params.specs.Params.{IsAllowed}
 use Rattle.std.proofs.Common.{lit≤, nat_lt, if◌then◌else◌}
 use Rattle.std.proofs.lemmas.Bool.{lt-leb}
-use Rattle.aec_params.specs.CodedDataSets.{Body, plain_values, value_pairs, split_values, zero_blocks, CodedDataSet, cds_bits, has_small_values}
+use Rattle.aec_params.specs.CodedDataSets.{Body, plain_values, value_pairs, split_values, zero_blocks, CodedDataSet}
 use Rattle.aec_params.specs.Places.{segment_left, body_blocks, block_count, stays_in_segment, is_reference_block, cds_blocks, IsLawful}
-use Rattle.aec_params.specs.Reading.{next_block, next_begin, begin_of, is_wanted, keeps_limit, kept_blocks, stream_blocks, counted_samples, IsReading}
+use Rattle.aec_params.specs.Reading.{next_block, begin_of, is_wanted, keeps_limit, kept_blocks, stream_blocks, counted_samples, IsReading}
 use Rattle.aec_bits.specs.BitReader.{Cursor}
 use Rattle.aec_block.specs.declared.cds.Cds.{Cds}
-use Rattle.aec_block.specs.ReadCds.{cds_of, answer_of, IsReadAs, IsNotRead}
+use Rattle.aec_block.specs.ReadCds.{IsReadAs, IsNotRead}
 use Rattle.aec_interval.specs.NextBlock.{FillsNext}
 use Rattle.aec_interval.specs.NextSet.{cds_count, kept_count, IsNextCds, cds_front}
-use Rattle.aec_interval.specs.Reached.{AreFilled, IsReached, RefusesReading, no_memory, count_refusal, RefusesDecoding, above_limit, unread}
+use Rattle.aec_interval.specs.Reached.{IsReached, IsReadFrom, RefusesReading, no_memory, count_refusal, RefusesDecoding, above_limit, unread}
 use Rattle.aec_interval.proofs.NextFillLemmas.{interval-some, block_size-some}
 use Rattle.std.proofs.Common.{◌*◌, ◌^◌}
 use Rattle.aec_interval.proofs.ReadingSteps.{run_len-some}
@@ -47,17 +47,17 @@ count-some s p c within = of_body c.body
     of_body (split_values k values) = lit≤ tt
     of_body (zero_blocks m) = run_len-some s p m within
 
-module _ (s : Settings) (count : Option ℕ) (limit : ℕ) (old new : Cursor) (i : ℕ) (samples : List ℤ) (allowed : IsAllowed s)
-    (reached : IsReached s count limit old.list i old.pos samples) (wanted : is_wanted s count old.list i old.pos ≡ true) where
+module _ (s : Settings) (count : Option ℕ) (limit : ℕ) (start : ℕ) (old new : Cursor) (i : ℕ) (samples : List ℤ) (allowed : IsAllowed s)
+    (reached : IsReached s count limit old.list start i old.pos samples) (wanted : is_wanted s count old.list i old.pos ≡ true) where
   pub unread-refuses : {X : Type 0} (r : Result X Fault) (fault : Fault) → r ≡ Err fault → IsNotRead s (is_reference_block s (i % s.interval)) old.list old.pos fault
-      → IfErr r (λ fault. RefusesReading s count limit old.list fault)
+      → IfErr r (λ fault. RefusesReading s count limit old.list start fault)
   unread-refuses r fault is not_read =
-      let P : Result _ Fault → Type 0 = λ r. IfErr r (λ fault. RefusesReading s count limit old.list fault) in
-      subst P (sym is) (refuses_unread s count limit old.list i old.pos samples reached wanted fault not_read)
+      let P : Result _ Fault → Type 0 = λ r. IfErr r (λ fault. RefusesReading s count limit old.list start fault) in
+      subst P (sym is) (refuses_unread s count limit old.list start i old.pos samples reached wanted fault not_read)
 
-  pub memory-refuses : {X : Type 0} (r : Result X Fault) (fault : Fault) → r ≡ Err fault → fault ≡ Memory → IfErr r (λ fault. RefusesReading s count limit old.list fault)
+  pub memory-refuses : {X : Type 0} (r : Result X Fault) (fault : Fault) → r ≡ Err fault → fault ≡ Memory → IfErr r (λ fault. RefusesReading s count limit old.list start fault)
   memory-refuses r fault is memory =
-      let P : Result _ Fault → Type 0 = λ r. IfErr r (λ fault. RefusesReading s count limit old.list fault) in
+      let P : Result _ Fault → Type 0 = λ r. IfErr r (λ fault. RefusesReading s count limit old.list start fault) in
       subst P (sym (is ∙ ap Err memory)) no_memory
 
   module _ (c : CodedDataSet) (cds : Cds) (blocks left : ℕ) (read : IsReadAs s (is_reference_block s (i % s.interval)) old new c cds)
@@ -65,8 +65,8 @@ module _ (s : Settings) (count : Option ℕ) (limit : ℕ) (old new : Cursor) (i
     blocks-is : blocks ≡ block_count s (i % s.interval) c
     blocks-is = count-read s (i % s.interval) (is_reference_block s (i % s.interval)) old new c cds blocks read counted
 
-    pub long-refuses : left < blocks → RefusesReading s count limit old.list (RunTooLong old.pos)
-    long-refuses past = refuses_long s count limit old.list i old.pos samples reached wanted c read.set read.small
+    pub long-refuses : left < blocks → RefusesReading s count limit old.list start (RunTooLong old.pos)
+    long-refuses past = refuses_long s count limit old.list start i old.pos samples reached wanted c read.set read.small
         (lt-leb (block_count s (i % s.interval) c) (segment_left s (i % s.interval)) (omega (arith, blocks-is, left_is, past)))
 
     stays : blocks ≤ left → stays_in_segment s (i % s.interval) c ≡ true
@@ -75,8 +75,8 @@ module _ (s : Settings) (count : Option ℕ) (limit : ℕ) (old new : Cursor) (i
     lawful : blocks ≤ left → IsLawful s (i % s.interval) c
     lawful within = record { shape = read.set.shape; small = read.small; within = stays within }
 
-    pub many-refuses : blocks ≤ left → keeps_limit s count limit (i + blocks) ≡ false → RefusesReading s count limit old.list (TooManySamples limit)
-    many-refuses within many = refuses_many s count limit old.list i old.pos samples reached wanted c read.set (lawful within)
+    pub many-refuses : blocks ≤ left → keeps_limit s count limit (i + blocks) ≡ false → RefusesReading s count limit old.list start (TooManySamples limit)
+    many-refuses within many = refuses_many s count limit old.list start i old.pos samples reached wanted c read.set (lawful within)
         (ap (λ z. keeps_limit s count limit (i + z)) (sym blocks-is) ∙ many)
 
     blocks-some : 1 ≤ blocks
@@ -94,19 +94,19 @@ module _ (s : Settings) (count : Option ℕ) (limit : ℕ) (old new : Cursor) (i
     next-cds kept within is =
         let bounds = kept-bounds kept is in
         subst (IsNextCds s i samples kept) (sym read.answer)
-        (next-answer_of s i samples kept c.reference c.body allowed (AreFilled-reached s count limit old.list i old.pos samples allowed reached wanted)
+        (next-answer_of s i samples kept c.reference c.body allowed (AreFilled-reached s count limit old.list start i old.pos samples allowed reached wanted)
         read.set.shape read.small bounds.0 (omega (arith, bounds.1, within, left_is)))
 
     pub reached-next : (kept : ℕ) (more : List ℤ) (e : ℕ) → blocks ≤ left → kept ≡ kept_count s count i blocks → keeps_limit s count limit (i + blocks) ≡ true
-        → FillsNext s samples more (cds_front s kept cds) → e ≡ begin_of s old.list (i + blocks) new.pos → IsReached s count limit old.list (i + blocks) e more
+        → FillsNext s samples more (cds_front s kept cds) → e ≡ begin_of s old.list (i + blocks) new.pos → IsReached s count limit old.list start (i + blocks) e more
     reached-next kept more e within is keeps fills begins =
         let front : cds_front s kept cds ≡ kept_blocks s count i (cds_blocks s (i % s.interval) c) =
         ap (λ k. cds_front s k cds) (is ∙ ap (kept_count s count i) blocks-is) ∙ (ap (cds_front s (kept_count s count i (block_count s (i % s.interval) c))) read.answer
         ∙ front-answer_of s count old.list i old.pos c.reference c.body (omega (arith, blocks-is, blocks-some)) wanted) in
-        let whole = IsReached-more s count limit old.list i old.pos samples more c allowed reached wanted read.set.stands (lawful within)
+        let whole = IsReached-more s count limit old.list start i old.pos samples more c allowed reached wanted read.set.stands (lawful within)
         (ap (λ z. keeps_limit s count limit (i + z)) (sym blocks-is) ∙ keeps) (subst (FillsNext s samples more) front fills) in
-        subst (λ z. IsReached s count limit old.list (i + z) e more) (sym blocks-is)
-        (subst (λ e. IsReached s count limit old.list (next_block s i c) e more)
+        subst (λ z. IsReached s count limit old.list start (i + z) e more) (sym blocks-is)
+        (subst (λ e. IsReached s count limit old.list start (next_block s i c) e more)
         (sym (begins ∙ (ap (λ z. begin_of s old.list (i + z) new.pos) blocks-is ∙ ap (begin_of s old.list (next_block s i c)) (ap (λ (cursor : Cursor). cursor.pos) read.behind)))) whole)
 
     pub forward-next : i < i + blocks
@@ -130,16 +130,21 @@ pub few-wanted : (s : Settings) (count : Option ℕ) (bits : List Bool) (i b : �
 few-wanted s None bits i b wanted = tt
 few-wanted s (Some n) bits i b wanted = let below = ltb-true i (div_ceil n s.block_size) wanted in omega arith
 
--- where nothing more is wanted, the samples are the reading
-pub reading-done : (s : Settings) (count : Option ℕ) (limit : ℕ) (bits : List Bool) (i b : ℕ) (samples : List ℤ) → IsReached s count limit bits i b samples → is_wanted s count bits i b ≡ false
-    → IsReading s count limit bits (counted_samples count samples)
-reading-done s count limit bits i b samples reached done = record {
+-- where nothing more is wanted, the samples are what is read
+pub reading-done : (s : Settings) (count : Option ℕ) (limit : ℕ) (bits : List Bool) (start i b : ℕ) (samples : List ℤ) → IsReached s count limit bits start i b samples
+    → is_wanted s count bits i b ≡ false → IsReadFrom s count limit bits start (counted_samples count samples)
+reading-done s count limit bits start i b samples reached done = record {
   blocks = kept_blocks s count 0 (stream_blocks s 0 reached.sets);
   read = record { sets = reached.sets; end_block = i; end_bit = b; leads = reached.leads; done = done; kept = refl };
   all_samples = samples;
   filled = reached.filled;
   counted = refl;
 }
+
+-- what is read from the first bit on is the reading
+pub IsReading-from_start : (s : Settings) (count : Option ℕ) (limit : ℕ) (bits : List Bool) (samples : List ℤ) → IsReadFrom s count limit bits 0 samples → IsReading s count limit bits samples
+IsReading-from_start s count limit bits samples r =
+    record { blocks = r.blocks; read = r.read; all_samples = r.all_samples; filled = r.filled; counted = r.counted }
 
 -- a count that is not refused is within the limit
 pub count-within : (limit : ℕ) (count : Option ℕ) → count_refusal limit count ≡ None → limit ≤ 2 ^ 32 → IfSome count (λ n. n ≤ 2 ^ 32)
@@ -151,9 +156,10 @@ count-within limit (Some n) none low = by_test (nat_lt limit n) refl none
     by_test false is none = let within = ltb-false limit n is in omega (arith, within, low)
 
 -- at the start, whatever the settings
-pub reached-start : (s : Settings) (count : Option ℕ) (limit : ℕ) (bits : List Bool) (b : ℕ) (samples : List ℤ) → b ≡ 0 → samples ≡ [] → IsReached s count limit bits 0 b samples
-reached-start s count limit bits b samples start none =
-    subst (λ b. IsReached s count limit bits 0 b samples) (sym start) (subst (λ samples. IsReached s count limit bits 0 0 samples) (sym none)
+pub reached-start : (s : Settings) (count : Option ℕ) (limit : ℕ) (bits : List Bool) (start b : ℕ) (samples : List ℤ) → b ≡ start → samples ≡ []
+    → IsReached s count limit bits start 0 b samples
+reached-start s count limit bits start b samples begins none =
+    subst (λ b. IsReached s count limit bits start 0 b samples) (sym begins) (subst (λ samples. IsReached s count limit bits start 0 start samples) (sym none)
     (record { sets = []; leads = (refl, refl); filled = record { held = tt; whole = sym (no_blocks count); mapped = nothing ∙ sym (nothing_kept count) } }))
   where
     no_pieces : div_ceil 0 (interval_len s) ≡ 0
@@ -175,8 +181,10 @@ counting-refuses {X} r fault s count limit bits is above =
     let P : Result X Fault → Type 0 = λ r. IfErr r (λ fault. RefusesDecoding s count limit bits fault) in
     subst P (sym is) (above_limit fault (sym above))
 
-pub reading-refuses : {X : Type 0} (r : Result X Fault) (fault : Fault) (s : Settings) (count : Option ℕ) (limit : ℕ) (bits : List Bool) → r ≡ Err fault → None ≡ count_refusal limit count
-    → RefusesReading s count limit bits fault → IfErr r (λ fault. RefusesDecoding s count limit bits fault)
-reading-refuses {X} r fault s count limit bits is within refuses =
-    let P : Result X Fault → Type 0 = λ r. IfErr r (λ fault. RefusesDecoding s count limit bits fault) in
-    subst P (sym is) (unread fault (sym within) refuses)
+pub refuses-with : {X : Type 0} (r : Result X Fault) (fault : Fault) (P : Fault → Type 0) → r ≡ Err fault → P fault → IfErr r P
+refuses-with r fault P is holds = subst (λ r. IfErr r P) (sym is) holds
+
+pub decoding-refuses : {X : Type 0} (r : Result X Fault) (s : Settings) (count : Option ℕ) (limit : ℕ) (bits : List Bool) → None ≡ count_refusal limit count
+    → IfErr r (λ fault. RefusesReading s count limit bits 0 fault) → IfErr r (λ fault. RefusesDecoding s count limit bits fault)
+decoding-refuses (Ok x) s count limit bits within refuses = tt
+decoding-refuses (Err fault) s count limit bits within refuses = unread fault (sym within) refuses

@@ -144,17 +144,17 @@ interval-spelled s v sets pre after rest bits e spelled one =
     ∙ append_assoc (flat_map (cds_bits s) sets) (padding_of s v) rest)
 
 -- the walk through one interval
-record IsPart (s : Settings) (count limit k i b : ℕ) (pre bits : List Bool) (v : List ℤ) : Type 0 where
-  sets : List CodedDataSet
-  leads : LeadsTo s (Some count) limit bits i b sets (k * s.interval + end_of s 0 sets)
+pub record IsPart (s : Settings) (count limit k i b : ℕ) (pre bits : List Bool) (v : List ℤ) : Type 0 where
+  pub sets : List CodedDataSet
+  pub leads : LeadsTo s (Some count) limit bits i b sets (k * s.interval + end_of s 0 sets)
       (begin_of s bits (k * s.interval + end_of s 0 sets) (length pre + length (plain_bits s v)))
-  reaches : length (blocks_of s v) ≤ end_of s 0 sets
-  within : end_of s 0 sets ≤ s.interval
-  len : length (covered_blocks s 0 sets) ≡ end_of s 0 sets
-  covered : stream_blocks s i sets ≡ covered_blocks s 0 sets
-  stand_for : take (length (blocks_of s v)) (covered_blocks s 0 sets) ≡ blocks_of s v
+  pub reaches : length (blocks_of s v) ≤ end_of s 0 sets
+  pub within : end_of s 0 sets ≤ s.interval
+  pub len : length (covered_blocks s 0 sets) ≡ end_of s 0 sets
+  pub covered : stream_blocks s i sets ≡ covered_blocks s 0 sets
+  pub stand_for : take (length (blocks_of s v)) (covered_blocks s 0 sets) ≡ blocks_of s v
 
-part_of : (s : Settings) (count limit k i b : ℕ) (pre after rest bits : List Bool) (v : List ℤ) → IsAllowed s → 0 < length v → length v ≤ interval_len s
+pub part_of : (s : Settings) (count limit k i b : ℕ) (pre after rest bits : List Bool) (v : List ℤ) → IsAllowed s → 0 < length v → length v ≤ interval_len s
     → AllByRecursion (IsHeld s) v
     → i ≡ k * s.interval → b ≡ length pre → bits ≡ pre ++ after → after ≡ interval_bits s v ++ rest
     → i + div_ceil (length v) s.block_size ≤ div_ceil count s.block_size

@@ -4,3 +4,4 @@ pub mod Pending
 pub mod NextBlock
 pub mod Reached
 pub mod NextSet
+pub mod IntervalFormat

@@ -5,7 +5,7 @@ use Rattle.aec_params.specs.declared.fault.Fault.{Fault}
 use Rattle.aec_params.specs.declared.fault.Fault.TheVariants.{Memory, TooManySamples}
 use Rattle.aec_params.specs.Blocks.{Block}
 use Rattle.aec_params.specs.CodedDataSets.{CodedDataSet}
-use Rattle.aec_params.specs.Reading.{LeadsTo, stream_blocks, kept_blocks, FillBlocks}
+use Rattle.aec_params.specs.Reading.{LeadsTo, stream_blocks, kept_blocks, IsBlockReading, FillBlocks, counted_samples}
 use Rattle.aec_params.specs.Faults.{IsFault}
 
 -- samples that fill so many blocks
@@ -14,16 +14,25 @@ pub record AreFilled (s : Settings) (count : ℕ) (samples : List ℤ) : Type 0 
   pub filled : FillBlocks s samples blocks
   pub count_is : length blocks ≡ count
 
--- coded data sets lead to block i at position b, and the samples fill the blocks that are kept of them
-pub record IsReached (s : Settings) (count : Option ℕ) (limit : ℕ) (bits : List Bool) (i b : ℕ) (samples : List ℤ) : Type 0 where
+-- from position `start` on, where an interval begins, coded data sets lead to block i at position b, and the samples fill the
+-- blocks that are kept of them
+pub record IsReached (s : Settings) (count : Option ℕ) (limit : ℕ) (bits : List Bool) (start i b : ℕ) (samples : List ℤ) : Type 0 where
   pub sets : List CodedDataSet
-  pub leads : LeadsTo s count limit bits 0 0 sets i b
+  pub leads : LeadsTo s count limit bits 0 start sets i b
   pub filled : FillBlocks s samples (kept_blocks s count 0 (stream_blocks s 0 sets))
 
--- why a reading answers no samples: its fault, or want of memory
-pub data RefusesReading (s : Settings) (count : Option ℕ) (limit : ℕ) (bits : List Bool) : Fault → Type 0 where
-  no_memory : RefusesReading s count limit bits Memory
-  faulty : (fault : Fault) → IsFault s count limit bits 0 0 fault → RefusesReading s count limit bits fault
+-- the bits from position `start` on, where an interval begins, are read as these samples
+pub record IsReadFrom (s : Settings) (count : Option ℕ) (limit : ℕ) (bits : List Bool) (start : ℕ) (samples : List ℤ) : Type 0 where
+  pub blocks : List Block
+  pub read : IsBlockReading s count limit bits 0 start blocks
+  pub all_samples : List ℤ
+  pub filled : FillBlocks s all_samples blocks
+  pub counted : samples ≡ counted_samples count all_samples
+
+-- why a reading from position `start` on answers no samples: its fault, or want of memory
+pub data RefusesReading (s : Settings) (count : Option ℕ) (limit : ℕ) (bits : List Bool) (start : ℕ) : Fault → Type 0 where
+  no_memory : RefusesReading s count limit bits start Memory
+  faulty : (fault : Fault) → IsFault s count limit bits 0 start fault → RefusesReading s count limit bits start fault
 
 -- the refusal of a sample count that is above the limit
 abbrev pub count_refusal : ℕ → Option ℕ → Option Fault
@@ -33,4 +42,4 @@ count_refusal limit None = None
 -- why bits are not decoded: a count above the limit, and else what the reading meets
 pub data RefusesDecoding (s : Settings) (count : Option ℕ) (limit : ℕ) (bits : List Bool) : Fault → Type 0 where
   above_limit : (fault : Fault) → count_refusal limit count ≡ Some fault → RefusesDecoding s count limit bits fault
-  unread : (fault : Fault) → count_refusal limit count ≡ None → RefusesReading s count limit bits fault → RefusesDecoding s count limit bits fault
+  unread : (fault : Fault) → count_refusal limit count ≡ None → RefusesReading s count limit bits 0 fault → RefusesDecoding s count limit bits fault

@@ -2,9 +2,11 @@
 #![tactic(auto)]
 
 mod chunks;
+mod codec;
 mod filling;
 mod interval;
 pub mod laws;
+mod reading;
 mod runs;
 #[cfg(test)]
 mod tests;
@@ -12,5 +14,6 @@ mod whole;
 mod whole_reading;
 mod zero_runs;
 
+pub use codec::AecCodec;
 pub use whole::encode_all;
 pub use whole_reading::decode_all;

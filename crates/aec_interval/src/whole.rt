@@ -14,7 +14,7 @@ use aec_params::{Fault, Params};
 use std::alloc::Global;
 
 /// The index of the first number that is no sample of the parameters.
-fn first_unheld(params: &Params, samples: &[i64]) -> Option<u64>
+pub(crate) fn first_unheld(params: &Params, samples: &[i64]) -> Option<u64>
     ensures { result ≡ first_unheld_of (is_held params.now) 0 samples.now }
 {
     for (index, x) in samples.iter().enumerate() {

@@ -1,8 +1,8 @@
-use Rattle.std.proofs.Common.{rules, FitsSigned, w64, ap, sym, subst, ◌∙◌, ◌≡◌, take, arith, List, ℤ, to_z, of_z}
+use Rattle.std.proofs.Common.{rules, FitsSigned, w64, take, arith, to_z, of_z}
 use Rattle.std.proofs.lemmas.Int.{to_z-of_z}
 use Rattle.std.proofs.lemmas.List.{take_all}
 use Rattle.aec_interval.specs.NextBlock.{Unmaps}
-use Rattle.aec_interval.proofs.FillingLemmas.{UnmapsSoFar, unmaps_none_kept, unmaps_more_kept}
+use Rattle.aec_interval.proofs.FillingLemmas.{unmaps_none_kept, unmaps_more_kept}
 use Rattle.aec_interval.proofs.filling.push_unmapped.Goals as goal
 
 pub loop-value-init : goal.loop-value-init

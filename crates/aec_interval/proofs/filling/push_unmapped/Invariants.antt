@@ -1,7 +1,4 @@
-use Rattle.std.proofs.Common.{◌≡◌, ◌++◌, take, List, ℤ, Some, pos, unwrap_or}
-use Rattle.std.specs.List.{AllByRecursion, last_or}
-use Rattle.aec_params.specs.Params.{IsHeld}
-use Rattle.aec_interval.specs.NextBlock.{Unmaps}
+use Rattle.std.proofs.Common.{take}
 use Rattle.aec_interval.proofs.FillingLemmas.{UnmapsSoFar}
 use Rattle.aec_interval.proofs.filling.push_unmapped.Given as goal
 

@@ -1,6 +1,5 @@
-use Rattle.std.proofs.Common.{◌≡◌, ◌+◌, ◌%◌, ◌≤◌, ◌<◌, ◌∷◌, [], ℕ, None, List, ℤ, arith, subst, sym, refl}
+use Rattle.std.proofs.Common.{◌≡◌, ◌+◌, ◌∷◌, [], ℕ, None, arith, subst, sym}
 use Rattle.aec_params.specs.Blocks.{Block}
-use Rattle.aec_params.specs.Places.{zero_block}
 use Rattle.aec_interval.specs.NextBlock.{IsNextBlock, FillsNext, run_blocks}
 use Rattle.aec_interval.specs.Reached.{AreFilled}
 use Rattle.aec_interval.proofs.ZeroRunLemmas.{zero_block-next, AreFilled-next, length-run_blocks, no_reference-later, FillsNext-push}

@@ -1,4 +1,3 @@
-use Rattle.std.proofs.Common.{◌≡◌, ◌-◌}
 use Rattle.aec_interval.specs.NextBlock.{FillsNext, run_blocks}
 use Rattle.aec_interval.proofs.zero_runs.push_zero_run.Given as goal
 

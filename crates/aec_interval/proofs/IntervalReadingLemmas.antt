@@ -1,0 +1,67 @@
+-- An interval whose code stands somewhere in bits is read there, and nothing else is.
+use Rattle.std.proofs.Common.{◌≡◌, ℕ, ◌+◌, ◌*◌, Bool, Some, List, ◌++◌, length, take, refl, sym, ap, ap₂, ◌∙◌, subst, arith}
+use Rattle.std.specs.Prelude.{ℤ}
+use Rattle.std.specs.Int.{div_ceil}
+use Rattle.std.proofs.lemmas.List.{length-take, take-append-drop, take_at}
+use Rattle.std.proofs.lemmas.Bool.{le-ltb}
+use Rattle.aec_params.specs.declared.settings.Settings.{Settings}
+use Rattle.aec_params.specs.declared.fault.Fault.{Fault}
+use Rattle.aec_params.specs.declared.fault.Fault.TheVariants.{Memory}
+use Rattle.aec_params.specs.Params.{IsAllowed}
+use Rattle.aec_params.specs.Blocks.{blocks_of, all_blocks_of, filled_samples}
+use Rattle.aec_params.specs.Intervals.{plain_bits, interval_bits}
+use Rattle.aec_params.specs.Reading.{begin_of, IsBlockReading, FillBlocks}
+use Rattle.aec_params.proofs.ReadingLaws.{FillBlocks-one_to_one}
+use Rattle.aec_bits.specs.Codec.{BeginsAt}
+use Rattle.aec_interval.specs.IntervalFormat.{interval_format}
+use Rattle.aec_interval.specs.Laws.{AreOfInterval}
+use Rattle.aec_interval.specs.Reached.{IsReadFrom, RefusesReading, no_memory, faulty}
+use Rattle.aec_interval.proofs.BlockLemmas.{length-blocks_of}
+use Rattle.aec_interval.proofs.PlaceLemmas.{end_of}
+use Rattle.aec_interval.proofs.StreamLemmas.{IsPart, part_of}
+use Rattle.aec_interval.proofs.RoundTripLemmas.{all_blocks_of-one, FillBlocks-all_blocks_of}
+use Rattle.aec_interval.proofs.WalkLemmas.{same_blocks, no_reading_and_fault}
+use Rattle.aec_interval.proofs.IntervalFormatLemmas.{AreOfInterval-format}
+
+-- behind other bits the code of an interval is read as its blocks
+IsBlockReading-behind : (s : Settings) (limit : ℕ) (pre rest bits : List Bool) (start : ℕ) (v : List ℤ) → IsAllowed s → AreOfInterval s v → start ≡ length pre
+    → bits ≡ pre ++ (interval_bits s v ++ rest) → IsBlockReading s (Some (length v)) limit bits 0 start (blocks_of s v)
+IsBlockReading-behind s limit pre rest bits start v a h starts spelled =
+    let part : IsPart s (length v) limit 0 0 start pre bits v =
+    part_of s (length v) limit 0 0 start pre (interval_bits s v ++ rest) rest bits v a h.some h.fits h.held (omega arith) starts spelled refl (omega arith) in
+    let len = length-blocks_of s v a in
+    record {
+      sets = part.sets;
+      end_block = 0 * s.interval + end_of s 0 part.sets;
+      end_bit = begin_of s bits (0 * s.interval + end_of s 0 part.sets) (length pre + length (plain_bits s v));
+      leads = part.leads;
+      done = le-ltb (0 * s.interval + end_of s 0 part.sets) (div_ceil (length v) s.block_size) (omega (arith, part.reaches));
+      kept = sym (ap₂ take (omega arith) part.covered ∙ part.stand_for);
+    }
+
+pub IsBlockReading-interval : (s : Settings) (limit : ℕ) (bits : List Bool) (start count : ℕ) (v : List ℤ) → IsAllowed s
+    → BeginsAt (interval_format s) bits start count v → IsBlockReading s (Some count) limit bits 0 start (all_blocks_of s v)
+IsBlockReading-interval s limit bits start count v a begins =
+    let h = AreOfInterval-format s v begins.interval in
+    let front : length (take start bits) ≡ start = length-take start bits ∙ omega (arith, begins.within) in
+    subst (λ count. IsBlockReading s (Some count) limit bits 0 start (all_blocks_of s v)) begins.length_is
+    (subst (IsBlockReading s (Some (length v)) limit bits 0 start) (sym (all_blocks_of-one s v h.some h.fits))
+    (IsBlockReading-behind s limit (take start bits) begins.stands.0 bits start v a h (sym front)
+    (sym (take-append-drop start bits) ∙ ap (◌++◌ (take start bits)) begins.stands.1)))
+
+-- so what is read there is the interval's samples
+pub read-interval : (s : Settings) (limit : ℕ) (bits : List Bool) (start count : ℕ) (samples v : List ℤ) → IsAllowed s
+    → IsReadFrom s (Some count) limit bits start samples → BeginsAt (interval_format s) bits start count v → samples ≡ v
+read-interval s limit bits start count samples v a read begins =
+    let h = AreOfInterval-format s v begins.interval in
+    let same = same_blocks s a (Some count) limit bits 0 start read.blocks (all_blocks_of s v) read.read (IsBlockReading-interval s limit bits start count v a begins) in
+    let filled = FillBlocks-one_to_one s read.all_samples (filled_samples s v) (all_blocks_of s v) a
+    (subst (FillBlocks s read.all_samples) same read.filled) (FillBlocks-all_blocks_of s v a h.held) in
+    read.counted ∙ ap (take count) filled ∙ take_at v _ count begins.length_is
+
+-- and it is refused for want of memory alone
+pub memory-alone : (s : Settings) (limit : ℕ) (bits : List Bool) (start count : ℕ) (v : List ℤ) (fault : Fault) → IsAllowed s
+    → RefusesReading s (Some count) limit bits start fault → BeginsAt (interval_format s) bits start count v → fault ≡ Memory
+memory-alone s limit bits start count v fault a no_memory begins = refl
+memory-alone s limit bits start count v fault a (faulty f wrong) begins =
+    absurd (no_reading_and_fault s a (Some count) limit bits 0 start (all_blocks_of s v) f (IsBlockReading-interval s limit bits start count v a begins) wrong)

@@ -1,0 +1,148 @@
+//! The codec of reference sample intervals.
+
+ghost use Rattle.std.proofs.Props.{props};
+ghost use Rattle.aec_params.specs.Params.{IsAllowed};
+ghost use Rattle.aec_bits.specs.Codec.{IsLawful};
+ghost use Rattle.aec_interval.specs.IntervalFormat.{interval_format};
+
+use crate::interval::write_interval;
+use crate::reading::{Wanted, read_samples};
+use aec_bits::{BitBuf, Codec};
+use aec_params::{Fault, Params};
+use std::alloc::Global;
+
+/// A codec of reference sample intervals, each padded by its own length where the parameters pad. It counts how many it
+/// has coded, and how often it was asked to decode. Only `code` and `decode` take memory.
+#[derive(Debug, Drop)]
+pub struct AecCodec {
+    params: Params,
+    calls: u64,
+    reads: u64,
+    alloc: Global,
+    ghost allowed: { IsAllowed params },
+    ghost lawful: { IsLawful (interval_format params) } by { Prim.hlevel props },
+}
+
+impl AecCodec {
+    ghost use Rattle.std.specs.Prelude.{◌≡◌};
+
+    /// A codec that begins to count at 0. Takes no memory.
+    pub fn new(alloc: Global, params: Params) -> AecCodec
+        ensures params { result.params ≡ params }
+        ensures format { ⟦<AecCodec as Codec>⟧.format result ≡ interval_format params }
+        ensures calls { ⟦<AecCodec as Codec>⟧.called result ≡ 0 }
+        ensures reads { ⟦<AecCodec as Codec>⟧.read result ≡ 0 }
+    {
+        AecCodec::with_calls(alloc, params, 0)
+    }
+
+    /// A codec that counts its calls on from so many. Takes no memory.
+    pub fn with_calls(alloc: Global, params: Params, calls: u64) -> AecCodec
+        ensures params { result.params ≡ params }
+        ensures format { ⟦<AecCodec as Codec>⟧.format result ≡ interval_format params }
+        ensures calls { ⟦<AecCodec as Codec>⟧.called result ≡ calls }
+        ensures reads { ⟦<AecCodec as Codec>⟧.read result ≡ 0 }
+    {
+        // What the parameters promise is told by their calls.
+        let _len = params.interval_len();
+        AecCodec {
+            params,
+            calls,
+            reads: 0,
+            alloc,
+        }
+    }
+
+    /// The parameters that it was made with.
+    pub fn params(&self) -> Params
+        ensures { result ≡ self.now.params }
+    {
+        self.params
+    }
+}
+
+impl Codec for AecCodec {
+    ghost use Rattle.std.specs.Prelude.{◌≡◌, ◌+◌, ◌-◌, ◌^◌, ◌⊎◌, ◌↔◌, ◌++◌, ℤ, List, Err, OnOk, OnErr, IfErr};
+    ghost use Rattle.aec_params.specs.declared.fault.Fault.TheVariants.{Spent, Memory};
+    ghost use Rattle.aec_params.specs.Intervals.{interval_bits};
+    ghost use Rattle.aec_bits.specs.Devices.{counted as counted_up};
+    ghost use Rattle.aec_bits.specs.Codec.{IsInterval, BeginsAt};
+
+    ghost format = { λ c. interval_format c.params };
+
+    ghost called = { λ c. c.calls };
+
+    ghost read = { λ c. c.reads };
+
+    ghost lawful = { λ c. c.lawful };
+
+    fn interval_len(&self) -> u64 {
+        self.params.interval_len()
+    }
+
+    fn holds(&self, x: i64) -> bool {
+        self.params.holds(x)
+    }
+
+    fn calls(&self) -> u64 {
+        self.calls
+    }
+
+    fn reads(&self) -> u64 {
+        self.reads
+    }
+
+    /// Appends the code of an interval. `Spent` exactly where `calls` is the greatest number of 64 bits, then `Memory`
+    /// where a growth was refused; the bits and `calls` are then as before.
+    fn code(&mut self, samples: &[i64], out: &mut BitBuf) -> Result<(), Fault>
+        requires { IsInterval (interval_format self.old.params) samples.now }
+        ensures ok { OnOk result (out.new.list ≡ out.old.list ++ interval_bits self.old.params samples.now) }
+        ensures counts { OnOk result (self.new.calls ≡ self.old.calls + 1) }
+        ensures spent { (result ≡ Err Spent) ↔ (self.old.calls ≡ 2 ^ 64 - 1) }
+        ensures fault { IfErr result (λ e. (e ≡ Spent) ⊎ (e ≡ Memory)) }
+        ensures err { OnErr result (out.new.list ≡ out.old.list) }
+        ensures calls_err { OnErr result (self.new.calls ≡ self.old.calls) }
+        ensures same_reads { self.new.reads ≡ self.old.reads }
+        ensures same_params { self.new.params ≡ self.old.params }
+    {
+        if self.calls == u64::MAX {
+            return Err(Fault::Spent);
+        }
+        let start = out.len();
+        if let Err(fault) = write_interval(self.alloc, &self.params, samples, out) {
+            out.truncate(start);
+            return Err(fault);
+        }
+        self.calls += 1;
+        Ok(())
+    }
+
+    /// Appends the `count` samples of the interval whose code begins at bit `pos`. `Memory` where a growth was refused; the
+    /// samples in `out` are then as before.
+    fn decode(
+        &mut self,
+        stream: &BitBuf,
+        pos: u64,
+        count: u64,
+        out: &mut Vec<i64>,
+    ) -> Result<(), Fault>
+        requires { (s : List ℤ) × BeginsAt (interval_format self.old.params) stream.now.list pos count s }
+        ensures ok { (s : List ℤ) → BeginsAt (interval_format self.old.params) stream.now.list pos count s
+            → OnOk result (out.new.items ≡ out.old.items ++ s) }
+        ensures fault { IfErr result (λ e. e ≡ Memory) }
+        ensures err { OnErr result (out.new.items ≡ out.old.items) }
+        ensures counts { self.new.reads ≡ counted_up self.old.reads }
+        ensures same_calls { self.new.calls ≡ self.old.calls }
+        ensures same_params { self.new.params ≡ self.old.params }
+    {
+        self.reads = self.reads.saturating_add(1);
+        let wanted = Wanted {
+            start: pos,
+            count: Some(count),
+            limit: count,
+        };
+        let samples = read_samples(self.alloc, &self.params, stream, wanted)?;
+        out.extend_from_slice(&samples)?;
+        Ok(())
+    }
+}

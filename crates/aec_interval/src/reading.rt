@@ -1,0 +1,190 @@
+//! Samples read from coded bits, one coded data set after another, from where an interval begins.
+
+ghost use Rattle.std.specs.Prelude.{◌≡◌, ◌≤◌, ◌<◌, ◌+◌, ◌*◌, ◌%◌, ◌^◌, ℕ, List, ℤ, [], true, false, length, take, Some, None, OnOk, IfSome, IfOk, IfErr, min};
+ghost use Rattle.std.specs.Int.{div_ceil};
+ghost use Rattle.aec_params.specs.declared.fault.Fault.TheVariants.{Memory};
+ghost use Rattle.aec_params.specs.Params.{IsAllowed};
+ghost use Rattle.aec_params.specs.Places.{segment_left as left_in_segment, is_reference_block};
+ghost use Rattle.aec_params.specs.Reading.{is_wanted as wants, keeps_limit as keeps, begin_of};
+ghost use Rattle.aec_interval.specs.NextBlock.{FillsNext};
+ghost use Rattle.aec_interval.specs.NextSet.{cds_count, kept_count as count_of_kept, IsNextCds, cds_front};
+ghost use Rattle.aec_interval.specs.Reached.{AreFilled, IsReached, IsReadFrom, RefusesReading};
+
+use crate::filling::push_block;
+use crate::zero_runs::push_zero_run;
+use aec_bits::{BitBuf, BitReader};
+use aec_block::{Cds, RunLen, read_cds};
+use aec_params::{Fault, Params};
+use std::alloc::Global;
+
+/// The bit where an interval begins, how many samples are asked for from there on, if that is said, and how many may come.
+#[derive(Clone, Copy)]
+pub(crate) struct Wanted {
+    pub(crate) start: u64,
+    pub(crate) count: Option<u64>,
+    pub(crate) limit: u64,
+}
+
+/// Whether a coded data set is wanted at this block: with a count while blocks are needed, without one while the rest is
+/// not all zeros.
+fn is_wanted(params: &Params, wanted: Wanted, reader: &BitReader, block: u64) -> bool
+    ensures { result ≡ wants params.now wanted.count reader.now.list block reader.now.pos }
+{
+    match wanted.count {
+        Some(count) => block < count.div_ceil(u64::from(params.block_size())),
+        None => !reader.rest_is_zero(),
+    }
+}
+
+/// How many blocks the segment of this block of an interval has left.
+fn segment_left(params: &Params, place: u64) -> u64
+    requires { place < params.now.interval }
+    ensures value { result ≡ left_in_segment params.now place }
+    ensures some { 0 < result }
+    ensures within { place + result ≤ params.now.interval }
+{
+    (64 - place % 64).min(u64::from(params.interval()) - place)
+}
+
+/// Whether this block of an interval has a reference sample.
+fn has_reference(params: &Params, place: u64) -> bool
+    ensures { result ≡ is_reference_block params.now place }
+{
+    params.preprocess() && place == 0
+}
+
+/// Whether so many blocks keep the limit of samples; with a count that was judged beforehand.
+fn keeps_limit(params: &Params, wanted: Wanted, blocks: u64) -> bool
+    requires { blocks < 2 ^ 40 }
+    ensures { result ≡ keeps params.now wanted.count wanted.limit blocks }
+{
+    wanted.count.is_some() || blocks * u64::from(params.block_size()) <= wanted.limit
+}
+
+/// Behind a full interval, with padding, goes to the next byte.
+fn skip_padding(params: &Params, reader: &mut BitReader, block: u64)
+    ensures list { reader.new.list ≡ reader.old.list }
+    ensures pos { reader.new.pos ≡ begin_of params.now reader.old.list block reader.old.pos }
+{
+    if params.pad() && block % u64::from(params.interval()) == 0 {
+        reader.skip_to_byte();
+    }
+}
+
+/// How many blocks a coded data set stands for at this block of an interval.
+fn block_count(params: &Params, place: u64, cds: &Cds) -> u64
+    requires { place < params.now.interval }
+    ensures { result ≡ cds_count params.now place cds.now }
+{
+    match cds {
+        Cds::Single(_) => 1,
+        Cds::Zeros {
+            len: RunLen::Blocks(blocks),
+            ..
+        } => *blocks,
+        Cds::Zeros {
+            len: RunLen::Rest,
+            ..
+        } => segment_left(params, place),
+    }
+}
+
+/// How many of so many blocks that come next are kept: with a count those that are still needed.
+fn kept_count(params: &Params, wanted: Wanted, block: u64, blocks: u64) -> u64
+    requires { IfSome wanted.count (λ count. block ≤ div_ceil count params.now.block_size) }
+    ensures { result ≡ count_of_kept params.now wanted.count block blocks }
+{
+    match wanted.count {
+        None => blocks,
+        Some(count) => blocks.min(count.div_ceil(u64::from(params.block_size())) - block),
+    }
+}
+
+/// Appends the samples of the first blocks of a coded data set that come next, behind `block` others.
+fn push_cds(
+    alloc: Global,
+    params: &Params,
+    cds: &Cds,
+    kept: u64,
+    block: u64,
+    samples: &mut Vec<i64>,
+) -> Result<(), Fault>
+    requires allowed { IsAllowed params.now }
+    requires filled { AreFilled params.now block samples.old.items }
+    requires next { IsNextCds params.now block samples.old.items kept cds.now }
+    ensures ok { IfOk result (λ _. FillsNext params.now samples.old.items samples.new.items (cds_front params.now kept cds.now)) }
+    ensures fault { IfErr result (λ e. e ≡ Memory) }
+{
+    match cds {
+        Cds::Single(values) => push_block(params, values, samples),
+        Cds::Zeros { reference, .. } => {
+            push_zero_run(alloc, params, *reference, kept, block, samples)
+        }
+    }
+}
+
+/// Reads the coded data set of a block that is wanted, and appends its samples. The number of the block that comes then.
+fn read_next(
+    alloc: Global,
+    params: &Params,
+    wanted: Wanted,
+    reader: &mut BitReader,
+    block: u64,
+    samples: &mut Vec<i64>,
+) -> Result<u64, Fault>
+    requires reached { IsReached params.now wanted.count wanted.limit reader.old.list wanted.start block reader.old.pos samples.old.items }
+    requires wanted { wants params.now wanted.count reader.old.list block reader.old.pos ≡ true }
+    requires few { block < 2 ^ 34 }
+    requires limit { wanted.limit ≤ 2 ^ 32 }
+    requires counted { IfSome wanted.count (λ count. count ≤ 2 ^ 32) }
+    ensures ok { IfOk result (λ next. IsReached params.now wanted.count wanted.limit reader.new.list wanted.start next reader.new.pos samples.new.items) }
+    ensures refuses { IfErr result (λ fault. RefusesReading params.now wanted.count wanted.limit reader.old.list wanted.start fault) }
+    ensures list { reader.new.list ≡ reader.old.list }
+    ensures forward { IfOk result (λ next. block < next) }
+    ensures few { IfOk result (λ next. next < 2 ^ 34) }
+{
+    let place = block % u64::from(params.interval());
+    let bit = reader.pos();
+    let cds = read_cds(alloc, params, reader, has_reference(params, place))?;
+    let blocks = block_count(params, place, &cds);
+    if blocks > segment_left(params, place) {
+        return Err(Fault::RunTooLong { bit });
+    }
+    let next = block + blocks;
+    if !keeps_limit(params, wanted, next) {
+        return Err(Fault::TooManySamples {
+            limit: wanted.limit,
+        });
+    }
+    let kept = kept_count(params, wanted, block, blocks);
+    push_cds(alloc, params, &cds, kept, block, samples)?;
+    skip_padding(params, reader, next);
+    Ok(next)
+}
+
+/// The samples that the bits from `wanted.start` on stand for: with a count the first `count`, and without one all
+/// samples of all blocks.
+pub(crate) fn read_samples(
+    alloc: Global,
+    params: &Params,
+    bits: &BitBuf,
+    wanted: Wanted,
+) -> Result<Vec<i64>, Fault>
+    requires within { wanted.start ≤ length bits.now.list }
+    requires limit { wanted.limit ≤ 2 ^ 32 }
+    requires counted { IfSome wanted.count (λ count. count ≤ 2 ^ 32) }
+    ensures ok { IfOk result (λ samples. IsReadFrom params.now wanted.count wanted.limit bits.now.list wanted.start samples.items) }
+    ensures refuses { IfErr result (λ fault. RefusesReading params.now wanted.count wanted.limit bits.now.list wanted.start fault) }
+{
+    let mut reader = BitReader::new(bits);
+    reader.seek(wanted.start);
+    let mut samples = Vec::new(alloc);
+    let mut block = 0;
+    while is_wanted(params, wanted, &reader, block) {
+        block = read_next(alloc, params, wanted, &mut reader, block, &mut samples)?;
+    }
+    if let Some(count) = wanted.count {
+        samples.truncate(count as usize);
+    }
+    Ok(samples)
+}

@@ -1,0 +1,150 @@
+//! Intervals coded by the codec, and decoded again.
+
+ghost use Rattle.std.specs.Prelude.{◌≡◌, ◌++◌, true, OnOk};
+ghost use Rattle.aec_bits.specs.Codec.{IsInterval};
+ghost use Rattle.aec_interval.specs.IntervalFormat.{interval_format};
+
+use super::streams::{expect_bits, padded, settings};
+use crate::AecCodec;
+use crate::whole::first_unheld;
+use aec_bits::{BitBuf, Codec};
+use aec_params::{Fault, Params, Settings};
+use std::alloc::Global;
+use std::process::Abort;
+use std::test::Fail;
+
+/// Whether a codec has these samples as an interval.
+#[tactic(auto, using(crate::proofs::IntervalFormatLemmas::interval_of_held))]
+fn is_interval(codec: &AecCodec, samples: &[i64]) -> bool
+    ensures { result ≡ true → IsInterval (interval_format codec.now.params) samples.now }
+{
+    if samples.is_empty() || samples.len() as u64 > codec.interval_len() {
+        return false;
+    }
+    match first_unheld(&codec.params(), samples) {
+        None => true,
+        Some(_) => false,
+    }
+}
+
+/// Codes an interval behind some bits, and decodes it again.
+fn there_and_back<C: Codec>(
+    codec: &mut C,
+    samples: &[i64],
+    buf: &mut BitBuf,
+    out: &mut Vec<i64>,
+) -> Result<(), Fault>
+    requires { IsInterval (C.format codec.old) samples.now }
+    ensures { OnOk result (out.new.items ≡ out.old.items ++ samples.now) }
+{
+    let start = buf.len();
+    codec.code(samples, buf)?;
+    codec.decode(buf, start, samples.len() as u64, out)
+}
+
+/// The same for samples that the codec has as an interval.
+fn coded_and_back(
+    rt: &impl Abort,
+    codec: &mut AecCodec,
+    samples: &[i64],
+    buf: &mut BitBuf,
+    out: &mut Vec<i64>,
+) -> Result<(), Fault> {
+    assert!(rt; is_interval(codec, samples));
+    there_and_back(codec, samples, buf, out)
+}
+
+/// Codes an interval that the codec has as one.
+fn code(
+    rt: &impl Abort,
+    codec: &mut AecCodec,
+    samples: &[i64],
+    buf: &mut BitBuf,
+) -> Result<(), Fault> {
+    assert!(rt; is_interval(codec, samples));
+    codec.code(samples, buf)
+}
+
+/// Codes an interval behind the bits `101`, compares the bits, and decodes it again.
+fn expect_interval(
+    rt: &impl Abort,
+    alloc: Global,
+    settings: Settings,
+    samples: &[i64],
+    len: u64,
+    bytes: &[u8],
+) -> Result<(), Fail> {
+    let mut codec = AecCodec::new(alloc, Params::new(settings)?);
+    let mut buf = BitBuf::new(alloc);
+    buf.push_bits(5, 3)?;
+    let mut out = Vec::new(alloc);
+    coded_and_back(rt, &mut codec, samples, &mut buf, &mut out)?;
+    expect_bits(rt, &buf, len, bytes);
+    assert_eq!(rt; out.as_slice(), samples);
+    assert_eq!(rt; codec.calls(), 1);
+    assert_eq!(rt; codec.reads(), 1);
+    assert_eq!(rt; codec.params(), Params::new(settings)?);
+    Ok(())
+}
+
+#[test]
+fn codes_intervals_behind_other_bits(rt: HostRuntime) -> Result<(), Fail> {
+    let ramp = [0, 1, 2, 3, 4, 5, 6, 7];
+    let bytes = [0xA4, 0x01, 0x24, 0x92, 0x40];
+    expect_interval(&rt, rt.alloc(), settings(), &ramp, 34, &bytes)?;
+    // An interval is padded by its own length, wherever it begins.
+    expect_interval(&rt, rt.alloc(), padded(), &[0; 8], 19, &[0xA0, 0x01, 0x00])?;
+    expect_interval(&rt, rt.alloc(), padded(), &[7; 5], 19, &[0xA0, 0x0F, 0x00])?;
+    expect_interval(&rt, rt.alloc(), settings(), &[7; 5], 16, &[0xA0, 0x0F])
+}
+
+#[test]
+fn decodes_one_interval_of_many(rt: HostRuntime) -> Result<(), Fail> {
+    let mut codec = AecCodec::new(rt.alloc(), Params::new(padded())?);
+    let mut buf = BitBuf::new(rt.alloc());
+    buf.push_bits(5, 3)?;
+    let mut out = Vec::new(rt.alloc());
+    let ramp = [0, 1, 2, 3, 4, 5, 6, 7];
+    coded_and_back(&rt, &mut codec, &[9; 16], &mut buf, &mut out)?;
+    coded_and_back(&rt, &mut codec, &ramp, &mut buf, &mut out)?;
+    coded_and_back(&rt, &mut codec, &[1, 3], &mut buf, &mut out)?;
+    assert_eq!(rt; out.len(), 26);
+    assert_eq!(rt; &out[..16], [9; 16].as_slice());
+    assert_eq!(rt; &out[16..24], ramp.as_slice());
+    assert_eq!(rt; &out[24..], [1, 3].as_slice());
+    assert_eq!(rt; codec.calls(), 3);
+    assert_eq!(rt; codec.reads(), 3);
+    Ok(())
+}
+
+#[test]
+fn tells_its_intervals(rt: HostRuntime) -> Result<(), Fail> {
+    let codec = AecCodec::new(rt.alloc(), Params::new(settings())?);
+    assert_eq!(rt; codec.interval_len(), 16);
+    assert_eq!(rt;
+        [
+            codec.holds(-1),
+            codec.holds(0),
+            codec.holds(255),
+            codec.holds(256)
+        ],
+        [false, true, true, false]
+    );
+    assert_eq!(rt; [codec.calls(), codec.reads()], [0, 0]);
+    Ok(())
+}
+
+#[test]
+fn spends_its_calls(rt: HostRuntime) -> Result<(), Fail> {
+    let params = Params::new(settings())?;
+    let mut codec = AecCodec::with_calls(rt.alloc(), params, u64::MAX - 1);
+    assert_eq!(rt; codec.calls(), u64::MAX - 1);
+    let mut buf = BitBuf::new(rt.alloc());
+    buf.push_bits(5, 3)?;
+    assert_eq!(rt; code(&rt, &mut codec, &[7], &mut buf), Ok(()));
+    assert_eq!(rt; codec.calls(), u64::MAX);
+    assert_eq!(rt; code(&rt, &mut codec, &[7], &mut buf), Err(Fault::Spent));
+    expect_bits(&rt, &buf, 16, &[0xA0, 0x0F]);
+    assert_eq!(rt; codec.calls(), u64::MAX);
+    Ok(())
+}

@@ -1,0 +1,67 @@
+//! Bytes read as samples.
+
+use super::streams::{expect_read, expect_zeros, padded, settings, unprocessed, with_interval};
+use std::test::Fail;
+
+#[test]
+fn reads_what_the_count_asks_for(rt: HostRuntime) -> Result<(), Fail> {
+    let s = settings();
+    expect_read(&rt, rt.alloc(), s, &[0x00, 0x78], Some(5), &[7; 5])?;
+    expect_read(&rt, rt.alloc(), s, &[0x00, 0x78], None, &[7; 8])?;
+    // What stands behind the last coded data set that is needed is not read.
+    expect_read(&rt, rt.alloc(), s, &[0x00, 0x78], Some(0), &[])?;
+    expect_read(&rt, rt.alloc(), s, &[0xFF], Some(0), &[])?;
+    expect_read(&rt, rt.alloc(), s, &[0x00, 0x7F, 0xFF], Some(8), &[7; 8])?;
+    let wide = with_interval(64);
+    expect_zeros(&rt, rt.alloc(), wide, &[0x00, 0x00, 0x80], Some(40), 40)?;
+    expect_zeros(&rt, rt.alloc(), wide, &[0x00, 0x00, 0x80], None, 512)
+}
+
+#[test]
+fn ends_at_a_rest_of_zeros(rt: HostRuntime) -> Result<(), Fail> {
+    let s = settings();
+    expect_read(&rt, rt.alloc(), s, &[], None, &[])?;
+    expect_read(&rt, rt.alloc(), s, &[0x00], None, &[])?;
+    expect_read(&rt, rt.alloc(), s, &[0x00; 20], None, &[])?;
+    expect_zeros(&rt, rt.alloc(), s, &[0x00, 0x08, 0x00, 0x00], None, 8)
+}
+
+#[test]
+fn reads_runs_to_the_end_of_their_segment(rt: HostRuntime) -> Result<(), Fail> {
+    // The remainder code, where fewer than five blocks are left.
+    expect_zeros(&rt, rt.alloc(), settings(), &[0x00, 0x00, 0x80], None, 16)?;
+    // At the end of an interval inside a segment.
+    let eight = unprocessed(8);
+    expect_zeros(&rt, rt.alloc(), eight, &[0x00, 0x80, 0x40], None, 128)?;
+    // A run has to fit its segment, not the need: of 63 blocks one is asked for.
+    let long = [0, 0, 0, 0, 0, 0, 0, 0, 0, 0x10];
+    expect_zeros(&rt, rt.alloc(), with_interval(64), &long, Some(8), 8)
+}
+
+#[test]
+fn reads_other_spellings(rt: HostRuntime) -> Result<(), Fail> {
+    let ramp = [0, 1, 2, 3, 4, 5, 6, 7];
+    // Splitting with k = 1 has the length of k = 0, which is written.
+    expect_read(
+        &rt,
+        rt.alloc(),
+        settings(),
+        &[0x40, 0x15, 0x55, 0x80],
+        None,
+        &ramp,
+    )?;
+    let plain = unprocessed(2);
+    let uncompressed = [0xE0, 0x00, 0x20, 0x40, 0x60, 0x80, 0xA0, 0xC0, 0xE0];
+    expect_read(&rt, rt.alloc(), plain, &uncompressed, None, &ramp)?;
+    let sevens = [0x6A, 0xAA, 0xBF, 0xFF, 0xE0];
+    expect_read(&rt, rt.alloc(), plain, &sevens, None, &[7; 8])
+}
+
+#[test]
+fn skips_padding(rt: HostRuntime) -> Result<(), Fail> {
+    let s = padded();
+    expect_zeros(&rt, rt.alloc(), s, &[0x00, 0x04, 0x00, 0x08], None, 24)?;
+    // What is skipped is not read: ones behind a full interval.
+    expect_zeros(&rt, rt.alloc(), s, &[0x00, 0x07], None, 16)?;
+    expect_zeros(&rt, rt.alloc(), s, &[0x00, 0x07, 0x00, 0x08], None, 24)
+}
