@@ -28,6 +28,7 @@ fn write_segment(
     requires { AreSamplesAfter params.now previous 64 samples.now }
     ensures ok { OnOk result (out.new.list ≡ out.old.list ++ segment_bits params.now (blocks_after params.now previous samples.now)) }
     ensures kept { IsKept out.old.list out.new.list }
+    ensures room { out.old.room + length out.old.list ≤ out.new.room + length out.new.list }
     ensures fault { IfErr result (λ e. e ≡ Memory) }
 {
     let mut preceding = previous;
@@ -50,6 +51,7 @@ fn write_segments(
     requires { AreOfInterval params.now samples.now }
     ensures ok { OnOk result (out.new.list ≡ out.old.list ++ plain_bits params.now samples.now) }
     ensures kept { IsKept out.old.list out.new.list }
+    ensures room { out.old.room + length out.old.list ≤ out.new.room + length out.new.list }
     ensures fault { IfErr result (λ e. e ≡ Memory) }
 {
     let mut preceding = None;
@@ -71,6 +73,7 @@ pub(crate) fn write_interval(
     requires { AreOfInterval params.now samples.now }
     ensures ok { OnOk result (out.new.list ≡ out.old.list ++ interval_bits params.now samples.now) }
     ensures kept { IsKept out.old.list out.new.list }
+    ensures room { out.old.room + length out.old.list ≤ out.new.room + length out.new.list }
     ensures fault { IfErr result (λ e. e ≡ Memory) }
 {
     let start = out.len();

@@ -44,6 +44,7 @@ impl Run {
         requires { IsRun params.now (if to_end then 64 else 63) self }
         ensures ok { OnOk result (out.new.list ≡ out.old.list ++ bits_of_run params.now self.reference self.blocks to_end) }
         ensures err { OnErr result (out.new.list ≡ out.old.list) }
+        ensures room { out.old.room + length out.old.list ≤ out.new.room + length out.new.list }
         ensures fault { IfErr result (λ e. e ≡ Memory) }
     {
         if self.blocks == 0 {
@@ -67,6 +68,7 @@ pub(crate) fn write_next(
         out.new.list ++ pending_bits params.now next rest ≡ out.old.list ++ pending_bits params.now run (block.now ∷ rest)) }
     ensures run { IfOk result (λ next. IsRun params.now (run.blocks + 1) next) }
     ensures kept { IsKept out.old.list out.new.list }
+    ensures room { out.old.room + length out.old.list ≤ out.new.room + length out.new.list }
     ensures fault { IfErr result (λ e. e ≡ Memory) }
 {
     if block.is_zero() {
