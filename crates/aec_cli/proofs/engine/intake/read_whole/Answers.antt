@@ -1,4 +1,4 @@
-use Rattle.std.proofs.Common.{◌<◌, vec_len, arith}
+use Rattle.std.proofs.Common.{arith}
 use Rattle.std.proofs.lemmas.Result.{err_from_is_err_and}
 use Rattle.aec_cli.specs.Devices.{source_failed, too_many_bytes}
 use Rattle.aec_cli.proofs.DeviceLemmas.{refused_by_memory}
