@@ -3,4 +3,5 @@ pub mod StatusLemmas
 pub mod WordLemmas
 pub mod DeviceLemmas
 pub mod OutputLemmas
+pub mod CodingLemmas
 pub mod StoringLemmas

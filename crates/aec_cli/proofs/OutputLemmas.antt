@@ -77,7 +77,7 @@ given_samples s caps count before after failures bytes samples taken within read
 
 -- ---- in the form in which the code has the facts
 
-abbrev taking : Option (List ℕ) → Option (List ℕ) → ℕ → Taking
+abbrev pub taking : Option (List ℕ) → Option (List ℕ) → ℕ → Taking
 taking before after failures = record { before = before; after = after; failures = failures }
 
 pub answers_err : {X : Type 0} (r : Result X Fault) (fault f : Fault) (answers : Input → Result (List ℕ) Fault → Type 0) (source : Taking) (limit : ℕ) → r ≡ Err fault → fault ≡ f

@@ -1,16 +1,42 @@
 -- What a run writes: a function of its inputs, or one refusal.
-use Rattle.std.specs.Prelude.{◌≡◌, ℕ, ◌+◌, ◌^◌, min, Bool, nat_lt, if◌then◌else◌, Option, Some, None, Result, Ok, Err, ℤ, List, ◌++◌, length}
+use Rattle.std.specs.Prelude.{◌≡◌, ℕ, ◌+◌, ◌-◌, ◌*◌, Bool, true, false, nat_lt, if◌then◌else◌, Option, Some, None, Result, Ok, Err, ℤ, List, length}
 use Rattle.std.specs.List.{flat_map}
 use Rattle.aec_params.specs.declared.settings.Settings.{Settings}
 use Rattle.aec_params.specs.declared.fault.Fault.{Fault}
-use Rattle.aec_params.specs.declared.fault.Fault.TheVariants.{TooManySamples, Read, StreamTooLong}
+use Rattle.aec_params.specs.declared.fault.Fault.TheVariants.{SampleRange, TooManySamples, Read, StreamTooLong}
 use Rattle.aec_params.specs.Limits.{Caps}
-use Rattle.aec_params.specs.Stored.{stored_bytes}
-use Rattle.aec_params.specs.Codewords.{bits_of_bytes}
+use Rattle.aec_params.specs.Params.{storage_len}
+use Rattle.aec_params.specs.Stored.{stored_bytes, samples_of_bytes}
+use Rattle.aec_params.specs.Codewords.{bits_of_bytes, bytes_of}
+use Rattle.aec_params.specs.Streams.{stream_of}
 use Rattle.aec_params.specs.Reading.{IsReading}
 use Rattle.aec_params.specs.Faults.{IsFault}
 use Rattle.aec_interval.specs.Reached.{count_refusal}
 use Rattle.aec_cli.specs.Devices.{Input}
+
+-- ---- coding
+
+-- the most bytes that hold no more whole samples than the limit
+abbrev pub bytes_within : Settings → ℕ → ℕ
+bytes_within s limit = (limit + 1) * storage_len s - 1
+
+-- Why samples are refused, which are judged in their order: one behind the limit is too many, whatever it holds; before it the
+-- first that is none of the settings is out of range.
+abbrev pub samples_refusal : ℕ → Result (List ℤ) ℕ → Option Fault
+samples_refusal limit (Ok samples) = if nat_lt limit (length samples) then Some (TooManySamples limit) else None
+samples_refusal limit (Err bad) = Some (if nat_lt bad limit then SampleRange bad else TooManySamples limit)
+
+-- what coding answers
+pub data IsEncoded (s : Settings) (caps : Caps) (input : Input) : Result (List ℕ) Fault → Type 0 where
+  -- the samples of the input are refused, whether or not its source failed behind them
+  not_samples : (fault : Fault) → samples_refusal caps.samples (samples_of_bytes s input.bytes) ≡ Some fault → IsEncoded s caps input (Err fault)
+  -- they are not, and the source failed
+  not_whole : samples_refusal caps.samples (samples_of_bytes s input.bytes) ≡ None → input.failed ≡ true → IsEncoded s caps input (Err Read)
+  -- the bytes of the samples' code
+  encoded : (samples : List ℤ) → samples_refusal caps.samples (samples_of_bytes s input.bytes) ≡ None → input.failed ≡ false
+      → samples_of_bytes s input.bytes ≡ Ok samples → IsEncoded s caps input (Ok (bytes_of (stream_of s samples)))
+
+-- ---- decoding
 
 -- samples as bytes, one behind the other
 abbrev pub all_stored : Settings → List ℤ → List ℕ

@@ -1,7 +1,9 @@
 //! The engines: what is written is a stated function of the inputs.
 
+mod coding;
 mod decoding;
 mod intake;
 mod outlet;
 
+pub use coding::encode;
 pub use decoding::decode;

@@ -16,9 +16,6 @@ pub enum Failure {
     /// The job was refused.
     #[error("{0}")]
     Fault(Fault),
-    /// The job is one that this program cannot do yet.
-    #[error("not yet")]
-    NotYet,
 }
 
 /// The status that the program ends with: 2 for words that make no job, and else 1. Want of memory is no fault of the
@@ -28,6 +25,6 @@ pub fn status(failure: &Failure) -> u8
 {
     match failure {
         Failure::Usage(Usage::Setting(_)) => 2,
-        Failure::Usage(Usage::Memory) | Failure::Fault(_) | Failure::NotYet => 1,
+        Failure::Usage(Usage::Memory) | Failure::Fault(_) => 1,
     }
 }

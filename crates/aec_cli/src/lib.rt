@@ -9,7 +9,7 @@ mod program;
 mod usage;
 mod words;
 
-pub use engine::decode;
+pub use engine::{decode, encode};
 pub use failure::{Failure, status};
 pub use files::{DestSink, FileSource};
 pub use job::{Action, Job, settings};

@@ -7,7 +7,7 @@ ghost use Rattle.clap.specs.Values.{kind_of};
 ghost use Rattle.aec_cli.specs.Commands.{aec_app};
 ghost use Rattle.aec_cli.specs.Statuses.{EndsByMistake, parse_status, status_of};
 
-use crate::engine::decode;
+use crate::engine::{decode, encode};
 use crate::failure::{Failure, status};
 use crate::files::{DestSink, FileSource};
 use crate::job::{Action, Job, settings};
@@ -54,7 +54,7 @@ fn limits() -> Limits {
     }
 }
 
-// Does the job: decodes. `NotYet` where samples are to be coded.
+// Does the job: codes or decodes.
 fn run<F: Files>(rt: &F, alloc: Global, job: Job) -> Result<(), Failure> {
     let Job {
         params,
@@ -62,14 +62,13 @@ fn run<F: Files>(rt: &F, alloc: Global, job: Job) -> Result<(), Failure> {
         source,
         dest,
     } = job;
-    match action {
-        Action::Encode => Err(Failure::NotYet),
-        Action::Decode { count } => {
-            let mut source = FileSource::new(rt, source);
-            let mut sink = DestSink::new(rt, dest);
-            decode(alloc, &params, limits(), count, &mut source, &mut sink).map_err(Failure::Fault)
-        }
-    }
+    let mut source = FileSource::new(rt, source);
+    let mut sink = DestSink::new(rt, dest);
+    let done = match action {
+        Action::Encode => encode(alloc, &params, limits(), &mut source, &mut sink),
+        Action::Decode { count } => decode(alloc, &params, limits(), count, &mut source, &mut sink),
+    };
+    done.map_err(Failure::Fault)
 }
 
 // Prints the line of a failure, and answers its status.

@@ -148,7 +148,6 @@ fn failures_have_their_texts(rt: HostRuntime) -> Result<(), Fail> {
             "coded data is cut short at bit 13",
             1,
         ),
-        (Failure::NotYet, "not yet", 1),
     ];
     for (failure, text, expected) in cases {
         assert_eq!(rt; failure.to_string(rt.alloc())?.as_str(), text);
@@ -244,15 +243,6 @@ fn broken_streams_change_no_status(rt: HostRuntime) -> Result<(), Fail> {
             expected
         );
     }
-    Ok(())
-}
-
-#[test]
-fn a_job_that_waits_is_refused(rt: HostRuntime) -> Result<(), Fail> {
-    let (status, out, err) = run_of(&rt, &["aec", "a", "b"])?;
-    assert_eq!(rt; status, 1);
-    assert!(rt; out.is_empty());
-    assert_eq!(rt; err.as_slice(), b"aec: not yet\n".as_slice());
     Ok(())
 }
 

@@ -4,11 +4,12 @@ ghost use Rattle.std.specs.Prelude.{◌≡◌, List, ℤ, IfOk, IfErr, OnOk, OnE
 ghost use Rattle.std.specs.List.{AllByRecursion};
 ghost use Rattle.std.specs.Io.KnownBytes.{Appends};
 ghost use Rattle.aec_params.specs.declared.fault.Fault.TheVariants.{Memory, Write as WriteFault};
+ghost use Rattle.aec_params.specs.Codewords.{bytes_of};
 ghost use Rattle.aec_params.specs.Params.{IsHeld};
 ghost use Rattle.aec_bits.specs.Devices.{counted, AppendsFront};
 ghost use Rattle.aec_cli.specs.Output.{all_stored};
 
-use aec_bits::{Sink, put_all};
+use aec_bits::{BitBuf, Sink, put_all};
 use aec_params::{Fault, Params, put_sample};
 use std::alloc::Global;
 
@@ -36,4 +37,15 @@ pub(crate) fn deliver<W: Sink>(bytes: &[u8], sink: &mut W) -> Result<(), Fault>
 {
     sink.begin()?;
     put_all(sink, bytes)
+}
+
+/// Begins, and writes the bytes that all bits fill. `Write` where the sink fails.
+pub(crate) fn deliver_bits<W: Sink>(bits: &BitBuf, sink: &mut W) -> Result<(), Fault>
+    ensures ok { OnOk result (Appends (W.taken sink.old) (W.taken sink.new) (bytes_of bits.now.list)) }
+    ensures front { OnErr result (AppendsFront (W.taken sink.old) (W.taken sink.new) (bytes_of bits.now.list)) }
+    ensures begun { W.begun sink.new ≡ counted (W.begun sink.old) }
+    ensures fault { IfErr result (λ e. (e ≡ WriteFault) × (W.failed sink.new ≡ 1)) }
+{
+    sink.begin()?;
+    bits.write_to(sink)
 }
