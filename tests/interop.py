@@ -85,6 +85,14 @@ def stored(case, samples, used_bits):
 # Each kind of samples: a function of the least and greatest sample, the block size and a source of chance.
 
 
+def none(least, most, block, chance):
+    return []
+
+
+def one_block(least, most, block, chance):
+    return [chance.randint(least, most) for _ in range(block)]
+
+
 def zeros(least, most, block, chance):
     return [0] * (150 * block)
 
@@ -149,6 +157,8 @@ def growing_noise(least, most, block, chance):
 
 
 KINDS = {
+    "no samples": none,
+    "one block": one_block,
     "zeros": zeros,
     "greatest": greatest,
     "zero runs": zero_runs,
@@ -218,7 +228,7 @@ class Tally:
     """Counts checks, and prints those that fail."""
 
     def __init__(self):
-        self.passed, self.failed, self.skipped = 0, 0, 0
+        self.passed, self.failed = 0, 0
 
     def check(self, holds, case, what):
         if holds:
@@ -227,9 +237,14 @@ class Tally:
             self.failed += 1
             print(f"FAILED: {what}: {' '.join(case.options())}: {case.kind}, {case.cut} short of a block")
 
-    def print(self, reason):
-        more = f", {self.skipped} skipped ({reason})" if self.skipped else ""
+    def print(self, skipped=0, reason=""):
+        more = f", {skipped} skipped ({reason})" if skipped else ""
         print(f"{self.passed} passed, {self.failed} failed{more}")
+
+
+def agrees(read, *wanted):
+    """Whether what was read begins with one of the wanted bytes, and is nothing where these are nothing."""
+    return read is not None and any(read[: len(it)] == it and bool(it) >= bool(read) for it in wanted)
 
 
 def try_case(case, chance, ours, theirs, tally):
@@ -243,15 +258,12 @@ def try_case(case, chance, ours, theirs, tally):
     their_stream = theirs.code(case, given)
     tally.check(their_stream is not None, case, f"theirs codes ({theirs.said})")
     read = ours.decode(case, their_stream or b"")
-    tally.check(read is not None and read[: len(given)] == signed, case, f"ours reads theirs ({ours.said})")
+    tally.check(agrees(read, signed), case, f"ours reads theirs ({ours.said})")
 
     our_stream = ours.code(case, given)
-    if our_stream is None and ours.said == "aec: not yet":
-        tally.skipped += 2
-        return
     tally.check(our_stream is not None, case, f"ours codes ({ours.said})")
     read = theirs.decode(case, our_stream or b"")
-    tally.check(read is not None and read[: len(given)] in (given, signed), case, f"theirs reads ours ({theirs.said})")
+    tally.check(agrees(read, given, signed), case, f"theirs reads ours ({theirs.said})")
     lengths = len(our_stream or b""), len(their_stream or b"")
     tally.check(lengths[0] <= lengths[1], case, f"ours is no longer ({lengths[0]} and {lengths[1]} bytes)")
 
@@ -270,14 +282,13 @@ def main():
     chance = random.Random(121)
     listed = list(cases(chance))
     if not is_theirs(path):
-        tally.skipped = len(listed)
-        tally.print(f"libaec-tools is not there: no client of libaec at {path}")
+        tally.print(len(listed), f"libaec-tools isn't installed: no client of libaec at {path}")
         return 0
     with tempfile.TemporaryDirectory() as folder:
         ours, theirs = Program(sys.argv[1], folder), Program(path, folder)
         for case in listed:
             try_case(case, chance, ours, theirs, tally)
-    tally.print("coding is not built yet")
+    tally.print()
     return 1 if tally.failed else 0
 
 
