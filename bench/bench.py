@@ -90,14 +90,6 @@ def run(command, folder, runs):
         return best, int(file.read().split()[-1]) / 1024
 
 
-def can_code(ours, folder):
-    """Whether our program codes already."""
-    source = os.path.join(folder, "few")
-    with open(source, "wb") as file:
-        file.write(bytes(8))
-    return subprocess.run([ours, source, source + ".aec"], capture_output=True).returncode == 0
-
-
 def measure(job, ours, theirs, options, source, folder, runs):
     """Seconds and MiB of ours, then of theirs, for one job on one file."""
     words = ["-d", *options] if job == "decoding" else options
@@ -141,13 +133,15 @@ def table(job, ours, theirs, pieces, folder, sizes, runs):
 def main():
     quick = "--quick" in sys.argv
     ours, theirs = os.path.abspath(sys.argv[1]), os.environ.get("LIBAEC", "/usr/bin/aec")
+    for path in ("/usr/bin/time", theirs):
+        if not os.path.exists(path):
+            raise SystemExit(f"no {path}: install Debian's packages time and libaec-tools")
     sizes, runs = ([1], 1) if quick else (SIZES, 3)
     chance = random.Random(16)
     pieces = {name: make(chance) for name, _, make in INPUTS}
     print(f"{datetime.date.today()}, {os.cpu_count()} cores, {platform.platform()}\n")
     with tempfile.TemporaryDirectory() as folder:
-        jobs = ["decoding", "coding"] if can_code(ours, folder) else ["decoding"]
-        for job in jobs:
+        for job in ("decoding", "coding"):
             table(job, ours, theirs, pieces, folder, sizes, runs)
 
 
