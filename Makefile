@@ -17,9 +17,13 @@ FORCE:
 example: bin/aec
 	sh examples/run.sh bin/aec
 
-# The gate, and then every other test.
+# The gate, and then the round trips with the client of libaec.
 test:
 	sh tests/run.sh
+
+# Time and memory beside the client of libaec, as tables; no test.
+bench: bin/aec
+	python3 bench/bench.py bin/aec
 
 install: bin/aec
 	install -d $(DESTDIR)$(PREFIX)/bin $(DESTDIR)$(PREFIX)/share/man/man1

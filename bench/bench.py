@@ -1,0 +1,149 @@
+#!/usr/bin/env python3
+"""Time and memory of two programs side by side: bench.py PATH_OF_AEC [--quick]
+
+Runs the program at PATH_OF_AEC ('ours') and the command-line client of libaec ('theirs', named by the environment
+variable LIBAEC, else /usr/bin/aec) on generated samples; both decode the stream that theirs has coded. Prints tables in
+Markdown: seconds of processor time (user and system, the least of three runs, starting included), peak memory (the
+maximum resident set, as /usr/bin/time tells it), the ratios, and how both grow from 1 to 16 MiB of samples. Nothing is
+judged.
+
+The inputs are one MiB of samples each, repeated for the greater sizes, so a coder that takes time in proportion to
+its input takes 16 times as long for 16 MiB. With --quick only 1 MiB is run, once.
+"""
+
+import datetime
+import os
+import platform
+import random
+import struct
+import subprocess
+import sys
+import tempfile
+
+MIB = 1 << 20
+SIZES = [1, 4, 16]
+SETTINGS = [(8, 128), (16, 128), (64, 128), (8, 4096), (16, 4096), (64, 4096)]
+
+
+# Each input: the options of its samples, and a function that gives one MiB of stored samples, least byte first.
+
+
+def ramp_with_noise(chance):
+    """8-bit samples: a slow ramp, and noise of three bits on it."""
+    return bytes((i // 64 + chance.randrange(8)) % 256 for i in range(MIB))
+
+
+def noise_12(chance):
+    """12-bit samples, all equally likely: no option is shorter than no compression."""
+    return struct.pack(f"<{MIB // 2}H", *(chance.randrange(4096) for _ in range(MIB // 2)))
+
+
+def detector(chance):
+    """16-bit samples like those of a detector: a level, noise around it, and seldom a peak that decays."""
+    samples, peak = [], 0
+    for _ in range(MIB // 2):
+        if chance.random() < 0.004:
+            peak = chance.randrange(2000, 40000)
+        samples.append(min(1000 + peak + int(chance.gauss(0, 12)) + 60, 65535))
+        peak = peak * 3 // 4
+    return struct.pack(f"<{MIB // 2}H", *samples)
+
+
+def walk(chance):
+    """32-bit signed samples: a walk by steps of up to 500."""
+    samples, x = [], 0
+    for _ in range(MIB // 4):
+        x += chance.randrange(-500, 501)
+        samples.append(x)
+    return struct.pack(f"<{MIB // 4}i", *samples)
+
+
+def sparse(chance):
+    """16-bit samples: zeros, and one in a thousand is another number."""
+    return struct.pack(
+        f"<{MIB // 2}H",
+        *(chance.randrange(1, 300) if chance.random() < 0.001 else 0 for _ in range(MIB // 2)),
+    )
+
+
+INPUTS = [
+    ("8-bit ramp with noise", ["-n", "8"], ramp_with_noise),
+    ("12-bit noise", ["-n", "12"], noise_12),
+    ("12-bit noise, -N", ["-n", "12", "-N"], noise_12),
+    ("16-bit detector", ["-n", "16"], detector),
+    ("32-bit walk", ["-n", "32", "-s"], walk),
+    ("16-bit sparse zeros", ["-n", "16"], sparse),
+]
+
+
+def run(command, folder, runs):
+    """The least processor time of the runs in seconds, and the peak memory in MiB."""
+    told, best = os.path.join(folder, "told"), None
+    for _ in range(runs):
+        timed = ["/usr/bin/time", "-f", "%M", "-o", told, *command]
+        _, status, used = os.wait4(os.posix_spawn(timed[0], timed, os.environ), 0)
+        if status != 0:
+            raise SystemExit(f"{' '.join(command)}: failed")
+        seconds = used.ru_utime + used.ru_stime
+        best = seconds if best is None else min(best, seconds)
+    with open(told) as file:
+        return best, int(file.read().split()[-1]) / 1024
+
+
+def measure(job, ours, theirs, options, source, folder, runs):
+    """Seconds and MiB of ours, then of theirs, for one job on one file."""
+    words = ["-d", *options] if job == "decoding" else options
+    told = []
+    for path in (ours, theirs):
+        told.append(run([path, *words, source, os.path.join(folder, "dest")], folder, runs))
+    return told
+
+
+def row(name, block, interval, told):
+    """One line of a table: the greatest size, and the growth from the least size to it."""
+    (our_seconds, our_mib), (their_seconds, their_mib) = told[-1]
+    growth = [told[-1][i][0] / told[0][i][0] for i in (0, 1)]
+    memory_growth = told[-1][0][1] / told[0][0][1]
+    return (
+        f"| {name} | {block} | {interval} | {our_seconds:.2f} | {their_seconds:.2f} | {our_seconds / their_seconds:.1f} "
+        f"| {our_mib:.0f} | {their_mib:.0f} | {our_mib / their_mib:.0f} | {growth[0]:.1f} | {growth[1]:.1f} | {memory_growth:.1f} |"
+    )
+
+
+def table(job, ours, theirs, pieces, folder, sizes, runs):
+    """The table of a job over all inputs and settings."""
+    print(f"### {job.capitalize()}, {sizes[-1]} MiB of samples\n")
+    print("| Input | J | r | ours, s | theirs, s | ratio | ours, MiB | theirs, MiB | ratio | growth ours | theirs | memory |")
+    print("|---|---|---|---|---|---|---|---|---|---|---|---|")
+    for name, options, _ in INPUTS:
+        for block, interval in SETTINGS:
+            words = [*options, "-j", str(block), "-r", str(interval)]
+            told = []
+            for size in sizes:
+                raw, coded = os.path.join(folder, "raw"), os.path.join(folder, "coded")
+                with open(raw, "wb") as file:
+                    file.write(pieces[name] * size)
+                subprocess.run([theirs, *words, raw, coded], check=True)
+                source = coded if job == "decoding" else raw
+                told.append(measure(job, ours, theirs, words, source, folder, runs))
+            print(row(name, block, interval, told), flush=True)
+    print()
+
+
+def main():
+    quick = "--quick" in sys.argv
+    ours, theirs = os.path.abspath(sys.argv[1]), os.environ.get("LIBAEC", "/usr/bin/aec")
+    for path in ("/usr/bin/time", theirs):
+        if not os.path.exists(path):
+            raise SystemExit(f"no {path}: install Debian's packages time and libaec-tools")
+    sizes, runs = ([1], 1) if quick else (SIZES, 3)
+    chance = random.Random(16)
+    pieces = {name: make(chance) for name, _, make in INPUTS}
+    print(f"{datetime.date.today()}, {os.cpu_count()} cores, {platform.platform()}\n")
+    with tempfile.TemporaryDirectory() as folder:
+        for job in ("decoding", "coding"):
+            table(job, ours, theirs, pieces, folder, sizes, runs)
+
+
+if __name__ == "__main__":
+    main()

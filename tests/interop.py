@@ -1,0 +1,296 @@
+#!/usr/bin/env python3
+"""Two programs, one format: interop.py PATH_OF_AEC
+
+Codes generated samples with the program at PATH_OF_AEC ('ours') and with the command-line client of libaec ('theirs',
+of Debian's package libaec-tools), and checks for each case that
+  - ours reads the stream of theirs back to the samples,
+  - theirs reads the stream of ours back to the samples,
+  - the stream of ours is never the longer one.
+The expected samples are those that were generated, so neither program is judged by itself. Where options tie, the two
+may choose differently, so streams are compared in length alone. A stream carries no sample count: each program adds
+filler behind the samples, so the first samples are compared. Theirs answers status 0 for cut streams too, so it is
+judged by what it writes. Padded intervals are left out: the rule of -p is each program's own.
+
+Prints the cases that fail and, last, how many checks passed. The environment variable LIBAEC names theirs where it is
+not /usr/bin/aec. Without it all checks are skipped, with status 0.
+"""
+
+import os
+import random
+import struct
+import subprocess
+import sys
+import tempfile
+from typing import NamedTuple
+
+WIDTHS = [1, 2, 3, 4, 5, 7, 8, 9, 12, 16, 17, 20, 24, 25, 31, 32]
+BLOCK_SIZES = [8, 16, 32, 64]
+INTERVALS = [1, 2, 3, 63, 64, 65, 128, 200, 4096]
+# Lengths of runs of zero blocks, around the ends of the run codes and of a segment of 64 blocks.
+RUNS = [1, 2, 3, 4, 5, 6, 7, 62, 63, 64, 65, 127, 128, 129]
+SECONDS = 20
+
+
+class Case(NamedTuple):
+    """What one round trip is made with."""
+
+    kind: str
+    bits: int
+    block_size: int
+    interval: int
+    signed: bool
+    preprocess: bool
+    msb_first: bool
+    three_byte: bool
+    restricted: bool
+    cut: int  # samples that the last block lacks
+
+    def options(self):
+        """The words that both programs take for it."""
+        flags = [
+            ("-s", self.signed),
+            ("-N", not self.preprocess),
+            ("-m", self.msb_first),
+            ("-3", self.three_byte),
+            ("-t", self.restricted),
+        ]
+        numbers = ["-n", str(self.bits), "-j", str(self.block_size), "-r", str(self.interval)]
+        return numbers + [letter for letter, is_set in flags if is_set]
+
+    def storage(self):
+        """The bytes of a stored sample."""
+        if self.bits <= 8:
+            return 1
+        if self.bits <= 16:
+            return 2
+        return 3 if self.three_byte and self.bits <= 24 else 4
+
+    def range(self):
+        """The least and the greatest sample."""
+        if self.signed:
+            return -(1 << (self.bits - 1)), (1 << (self.bits - 1)) - 1
+        return 0, (1 << self.bits) - 1
+
+
+def stored(case, samples, used_bits):
+    """The bytes of the samples, of which the lowest `used_bits` bits are written and the others are zero."""
+    size = case.storage()
+    words = struct.pack(f">{len(samples)}I", *(x & ((1 << used_bits) - 1) for x in samples))
+    out = bytearray(size * len(samples))
+    for place in range(size):
+        out[place::size] = words[4 - size + place if case.msb_first else 3 - place :: 4]
+    return bytes(out)
+
+
+# Each kind of samples: a function of the least and greatest sample, the block size and a source of chance.
+
+
+def none(least, most, block, chance):
+    return []
+
+
+def one_block(least, most, block, chance):
+    return [chance.randint(least, most) for _ in range(block)]
+
+
+def zeros(least, most, block, chance):
+    return [0] * (150 * block)
+
+
+def greatest(least, most, block, chance):
+    return [most] * (70 * block)
+
+
+def zero_runs(least, most, block, chance):
+    """Runs of zero blocks of many lengths, in an order of chance, with one block of another kind between two."""
+    samples = []
+    for length in chance.sample(RUNS, len(RUNS)):
+        samples += [0] * (length * block)
+        samples += [most if i % 3 == 1 else 0 for i in range(block)]
+    return samples
+
+
+def ramp(least, most, block, chance):
+    return [least + i % (most - least + 1) for i in range(20 * block)]
+
+
+def steps(least, most, block, chance):
+    """A walk by steps of at most one, kept in range: mostly zeros and ones for the coder."""
+    samples, x = [], (least + most) // 2
+    for _ in range(40 * block):
+        x = min(max(x + chance.choice([-1, 0, 0, 0, 0, 0, 0, 1]), least), most)
+        samples.append(x)
+    return samples
+
+
+def noise(shift):
+    """Noise around the middle of the range, of that many bits less than the range has, but at least one."""
+
+    def make(least, most, block, chance):
+        reach = max((most - least) >> shift, 1)
+        first = (least + most - reach) // 2
+        return [chance.randint(max(first, least), min(first + reach, most)) for _ in range(20 * block)]
+
+    return make
+
+
+def extremes(least, most, block, chance):
+    return [chance.choice([least, most]) for _ in range(12 * block)]
+
+
+def alternating(least, most, block, chance):
+    return [least if i % 2 == 0 else most for i in range(9 * block)]
+
+
+def sparse(least, most, block, chance):
+    """Zeros with a seldom greater value: the second extension, low k, and short runs."""
+    spikes = [1 if most > 0 else 0, min(3, most), most, least]
+    return [chance.choice(spikes) if chance.random() < 0.03 else 0 for _ in range(120 * block)]
+
+
+def growing_noise(least, most, block, chance):
+    """Noise of one bit, then two, up to the whole range: every k in turn."""
+    samples = []
+    for bits in range(1, (most - least).bit_length() + 1):
+        samples += [chance.randint(0, (1 << bits) - 1) + least for _ in range(4 * block)]
+    return [min(x, most) for x in samples]
+
+
+KINDS = {
+    "no samples": none,
+    "one block": one_block,
+    "zeros": zeros,
+    "greatest": greatest,
+    "zero runs": zero_runs,
+    "ramp": ramp,
+    "steps": steps,
+    "small noise": noise(6),
+    "half noise": noise(1),
+    "full noise": noise(0),
+    "extremes": extremes,
+    "alternating": alternating,
+    "sparse": sparse,
+    "growing noise": growing_noise,
+}
+
+
+def cases(chance):
+    """Every width with every block size, sign, preprocessing and kind of samples; the other choices fall by chance."""
+    for bits in WIDTHS:
+        for block_size in BLOCK_SIZES:
+            for number in range(4):
+                for kind in KINDS:
+                    yield Case(
+                        kind,
+                        bits,
+                        block_size,
+                        chance.choice(INTERVALS),
+                        signed=number % 2 == 1,
+                        preprocess=number < 2,
+                        msb_first=chance.random() < 0.5,
+                        three_byte=17 <= bits <= 24 and chance.random() < 0.5,
+                        restricted=bits <= 4 and chance.random() < 0.5,
+                        cut=chance.choice([0, 0, 1, block_size // 2, block_size - 1]),
+                    )
+
+
+class Program:
+    """A program, run on files of a folder of its own. An answer is the bytes that it wrote, None where it wrote none."""
+
+    def __init__(self, path, folder):
+        self.path, self.folder = path, folder
+
+    def run(self, words, given):
+        source, dest = os.path.join(self.folder, "source"), os.path.join(self.folder, "dest")
+        with open(source, "wb") as file:
+            file.write(given)
+        if os.path.exists(dest):
+            os.remove(dest)
+        try:
+            ended = subprocess.run([self.path, *words, source, dest], capture_output=True, timeout=SECONDS)
+            self.said = ended.stderr.decode(errors="replace").strip()
+        except subprocess.TimeoutExpired:
+            self.said = f"no answer in {SECONDS} seconds"
+            return None
+        if not os.path.exists(dest):
+            return None
+        with open(dest, "rb") as file:
+            return file.read()
+
+    def code(self, case, given):
+        return self.run(case.options(), given)
+
+    def decode(self, case, stream):
+        return self.run(["-d", *case.options()], stream)
+
+
+class Tally:
+    """Counts checks, and prints those that fail."""
+
+    def __init__(self):
+        self.passed, self.failed = 0, 0
+
+    def check(self, holds, case, what):
+        if holds:
+            self.passed += 1
+        else:
+            self.failed += 1
+            print(f"FAILED: {what}: {' '.join(case.options())}: {case.kind}, {case.cut} short of a block")
+
+    def print(self, skipped=0, reason=""):
+        more = f", {skipped} skipped ({reason})" if skipped else ""
+        print(f"{self.passed} passed, {self.failed} failed{more}")
+
+
+def agrees(read, *wanted):
+    """Whether what was read begins with one of the wanted bytes, and is nothing where these are nothing."""
+    return read is not None and any(read[: len(it)] == it and bool(it) >= bool(read) for it in wanted)
+
+
+def try_case(case, chance, ours, theirs, tally):
+    """Both programs on one case."""
+    samples = KINDS[case.kind](*case.range(), case.block_size, chance)
+    samples = samples[: len(samples) - case.cut]
+    # unused bits: zero is what both take; in decoding ours writes copies of the sign, theirs that or zeros
+    given = stored(case, samples, case.bits)
+    signed = stored(case, samples, 8 * case.storage()) if case.signed else given
+
+    their_stream = theirs.code(case, given)
+    tally.check(their_stream is not None, case, f"theirs codes ({theirs.said})")
+    read = ours.decode(case, their_stream or b"")
+    tally.check(agrees(read, signed), case, f"ours reads theirs ({ours.said})")
+
+    our_stream = ours.code(case, given)
+    tally.check(our_stream is not None, case, f"ours codes ({ours.said})")
+    read = theirs.decode(case, our_stream or b"")
+    tally.check(agrees(read, given, signed), case, f"theirs reads ours ({theirs.said})")
+    lengths = len(our_stream or b""), len(their_stream or b"")
+    tally.check(lengths[0] <= lengths[1], case, f"ours is no longer ({lengths[0]} and {lengths[1]} bytes)")
+
+
+def is_theirs(path):
+    """Whether the client of libaec stands there, and no other program of that name."""
+    if not os.path.exists(path):
+        return False
+    said = subprocess.run([path, "-h"], capture_output=True).stderr
+    return b"Adaptive Entropy Coding" in said
+
+
+def main():
+    path = os.environ.get("LIBAEC", "/usr/bin/aec")
+    tally = Tally()
+    chance = random.Random(121)
+    listed = list(cases(chance))
+    if not is_theirs(path):
+        tally.print(len(listed), f"libaec-tools isn't installed: no client of libaec at {path}")
+        return 0
+    with tempfile.TemporaryDirectory() as folder:
+        ours, theirs = Program(sys.argv[1], folder), Program(path, folder)
+        for case in listed:
+            try_case(case, chance, ours, theirs, tally)
+    tally.print()
+    return 1 if tally.failed else 0
+
+
+if __name__ == "__main__":
+    sys.exit(main())
