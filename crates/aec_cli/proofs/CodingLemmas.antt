@@ -1,5 +1,5 @@
 -- Answers of coding from what its parts answer.
-use Rattle.std.proofs.Common.{◌≡◌, ℕ, ◌+◌, ◌<◌, ◌%◌, ◌^◌, Bool, true, false, ◌&&◌, nat_lt, if◌then◌else◌, Option, Some, None, Result, Ok, Err, IfOk, IfErr, ℤ, List, [], ◌∷◌, refl, sym, ap, ◌∙◌, ◌⊎◌, inl, inr, subst}
+use Rattle.std.proofs.Common.{◌≡◌, ℕ, ◌+◌, ◌<◌, ◌%◌, ◌^◌, Bool, true, false, ◌&&◌, nat_lt, if◌then◌else◌, Option, Some, None, Result, Ok, Err, IfOk, IfErr, ℤ, List, [], ◌∷◌, refl, sym, ap, ◌∙◌, subst}
 use Rattle.std.specs.Prelude.{MatchOption}
 use Rattle.std.specs.List.{list_all}
 use Rattle.std.specs.Result.{result_err}
@@ -20,8 +20,9 @@ use Rattle.aec_params.proofs.ParamsLemmas.{value-pattern}
 use Rattle.aec_bits.specs.Refusals.{first_unheld}
 use Rattle.aec_bits.specs.RefusalLaws.{first_unheld-held}
 use Rattle.aec_cli.specs.Devices.{Input, Taking, Gave, GivesAnswer, given, lacks_memory}
-use Rattle.aec_cli.specs.Output.{IsEncoded, bytes_within, samples_refusal, not_samples, not_whole, encoded}
+use Rattle.aec_cli.specs.Output.{IsEncoded, bytes_within, samples_refusal, coding_refusal, not_coded, encoded}
 use Rattle.aec_cli.proofs.OutputLemmas.{answers_err, answers_storing}
+use Rattle.aec_cli.proofs.JudgingLemmas.{input_of}
 
 -- ---- stored samples are held
 
@@ -66,46 +67,37 @@ all_held s bytes samples allowed e = first_unheld-held (is_held s) 0 samples (he
 
 -- ---- answers, in the form in which the code has the facts
 
-abbrev input_of : List ℕ → Bool → Input
-input_of bytes failed = record { bytes = bytes; failed = failed }
-
 -- samples that were judged under the limit: what is said of them at the bytes that the source gave
 at_input : (P : List ℕ → ℕ → Type 0) (bytes judged : List ℕ) (limit most : ℕ) → judged ≡ bytes → most ≡ limit → P judged most → P bytes limit
 at_input P bytes judged limit most same counted p = subst (P bytes) counted (subst (λ b. P b most) same p)
 
--- samples that are refused
+-- samples that are refused, or their source
 pub answers_judging : {X : Type 0} (r : Result X Fault) (fault f : Fault) (s : Settings) (caps : Caps) (source : Taking) (limit most : ℕ)
     (bytes judged : List ℕ) (failed : Bool)
     → r ≡ Err fault → fault ≡ f → limit ≡ bytes_within s caps.samples → most ≡ caps.samples → judged ≡ bytes → Gave source limit (input_of bytes failed)
-    → (f ≡ Memory) ⊎ (samples_refusal most (samples_of_bytes s judged) ≡ Some f)
+    → MatchOption (coding_refusal s most (input_of judged failed)) (f ≡ Memory) (λ e. Some f ≡ Some e)
     → IfErr r (λ e. GivesAnswer (IsEncoded s caps) source (bytes_within s caps.samples) (Err e))
-answers_judging r fault f s caps source limit most bytes judged failed is same limited counted whole gave (inl memory) =
-    answers_err r fault Memory (IsEncoded s caps) source (bytes_within s caps.samples) is (same ∙ memory) lacks_memory
-answers_judging r fault f s caps source limit most bytes judged failed is same limited counted whole gave (inr refuses) =
-    answers_err r fault f (IsEncoded s caps) source (bytes_within s caps.samples) is same
-    (given (input_of bytes failed) (Err f) (subst (λ limit. Gave source limit (input_of bytes failed)) limited gave)
-    (not_samples f (at_input (λ b n. samples_refusal n (samples_of_bytes s b) ≡ Some f) bytes judged caps.samples most whole counted refuses)))
-
--- a source that failed behind samples that are not refused
-pub answers_failed : (s : Settings) (caps : Caps) (source : Taking) (limit most : ℕ) (bytes judged : List ℕ) (failed : Bool)
-    → limit ≡ bytes_within s caps.samples → most ≡ caps.samples → judged ≡ bytes → Gave source limit (input_of bytes failed)
-    → samples_refusal most (samples_of_bytes s judged) ≡ None → failed ≡ true
-    → GivesAnswer (IsEncoded s caps) source (bytes_within s caps.samples) (Err Read)
-answers_failed s caps source limit most bytes judged failed limited counted whole gave sound fails =
-    given (input_of bytes failed) (Err Read) (subst (λ limit. Gave source limit (input_of bytes failed)) limited gave)
-    (not_whole (at_input (λ b n. samples_refusal n (samples_of_bytes s b) ≡ None) bytes judged caps.samples most whole counted sound) fails)
+answers_judging r fault f s caps source limit most bytes judged failed is same limited counted whole gave refuses =
+    answers_err r fault f (IsEncoded s caps) source (bytes_within s caps.samples) is same (by_refusal (coding_refusal s most (input_of judged failed)) refl refuses)
+  where
+    by_refusal : (t : Option Fault) → coding_refusal s most (input_of judged failed) ≡ t → MatchOption t (f ≡ Memory) (λ e. Some f ≡ Some e)
+        → GivesAnswer (IsEncoded s caps) source (bytes_within s caps.samples) (Err f)
+    by_refusal None e memory = subst (λ e. GivesAnswer (IsEncoded s caps) source (bytes_within s caps.samples) (Err e)) (sym memory) lacks_memory
+    by_refusal (Some g) e refuses =
+        given (input_of bytes failed) (Err f) (subst (λ limit. Gave source limit (input_of bytes failed)) limited gave)
+        (not_coded f (at_input (λ b n. coding_refusal s n (input_of b failed) ≡ Some f) bytes judged caps.samples most whole counted (e ∙ sym refuses)))
 
 -- samples that are coded
 pub answers_code : {X : Type 0} (view : X → List Bool) (r : Result X Fault) (s : Settings) (caps : Caps) (source : Taking) (limit most : ℕ)
     (bytes judged : List ℕ) (failed : Bool) (samples coded : List ℤ)
     → limit ≡ bytes_within s caps.samples → most ≡ caps.samples → judged ≡ bytes → Gave source limit (input_of bytes failed)
-    → samples_refusal most (samples_of_bytes s judged) ≡ None → failed ≡ false → samples_of_bytes s judged ≡ Ok samples → coded ≡ samples
+    → coding_refusal s most (input_of judged failed) ≡ None → samples_of_bytes s judged ≡ Ok samples → coded ≡ samples
     → IfOk r (λ b. view b ≡ stream_of s coded) → IfOk r (λ b. GivesAnswer (IsEncoded s caps) source (bytes_within s caps.samples) (Ok (bytes_of (view b))))
-answers_code view r s caps source limit most bytes judged failed samples coded limited counted whole gave sound ends read same ok =
+answers_code view r s caps source limit most bytes judged failed samples coded limited counted whole gave sound read same ok =
     let P : List Bool → Type 0 = λ bits. GivesAnswer (IsEncoded s caps) source (bytes_within s caps.samples) (Ok (bytes_of bits)) in
     let code : P (stream_of s samples) = given (input_of bytes failed) (Ok (bytes_of (stream_of s samples)))
     (subst (λ limit. Gave source limit (input_of bytes failed)) limited gave)
-    (encoded samples (at_input (λ b n. samples_refusal n (samples_of_bytes s b) ≡ None) bytes judged caps.samples most whole counted sound) ends
+    (encoded samples (at_input (λ b n. coding_refusal s n (input_of b failed) ≡ None) bytes judged caps.samples most whole counted sound)
     (subst (λ b. samples_of_bytes s b ≡ Ok samples) whole read)) in
     IfOk-weaker r (λ b. view b ≡ stream_of s coded) (λ b. P (view b)) (λ b e. subst P (sym (e ∙ ap (stream_of s) same)) code) ok
 

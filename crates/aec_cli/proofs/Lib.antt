@@ -3,5 +3,6 @@ pub mod StatusLemmas
 pub mod WordLemmas
 pub mod DeviceLemmas
 pub mod OutputLemmas
+pub mod JudgingLemmas
 pub mod CodingLemmas
 pub mod StoringLemmas

@@ -1,6 +1,7 @@
 -- What a run writes: a function of its inputs, or one refusal.
 use Rattle.std.specs.Prelude.{◌≡◌, ℕ, ◌+◌, ◌-◌, ◌*◌, true, false, nat_lt, if◌then◌else◌, Option, Some, None, Result, Ok, Err, ℤ, List, length}
 use Rattle.std.specs.List.{flat_map}
+use Rattle.std.specs.Option.{option_or}
 use Rattle.aec_params.specs.declared.settings.Settings.{Settings}
 use Rattle.aec_params.specs.declared.fault.Fault.{Fault}
 use Rattle.aec_params.specs.declared.fault.Fault.TheVariants.{SampleRange, TooManySamples, Read, StreamTooLong}
@@ -26,15 +27,16 @@ abbrev pub samples_refusal : ℕ → Result (List ℤ) ℕ → Option Fault
 samples_refusal limit (Ok samples) = if nat_lt limit (length samples) then Some (TooManySamples limit) else None
 samples_refusal limit (Err bad) = Some (if nat_lt bad limit then SampleRange bad else TooManySamples limit)
 
+-- why an input is not coded: the first refusal of its samples, and behind them the failure of its source
+abbrev pub coding_refusal : Settings → ℕ → Input → Option Fault
+coding_refusal s limit input = option_or (samples_refusal limit (samples_of_bytes s input.bytes)) (if input.failed then Some Read else None)
+
 -- what coding answers
 pub data IsEncoded (s : Settings) (caps : Caps) (input : Input) : Result (List ℕ) Fault → Type 0 where
-  -- the samples of the input are refused, whether or not its source failed behind them
-  not_samples : (fault : Fault) → samples_refusal caps.samples (samples_of_bytes s input.bytes) ≡ Some fault → IsEncoded s caps input (Err fault)
-  -- they are not, and the source failed
-  not_whole : samples_refusal caps.samples (samples_of_bytes s input.bytes) ≡ None → input.failed ≡ true → IsEncoded s caps input (Err Read)
+  not_coded : (fault : Fault) → coding_refusal s caps.samples input ≡ Some fault → IsEncoded s caps input (Err fault)
   -- the bytes of the samples' code
-  encoded : (samples : List ℤ) → samples_refusal caps.samples (samples_of_bytes s input.bytes) ≡ None → input.failed ≡ false
-      → samples_of_bytes s input.bytes ≡ Ok samples → IsEncoded s caps input (Ok (bytes_of (stream_of s samples)))
+  encoded : (samples : List ℤ) → coding_refusal s caps.samples input ≡ None → samples_of_bytes s input.bytes ≡ Ok samples
+      → IsEncoded s caps input (Ok (bytes_of (stream_of s samples)))
 
 -- ---- decoding
 

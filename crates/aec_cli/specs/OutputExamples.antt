@@ -5,7 +5,7 @@ use Rattle.aec_params.specs.Limits.{Caps}
 use Rattle.aec_params.specs.Stored.{samples_of_bytes}
 use Rattle.aec_params.proofs.WorkedSettings.{usual, twelve_bits, five_signed}
 use Rattle.aec_cli.specs.Devices.{Input}
-use Rattle.aec_cli.specs.Output.{IsEncoded, bytes_within, samples_refusal, encoded, not_samples, not_whole}
+use Rattle.aec_cli.specs.Output.{IsEncoded, bytes_within, samples_refusal, encoded, not_coded}
 
 -- so many samples; coding has no limit of bytes
 abbrev at_most : ℕ → Caps
@@ -36,17 +36,17 @@ most_bytes_of_one = refl
 
 -- what is written of these
 one_sample : IsEncoded twelve_bits (at_most 1) (input (1 ∷ 0 ∷ 2 ∷ []) false) (Ok (0 ∷ 0 ∷ 192 ∷ []))
-one_sample = encoded (pos 1 ∷ []) refl refl refl
+one_sample = encoded (pos 1 ∷ []) refl refl
 
 no_samples : IsEncoded usual (at_most 0) (input [] false) (Ok [])
-no_samples = encoded [] refl refl refl
+no_samples = encoded [] refl refl
 
 -- a source that fails is named where no sample before is refused
 failed_source : IsEncoded five_signed (at_most 2) (input (31 ∷ 255 ∷ []) true) (Err Read)
-failed_source = not_whole refl refl
+failed_source = not_coded Read refl
 
 failed_behind_a_bad_sample : IsEncoded five_signed (at_most 3) (input third_is_bad true) (Err (SampleRange 2))
-failed_behind_a_bad_sample = not_samples (SampleRange 2) refl
+failed_behind_a_bad_sample = not_coded (SampleRange 2) refl
 
 failed_behind_the_limit : IsEncoded five_signed (at_most 2) (input third_is_bad true) (Err (TooManySamples 2))
-failed_behind_the_limit = not_samples (TooManySamples 2) refl
+failed_behind_the_limit = not_coded (TooManySamples 2) refl

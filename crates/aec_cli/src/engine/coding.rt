@@ -1,12 +1,13 @@
 //! Stored samples to coded data.
 
-ghost use Rattle.std.specs.Prelude.{◌≡◌, ◌⊎◌, Ok, Err, Some, None, IfOk, IfErr};
+ghost use Rattle.std.specs.Prelude.{◌≡◌, Ok, Err, Some, None, IfOk, IfErr, MatchOption};
+ghost use Rattle.std.specs.Result.{result_err};
 ghost use Rattle.aec_params.specs.declared.fault.Fault.TheVariants.{Memory};
 ghost use Rattle.aec_params.specs.Codewords.{bytes_of};
 ghost use Rattle.aec_params.specs.Params.{IsAllowed};
 ghost use Rattle.aec_params.specs.Stored.{samples_of_bytes};
-ghost use Rattle.aec_cli.specs.Devices.{Taking, Putting, GivesAnswer, Leaves};
-ghost use Rattle.aec_cli.specs.Output.{IsEncoded, bytes_within, samples_refusal};
+ghost use Rattle.aec_cli.specs.Devices.{Input, Taking, Putting, GivesAnswer, Leaves};
+ghost use Rattle.aec_cli.specs.Output.{IsEncoded, bytes_within, coding_refusal};
 
 use crate::engine::intake::read_past;
 use crate::engine::outlet::deliver_bits;
@@ -23,16 +24,24 @@ fn most_bytes(params: &Params, limits: Limits) -> u64
     (limits.samples() + 1) * params.storage() as u64 - 1
 }
 
-/// The samples that bytes hold. The first refusal in their order: `TooManySamples` at the one behind the limit, before
-/// that `SampleRange`; then `Memory`.
-fn judged(alloc: Global, params: &Params, limit: u64, bytes: &[u8]) -> Result<Vec<i64>, Fault>
+/// The samples that bytes hold, which a source gave and then `failed`, or not. The first refusal in their order:
+/// `TooManySamples` at the sample behind the limit, before that `SampleRange`; then `Read`; then `Memory`.
+fn judged(
+    alloc: Global,
+    params: &Params,
+    limit: u64,
+    bytes: &[u8],
+    failed: bool,
+) -> Result<Vec<i64>, Fault>
     ensures ok { IfOk result (λ v. samples_of_bytes params.now bytes.now ≡ Ok v.items) }
-    ensures sound { IfOk result (λ _. samples_refusal limit (samples_of_bytes params.now bytes.now) ≡ None) }
-    ensures refuses { IfErr result (λ fault. (fault ≡ Memory) ⊎ (samples_refusal limit (samples_of_bytes params.now bytes.now) ≡ Some fault)) }
+    ensures sound { IfOk result (λ _. coding_refusal params.now limit (record { bytes = bytes.now; failed = failed }) ≡ None) }
+    ensures refuses { MatchOption (coding_refusal params.now limit (record { bytes = bytes.now; failed = failed })) (IfErr result (λ e. e ≡ Memory)) (λ fault. result_err result ≡ Some fault) }
 {
+    let whole = (bytes.len() / params.storage()) as u64;
     match read_samples(alloc, params, bytes) {
-        Err(Fault::SampleRange { index }) if index >= limit => Err(Fault::TooManySamples { limit }),
-        Ok(samples) if samples.len() as u64 > limit => Err(Fault::TooManySamples { limit }),
+        Err(Fault::SampleRange { index }) if index < limit => Err(Fault::SampleRange { index }),
+        _ if whole > limit => Err(Fault::TooManySamples { limit }),
+        _ if failed => Err(Fault::Read),
         answer => answer,
     }
 }
@@ -48,17 +57,14 @@ fn encoded<R: Source>(
     ensures refuses { IfErr result (λ fault. GivesAnswer (IsEncoded params.now limits) (record { before = R.left source.old; after = R.left source.new; failures = R.failed source.new }) (bytes_within params.now limits.samples) (Err fault)) }
 {
     let (bytes, failed) = read_past(alloc, source, most_bytes(params, limits))?;
-    let samples = judged(alloc, params, limits.samples(), &bytes)?;
-    if failed {
-        return Err(Fault::Read);
-    }
+    let samples = judged(alloc, params, limits.samples(), &bytes, failed)?;
     encode_all(alloc, params, &samples)
 }
 
 /// Reads stored samples from the source to its end, its failure or past `limits.samples`, and writes the bytes of their
-/// code. The refusals in their order: at each sample `TooManySamples`, then `SampleRange`; behind all samples `Read`;
-/// and `Memory` where a growth is refused. Nothing has been written then and `begin` was not called. After `begin` only
-/// `Write` can come, and a front of the answer has been written. `limits.bytes` is not used.
+/// code. The refusals in their order: `Memory` while the source is read; at each sample `TooManySamples`, then
+/// `SampleRange`; behind all samples `Read`; then `Memory`. Nothing has been written then and `begin` was not called.
+/// After `begin` only `Write` can come, and a front of the answer has been written. `limits.bytes` is not used.
 pub fn encode<R: Source, W: Sink>(
     alloc: Global,
     params: &Params,

@@ -1,5 +1,5 @@
 use Rattle.std.proofs.lemmas.Result.{err_from_is_err_and}
-use Rattle.aec_cli.proofs.CodingLemmas.{answers_judging, answers_failed, answers_code, answers_coder}
+use Rattle.aec_cli.proofs.CodingLemmas.{answers_judging, answers_code, answers_coder}
 use Rattle.aec_cli.proofs.OutputLemmas.{answers_memory}
 use Rattle.aec_cli.proofs.engine.coding.encoded.Goals as goal
 
@@ -15,18 +15,12 @@ returns-in_err-samples-clause-refuses g c =
     c.in_ok-bytes.bytes.items c.deref.result.now c.in_ok-bytes.failed
     exit.1 exit.2 c.most_bytes.ensures.value c.samples.ensures.value c.deref.ensures.value c.in_ok-bytes.ensures.ok c.in_err-samples.ensures.refuses
 
-pub returns-then-failed-clause-refuses : goal.returns-then-failed-clause-refuses
-returns-then-failed-clause-refuses g c =
-    answers_failed c.args.params.now c.args.limits _ c.most_bytes.result _
-    c.in_ok-bytes.bytes.items c.deref.result.now c.in_ok-bytes.failed
-    c.most_bytes.ensures.value c.samples.ensures.value c.deref.ensures.value c.in_ok-bytes.ensures.ok c.in_ok-samples.ensures.sound c.if-failed.true
-
 pub returns-clause-ok : goal.returns-clause-ok
 returns-clause-ok g c =
     answers_code (λ b. b.list) c.encode_all.result c.args.params.now c.args.limits _ c.most_bytes.result _
     c.in_ok-bytes.bytes.items c.deref.result.now c.in_ok-bytes.failed
     c.in_ok-samples.samples.items c.deref-2.result.now
-    c.most_bytes.ensures.value c.samples.ensures.value c.deref.ensures.value c.in_ok-bytes.ensures.ok c.in_ok-samples.ensures.sound c.if-failed.false
+    c.most_bytes.ensures.value c.samples.ensures.value c.deref.ensures.value c.in_ok-bytes.ensures.ok c.in_ok-samples.ensures.sound
     c.in_ok-samples.ensures.ok c.deref-2.ensures.value c.encode_all.ensures.ok
 
 pub returns-clause-refuses : goal.returns-clause-refuses
