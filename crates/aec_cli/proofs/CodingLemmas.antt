@@ -9,7 +9,7 @@ use Rattle.std.proofs.lemmas.Result.{IfOk-weaker}
 use Rattle.std.proofs.Math.Nat.{mod-lt}
 use Rattle.aec_params.specs.declared.settings.Settings.{Settings}
 use Rattle.aec_params.specs.declared.fault.Fault.{Fault}
-use Rattle.aec_params.specs.declared.fault.Fault.TheVariants.{Memory, Read, SampleRange}
+use Rattle.aec_params.specs.declared.fault.Fault.TheVariants.{Memory, SampleRange}
 use Rattle.aec_params.specs.Limits.{Caps}
 use Rattle.aec_params.specs.Params.{IsAllowed, is_held, pattern_value}
 use Rattle.aec_params.specs.Stored.{number_in, has_sign_above, sample_of_number, sample_before, samples_of_groups, samples_of_bytes, byte_groups}
@@ -20,9 +20,9 @@ use Rattle.aec_params.proofs.ParamsLemmas.{value-pattern}
 use Rattle.aec_bits.specs.Refusals.{first_unheld}
 use Rattle.aec_bits.specs.RefusalLaws.{first_unheld-held}
 use Rattle.aec_cli.specs.Devices.{Input, Taking, Gave, GivesAnswer, given, lacks_memory}
-use Rattle.aec_cli.specs.Output.{IsEncoded, bytes_within, samples_refusal, coding_refusal, not_coded, encoded}
+use Rattle.aec_cli.specs.Output.{IsEncoded, bytes_within, coding_refusal, not_coded, encoded}
 use Rattle.aec_cli.proofs.OutputLemmas.{answers_err, answers_storing}
-use Rattle.aec_cli.proofs.JudgingLemmas.{input_of}
+use Rattle.aec_cli.specs.Laws.{input_of}
 
 -- ---- stored samples are held
 

@@ -1,5 +1,5 @@
 -- Which refusal samples have, from what reading them answers.
-use Rattle.std.proofs.Common.{◌≡◌, ℕ, zero, suc, ◌+◌, ◌/◌, ◌<◌, ◌≤◌, Bool, true, false, nat_lt, if◌then◌else◌, Option, Some, None, Result, Ok, Err, IfErr, ℤ, List, [], ◌∷◌, length, take, drop, refl, sym, ap, ◌∙◌, subst, arith}
+use Rattle.std.proofs.Common.{◌≡◌, ℕ, zero, suc, ◌+◌, ◌/◌, ◌<◌, ◌≤◌, Bool, if◌then◌else◌, Option, Some, None, Result, Ok, Err, IfErr, ℤ, List, [], ◌∷◌, length, drop, refl, sym, ap, ◌∙◌, arith}
 use Rattle.std.specs.Simd.{first_chunks}
 use Rattle.std.specs.Option.{option_or}
 use Rattle.std.proofs.lemmas.Bool.{lt-ltb, le-ltb}
@@ -8,11 +8,8 @@ use Rattle.aec_params.specs.declared.fault.Fault.{Fault}
 use Rattle.aec_params.specs.declared.fault.Fault.TheVariants.{Memory, Read, SampleRange, TooManySamples}
 use Rattle.aec_params.specs.Params.{storage_len}
 use Rattle.aec_params.specs.Stored.{AnswersSamples, number_in, sample_of_number, sample_before, samples_of_groups, samples_of_bytes, byte_groups}
-use Rattle.aec_cli.specs.Devices.{Input}
 use Rattle.aec_cli.specs.Output.{samples_refusal, coding_refusal}
-
-abbrev pub input_of : List ℕ → Bool → Input
-input_of bytes failed = record { bytes = bytes; failed = failed }
+use Rattle.aec_cli.specs.Laws.{input_of}
 
 length-samples : (s : Settings) (i : ℕ) (groups : List (List ℕ)) (samples : List ℤ) → samples_of_groups s i groups ≡ Ok samples → length samples ≡ length groups
 length-samples s i [] samples e = let none : [] ≡ samples = cc in sym (ap length none)

@@ -6,3 +6,5 @@ pub mod OutputLemmas
 pub mod JudgingLemmas
 pub mod CodingLemmas
 pub mod StoringLemmas
+pub mod AnswerLemmas
+pub mod FrontLemmas

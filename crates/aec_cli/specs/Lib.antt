@@ -6,3 +6,4 @@ pub mod Statuses
 pub mod Devices
 pub mod Output
 pub mod OutputExamples
+pub mod Laws

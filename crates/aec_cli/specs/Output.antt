@@ -1,5 +1,5 @@
 -- What a run writes: a function of its inputs, or one refusal.
-use Rattle.std.specs.Prelude.{◌≡◌, ℕ, ◌+◌, ◌-◌, ◌*◌, true, false, nat_lt, if◌then◌else◌, Option, Some, None, Result, Ok, Err, ℤ, List, length}
+use Rattle.std.specs.Prelude.{◌≡◌, ℕ, ◌+◌, ◌-◌, ◌*◌, nat_lt, if◌then◌else◌, Option, Some, None, Result, Ok, Err, ℤ, List, length}
 use Rattle.std.specs.List.{flat_map}
 use Rattle.std.specs.Option.{option_or}
 use Rattle.aec_params.specs.declared.settings.Settings.{Settings}

@@ -5,6 +5,7 @@ mod engine;
 mod failure;
 mod files;
 mod job;
+pub mod laws;
 mod program;
 mod usage;
 mod words;

@@ -174,6 +174,28 @@ fn blocks_without_compression_are_decoded(rt: HostRuntime) -> Result<(), Fail> {
     Ok(())
 }
 
+// Two zero blocks fill an interval and end at bit 14; two set bits fill the byte.
+#[test]
+fn filling_bits_are_skipped(rt: HostRuntime) -> Result<(), Fail> {
+    let cases: [(&[u8], &[u8]); 2] = [
+        (&[0x00, 0x07], &[0; 16]),
+        (&[0x00, 0x07, 0x00, 0x08], &[0; 24]),
+    ];
+    for (stream, samples) in cases {
+        let (status, err, raw) = run_on(
+            &rt,
+            rt.alloc(),
+            &["aec", "-d", "-p", "filling.aec", "filling.raw"],
+            "filling.aec",
+            "filling.raw",
+            stream,
+        )?;
+        assert_eq!(rt; (status, err.len()), (0, 0), "at {stream:?}");
+        assert_eq!(rt; raw.as_slice(), samples, "at {stream:?}");
+    }
+    Ok(())
+}
+
 #[test]
 fn zero_bits_are_no_samples(rt: HostRuntime) -> Result<(), Fail> {
     let (status, _err, raw) = run_on(

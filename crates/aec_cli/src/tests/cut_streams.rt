@@ -61,6 +61,26 @@ fn a_stream_is_cut_behind_each_byte(rt: HostRuntime) -> Result<(), Fail> {
     Ok(())
 }
 
+// Cut in a block without compression; zero bits alone; cut behind two of eight values.
+#[test]
+fn a_stream_has_no_whole_block(rt: HostRuntime) -> Result<(), Fail> {
+    let plain = Settings {
+        preprocess: false,
+        ..DEFAULTS
+    };
+    let cases: [(&[u8], Result<(), Fault>); 3] = [
+        (&[0xE0, 0x00], Err(Fault::Truncated { bit: 0 })),
+        (&[0x00], Ok(())),
+        (&[0x20, 0x09], Err(Fault::Truncated { bit: 0 })),
+    ];
+    for (stream, expected) in cases {
+        let (answer, written) = read(&rt, rt.alloc(), plain, stream, None)?;
+        assert_eq!(rt; answer, expected, "at {stream:?}");
+        assert_eq!(rt; written.len(), 0, "at {stream:?}");
+    }
+    Ok(())
+}
+
 // One coded data set of 4 bytes less the rest: twelve zero bits (identifier and reference sample), and a fundamental
 // sequence of 19 less the rest. The blocks that it stands for: the number itself, but of 3 four, and of 4 all that the
 // interval of 32 blocks has.

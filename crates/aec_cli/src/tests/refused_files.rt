@@ -81,6 +81,14 @@ fn broken_streams_are_refused(rt: HostRuntime) -> Result<(), Fail> {
     refused(
         &rt,
         rt.alloc(),
+        &["aec", "-d", "refused.in", "refused.out"],
+        &[0x00, 0x07],
+        1,
+        b"aec: coded data is cut short at bit 14\n",
+    )?;
+    refused(
+        &rt,
+        rt.alloc(),
         &["aec", "-d", "-N", "-n", "1", "refused.in", "refused.out"],
         &[0x27, 0xF8],
         1,

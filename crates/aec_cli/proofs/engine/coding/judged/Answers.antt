@@ -1,4 +1,4 @@
-use Rattle.std.proofs.Common.{rules, Some, None, true, false, if◌then◌else◌, refl, ap, ◌∙◌}
+use Rattle.std.proofs.Common.{rules, Some, None, if◌then◌else◌, refl, ap, ◌∙◌}
 use Rattle.aec_params.specs.declared.fault.Fault.TheVariants.{Read}
 use Rattle.aec_cli.proofs.JudgingLemmas.{NoneBefore, refuses_past_limit, refuses_within_limit}
 use Rattle.aec_cli.proofs.engine.coding.judged.Goals.{in_default-via-in-Err-SampleRange+else-index-limit, in_default-via-in-Err+in_default, in_default-via-in_default}

@@ -1,0 +1,48 @@
+-- What the definitions of what a run writes were meant to say.
+use Rattle.std.specs.Prelude.{◌≡◌, ◌↔◌, ℕ, ◌<◌, Bool, false, Option, Some, Result, Err, List, ◌++◌, length}
+use Rattle.aec_params.specs.declared.settings.Settings.{Settings}
+use Rattle.aec_params.specs.declared.fault.Fault.{Fault}
+use Rattle.aec_params.specs.Limits.{Caps}
+use Rattle.aec_params.specs.Params.{IsAllowed}
+use Rattle.aec_cli.specs.Devices.{Input, Taking, Gave}
+use Rattle.aec_cli.specs.Output.{IsEncoded, bytes_within, IsDecoded}
+
+-- ---- bytes or one refusal
+
+-- an input has one answer
+pub record HasOneAnswer (answers : Input → Result (List ℕ) Fault → Type 0) (input : Input) : Type 0 where
+  pub answer : Result (List ℕ) Fault
+  pub is_answer : answers input answer
+  pub only : (other : Result (List ℕ) Fault) → answers input other → other ≡ answer
+
+-- each input is coded into bytes or has one refusal, and is decoded into bytes or has one refusal
+pub record EachInputHasOneAnswer : Type 0 where
+  pub coding : (s : Settings) (caps : Caps) (input : Input) → HasOneAnswer (IsEncoded s caps) input
+  pub decoding : (s : Settings) (caps : Caps) (count : Option ℕ) (input : Input) → IsAllowed s → HasOneAnswer (IsDecoded s caps count) input
+
+-- ---- inputs past a limit
+
+abbrev pub input_of : List ℕ → Bool → Input
+input_of bytes failed = record { bytes = bytes; failed = failed }
+
+-- the front of an input is enough: both have one answer, the same refusal, whether or not their source failed
+pub record IsJudgedByFront (answers : Input → Result (List ℕ) Fault → Type 0) (front rest : List ℕ) : Type 0 where
+  pub fault : Fault
+  pub of_front : (failed : Bool) (answer : Result (List ℕ) Fault) → answers (input_of front failed) answer ↔ (answer ≡ Err fault)
+  pub of_whole : (failed : Bool) (answer : Result (List ℕ) Fault) → answers (input_of (front ++ rest) failed) answer ↔ (answer ≡ Err fault)
+
+-- a front that is past the limit is enough
+pub record FrontsPastALimitAreEnough : Type 0 where
+  pub coding : (s : Settings) (caps : Caps) (front rest : List ℕ) → IsAllowed s → bytes_within s caps.samples < length front
+      → IsJudgedByFront (IsEncoded s caps) front rest
+  pub decoding : (s : Settings) (caps : Caps) (count : Option ℕ) (front rest : List ℕ) → caps.bytes < length front
+      → IsJudgedByFront (IsDecoded s caps count) front rest
+
+-- what a source gave is judged as all bytes that it had left, where it did not fail
+abbrev pub IsJudgedWhole : (Input → Result (List ℕ) Fault → Type 0) → ℕ → Type 0
+IsJudgedWhole answers limit = (source : Taking) (input : Input) (bytes : List ℕ) (answer : Result (List ℕ) Fault)
+    → source.before ≡ Some bytes → source.failures ≡ 0 → Gave source limit input → answers input answer → answers (input_of bytes false) answer
+
+pub record WhatIsTakenIsEnough : Type 0 where
+  pub coding : (s : Settings) (caps : Caps) → IsAllowed s → IsJudgedWhole (IsEncoded s caps) (bytes_within s caps.samples)
+  pub decoding : (s : Settings) (caps : Caps) (count : Option ℕ) → IsJudgedWhole (IsDecoded s caps count) caps.bytes

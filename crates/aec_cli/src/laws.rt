@@ -1,0 +1,18 @@
+//! Laws of what a run writes. Their functions do nothing: what each one's contract says is proved.
+
+ghost use Rattle.aec_cli.specs.Laws.{EachInputHasOneAnswer, FrontsPastALimitAreEnough, WhatIsTakenIsEnough};
+
+/// Each input is coded into bytes or has one refusal, and so it is decoded.
+pub fn each_input_has_one_answer()
+    ensures { EachInputHasOneAnswer }
+{}
+
+/// An input that is past its limit is refused, and by its front alone: whatever follows, the refusal is the same.
+pub fn fronts_past_a_limit_are_enough()
+    ensures { FrontsPastALimitAreEnough }
+{}
+
+/// What is answered to the bytes that were taken of a source that did not fail is the answer to all that it had.
+pub fn what_is_taken_is_enough()
+    ensures { WhatIsTakenIsEnough }
+{}
