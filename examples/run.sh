@@ -13,10 +13,10 @@ od -An -tx1 "$out/eight_values.raw"
 echo "ramp.aec, decoded:"
 od -An -tx1 "$out/ramp.raw"
 
-# signed samples of 16 bits, blocks of 16 samples, intervals of 128 blocks
-options="-n 16 -s -j 16 -r 128"
-"$aec" $options "$here/temperature.raw" "$out/temperature.aec"
-"$aec" -d $options "$out/temperature.aec" "$out/temperature.raw"
-cmp "$here/temperature.raw" "$out/temperature.raw"
-echo "temperature.raw, coded with $options:"
-echo " $(wc -c < "$here/temperature.raw") bytes of samples, $(wc -c < "$out/temperature.aec") bytes coded; decoded, the same samples"
+# samples of 16 bits, blocks of 16 samples, intervals of 128 blocks
+options="-n 16 -j 16 -r 128"
+"$aec" $options "$here/durations.raw" "$out/durations.aec"
+"$aec" -d $options "$out/durations.aec" "$out/durations.raw"
+cmp "$here/durations.raw" "$out/durations.raw"
+echo "durations.raw, coded with $options:"
+echo " $(wc -c < "$here/durations.raw") bytes of samples, $(wc -c < "$out/durations.aec") bytes coded; decoded, the same samples"

@@ -36,77 +36,79 @@ fn job_of(alloc: Global, words: &[&str]) -> Result<Job, Fail> {
     Ok(settings(alloc, &matches)?)
 }
 
+// Two words of a command, and the settings that they ask for.
+const OPTIONS: [([&str; 2], Settings); 11] = [
+    (
+        ["-n", "20"],
+        Settings {
+            bits: 20,
+            ..DEFAULTS
+        },
+    ),
+    (
+        ["-j", "64"],
+        Settings {
+            block_size: 64,
+            ..DEFAULTS
+        },
+    ),
+    (
+        ["-r", "4096"],
+        Settings {
+            interval: 4096,
+            ..DEFAULTS
+        },
+    ),
+    (
+        ["-n8", "-s"],
+        Settings {
+            signed: true,
+            ..DEFAULTS
+        },
+    ),
+    (
+        ["-n8", "-m"],
+        Settings {
+            msb_first: true,
+            ..DEFAULTS
+        },
+    ),
+    (
+        ["-n8", "-3"],
+        Settings {
+            three_byte: true,
+            ..DEFAULTS
+        },
+    ),
+    (
+        ["-n8", "-N"],
+        Settings {
+            preprocess: false,
+            ..DEFAULTS
+        },
+    ),
+    (
+        ["-n8", "-p"],
+        Settings {
+            pad: true,
+            ..DEFAULTS
+        },
+    ),
+    (
+        ["-n4", "-t"],
+        Settings {
+            bits: 4,
+            restricted: true,
+            ..DEFAULTS
+        },
+    ),
+    (["-b", "18446744073709551615"], DEFAULTS),
+    (["-r2", "-j8"], DEFAULTS),
+];
+
 #[test]
 fn each_option_has_its_setting(rt: HostRuntime) -> Result<(), Fail> {
-    let cases = [
-        (
-            ["-n", "20"],
-            Settings {
-                bits: 20,
-                ..DEFAULTS
-            },
-        ),
-        (
-            ["-j", "64"],
-            Settings {
-                block_size: 64,
-                ..DEFAULTS
-            },
-        ),
-        (
-            ["-r", "4096"],
-            Settings {
-                interval: 4096,
-                ..DEFAULTS
-            },
-        ),
-        (
-            ["-n8", "-s"],
-            Settings {
-                signed: true,
-                ..DEFAULTS
-            },
-        ),
-        (
-            ["-n8", "-m"],
-            Settings {
-                msb_first: true,
-                ..DEFAULTS
-            },
-        ),
-        (
-            ["-n8", "-3"],
-            Settings {
-                three_byte: true,
-                ..DEFAULTS
-            },
-        ),
-        (
-            ["-n8", "-N"],
-            Settings {
-                preprocess: false,
-                ..DEFAULTS
-            },
-        ),
-        (
-            ["-n8", "-p"],
-            Settings {
-                pad: true,
-                ..DEFAULTS
-            },
-        ),
-        (
-            ["-n4", "-t"],
-            Settings {
-                bits: 4,
-                restricted: true,
-                ..DEFAULTS
-            },
-        ),
-        (["-b", "18446744073709551615"], DEFAULTS),
-        (["-r2", "-j8"], DEFAULTS),
-    ];
-    for (options, expected) in cases {
+    for (options, expected) in OPTIONS {
         let job = job_of(rt.alloc(), &["aec", options[0], options[1], "in", "out"])?;
         assert_eq!(rt; job.params, Params::new(expected)?, "at {options:?}");
         assert_eq!(rt; job.action, Action::Encode, "at {options:?}");

@@ -1,5 +1,5 @@
 -- An interval whose code stands somewhere in bits is read there, and nothing else is.
-use Rattle.std.proofs.Common.{◌≡◌, ℕ, ◌+◌, ◌*◌, Bool, Some, List, ◌++◌, length, take, refl, sym, ap, ap₂, ◌∙◌, subst, arith}
+use Rattle.std.proofs.Common.{◌≡◌, ℕ, ◌+◌, ◌*◌, Bool, Some, List, ◌++◌, length, take, refl, sym, ap, ap₂, ◌∙◌, subst, arith, Result, Err, IfErr}
 use Rattle.std.specs.Prelude.{ℤ}
 use Rattle.std.specs.Int.{div_ceil}
 use Rattle.std.proofs.lemmas.List.{length-take, take-append-drop, take_at}
@@ -54,7 +54,8 @@ pub read-interval : (s : Settings) (limit : ℕ) (bits : List Bool) (start count
     → IsReadFrom s (Some count) limit bits start samples → BeginsAt (interval_format s) bits start count v → samples ≡ v
 read-interval s limit bits start count samples v a read begins =
     let h = AreOfInterval-format s v begins.interval in
-    let same = same_blocks s a (Some count) limit bits 0 start read.blocks (all_blocks_of s v) read.read (IsBlockReading-interval s limit bits start count v a begins) in
+    let same = same_blocks s a (Some count) limit bits 0 start read.blocks (all_blocks_of s v) read.read
+    (IsBlockReading-interval s limit bits start count v a begins) in
     let filled = FillBlocks-one_to_one s read.all_samples (filled_samples s v) (all_blocks_of s v) a
     (subst (FillBlocks s read.all_samples) same read.filled) (FillBlocks-all_blocks_of s v a h.held) in
     read.counted ∙ ap (take count) filled ∙ take_at v _ count begins.length_is
@@ -65,3 +66,17 @@ pub memory-alone : (s : Settings) (limit : ℕ) (bits : List Bool) (start count 
 memory-alone s limit bits start count v fault a no_memory begins = refl
 memory-alone s limit bits start count v fault a (faulty f wrong) begins =
     absurd (no_reading_and_fault s a (Some count) limit bits 0 start (all_blocks_of s v) f (IsBlockReading-interval s limit bits start count v a begins) wrong)
+
+pub memory-refuses : {X : Type 0} (s : Settings) (limit : ℕ) (bits : List Bool) (start count : ℕ) (r : Result X Fault) (fault other : Fault) → IsAllowed s
+    → r ≡ Err fault → fault ≡ other → RefusesReading s (Some count) limit bits start other
+    → (v : List ℤ) × BeginsAt (interval_format s) bits start count v → IfErr r (λ e. e ≡ Memory)
+memory-refuses {X} s limit bits start count r fault other a is same refuses begins =
+    let P : Result X Fault → Type 0 = λ r. IfErr r (λ e. e ≡ Memory) in
+    subst P (sym is) (same ∙ memory-alone s limit bits start count begins.0 other a refuses begins.1)
+
+-- what is appended is what was read
+pub read-more : (s : Settings) (limit : ℕ) (bits : List Bool) (start count : ℕ) (front new samples taken : List ℤ) → IsAllowed s
+    → new ≡ front ++ taken → taken ≡ samples → IsReadFrom s (Some count) limit bits start samples
+    → (v : List ℤ) → BeginsAt (interval_format s) bits start count v → new ≡ front ++ v
+read-more s limit bits start count front new samples taken a appended same read v begins =
+    appended ∙ ap (◌++◌ front) (same ∙ read-interval s limit bits start count samples v a read begins)

@@ -16,7 +16,7 @@ use Rattle.aec_params.specs.declared.fault.Fault.TheVariants.{RunTooLong, TooMan
 use Rattle.aec_params.specs.Params.{IsAllowed}
 use Rattle.std.proofs.Common.{lit≤, nat_lt, if◌then◌else◌}
 use Rattle.std.proofs.lemmas.Bool.{lt-leb}
-use Rattle.aec_params.specs.CodedDataSets.{Body, plain_values, value_pairs, split_values, zero_blocks, CodedDataSet}
+use Rattle.aec_params.specs.CodedDataSets.{Body, plain_values, value_pairs, split_values, zero_blocks, CodedDataSet, cds_bits}
 use Rattle.aec_params.specs.Places.{segment_left, body_blocks, block_count, stays_in_segment, is_reference_block, cds_blocks, IsLawful}
 use Rattle.aec_params.specs.Reading.{next_block, begin_of, is_wanted, keeps_limit, kept_blocks, stream_blocks, counted_samples, IsReading}
 use Rattle.aec_bits.specs.BitReader.{Cursor}
@@ -35,7 +35,8 @@ pub block_size-most : (s : Settings) → IsAllowed s → s.block_size ≤ 64
 block_size-most s allowed = let b = allowed.block_size in grind (arith, nat_tests)
 
 -- the coded data set that was read stands for as many blocks as were counted
-pub count-read : (s : Settings) (p : ℕ) (due : Bool) (old new : Cursor) (c : CodedDataSet) (cds : Cds) (blocks : ℕ) → IsReadAs s due old new c cds → blocks ≡ cds_count s p cds → blocks ≡ block_count s p c
+pub count-read : (s : Settings) (p : ℕ) (due : Bool) (old new : Cursor) (c : CodedDataSet) (cds : Cds) (blocks : ℕ)
+    → IsReadAs s due old new c cds → blocks ≡ cds_count s p cds → blocks ≡ block_count s p c
 count-read s p due old new c cds blocks read counted = counted ∙ (ap (cds_count s p) read.answer ∙ cds_count-answer_of s p c.reference c.body)
 
 pub count-some : (s : Settings) (p : ℕ) (c : CodedDataSet) → p < s.interval → 1 ≤ block_count s p c
@@ -47,92 +48,142 @@ count-some s p c within = of_body c.body
     of_body (split_values k values) = lit≤ tt
     of_body (zero_blocks m) = run_len-some s p m within
 
+-- what is known at a wanted coded data set: `place` and `due` are its place in the interval and whether it has a reference there
 module _ (s : Settings) (count : Option ℕ) (limit : ℕ) (start : ℕ) (old new : Cursor) (i : ℕ) (samples : List ℤ) (allowed : IsAllowed s)
     (reached : IsReached s count limit old.list start i old.pos samples) (wanted : is_wanted s count old.list i old.pos ≡ true) where
-  pub unread-refuses : {X : Type 0} (r : Result X Fault) (fault : Fault) → r ≡ Err fault → IsNotRead s (is_reference_block s (i % s.interval)) old.list old.pos fault
+  pub memory-refuses : {X : Type 0} (r : Result X Fault) (fault other : Fault) → r ≡ Err fault → fault ≡ other → other ≡ Memory
       → IfErr r (λ fault. RefusesReading s count limit old.list start fault)
-  unread-refuses r fault is not_read =
+  memory-refuses r fault other is same memory =
       let P : Result _ Fault → Type 0 = λ r. IfErr r (λ fault. RefusesReading s count limit old.list start fault) in
-      subst P (sym is) (refuses_unread s count limit old.list start i old.pos samples reached wanted fault not_read)
+      subst P (sym (is ∙ ap Err (same ∙ memory))) no_memory
 
-  pub memory-refuses : {X : Type 0} (r : Result X Fault) (fault : Fault) → r ≡ Err fault → fault ≡ Memory → IfErr r (λ fault. RefusesReading s count limit old.list start fault)
-  memory-refuses r fault is memory =
-      let P : Result _ Fault → Type 0 = λ r. IfErr r (λ fault. RefusesReading s count limit old.list start fault) in
-      subst P (sym (is ∙ ap Err memory)) no_memory
+  module _ (place interval : ℕ) (due : Bool) (place_is : place ≡ i % interval) (interval_is : interval ≡ s.interval)
+      (due_is : due ≡ is_reference_block s place) where
+    here : place ≡ i % s.interval
+    here = place_is ∙ ap (λ n. i % n) interval_is
 
-  module _ (c : CodedDataSet) (cds : Cds) (blocks left : ℕ) (read : IsReadAs s (is_reference_block s (i % s.interval)) old new c cds)
-      (counted : blocks ≡ cds_count s (i % s.interval) cds) (left_is : left ≡ segment_left s (i % s.interval)) where
-    blocks-is : blocks ≡ block_count s (i % s.interval) c
-    blocks-is = count-read s (i % s.interval) (is_reference_block s (i % s.interval)) old new c cds blocks read counted
+    due-here : due ≡ is_reference_block s (i % s.interval)
+    due-here = due_is ∙ ap (is_reference_block s) here
 
-    pub long-refuses : left < blocks → RefusesReading s count limit old.list start (RunTooLong old.pos)
-    long-refuses past = refuses_long s count limit old.list start i old.pos samples reached wanted c read.set read.small
-        (lt-leb (block_count s (i % s.interval) c) (segment_left s (i % s.interval)) (omega (arith, blocks-is, left_is, past)))
+    pub unread-refuses : {X : Type 0} (r : Result X Fault) (fault other : Fault) → r ≡ Err fault → fault ≡ other → IsNotRead s due old.list old.pos other
+        → IfErr r (λ fault. RefusesReading s count limit old.list start fault)
+    unread-refuses r fault other is same not_read =
+        let P : Result _ Fault → Type 0 = λ r. IfErr r (λ fault. RefusesReading s count limit old.list start fault) in
+        subst P (sym (is ∙ ap Err same)) (refuses_unread s count limit old.list start i old.pos samples reached wanted other
+        (subst (λ b. IsNotRead s b old.list old.pos other) due-here not_read))
 
-    stays : blocks ≤ left → stays_in_segment s (i % s.interval) c ≡ true
-    stays within = le-leb (block_count s (i % s.interval) c) (segment_left s (i % s.interval)) (omega (arith, blocks-is, left_is, within))
+    module _ (cds : Cds) (blocks left : ℕ) (read_there : (c : CodedDataSet) × IsReadAs s due old new c cds) (counted_there : blocks ≡ cds_count s place cds)
+        (left_there : left ≡ segment_left s place) where
+      abbrev c : CodedDataSet
+      c = read_there.0
 
-    lawful : blocks ≤ left → IsLawful s (i % s.interval) c
-    lawful within = record { shape = read.set.shape; small = read.small; within = stays within }
+      read : IsReadAs s (is_reference_block s (i % s.interval)) old new c cds
+      read = subst (λ b. IsReadAs s b old new c cds) due-here read_there.1
 
-    pub many-refuses : blocks ≤ left → keeps_limit s count limit (i + blocks) ≡ false → RefusesReading s count limit old.list start (TooManySamples limit)
-    many-refuses within many = refuses_many s count limit old.list start i old.pos samples reached wanted c read.set (lawful within)
-        (ap (λ z. keeps_limit s count limit (i + z)) (sym blocks-is) ∙ many)
+      counted : blocks ≡ cds_count s (i % s.interval) cds
+      counted = counted_there ∙ ap (λ p. cds_count s p cds) here
 
-    blocks-some : 1 ≤ blocks
-    blocks-some = omega (arith, blocks-is, count-some s (i % s.interval) c (mod-lt i (interval-some s allowed)))
+      left_is : left ≡ segment_left s (i % s.interval)
+      left_is = left_there ∙ ap (segment_left s) here
 
-    kept-bounds : (kept : ℕ) → kept ≡ kept_count s count i blocks → (1 ≤ kept) × (kept ≤ blocks)
-    kept-bounds kept is = by_count count wanted is
-      where
-        by_count : (count : Option ℕ) → is_wanted s count old.list i old.pos ≡ true → kept ≡ kept_count s count i blocks → (1 ≤ kept) × (kept ≤ blocks)
-        by_count None wanted is = (omega (arith, blocks-some, is), omega (arith, is))
-        by_count (Some n) wanted is =
-            let below = ltb-true i (div_ceil n s.block_size) wanted in (omega (arith, blocks-some, is, below), omega (arith, is))
+      blocks-is : blocks ≡ block_count s (i % s.interval) c
+      blocks-is = count-read s (i % s.interval) (is_reference_block s (i % s.interval)) old new c cds blocks read counted
 
-    pub next-cds : (kept : ℕ) → blocks ≤ left → kept ≡ kept_count s count i blocks → IsNextCds s i samples kept cds
-    next-cds kept within is =
-        let bounds = kept-bounds kept is in
-        subst (IsNextCds s i samples kept) (sym read.answer)
-        (next-answer_of s i samples kept c.reference c.body allowed (AreFilled-reached s count limit old.list start i old.pos samples allowed reached wanted)
-        read.set.shape read.small bounds.0 (omega (arith, bounds.1, within, left_is)))
+      pub long-refuses : (bit : ℕ) → bit ≡ old.pos → left < blocks → RefusesReading s count limit old.list start (RunTooLong bit)
+      long-refuses bit at past =
+          subst (λ b. RefusesReading s count limit old.list start (RunTooLong b)) (sym at)
+          (refuses_long s count limit old.list start i old.pos samples reached wanted c read.set read.small
+          (lt-leb (block_count s (i % s.interval) c) (segment_left s (i % s.interval)) (omega (arith, blocks-is, left_is, past))))
 
-    pub reached-next : (kept : ℕ) (more : List ℤ) (e : ℕ) → blocks ≤ left → kept ≡ kept_count s count i blocks → keeps_limit s count limit (i + blocks) ≡ true
-        → FillsNext s samples more (cds_front s kept cds) → e ≡ begin_of s old.list (i + blocks) new.pos → IsReached s count limit old.list start (i + blocks) e more
-    reached-next kept more e within is keeps fills begins =
-        let front : cds_front s kept cds ≡ kept_blocks s count i (cds_blocks s (i % s.interval) c) =
-        ap (λ k. cds_front s k cds) (is ∙ ap (kept_count s count i) blocks-is) ∙ (ap (cds_front s (kept_count s count i (block_count s (i % s.interval) c))) read.answer
-        ∙ front-answer_of s count old.list i old.pos c.reference c.body (omega (arith, blocks-is, blocks-some)) wanted) in
-        let whole = IsReached-more s count limit old.list start i old.pos samples more c allowed reached wanted read.set.stands (lawful within)
-        (ap (λ z. keeps_limit s count limit (i + z)) (sym blocks-is) ∙ keeps) (subst (FillsNext s samples more) front fills) in
-        subst (λ z. IsReached s count limit old.list start (i + z) e more) (sym blocks-is)
-        (subst (λ e. IsReached s count limit old.list start (next_block s i c) e more)
-        (sym (begins ∙ (ap (λ z. begin_of s old.list (i + z) new.pos) blocks-is ∙ ap (begin_of s old.list (next_block s i c)) (ap (λ (cursor : Cursor). cursor.pos) read.behind)))) whole)
+      stays : blocks ≤ left → stays_in_segment s (i % s.interval) c ≡ true
+      stays within = le-leb (block_count s (i % s.interval) c) (segment_left s (i % s.interval)) (omega (arith, blocks-is, left_is, within))
 
-    pub forward-next : i < i + blocks
-    forward-next = omega (arith, blocks-some)
+      lawful : blocks ≤ left → IsLawful s (i % s.interval) c
+      lawful within = record { shape = read.set.shape; small = read.small; within = stays within }
 
-    pub few-next : blocks ≤ left → keeps_limit s count limit (i + blocks) ≡ true → limit ≤ 2 ^ 32 → IfSome count (λ n. n ≤ 2 ^ 32) → i + blocks < 2 ^ 34
-    few-next within keeps low counted = by_count count wanted keeps counted
-      where
-        positive : 0 < s.block_size
-        positive = block_size-some s allowed
+      pub many-refuses : blocks ≤ left → keeps_limit s count limit (i + blocks) ≡ false → RefusesReading s count limit old.list start (TooManySamples limit)
+      many-refuses within many = refuses_many s count limit old.list start i old.pos samples reached wanted c read.set (lawful within)
+          (ap (λ z. keeps_limit s count limit (i + z)) (sym blocks-is) ∙ many)
 
-        by_count : (count : Option ℕ) → is_wanted s count old.list i old.pos ≡ true → keeps_limit s count limit (i + blocks) ≡ true → IfSome count (λ n. n ≤ 2 ^ 32) → i + blocks < 2 ^ 34
-        by_count None wanted keeps counted =
-            let kept = leb-true ((i + blocks) * s.block_size) limit keeps in
-            omega (arith, kept, low, le-mul_of_pos_right (i + blocks) positive)
-        by_count (Some n) wanted keeps counted =
-            let below = ltb-true i (div_ceil n s.block_size) wanted in
-            omega (arith, below, counted, within, left_is, div_ceil_times n s.block_size positive, le-mul_of_pos_right (div_ceil n s.block_size) positive, block_size-most s allowed)
+      blocks-some : 1 ≤ blocks
+      blocks-some = omega (arith, blocks-is, count-some s (i % s.interval) c (mod-lt i (interval-some s allowed)))
 
-pub few-wanted : (s : Settings) (count : Option ℕ) (bits : List Bool) (i b : ℕ) → is_wanted s count bits i b ≡ true → IfSome count (λ n. i ≤ div_ceil n s.block_size)
+      kept-bounds : (kept : ℕ) → kept ≡ kept_count s count i blocks → (1 ≤ kept) × (kept ≤ blocks)
+      kept-bounds kept is = by_count count wanted is
+        where
+          by_count : (count : Option ℕ) → is_wanted s count old.list i old.pos ≡ true → kept ≡ kept_count s count i blocks → (1 ≤ kept) × (kept ≤ blocks)
+          by_count None wanted is = (omega (arith, blocks-some, is), omega (arith, is))
+          by_count (Some n) wanted is =
+              let below = ltb-true i (div_ceil n s.block_size) wanted in (omega (arith, blocks-some, is, below), omega (arith, is))
+
+      pub next-cds : (kept : ℕ) → blocks ≤ left → kept ≡ kept_count s count i blocks → IsNextCds s i samples kept cds
+      next-cds kept within is =
+          let bounds = kept-bounds kept is in
+          subst (IsNextCds s i samples kept) (sym read.answer)
+          (next-answer_of s i samples kept c.reference c.body allowed (AreFilled-reached s count limit old.list start i old.pos samples allowed reached wanted)
+          read.set.shape read.small bounds.0 (omega (arith, bounds.1, within, left_is)))
+
+      same_list : new.list ≡ old.list
+      same_list = ap (λ (cursor : Cursor). cursor.list) read.behind
+
+      reached-here : (kept : ℕ) (more : List ℤ) (e : ℕ) → blocks ≤ left → kept ≡ kept_count s count i blocks → keeps_limit s count limit (i + blocks) ≡ true
+          → FillsNext s samples more (cds_front s kept cds) → e ≡ begin_of s old.list (i + blocks) new.pos
+          → IsReached s count limit old.list start (i + blocks) e more
+      reached-here kept more e within is keeps fills begins =
+          let front : cds_front s kept cds ≡ kept_blocks s count i (cds_blocks s (i % s.interval) c) =
+          ap (λ k. cds_front s k cds) (is ∙ ap (kept_count s count i) blocks-is)
+          ∙ (ap (cds_front s (kept_count s count i (block_count s (i % s.interval) c))) read.answer
+          ∙ front-answer_of s count old.list i old.pos c.reference c.body (omega (arith, blocks-is, blocks-some)) wanted) in
+          let whole = IsReached-more s count limit old.list start i old.pos samples more c allowed reached wanted read.set.stands (lawful within)
+          (ap (λ z. keeps_limit s count limit (i + z)) (sym blocks-is) ∙ keeps) (subst (FillsNext s samples more) front fills) in
+          let behind : e ≡ begin_of s old.list (next_block s i c) (old.pos + length (cds_bits s c)) =
+          begins ∙ (ap (λ z. begin_of s old.list (i + z) new.pos) blocks-is
+          ∙ ap (begin_of s old.list (next_block s i c)) (ap (λ (cursor : Cursor). cursor.pos) read.behind)) in
+          subst (λ z. IsReached s count limit old.list start (i + z) e more) (sym blocks-is)
+          (subst (λ e. IsReached s count limit old.list start (next_block s i c) e more) (sym behind) whole)
+
+      pub reached-next : (kept : ℕ) (more : List ℤ) (list : List Bool) (e : ℕ) → blocks ≤ left → kept ≡ kept_count s count i blocks
+          → keeps_limit s count limit (i + blocks) ≡ true → FillsNext s samples more (cds_front s kept cds) → list ≡ new.list
+          → e ≡ begin_of s new.list (i + blocks) new.pos → IsReached s count limit list start (i + blocks) e more
+      reached-next kept more list e within is keeps fills same begins =
+          subst (λ bits. IsReached s count limit bits start (i + blocks) e more) (sym (same ∙ same_list))
+          (reached-here kept more e within is keeps fills (begins ∙ ap (λ bits. begin_of s bits (i + blocks) new.pos) same_list))
+
+      pub forward-next : i < i + blocks
+      forward-next = omega (arith, blocks-some)
+
+      pub few-next : blocks ≤ left → keeps_limit s count limit (i + blocks) ≡ true → limit ≤ 2 ^ 32 → IfSome count (λ n. n ≤ 2 ^ 32) → i + blocks < 2 ^ 34
+      few-next within keeps low counted = by_count count wanted keeps counted
+        where
+          positive : 0 < s.block_size
+          positive = block_size-some s allowed
+
+          by_count : (count : Option ℕ) → is_wanted s count old.list i old.pos ≡ true → keeps_limit s count limit (i + blocks) ≡ true
+              → IfSome count (λ n. n ≤ 2 ^ 32) → i + blocks < 2 ^ 34
+          by_count None wanted keeps counted =
+              let kept = leb-true ((i + blocks) * s.block_size) limit keeps in
+              omega (arith, kept, low, le-mul_of_pos_right (i + blocks) positive)
+          by_count (Some n) wanted keeps counted =
+              let below = ltb-true i (div_ceil n s.block_size) wanted in
+              omega (
+                arith,
+                below,
+                counted,
+                within,
+                left_is,
+                div_ceil_times n s.block_size positive,
+                le-mul_of_pos_right (div_ceil n s.block_size) positive,
+                block_size-most s allowed,
+              )
+
+pub few-wanted : (s : Settings) (count : Option ℕ) (bits : List Bool) (i b : ℕ) → is_wanted s count bits i b ≡ true
+    → IfSome count (λ n. i ≤ div_ceil n s.block_size)
 few-wanted s None bits i b wanted = tt
 few-wanted s (Some n) bits i b wanted = let below = ltb-true i (div_ceil n s.block_size) wanted in omega arith
 
 -- where nothing more is wanted, the samples are what is read
-pub reading-done : (s : Settings) (count : Option ℕ) (limit : ℕ) (bits : List Bool) (start i b : ℕ) (samples : List ℤ) → IsReached s count limit bits start i b samples
-    → is_wanted s count bits i b ≡ false → IsReadFrom s count limit bits start (counted_samples count samples)
+pub reading-done : (s : Settings) (count : Option ℕ) (limit : ℕ) (bits : List Bool) (start i b : ℕ) (samples : List ℤ)
+    → IsReached s count limit bits start i b samples → is_wanted s count bits i b ≡ false → IsReadFrom s count limit bits start (counted_samples count samples)
 reading-done s count limit bits start i b samples reached done = record {
   blocks = kept_blocks s count 0 (stream_blocks s 0 reached.sets);
   read = record { sets = reached.sets; end_block = i; end_bit = b; leads = reached.leads; done = done; kept = refl };
@@ -142,7 +193,8 @@ reading-done s count limit bits start i b samples reached done = record {
 }
 
 -- what is read from the first bit on is the reading
-pub IsReading-from_start : (s : Settings) (count : Option ℕ) (limit : ℕ) (bits : List Bool) (samples : List ℤ) → IsReadFrom s count limit bits 0 samples → IsReading s count limit bits samples
+pub IsReading-from_start : (s : Settings) (count : Option ℕ) (limit : ℕ) (bits : List Bool) (samples : List ℤ)
+    → IsReadFrom s count limit bits 0 samples → IsReading s count limit bits samples
 IsReading-from_start s count limit bits samples r =
     record { blocks = r.blocks; read = r.read; all_samples = r.all_samples; filled = r.filled; counted = r.counted }
 
@@ -175,14 +227,19 @@ reached-start s count limit bits start b samples begins none =
     no_blocks : (count : Option ℕ) → length (kept_blocks s count 0 []) * s.block_size ≡ 0
     no_blocks count = ap (λ blocks. length blocks * s.block_size) (nothing_kept count) ∙ zero-mul s.block_size
 
-pub counting-refuses : {X : Type 0} (r : Result X Fault) (fault : Fault) (s : Settings) (count : Option ℕ) (limit : ℕ) (bits : List Bool) → r ≡ Err fault → Some fault ≡ count_refusal limit count
-    → IfErr r (λ fault. RefusesDecoding s count limit bits fault)
+pub counting-refuses : {X : Type 0} (r : Result X Fault) (fault : Fault) (s : Settings) (count : Option ℕ) (limit : ℕ) (bits : List Bool)
+    → r ≡ Err fault → Some fault ≡ count_refusal limit count → IfErr r (λ fault. RefusesDecoding s count limit bits fault)
 counting-refuses {X} r fault s count limit bits is above =
     let P : Result X Fault → Type 0 = λ r. IfErr r (λ fault. RefusesDecoding s count limit bits fault) in
     subst P (sym is) (above_limit fault (sym above))
 
-pub refuses-with : {X : Type 0} (r : Result X Fault) (fault : Fault) (P : Fault → Type 0) → r ≡ Err fault → P fault → IfErr r P
-refuses-with r fault P is holds = subst (λ r. IfErr r P) (sym is) holds
+-- what the reading of a list refuses, where the list is that of the bits
+pub reading-refuses : {X : Type 0} (s : Settings) (count : Option ℕ) (limit : ℕ) (bits list : List Bool) (start : ℕ) (r : Result X Fault) (fault other : Fault)
+    → r ≡ Err fault → fault ≡ other → list ≡ bits → RefusesReading s count limit list start other
+    → IfErr r (λ fault. RefusesReading s count limit bits start fault)
+reading-refuses {X} s count limit bits list start r fault other is same same_list refuses =
+    let P : Result X Fault → Type 0 = λ r. IfErr r (λ fault. RefusesReading s count limit bits start fault) in
+    subst P (sym (is ∙ ap Err same)) (subst (λ bits. RefusesReading s count limit bits start other) same_list refuses)
 
 pub decoding-refuses : {X : Type 0} (r : Result X Fault) (s : Settings) (count : Option ℕ) (limit : ℕ) (bits : List Bool) → None ≡ count_refusal limit count
     → IfErr r (λ fault. RefusesReading s count limit bits 0 fault) → IfErr r (λ fault. RefusesDecoding s count limit bits fault)

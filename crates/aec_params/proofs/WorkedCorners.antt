@@ -1,13 +1,11 @@
 -- Readings at the corners: nothing needed, bits skipped unread, choices that this coder wouldn't make, and bits that end.
 use Rattle.std.proofs.Common.{rules, lit<, ℕ, ℤ, pos, ◌≡◌, Bool, Some, None, List, [], ◌∷◌, ◌++◌, map, replicate, refl, ◌∙◌, append_assoc}
-use Rattle.aec_params.specs.declared.settings.Settings.{Settings}
 use Rattle.aec_params.specs.declared.fault.Fault.TheVariants.{Truncated}
 use Rattle.aec_params.specs.Codewords.{bits_of_bytes}
 use Rattle.aec_params.specs.CodedDataSets.{CodedDataSet, plain_values, value_pairs, split_values, zero_blocks, Body, identifier}
-use Rattle.aec_params.specs.Blocks.{Block}
 use Rattle.aec_params.specs.Places.{zero_block}
 use Rattle.aec_params.specs.Reading.{IsReading}
-use Rattle.aec_params.specs.Faults.{IsFault, HasSetAt, cut_short}
+use Rattle.aec_params.specs.Faults.{IsFault, cut_short}
 use Rattle.aec_params.proofs.WorkedSettings.{usual, padded}
 
 -- no samples are wanted: no bit is read

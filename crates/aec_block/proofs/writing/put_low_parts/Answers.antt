@@ -1,4 +1,4 @@
-use Rattle.std.proofs.Common.{◌≡◌, ◌∙◌, ◌+◌, ◌%◌, ◌*◌, ◌^◌, ◌++◌, ap, arith, refl, get_or, List, Bool, ℕ}
+use Rattle.std.proofs.Common.{◌≡◌, ◌∙◌, ◌+◌, ◌%◌, ◌*◌, ◌^◌, ◌++◌, ap, arith, refl, get_or, ℕ}
 use Rattle.std.proofs.lemmas.Nat.{one_shl}
 use Rattle.aec_params.specs.Codewords.{binary}
 use Rattle.aec_block.proofs.LengthLemmas.{length-binary}
