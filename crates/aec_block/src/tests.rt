@@ -145,6 +145,7 @@ fn takes_the_first_of_equal_lengths(rt: HostRuntime) -> Result<(), Fail> {
 fn adds_up_values_of_32_bits(rt: HostRuntime) -> Result<(), Fail> {
     let params = Params::new(Settings {
         bits: 32,
+        preprocess: false,
         ..settings()
     })?;
     for (reference, values, choice) in [
@@ -195,6 +196,28 @@ fn writes_runs(rt: HostRuntime) -> Result<(), Fail> {
     let mut out = BitBuf::new(rt.alloc());
     write_run(&params, None, 64, true, &mut out)?;
     expect_bits(&rt, &out, 9, &[0x00, 0x80]);
+    Ok(())
+}
+
+#[test]
+fn writes_the_zero_block_of_each_code_set(rt: HostRuntime) -> Result<(), Fail> {
+    // The identifier is zeros, one more than the others have bits, and a run of one block is a single one.
+    for (bits, restricted, len, byte) in [
+        (1, true, 3, 0x20),
+        (3, true, 4, 0x10),
+        (8, false, 5, 0x08),
+        (16, false, 6, 0x04),
+        (32, false, 7, 0x02),
+    ] {
+        let params = Params::new(Settings {
+            bits,
+            restricted,
+            ..settings()
+        })?;
+        let mut out = BitBuf::new(rt.alloc());
+        write_run(&params, None, 1, true, &mut out)?;
+        expect_bits(&rt, &out, len, &[byte]);
+    }
     Ok(())
 }
 

@@ -65,7 +65,7 @@ pub refused_decoding : (s : Settings) (caps : Caps) (count : Option ℕ) (before
     → RefusesDecoding s count caps.samples (bits_of_bytes bytes) fault → GivesAnswer (IsDecoded s caps count) (record { before = before; after = after; failures = failures }) caps.bytes (Err fault)
 refused_decoding s caps count before after failures bytes fault taken (above_limit f above) =
     given (sound_input bytes) (Err f) (gave_whole before after failures caps.bytes bytes taken) (not_counted f (none_refused caps.bytes bytes taken.within) above)
-refused_decoding s caps count before after failures bytes fault taken (unread f within no_memory) = lacks_memory
+refused_decoding s caps count before after failures bytes fault taken (unread f within (no_memory behind)) = lacks_memory
 refused_decoding s caps count before after failures bytes fault taken (unread f within (faulty g is)) =
     given (sound_input bytes) (Err g) (gave_whole before after failures caps.bytes bytes taken) (output.faulty g (none_refused caps.bytes bytes taken.within) within is)
 

@@ -18,16 +18,16 @@ use Rattle.std.proofs.Common.{lit≤, nat_lt, if◌then◌else◌}
 use Rattle.std.proofs.lemmas.Bool.{lt-leb}
 use Rattle.aec_params.specs.CodedDataSets.{Body, plain_values, value_pairs, split_values, zero_blocks, CodedDataSet, cds_bits}
 use Rattle.aec_params.specs.Places.{segment_left, body_blocks, block_count, stays_in_segment, is_reference_block, cds_blocks, IsLawful}
-use Rattle.aec_params.specs.Reading.{next_block, begin_of, is_wanted, keeps_limit, kept_blocks, stream_blocks, counted_samples, IsReading}
+use Rattle.aec_params.specs.Reading.{next_block, next_begin, begin_of, is_wanted, keeps_limit, kept_blocks, stream_blocks, counted_samples, IsReading}
 use Rattle.aec_bits.specs.BitReader.{Cursor}
 use Rattle.aec_block.specs.declared.cds.Cds.{Cds}
 use Rattle.aec_block.specs.ReadCds.{IsReadAs, IsNotRead}
 use Rattle.aec_interval.specs.NextBlock.{FillsNext}
 use Rattle.aec_interval.specs.NextSet.{cds_count, kept_count, IsNextCds, cds_front}
-use Rattle.aec_interval.specs.Reached.{IsReached, IsReadFrom, RefusesReading, no_memory, count_refusal, RefusesDecoding, above_limit, unread}
+use Rattle.aec_interval.specs.Reached.{IsReached, IsReadFrom, LeadsBehindOne, RefusesReading, no_memory, count_refusal, RefusesDecoding, above_limit, unread}
 use Rattle.aec_interval.proofs.NextFillLemmas.{interval-some, block_size-some}
 use Rattle.std.proofs.Common.{◌*◌, ◌^◌}
-use Rattle.aec_interval.proofs.ReadingSteps.{run_len-some}
+use Rattle.aec_interval.proofs.ReadingSteps.{run_len-some, LeadsTo-push}
 use Rattle.aec_interval.proofs.ReachedLemmas.{AreFilled-reached, IsReached-more}
 use Rattle.aec_interval.proofs.DecodeLemmas.{cds_count-answer_of, next-answer_of, front-answer_of, refuses_unread, refuses_long, refuses_many}
 
@@ -51,12 +51,6 @@ count-some s p c within = of_body c.body
 -- what is known at a wanted coded data set: `place` and `due` are its place in the interval and whether it has a reference there
 module _ (s : Settings) (count : Option ℕ) (limit : ℕ) (start : ℕ) (old new : Cursor) (i : ℕ) (samples : List ℤ) (allowed : IsAllowed s)
     (reached : IsReached s count limit old.list start i old.pos samples) (wanted : is_wanted s count old.list i old.pos ≡ true) where
-  pub memory-refuses : {X : Type 0} (r : Result X Fault) (fault other : Fault) → r ≡ Err fault → fault ≡ other → other ≡ Memory
-      → IfErr r (λ fault. RefusesReading s count limit old.list start fault)
-  memory-refuses r fault other is same memory =
-      let P : Result _ Fault → Type 0 = λ r. IfErr r (λ fault. RefusesReading s count limit old.list start fault) in
-      subst P (sym (is ∙ ap Err (same ∙ memory))) no_memory
-
   module _ (place interval : ℕ) (due : Bool) (place_is : place ≡ i % interval) (interval_is : interval ≡ s.interval)
       (due_is : due ≡ is_reference_block s place) where
     here : place ≡ i % s.interval
@@ -104,6 +98,22 @@ module _ (s : Settings) (count : Option ℕ) (limit : ℕ) (start : ℕ) (old ne
       pub many-refuses : blocks ≤ left → keeps_limit s count limit (i + blocks) ≡ false → RefusesReading s count limit old.list start (TooManySamples limit)
       many-refuses within many = refuses_many s count limit old.list start i old.pos samples reached wanted c read.set (lawful within)
           (ap (λ z. keeps_limit s count limit (i + z)) (sym blocks-is) ∙ many)
+
+      behind-one : blocks ≤ left → keeps_limit s count limit (i + blocks) ≡ true → LeadsBehindOne s count limit old.list start
+      behind-one within keeps = record {
+        sets = reached.sets;
+        last = c;
+        block = next_block s i c;
+        bit = next_begin s old.list i old.pos c;
+        leads = LeadsTo-push s count limit old.list 0 start reached.sets i old.pos c reached.leads wanted read.set.stands (lawful within)
+            (ap (λ z. keeps_limit s count limit (i + z)) (sym blocks-is) ∙ keeps);
+      }
+
+      pub memory-refuses : {X : Type 0} (r : Result X Fault) (fault other : Fault) → blocks ≤ left → keeps_limit s count limit (i + blocks) ≡ true
+          → r ≡ Err fault → fault ≡ other → other ≡ Memory → IfErr r (λ fault. RefusesReading s count limit old.list start fault)
+      memory-refuses r fault other within keeps is same memory =
+          let P : Result _ Fault → Type 0 = λ r. IfErr r (λ fault. RefusesReading s count limit old.list start fault) in
+          subst P (sym (is ∙ ap Err (same ∙ memory))) (no_memory (behind-one within keeps))
 
       blocks-some : 1 ≤ blocks
       blocks-some = omega (arith, blocks-is, count-some s (i % s.interval) c (mod-lt i (interval-some s allowed)))

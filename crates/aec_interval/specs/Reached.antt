@@ -1,5 +1,5 @@
 -- How far a reading has come, and why it stops.
-use Rattle.std.specs.Prelude.{◌≡◌, ℕ, Bool, if◌then◌else◌, nat_lt, Option, Some, None, ℤ, List, length}
+use Rattle.std.specs.Prelude.{◌≡◌, ℕ, Bool, if◌then◌else◌, nat_lt, Option, Some, None, ℤ, List, [], ◌∷◌, ◌++◌, length}
 use Rattle.aec_params.specs.declared.settings.Settings.{Settings}
 use Rattle.aec_params.specs.declared.fault.Fault.{Fault}
 use Rattle.aec_params.specs.declared.fault.Fault.TheVariants.{Memory, TooManySamples}
@@ -29,9 +29,19 @@ pub record IsReadFrom (s : Settings) (count : Option ℕ) (limit : ℕ) (bits : 
   pub filled : FillBlocks s all_samples blocks
   pub counted : samples ≡ counted_samples count all_samples
 
--- why a reading from position `start` on answers no samples: its fault, or want of memory
+-- at least one coded data set was read that no fault refuses: from position `start` on, where an interval begins, wanted and
+-- lawful coded data sets within the limit lead behind a last one
+pub record LeadsBehindOne (s : Settings) (count : Option ℕ) (limit : ℕ) (bits : List Bool) (start : ℕ) : Type 0 where
+  pub sets : List CodedDataSet
+  pub last : CodedDataSet
+  pub block : ℕ
+  pub bit : ℕ
+  pub leads : LeadsTo s count limit bits 0 start (sets ++ (last ∷ [])) block bit
+
+-- why a reading from position `start` on answers no samples: its fault, or want of memory for those of a coded data set that
+-- was read
 pub data RefusesReading (s : Settings) (count : Option ℕ) (limit : ℕ) (bits : List Bool) (start : ℕ) : Fault → Type 0 where
-  no_memory : RefusesReading s count limit bits start Memory
+  no_memory : LeadsBehindOne s count limit bits start → RefusesReading s count limit bits start Memory
   faulty : (fault : Fault) → IsFault s count limit bits 0 start fault → RefusesReading s count limit bits start fault
 
 -- the refusal of a sample count that is above the limit

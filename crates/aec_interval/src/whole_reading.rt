@@ -26,6 +26,7 @@ fn judge_count(count: Option<u64>, limit: u64) -> Result<(), Fault>
 /// that is needed are ignored. Without one all samples of all blocks, up to a rest of zero bits. `TooManySamples` first
 /// where a given count is above `limit`; then at each coded data set in turn `Truncated`, `ValueTooLarge`, `RunTooLong`
 /// with the bit where it begins, `TooManySamples` without a count where the samples with it pass the limit, and `Memory`.
+/// So memory is refused only behind a coded data set that was read and that no fault refuses.
 pub fn decode_all(
     alloc: Global,
     params: &Params,

@@ -1,6 +1,7 @@
 //! Samples as they are stored: bytes into samples, and a sample into its bytes.
 
-ghost use Rattle.std.specs.Prelude.{None, Ok, IfOk, IfErr, ◌≡◌, ◌<◌, ◌^◌, ◌*◌, ◌%◌, ◌++◌, drop, length};
+ghost use Rattle.std.specs.Prelude.{None, Ok, IfOk, IfErr, ◌≡◌, ◌<◌, ◌≤◌, ◌^◌, ◌*◌, ◌%◌, ◌++◌, drop, length};
+ghost use Rattle.byteorder.specs.Endian.{big_number, little_number, big_bytes, little_bytes};
 ghost use Rattle.aec_params.specs.declared.fault.Fault.TheVariants.{Memory};
 ghost use Rattle.aec_params.specs.Params.{IsHeld, pattern_value, storage_len};
 ghost use Rattle.std.specs.Result.{result_err};
@@ -71,9 +72,39 @@ fn number_of(params: &Params, group: &[u8]) -> u64
     ensures { result ≡ number_in params.now group.now }
 {
     if params.msb_first() {
-        BigEndian::read_uint(group, params.storage())
+        big_number_of(group, params.storage())
     } else {
-        LittleEndian::read_uint(group, params.storage())
+        little_number_of(group, params.storage())
+    }
+}
+
+/// The number in one to four bytes, the most significant first.
+fn big_number_of(group: &[u8], width: usize) -> u64
+    requires few { width ≤ 4 }
+    requires some { 1 ≤ width }
+    requires whole { length group.now ≡ width }
+    ensures { result ≡ big_number width group.now }
+{
+    match width {
+        1 => u64::from(group[0]),
+        2 => u64::from(BigEndian::read_u16(group)),
+        3 => u64::from(BigEndian::read_u24(group)),
+        _ => u64::from(BigEndian::read_u32(group)),
+    }
+}
+
+/// The number in one to four bytes, the least significant first.
+fn little_number_of(group: &[u8], width: usize) -> u64
+    requires few { width ≤ 4 }
+    requires some { 1 ≤ width }
+    requires whole { length group.now ≡ width }
+    ensures { result ≡ little_number width group.now }
+{
+    match width {
+        1 => u64::from(group[0]),
+        2 => u64::from(LittleEndian::read_u16(group)),
+        3 => u64::from(LittleEndian::read_u24(group)),
+        _ => u64::from(LittleEndian::read_u32(group)),
     }
 }
 
@@ -111,9 +142,39 @@ pub fn put_sample(params: &Params, x: i64, out: &mut [u8; 4]) -> usize
     let width = params.storage();
     let number = full_width(params, x);
     if params.msb_first() {
-        BigEndian::write_uint(out, number, width);
+        put_big(out, number, width);
     } else {
-        LittleEndian::write_uint(out, number, width);
+        put_little(out, number, width);
     }
     width
+}
+
+/// Writes a number to the first one to four bytes, the most significant first, and leaves the others.
+fn put_big(out: &mut [u8; 4], number: u64, width: usize)
+    requires few { width ≤ 4 }
+    requires some { 1 ≤ width }
+    requires fits { number < 256 ^ width }
+    ensures { out.new ≡ big_bytes width number ++ drop width out.old }
+{
+    match width {
+        1 => out[0] = number as u8,
+        2 => BigEndian::write_u16(out, number as u16),
+        3 => BigEndian::write_u24(out, number as u32),
+        _ => BigEndian::write_u32(out, number as u32),
+    }
+}
+
+/// Writes a number to the first one to four bytes, the least significant first, and leaves the others.
+fn put_little(out: &mut [u8; 4], number: u64, width: usize)
+    requires few { width ≤ 4 }
+    requires some { 1 ≤ width }
+    requires fits { number < 256 ^ width }
+    ensures { out.new ≡ little_bytes width number ++ drop width out.old }
+{
+    match width {
+        1 => out[0] = number as u8,
+        2 => LittleEndian::write_u16(out, number as u16),
+        3 => LittleEndian::write_u24(out, number as u32),
+        _ => LittleEndian::write_u32(out, number as u32),
+    }
 }

@@ -56,6 +56,7 @@ fn spent_calls_change_nothing(rt: HostRuntime) -> Result<(), Fail> {
     let mut buf = bits(rt.alloc(), &[true, false])?;
     assert_eq!(rt; codec.code(&[1], &mut buf), Err(Fault::Spent));
     assert_eq!(rt; buf.len(), 2);
+    assert_eq!(rt; bytes(rt.alloc(), &buf)?.as_slice(), [0x80].as_slice());
     assert_eq!(rt; codec.calls(), u64::MAX);
     Ok(())
 }

@@ -148,3 +148,17 @@ fn spends_its_calls(rt: HostRuntime) -> Result<(), Fail> {
     assert_eq!(rt; codec.calls(), u64::MAX);
     Ok(())
 }
+
+#[test]
+fn codes_nothing_where_no_call_is_left(rt: HostRuntime) -> Result<(), Fail> {
+    let params = Params::new(settings())?;
+    let mut codec = AecCodec::with_calls(rt.alloc(), params, u64::MAX);
+    let mut buf = BitBuf::new(rt.alloc());
+    assert_eq!(rt; code(&rt, &mut codec, &[7], &mut buf), Err(Fault::Spent));
+    expect_bits(&rt, &buf, 0, &[]);
+    buf.push_bits(0b1_0110_0111, 9)?;
+    assert_eq!(rt; code(&rt, &mut codec, &[7, 8], &mut buf), Err(Fault::Spent));
+    expect_bits(&rt, &buf, 9, &[0xB3, 0x80]);
+    assert_eq!(rt; [codec.calls(), codec.reads()], [u64::MAX, 0]);
+    Ok(())
+}

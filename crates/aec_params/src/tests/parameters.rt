@@ -18,6 +18,7 @@ fn judges_the_rules_in_order(rt: HostRuntime) {
     let cases = [
         (shape(0, 8, 2), Some(Fault::BitsPerSample)),
         (shape(33, 10, 2), Some(Fault::BitsPerSample)),
+        (shape(8, 10, 2), Some(Fault::BlockSize)),
         (shape(8, 10, 0), Some(Fault::BlockSize)),
         (shape(8, 8, 0), Some(Fault::Interval)),
         (shape(8, 8, 4097), Some(Fault::Interval)),

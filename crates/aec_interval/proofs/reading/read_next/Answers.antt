@@ -41,8 +41,11 @@ push_cds-requires-clause-next c =
 pub returns-in_err-push_cds-clause-refuses : goal.returns-in_err-push_cds-clause-refuses
 returns-in_err-push_cds-clause-refuses c =
     let exit = err_from_is_err_and c.from_residual-in_err-push_cds.result c.from_residual-in_err-push_cds.ensures.1 in
-    memory-refuses _ _ _ _ c.args.reader.now c.args.reader.now _ _ c.interval.ensures.allowed c.requires.reached c.requires.wanted
-    _ _ _ exit.1 exit.2 c.in_err-push_cds.ensures.fault
+    memory-refuses _ _ _ _ c.args.reader.now c.read_cds.new.reader _ _ c.interval.ensures.allowed c.requires.reached c.requires.wanted
+    _ _ _ refl (c.from.ensures ∙ c.interval.ensures.value) c.has_reference.ensures
+    _ _ _ c.in_ok-cds.ensures.ok c.block_count-blocks.ensures c.segment_left.ensures.value
+    _ _ _ c.if-blocks-segment_left.false (sym c.keeps_limit.ensures ∙ c.if-not-keeps_limit.false)
+    exit.1 exit.2 c.in_err-push_cds.ensures.fault
 
 pub returns-clause-ok : goal.returns-clause-ok
 returns-clause-ok c =
