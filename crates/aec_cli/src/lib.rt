@@ -6,11 +6,12 @@ mod failure;
 mod files;
 mod job;
 pub mod laws;
+mod numerals;
 mod program;
 mod usage;
 mod words;
 
-pub use engine::{decode, encode};
+pub use engine::{decode, encode, range};
 pub use failure::{Failure, status};
 pub use files::{DestSink, FileSource};
 pub use job::{Action, Job, settings};

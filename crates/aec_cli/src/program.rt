@@ -7,7 +7,7 @@ ghost use Rattle.clap.specs.Values.{kind_of};
 ghost use Rattle.aec_cli.specs.Commands.{aec_app};
 ghost use Rattle.aec_cli.specs.Statuses.{EndsByMistake, parse_status, status_of};
 
-use crate::engine::{decode, encode};
+use crate::engine::{decode, encode, range};
 use crate::failure::{Failure, status};
 use crate::files::{DestSink, FileSource};
 use crate::job::{Action, Job, settings};
@@ -69,6 +69,16 @@ fn run<F: Files>(rt: &F, alloc: Global, job: Job) -> Result<(), Failure> {
     let done = match action {
         Action::Encode => encode(alloc, &params, limits(), &mut source, &mut sink),
         Action::Decode { count } => decode(alloc, &params, limits(), count, &mut source, &mut sink),
+        Action::Range { first, len, count } => range(
+            alloc,
+            &params,
+            limits(),
+            count,
+            first,
+            len,
+            &mut source,
+            &mut sink,
+        ),
     };
     done.map_err(Failure::Fault)
 }
