@@ -14,7 +14,7 @@ use Rattle.aec_params.specs.Faults.{IsFault}
 use Rattle.aec_interval.specs.Reached.{count_refusal}
 use Rattle.aec_interval.specs.Laws.{BitsAreReadInOneWay}
 use Rattle.aec_interval.proofs.ReadingLemmas.{bits_are_read_in_one_way}
-use Rattle.aec_cli.specs.Devices.{Input}
+use Rattle.aec_cli.specs.Transfers.{Input}
 use Rattle.aec_cli.specs.Output.{IsEncoded, samples_refusal, coding_refusal, not_coded, encoded, IsDecoded, intake_refusal, all_stored, not_taken, not_counted, decoded, faulty}
 use Rattle.aec_cli.specs.Laws.{HasOneAnswer}
 

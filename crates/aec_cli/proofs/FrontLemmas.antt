@@ -13,9 +13,9 @@ use Rattle.aec_params.specs.Limits.{Caps}
 use Rattle.aec_params.specs.Params.{IsAllowed, storage_len}
 use Rattle.aec_params.specs.Stored.{number_in, sample_of_number, sample_before, samples_of_groups, samples_of_bytes}
 use Rattle.aec_params.proofs.StoredLemmas.{storage-least}
-use Rattle.aec_cli.specs.Devices.{Input}
+use Rattle.aec_cli.specs.Transfers.{Input, input_of}
 use Rattle.aec_cli.specs.Output.{IsEncoded, bytes_within, samples_refusal, coding_refusal, not_coded, IsDecoded, intake_refusal, not_taken}
-use Rattle.aec_cli.specs.Laws.{input_of, IsJudgedByFront, IsJudgedWhole}
+use Rattle.aec_cli.specs.Laws.{IsJudgedByFront, IsJudgedWhole}
 use Rattle.aec_cli.proofs.AnswerLemmas.{only-not_coded, only-not_taken}
 
 -- ---- the refusal of samples past a limit

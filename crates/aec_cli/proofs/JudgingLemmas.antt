@@ -8,8 +8,8 @@ use Rattle.aec_params.specs.declared.fault.Fault.{Fault}
 use Rattle.aec_params.specs.declared.fault.Fault.TheVariants.{Memory, Read, SampleRange, TooManySamples}
 use Rattle.aec_params.specs.Params.{storage_len}
 use Rattle.aec_params.specs.Stored.{AnswersSamples, number_in, sample_of_number, sample_before, samples_of_groups, samples_of_bytes, byte_groups}
+use Rattle.aec_cli.specs.Transfers.{input_of}
 use Rattle.aec_cli.specs.Output.{samples_refusal, coding_refusal}
-use Rattle.aec_cli.specs.Laws.{input_of}
 
 length-samples : (s : Settings) (i : ℕ) (groups : List (List ℕ)) (samples : List ℤ) → samples_of_groups s i groups ≡ Ok samples → length samples ≡ length groups
 length-samples s i [] samples e = let none : [] ≡ samples = cc in sym (ap length none)

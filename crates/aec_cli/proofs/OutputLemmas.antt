@@ -14,8 +14,8 @@ use Rattle.aec_params.specs.Params.{IsHeld}
 use Rattle.aec_params.specs.Codewords.{bits_of_bytes}
 use Rattle.aec_params.specs.Reading.{counted_samples, IsReading}
 use Rattle.aec_interval.specs.Reached.{count_refusal, no_memory, faulty, RefusesDecoding, above_limit, unread}
-use Rattle.aec_cli.specs.Devices as devices
-use Rattle.aec_cli.specs.Devices.{Input, Taking, Gave, IsTakenWhole, RefusesIntake, source_failed, too_many_bytes, GivesAnswer, given, lacks_memory, Leaves, written, refused, no_answer, not_written}
+use Rattle.aec_cli.specs.Transfers as transfers
+use Rattle.aec_cli.specs.Transfers.{Input, Taking, Gave, IsTakenWhole, RefusesIntake, source_failed, too_many_bytes, GivesAnswer, given, lacks_memory, Leaves, written, refused, no_answer, not_written}
 use Rattle.aec_cli.specs.Output as output
 use Rattle.aec_cli.specs.Output.{IsDecoded, intake_refusal, all_stored, not_taken, not_counted, decoded}
 
@@ -53,7 +53,7 @@ none_refused limit bytes within = ap (λ b. if b then Some (StreamTooLong limit)
 
 pub refused_intake : (s : Settings) (caps : Caps) (count : Option ℕ) (before after : Option (List ℕ)) (failures : ℕ) (fault : Fault) → RefusesIntake before after failures caps.bytes fault
     → GivesAnswer (IsDecoded s caps count) (record { before = before; after = after; failures = failures }) caps.bytes (Err fault)
-refused_intake s caps count before after failures fault devices.no_memory = lacks_memory
+refused_intake s caps count before after failures fault transfers.no_memory = lacks_memory
 refused_intake s caps count before after failures fault (source_failed bytes fails) =
     given (failed_input bytes) (Err Read) (record { taken = fails.taken; failed = λ e. fails.failed; sound = λ e. absurd (cc); whole = λ within e. absurd (cc) })
     (not_taken Read (ap (λ b. if b then Some (StreamTooLong caps.bytes) else Some Read) (le-ltb caps.bytes (length bytes) fails.within)))

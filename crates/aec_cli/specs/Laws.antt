@@ -4,7 +4,7 @@ use Rattle.aec_params.specs.declared.settings.Settings.{Settings}
 use Rattle.aec_params.specs.declared.fault.Fault.{Fault}
 use Rattle.aec_params.specs.Limits.{Caps}
 use Rattle.aec_params.specs.Params.{IsAllowed}
-use Rattle.aec_cli.specs.Devices.{Input, Taking, Gave}
+use Rattle.aec_cli.specs.Transfers.{Input, input_of, Taking, Gave}
 use Rattle.aec_cli.specs.Output.{IsEncoded, bytes_within, IsDecoded}
 
 -- ---- bytes or one refusal
@@ -21,9 +21,6 @@ pub record EachInputHasOneAnswer : Type 0 where
   pub decoding : (s : Settings) (caps : Caps) (count : Option ℕ) (input : Input) → IsAllowed s → HasOneAnswer (IsDecoded s caps count) input
 
 -- ---- inputs past a limit
-
-abbrev pub input_of : List ℕ → Bool → Input
-input_of bytes failed = record { bytes = bytes; failed = failed }
 
 -- the front of an input is enough: both have one answer, the same refusal, whether or not their source failed
 pub record IsJudgedByFront (answers : Input → Result (List ℕ) Fault → Type 0) (front rest : List ℕ) : Type 0 where

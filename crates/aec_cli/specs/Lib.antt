@@ -3,7 +3,7 @@ pub mod Commands
 pub mod Jobs
 pub mod Openings
 pub mod Statuses
-pub mod Devices
+pub mod Transfers
 pub mod Output
 pub mod OutputExamples
 pub mod Laws

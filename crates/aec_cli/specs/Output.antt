@@ -13,7 +13,7 @@ use Rattle.aec_params.specs.Streams.{stream_of}
 use Rattle.aec_params.specs.Reading.{IsReading}
 use Rattle.aec_params.specs.Faults.{IsFault}
 use Rattle.aec_interval.specs.Reached.{count_refusal}
-use Rattle.aec_cli.specs.Devices.{Input}
+use Rattle.aec_cli.specs.Transfers.{Input}
 
 -- ---- coding
 

@@ -1,12 +1,12 @@
 //! Stored samples to coded data.
 
-ghost use Rattle.std.specs.Prelude.{◌≡◌, Ok, Err, Some, None, IfOk, IfErr, MatchOption};
+ghost use Rattle.std.specs.Prelude.{◌≡◌, ℕ, Ok, Err, Some, None, IfOk, IfErr, MatchOption};
 ghost use Rattle.std.specs.Result.{result_err};
 ghost use Rattle.aec_params.specs.declared.fault.Fault.TheVariants.{Memory};
 ghost use Rattle.aec_params.specs.Codewords.{bytes_of};
 ghost use Rattle.aec_params.specs.Params.{IsAllowed};
 ghost use Rattle.aec_params.specs.Stored.{samples_of_bytes};
-ghost use Rattle.aec_cli.specs.Devices.{Input, Taking, Putting, GivesAnswer, Leaves};
+ghost use Rattle.aec_cli.specs.Transfers.{input_of, Taking, taking_of, Putting, putting_of, GivesAnswer, Leaves};
 ghost use Rattle.aec_cli.specs.Output.{IsEncoded, bytes_within, coding_refusal};
 
 use crate::engine::intake::read_past;
@@ -34,8 +34,8 @@ fn judged(
     failed: bool,
 ) -> Result<Vec<i64>, Fault>
     ensures ok { IfOk result (λ v. samples_of_bytes params.now bytes.now ≡ Ok v.items) }
-    ensures sound { IfOk result (λ _. coding_refusal params.now limit (record { bytes = bytes.now; failed = failed }) ≡ None) }
-    ensures refuses { MatchOption (coding_refusal params.now limit (record { bytes = bytes.now; failed = failed })) (IfErr result (λ e. e ≡ Memory)) (λ fault. result_err result ≡ Some fault) }
+    ensures sound { IfOk result (λ _. coding_refusal params.now limit (input_of bytes.now failed) ≡ None) }
+    ensures refuses { MatchOption (coding_refusal params.now limit (input_of bytes.now failed)) (IfErr result (λ e. e ≡ Memory)) (λ fault. result_err result ≡ Some fault) }
 {
     let whole = (bytes.len() / params.storage()) as u64;
     match read_samples(alloc, params, bytes) {
@@ -47,14 +47,18 @@ fn judged(
 }
 
 /// What coding a source answers: the code of its samples.
-fn encoded<R: Source>(
+fn encode_source<R: Source>(
     alloc: Global,
     params: &Params,
     limits: Limits,
     source: &mut R,
 ) -> Result<BitBuf, Fault>
-    ensures ok { IfOk result (λ bits. GivesAnswer (IsEncoded params.now limits) (record { before = R.left source.old; after = R.left source.new; failures = R.failed source.new }) (bytes_within params.now limits.samples) (Ok (bytes_of bits.list))) }
-    ensures refuses { IfErr result (λ fault. GivesAnswer (IsEncoded params.now limits) (record { before = R.left source.old; after = R.left source.new; failures = R.failed source.new }) (bytes_within params.now limits.samples) (Err fault)) }
+    ensures ok { let took : Taking = taking_of R.left R.failed source.old source.new in
+        let most : ℕ = bytes_within params.now limits.samples in
+        IfOk result (λ bits. GivesAnswer (IsEncoded params.now limits) took most (Ok (bytes_of bits.list))) }
+    ensures refuses { let took : Taking = taking_of R.left R.failed source.old source.new in
+        let most : ℕ = bytes_within params.now limits.samples in
+        IfErr result (λ fault. GivesAnswer (IsEncoded params.now limits) took most (Err fault)) }
 {
     let (bytes, failed) = read_past(alloc, source, most_bytes(params, limits))?;
     let samples = judged(alloc, params, limits.samples(), &bytes, failed)?;
@@ -72,8 +76,11 @@ pub fn encode<R: Source, W: Sink>(
     source: &mut R,
     sink: &mut W,
 ) -> Result<(), Fault>
-    ensures { Leaves (IsEncoded params.now limits) (record { before = R.left source.old; after = R.left source.new; failures = R.failed source.new }) (bytes_within params.now limits.samples) (record { before = W.taken sink.old; after = W.taken sink.new; begun_before = W.begun sink.old; begun_after = W.begun sink.new; failures = W.failed sink.new }) result }
+    ensures { let took : Taking = taking_of R.left R.failed source.old source.new in
+        let put : Putting = putting_of W.taken W.begun W.failed sink.old sink.new in
+        let most : ℕ = bytes_within params.now limits.samples in
+        Leaves (IsEncoded params.now limits) took most put result }
 {
-    let bits = encoded(alloc, params, limits, source)?;
+    let bits = encode_source(alloc, params, limits, source)?;
     deliver_bits(&bits, sink)
 }

@@ -1,7 +1,7 @@
 //! Coded data back to stored samples.
 
 ghost use Rattle.std.specs.Prelude.{Ok, Err, IfOk, IfErr};
-ghost use Rattle.aec_cli.specs.Devices.{Taking, Putting, GivesAnswer, Leaves};
+ghost use Rattle.aec_cli.specs.Transfers.{Taking, taking_of, Putting, putting_of, GivesAnswer, Leaves};
 ghost use Rattle.aec_cli.specs.Output.{IsDecoded};
 
 use crate::engine::intake::read_whole;
@@ -12,15 +12,17 @@ use aec_params::{Fault, Limits, Params};
 use std::alloc::Global;
 
 /// What decoding a source answers: the bytes of its samples.
-fn decoded<R: Source>(
+fn decode_source<R: Source>(
     alloc: Global,
     params: &Params,
     limits: Limits,
     count: Option<u64>,
     source: &mut R,
 ) -> Result<Vec<u8>, Fault>
-    ensures ok { IfOk result (λ bytes. GivesAnswer (IsDecoded params.now limits count) (record { before = R.left source.old; after = R.left source.new; failures = R.failed source.new }) limits.bytes (Ok bytes.items)) }
-    ensures refuses { IfErr result (λ fault. GivesAnswer (IsDecoded params.now limits count) (record { before = R.left source.old; after = R.left source.new; failures = R.failed source.new }) limits.bytes (Err fault)) }
+    ensures ok { let took : Taking = taking_of R.left R.failed source.old source.new in
+        IfOk result (λ bytes. GivesAnswer (IsDecoded params.now limits count) took limits.bytes (Ok bytes.items)) }
+    ensures refuses { let took : Taking = taking_of R.left R.failed source.old source.new in
+        IfErr result (λ fault. GivesAnswer (IsDecoded params.now limits count) took limits.bytes (Err fault)) }
 {
     let coded = read_whole(alloc, source, limits.bytes())?;
     let bits = BitBuf::from_bytes(alloc, &coded)?;
@@ -40,8 +42,10 @@ pub fn decode<R: Source, W: Sink>(
     source: &mut R,
     sink: &mut W,
 ) -> Result<(), Fault>
-    ensures { Leaves (IsDecoded params.now limits count) (record { before = R.left source.old; after = R.left source.new; failures = R.failed source.new }) limits.bytes (record { before = W.taken sink.old; after = W.taken sink.new; begun_before = W.begun sink.old; begun_after = W.begun sink.new; failures = W.failed sink.new }) result }
+    ensures { let took : Taking = taking_of R.left R.failed source.old source.new in
+        let put : Putting = putting_of W.taken W.begun W.failed sink.old sink.new in
+        Leaves (IsDecoded params.now limits count) took limits.bytes put result }
 {
-    let bytes = decoded(alloc, params, limits, count, source)?;
+    let bytes = decode_source(alloc, params, limits, count, source)?;
     deliver(&bytes, sink)
 }

@@ -36,11 +36,18 @@ pub record Input : Type 0 where
   pub bytes : List ℕ
   pub failed : Bool
 
+abbrev pub input_of : List ℕ → Bool → Input
+input_of bytes failed = record { bytes = bytes; failed = failed }
+
 -- a source before and after a run
 pub record Taking : Type 0 where
   pub before : Option (List ℕ)
   pub after : Option (List ℕ)
   pub failures : ℕ
+
+-- by what a kind of source tells: the bytes that are left, and how often it has failed
+abbrev pub taking_of : {R : Type 0} → (R → Option (List ℕ)) → (R → ℕ) → R → R → Taking
+taking_of left failed old new = record { before = left old; after = left new; failures = failed new }
 
 -- a sink before and after a run
 pub record Putting : Type 0 where
@@ -49,6 +56,11 @@ pub record Putting : Type 0 where
   pub begun_before : ℕ
   pub begun_after : ℕ
   pub failures : ℕ
+
+-- by what a kind of sink tells: the bytes that it has taken, how often it was begun, and how often it has failed
+abbrev pub putting_of : {W : Type 0} → (W → Option (List ℕ)) → (W → ℕ) → (W → ℕ) → W → W → Putting
+putting_of taken begun failed old new =
+    record { before = taken old; after = taken new; begun_before = begun old; begun_after = begun new; failures = failed new }
 
 -- the source gave this input: to its end or its failure, or more bytes than the limit
 pub record Gave (source : Taking) (limit : ℕ) (input : Input) : Type 0 where

@@ -1,7 +1,7 @@
 use Rattle.std.proofs.lemmas.Result.{err_from_is_err_and}
 use Rattle.aec_cli.proofs.CodingLemmas.{answers_judging, answers_code, answers_coder}
 use Rattle.aec_cli.proofs.OutputLemmas.{answers_memory}
-use Rattle.aec_cli.proofs.engine.coding.encoded.Goals as goal
+use Rattle.aec_cli.proofs.engine.coding.encode_source.Goals as goal
 
 pub returns-in_err-bytes-clause-refuses : goal.returns-in_err-bytes-clause-refuses
 returns-in_err-bytes-clause-refuses g c =

@@ -2,7 +2,7 @@ use Rattle.std.proofs.Common.{◌∙◌, ap}
 use Rattle.std.proofs.lemmas.Result.{err_from_is_err_and}
 use Rattle.aec_params.specs.Codewords.{bits_of_bytes}
 use Rattle.aec_cli.proofs.OutputLemmas.{answers_intake, answers_memory, answers_decoding, answers_samples, answers_storing}
-use Rattle.aec_cli.proofs.engine.decoding.decoded.Goals as goal
+use Rattle.aec_cli.proofs.engine.decoding.decode_source.Goals as goal
 
 pub returns-in_err-coded-clause-refuses : goal.returns-in_err-coded-clause-refuses
 returns-in_err-coded-clause-refuses g c =
