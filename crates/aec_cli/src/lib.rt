@@ -19,6 +19,3 @@ pub use job::{Action, Job, settings};
 pub use program::perform;
 pub use usage::Usage;
 pub use words::{command, parse};
-
-#[cfg(test)]
-mod tests;
