@@ -11,3 +11,4 @@ pub mod StoringLemmas
 pub mod AnswerLemmas
 pub mod RangeAnswerLemmas
 pub mod FrontLemmas
+pub mod InMemoryLemmas

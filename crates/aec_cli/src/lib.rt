@@ -4,6 +4,7 @@
 mod engine;
 mod failure;
 mod files;
+mod in_memory;
 mod job;
 pub mod laws;
 mod numerals;
@@ -14,10 +15,8 @@ mod words;
 pub use engine::{decode, encode, range};
 pub use failure::{Failure, status};
 pub use files::{DestSink, FileSource};
+pub use in_memory::{decode_bytes, encode_bytes};
 pub use job::{Action, Job, settings};
 pub use program::perform;
 pub use usage::Usage;
 pub use words::{command, parse};
-
-#[cfg(test)]
-mod tests;

@@ -1,6 +1,11 @@
 //! Runs that are refused: what is printed, and that DEST is not made, or stays as it was.
 
-use super::*;
+use crate::shared::run_of;
+use std::alloc::{Alloc, Global};
+use std::fs;
+use std::process::Abort;
+use std::rt::Files;
+use std::test::Fail;
 
 // A run on a SOURCE of these bytes, first without a DEST and then with one, by the words with the names of both.
 fn refused<R: Abort + Alloc<A = Global> + Files>(

@@ -1,8 +1,13 @@
 //! Where the limits of the engines lie, and in which order samples are judged.
 
-use super::devices::{Basin, Endless, Pieces};
-use super::*;
-use aec_params::Limits;
+use crate::devices::{Basin, Endless, Pieces};
+use crate::shared::DEFAULTS;
+use aec_bits::Sink;
+use aec_cli::{decode, encode};
+use aec_params::{Fault, Limits, Params, Settings};
+use std::alloc::Global;
+use std::process::Abort;
+use std::test::Fail;
 
 const RAMP: [u8; 8] = [0, 1, 2, 3, 4, 5, 6, 7];
 

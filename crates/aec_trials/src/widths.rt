@@ -1,8 +1,12 @@
 //! Samples of every storage, coded and decoded.
 
-use super::devices::{Basin, Pieces};
-use super::*;
-use aec_params::Limits;
+use crate::devices::{Basin, Pieces};
+use crate::shared::DEFAULTS;
+use aec_cli::{decode, encode};
+use aec_params::{Limits, Params, Settings};
+use std::alloc::Global;
+use std::process::Abort;
+use std::test::Fail;
 
 // The bytes of samples, which are given as words with their sign in all bits.
 fn stored(

@@ -6,7 +6,7 @@ use std::alloc::Global;
 
 /// Gives bytes, at most `step` a call. Behind them it ends, or fails.
 #[derive(Drop)]
-pub(super) struct Pieces<'a> {
+pub(crate) struct Pieces<'a> {
     rest: &'a [u8],
     step: usize,
     fails: bool,
@@ -15,7 +15,7 @@ pub(super) struct Pieces<'a> {
 
 impl<'a> Pieces<'a> {
     /// Ends behind the bytes.
-    pub(super) fn whole(bytes: &'a [u8], step: usize) -> Pieces<'a> {
+    pub(crate) fn whole(bytes: &'a [u8], step: usize) -> Pieces<'a> {
         Pieces {
             rest: bytes,
             step,
@@ -25,7 +25,7 @@ impl<'a> Pieces<'a> {
     }
 
     /// Fails behind the bytes.
-    pub(super) fn torn(bytes: &'a [u8], step: usize) -> Pieces<'a> {
+    pub(crate) fn torn(bytes: &'a [u8], step: usize) -> Pieces<'a> {
         Pieces {
             rest: bytes,
             step,
@@ -64,8 +64,8 @@ impl<'a> Source for Pieces<'a> {
 
 /// Gives the same byte for ever.
 #[derive(Drop)]
-pub(super) struct Endless {
-    pub(super) byte: u8,
+pub(crate) struct Endless {
+    pub(crate) byte: u8,
 }
 
 impl Source for Endless {
@@ -87,8 +87,8 @@ impl Source for Endless {
 
 /// Keeps what it takes: at most `step` bytes a call, and `room` in all; then it fails. One that is shut fails at `begin`.
 #[derive(Drop)]
-pub(super) struct Basin {
-    pub(super) bytes: Vec<u8>,
+pub(crate) struct Basin {
+    pub(crate) bytes: Vec<u8>,
     step: usize,
     room: usize,
     shut: bool,
@@ -98,12 +98,12 @@ pub(super) struct Basin {
 
 impl Basin {
     /// Takes all that comes.
-    pub(super) fn deep(alloc: Global) -> Basin {
+    pub(crate) fn deep(alloc: Global) -> Basin {
         Basin::of(alloc, 64, 1 << 20)
     }
 
     /// Takes at most `step` bytes a call, and `room` in all.
-    pub(super) fn of(alloc: Global, step: usize, room: usize) -> Basin {
+    pub(crate) fn of(alloc: Global, step: usize, room: usize) -> Basin {
         Basin {
             bytes: Vec::new(alloc),
             step,
@@ -115,7 +115,7 @@ impl Basin {
     }
 
     /// Fails at `begin`.
-    pub(super) fn shut(alloc: Global) -> Basin {
+    pub(crate) fn shut(alloc: Global) -> Basin {
         Basin {
             bytes: Vec::new(alloc),
             step: 64,

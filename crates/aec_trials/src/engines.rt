@@ -1,8 +1,11 @@
 //! The engines over devices in memory: what is written, and what is left where a device fails.
 
-use super::devices::{Basin, Pieces};
-use super::*;
-use aec_params::Limits;
+use crate::devices::{Basin, Pieces};
+use crate::shared::DEFAULTS;
+use aec_bits::{Sink, Source};
+use aec_cli::{decode, encode};
+use aec_params::{Fault, Limits, Params};
+use std::test::Fail;
 
 const RAMP: [u8; 8] = [0, 1, 2, 3, 4, 5, 6, 7];
 

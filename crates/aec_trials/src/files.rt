@@ -1,7 +1,7 @@
 //! Files as devices.
 
-use crate::{DestSink, FileSource};
 use aec_bits::{Sink, Source};
+use aec_cli::{DestSink, FileSource};
 use aec_params::Fault;
 use std::fs;
 use std::test::Fail;

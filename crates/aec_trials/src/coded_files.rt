@@ -1,6 +1,11 @@
 //! Runs that code files which the tests make, and decode what was written.
 
-use super::*;
+use crate::shared::{run_of, run_on};
+use std::alloc::{Alloc, Global};
+use std::fs;
+use std::process::Abort;
+use std::rt::Files;
+use std::test::Fail;
 
 // Codes the file `raw` into the file `coded` by the first words, and decodes it back by the second ones; compares what
 // each run writes.

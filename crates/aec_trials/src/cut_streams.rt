@@ -1,8 +1,13 @@
 //! Streams that are cut, and streams that zero bits follow.
 
-use super::devices::{Basin, Pieces};
-use super::*;
-use aec_params::Limits;
+use crate::devices::{Basin, Pieces};
+use crate::shared::DEFAULTS;
+use aec_bits::Sink;
+use aec_cli::{decode, encode};
+use aec_params::{Fault, Limits, Params, Settings};
+use std::alloc::Global;
+use std::process::Abort;
+use std::test::Fail;
 
 // What decoding answers to a stream, and what is written.
 fn read(
