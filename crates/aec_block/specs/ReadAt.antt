@@ -3,7 +3,7 @@ use Rattle.std.specs.Prelude.{ℕ, zero, suc, ◌+◌, ◌-◌, ◌*◌, ◌/◌
 use Rattle.aec_params.specs.declared.settings.Settings.{Settings}
 use Rattle.aec_params.specs.Params.{id_len}
 use Rattle.aec_params.specs.Codewords.{bits_number}
-use Rattle.aec_params.specs.CodedDataSets.{Body, plain_values, value_pairs, split_values, zero_blocks, CodedDataSet, written_count}
+use Rattle.aec_params.specs.CodedDataSets.{Body, uncompressed_values, value_pairs, split_values, zero_blocks, CodedDataSet, written_count}
 use Rattle.aec_block.specs.declared.reading.Kind.{Kind}
 use Rattle.aec_block.specs.declared.reading.Kind.TheVariants.{ZeroBlocks, SecondExtension, Split, NoCompression}
 
@@ -98,7 +98,7 @@ abbrev pub split_at : ℕ → ℕ → List Bool → Taken (List ℕ)
 split_at k n bits = then_at (values_at fs_at n bits) (lows_at k n)
 
 abbrev pub body_at : Settings → Bool → Kind → List Bool → Taken Body
-body_at s is_reference NoCompression bits = map_taken plain_values (values_at (binary_at s.bits) (written_count s is_reference) bits)
+body_at s is_reference NoCompression bits = map_taken uncompressed_values (values_at (binary_at s.bits) (written_count s is_reference) bits)
 body_at s is_reference SecondExtension bits = map_taken value_pairs (members_at (s.block_size / 2) bits)
 body_at s is_reference (Split k) bits = map_taken (split_values k) (split_at k (written_count s is_reference) bits)
 body_at s is_reference ZeroBlocks bits = map_taken zero_blocks (fs_at bits)

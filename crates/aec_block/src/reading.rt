@@ -8,12 +8,13 @@ ghost use Rattle.aec_params.specs.Places.{placed_values};
 ghost use Rattle.aec_block.specs.declared.cds.Cds.TheVariants.{Single};
 ghost use Rattle.aec_block.specs.ReadAt.{map_taken, kind_at, reference_at, body_at, cds_at};
 ghost use Rattle.aec_block.specs.Gathering.{bits_at, as_taken};
-ghost use Rattle.aec_block.specs.ReadCds.{run_len_of, checked, checked_body, HasShortSplit, IsReadAs, IsNotRead};
+ghost use Rattle.aec_block.specs.ReadCds.{run_len_of, checked, checked_body, HasShortSplit, IsReadAs};
+ghost use Rattle.aec_params.specs.Faults.{IsNotRead};
 
 use crate::block::Block;
 use crate::cds::{Cds, RunLen};
 use crate::reading_codewords::{read_number, read_sequence};
-use crate::reading_values::{read_pairs, read_plain, read_split};
+use crate::reading_values::{read_pairs, read_uncompressed, read_split};
 use aec_bits::BitReader;
 use aec_params::{Fault, Params};
 use std::alloc::Global;
@@ -129,7 +130,7 @@ fn read_body(
             Ok(Some(Cds::Zeros { reference, len }))
         }
         Kind::NoCompression => {
-            let block = read_plain(alloc, params, reader, reference, count)?;
+            let block = read_uncompressed(alloc, params, reader, reference, count)?;
             Ok(Some(Cds::Single(block)))
         }
         Kind::SecondExtension => Ok(single(read_pairs(alloc, params, reader, reference)?)),

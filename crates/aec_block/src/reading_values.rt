@@ -2,9 +2,9 @@
 
 ghost use Rattle.std.specs.Prelude.{◌≡◌, ◌≤◌, ◌<◌, ◌+◌, ◌-◌, ◌*◌, ◌/◌, ◌^◌, ◌++◌, [], ◌∷◌, true, ◌||◌, if◌then◌else◌, nat_lt, length};
 ghost use Rattle.std.specs.Option.{is_some};
-ghost use Rattle.aec_params.specs.Places.{placed_values};
+ghost use Rattle.aec_params.specs.Places.{placed_values, block_of_values};
 ghost use Rattle.aec_block.specs.ReadAt.{map_taken, fs_at, binary_at, values_at, members_at, split_at};
-ghost use Rattle.aec_block.specs.Gathering.{bits_at, as_taken, as_taken_by, when, gathered, lows_gathered, with_value, plain_block, small_block, pair_block};
+ghost use Rattle.aec_block.specs.Gathering.{bits_at, as_taken, as_taken_by, when, gathered, lows_gathered, with_value, small_block, pair_block};
 
 use crate::block::Block;
 use crate::reading_codewords::{pair_of, read_number, read_sequence};
@@ -74,7 +74,7 @@ fn fitting(fit: bool, block: Block) -> Option<Block>
 }
 
 /// A block of the next `count` numbers, each in as many bits as a sample has.
-pub(crate) fn read_plain(
+pub(crate) fn read_uncompressed(
     alloc: Global,
     params: &Params,
     reader: &mut BitReader,
@@ -83,7 +83,7 @@ pub(crate) fn read_plain(
 ) -> Result<Block, Fault>
     requires within { reader.old.pos ≤ length reader.old.list }
     requires room { length (placed_values reference []) + count ≤ 64 }
-    ensures taken { map_taken (plain_block reference) (values_at (binary_at params.now.bits) count (bits_at reader.old))
+    ensures taken { map_taken (block_of_values reference) (values_at (binary_at params.now.bits) count (bits_at reader.old))
         ≡ as_taken result (bits_at reader.new) }
     ensures list { reader.new.list ≡ reader.old.list }
     ensures within { reader.new.pos ≤ length reader.new.list }

@@ -2,7 +2,7 @@
 
 ghost use Rattle.std.specs.Prelude.{◌≡◌, ◌+◌, ◌*◌, ◌<◌, ◌≤◌, ◌++◌, None, length, OnOk, IfErr};
 ghost use Rattle.aec_params.specs.declared.fault.Fault.TheVariants.{Memory};
-ghost use Rattle.aec_params.specs.Intervals.{plain_bits, interval_bits};
+ghost use Rattle.aec_params.specs.Intervals.{unpadded_bits, interval_bits};
 ghost use Rattle.aec_interval.specs.Laws.{AreOfInterval};
 ghost use Rattle.aec_interval.specs.Chunks.{blocks_after, AreSamplesAfter};
 ghost use Rattle.aec_interval.specs.Pending.{segment_bits, IsKept};
@@ -49,7 +49,7 @@ fn write_segments(
     out: &mut BitBuf,
 ) -> Result<(), Fault>
     requires { AreOfInterval params.now samples.now }
-    ensures ok { OnOk result (out.new.list ≡ out.old.list ++ plain_bits params.now samples.now) }
+    ensures ok { OnOk result (out.new.list ≡ out.old.list ++ unpadded_bits params.now samples.now) }
     ensures kept { IsKept out.old.list out.new.list }
     ensures room { out.old.room + length out.old.list ≤ out.new.room + length out.new.list }
     ensures fault { IfErr result (λ e. e ≡ Memory) }
