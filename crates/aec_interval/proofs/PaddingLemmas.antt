@@ -8,7 +8,7 @@ use Rattle.aec_params.specs.declared.settings.Settings.{Settings}
 use Rattle.aec_params.specs.Cutting.{up_to_multiple}
 use Rattle.aec_params.specs.Codewords.{binary, padded_to_byte}
 use Rattle.aec_params.specs.Intervals.{unpadded_bits, interval_bits}
-use Rattle.aec_bits.specs.CodewordLaws.{length-binary}
+use Rattle.aec_bits.proofs.CodewordLaws.{length-binary}
 
 pub binary-zeros : (w : ℕ) → binary w 0 ≡ replicate w false
 binary-zeros zero = refl
