@@ -72,9 +72,9 @@ abbrev pub next_pair : Pair → Pair
 next_pair p = pair_after p.first p.second
 
 -- the pair of a number
-abbrev pub pair_of : ℕ → Pair
-pair_of zero = record { first = 0; second = 0 }
-pair_of (suc m) = next_pair (pair_of m)
+abbrev pub pair_with_number : ℕ → Pair
+pair_with_number zero = record { first = 0; second = 0 }
+pair_with_number (suc m) = next_pair (pair_with_number m)
 
 abbrev pub before_members : Pair → List ℕ → List ℕ
 before_members p members = p.first ∷ (p.second ∷ members)
@@ -82,7 +82,7 @@ before_members p members = p.first ∷ (p.second ∷ members)
 -- the members of so many pairs
 abbrev pub members_at : ℕ → List Bool → Taken (List ℕ)
 members_at zero bits = taken [] bits
-members_at (suc n) bits = then_at (fs_at bits) (λ m rest. map_taken (before_members (pair_of m)) (members_at n rest))
+members_at (suc n) bits = then_at (fs_at bits) (λ m rest. map_taken (before_members (pair_with_number m)) (members_at n rest))
 
 -- values from their high parts and their lowest k bits
 abbrev pub joined_values : ℕ → List ℕ → List ℕ → List ℕ

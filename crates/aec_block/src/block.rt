@@ -31,7 +31,7 @@ impl Block {
     ghost use Rattle.std.specs.Prelude.{◌≡◌, ◌<◌, ◌≤◌, [], ◌∷◌, ◌++◌, length};
     ghost use Rattle.aec_params.specs.Blocks.{Block as Values, is_zero_block};
     ghost use Rattle.aec_params.specs.Places.{placed_values};
-    ghost use Rattle.aec_params.specs.Spellings.{written_values as written_values_of};
+    ghost use Rattle.aec_params.specs.Spellings.{written_values};
     ghost use Rattle.aec_block.specs.BlockShape.{IsSound};
 
     /// A block with no values but the 0 in the reference place, where there is a reference.
@@ -87,8 +87,8 @@ impl Block {
 
     /// The values that are written one by one: those behind the reference place, where there is one.
     #[tactic(auto, using(crate::proofs::BlockLemmas::some_values))]
-    pub(crate) fn written_values(&self) -> &[u32]
-        ensures value { result.now ≡ written_values_of self.now }
+    pub(crate) fn written(&self) -> &[u32]
+        ensures value { result.now ≡ written_values self.now }
         ensures len { length result.now ≤ 64 }
     {
         match self.reference() {

@@ -4,7 +4,7 @@ ghost use Rattle.std.specs.Prelude.{◌≡◌, ◌+◌, ◌*◌, ◌^◌, ◌<�
 ghost use Rattle.aec_params.specs.Params.{IsAllowed};
 ghost use Rattle.aec_params.specs.CodedDataSets.{pair_number};
 ghost use Rattle.aec_params.specs.Spellings.{written_values};
-ghost use Rattle.aec_block.specs.Lengths.{head_len as head_length, shifted_sum as sum_of_shifted, pairs_len as pairs_length, uncompressed_len as uncompressed_length, paired_len as paired_length, split_len as split_length};
+ghost use Rattle.aec_block.specs.Lengths.{head_length, sum_of_shifted, pairs_length, uncompressed_length, paired_length, split_length};
 
 use crate::block::Block;
 use aec_params::Params;
@@ -62,7 +62,7 @@ pub(crate) fn uncompressed_len(params: &Params, block: &Block) -> u64
     ensures { result ≡ uncompressed_length params.now block.now }
 {
     u64::from(head_len(params, block.reference()))
-        + block.written_values().len() as u64 * u64::from(params.bits())
+        + block.written().len() as u64 * u64::from(params.bits())
 }
 
 /// The length by the second extension.
@@ -77,7 +77,7 @@ pub(crate) fn split_len(params: &Params, block: &Block, k: u32) -> u128
     requires { k < 32 }
     ensures { result ≡ split_length params.now block.now k }
 {
-    let values = block.written_values();
+    let values = block.written();
     u128::from(head_len(params, block.reference()))
         + (shifted_sum(values, k) + values.len() as u128 * u128::from(k + 1))
 }

@@ -9,7 +9,7 @@ use Rattle.aec_params.specs.declared.settings.Settings.{Settings}
 use Rattle.aec_params.specs.Params.{IsHeld}
 use Rattle.aec_params.specs.Blocks.{Block}
 use Rattle.aec_params.specs.Intervals.{unpadded_bits}
-use Rattle.aec_interval.specs.declared.runs.Run.{Run}
+use Rattle.aec_interval.specs.declared.writing_runs.Run.{Run}
 use Rattle.aec_interval.specs.Chunks.{block_after, blocks_after, HoldsPrevious, AreSamplesAfter}
 use Rattle.aec_interval.specs.Pending.{pending_bits, segment_bits, bits_of_run, IsRun, IsKept}
 use Rattle.aec_interval.proofs.CuttingLemmas.{IsPieceBefore}

@@ -8,7 +8,7 @@ use Rattle.aec_params.specs.Runs.{Group, zero_run, groups_of}
 use Rattle.aec_params.specs.Intervals.{group_sets}
 use Rattle.aec_block.specs.Choices.{FitsReference}
 use Rattle.aec_block.specs.Written.{run_bits}
-use Rattle.aec_interval.specs.declared.runs.Run.{Run}
+use Rattle.aec_interval.specs.declared.writing_runs.Run.{Run}
 
 -- a run of z blocks before groups: it joins a run that comes first
 abbrev pub with_run : Option ℕ → ℕ → List Group → List Group

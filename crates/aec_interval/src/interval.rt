@@ -8,7 +8,7 @@ ghost use Rattle.aec_interval.specs.Chunks.{blocks_after, AreSamplesAfter};
 ghost use Rattle.aec_interval.specs.Pending.{segment_bits, IsKept};
 
 use crate::chunks::block_of;
-use crate::runs::{NO_RUN, write_next};
+use crate::writing_runs::{NO_RUN, write_next};
 use aec_bits::BitBuf;
 use aec_params::{Fault, Params};
 use std::alloc::Global;

@@ -6,7 +6,7 @@ ghost use Rattle.aec_interval.specs.IntervalFormat.{interval_format};
 
 use super::streams::{expect_bits, padded, settings};
 use crate::AecCodec;
-use crate::whole::first_unheld;
+use crate::whole::unheld_index;
 use aec_bits::{BitBuf, Codec};
 use aec_params::{Fault, Params, Settings};
 use std::alloc::Global;
@@ -21,7 +21,7 @@ fn is_interval(codec: &AecCodec, samples: &[i64]) -> bool
     if samples.is_empty() || samples.len() as u64 > codec.interval_len() {
         return false;
     }
-    match first_unheld(&codec.params(), samples) {
+    match unheld_index(&codec.params(), samples) {
         None => true,
         Some(_) => false,
     }
