@@ -4,6 +4,7 @@ ghost use Rattle.std.specs.Prelude.{◌≡◌, ◌+◌, ◌*◌, ◌^◌, ◌<�
 ghost use Rattle.aec_params.specs.Params.{IsAllowed};
 ghost use Rattle.aec_params.specs.CodedDataSets.{pair_number};
 ghost use Rattle.aec_params.specs.Spellings.{written_values};
+ghost use Rattle.aec_block.specs.BlockShape.{most_values};
 ghost use Rattle.aec_block.specs.Lengths.{head_length, sum_of_shifted, pairs_length, uncompressed_length, paired_length, split_length};
 
 use crate::block::Block;
@@ -23,9 +24,9 @@ pub(crate) fn head_len(params: &Params, reference: Option<u32>) -> u32
 /// The values without their `k` low bits, added up.
 fn shifted_sum(values: &[u32], k: u32) -> u128
     requires k { k < 32 }
-    requires len { length values.now ≤ 64 }
+    requires len { length values.now ≤ most_values }
     ensures sum { result ≡ sum_of_shifted k values.now }
-    ensures bound { result ≤ 64 * 2 ^ 32 }
+    ensures bound { result ≤ most_values * 2 ^ 32 }
 {
     let mut sum = 0u128;
     for v in values {
@@ -46,9 +47,9 @@ pub(crate) fn pair_len(a: u32, b: u32) -> u128
 /// The codewords of consecutive pairs.
 #[tactic(auto, using(crate::proofs::LengthLemmas::pair_steps))]
 fn pairs_len(values: &[u32]) -> u128
-    requires { length values.now ≤ 64 }
+    requires { length values.now ≤ most_values }
     ensures len { result ≡ pairs_length values.now }
-    ensures bound { result ≤ 64 * 2 ^ 66 }
+    ensures bound { result ≤ most_values * 2 ^ 66 }
 {
     let mut sum = 0u128;
     for i in 0..values.len() / 2 {

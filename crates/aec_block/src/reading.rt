@@ -14,7 +14,7 @@ ghost use Rattle.aec_params.specs.Faults.{IsNotRead};
 use crate::block::Block;
 use crate::cds::{Cds, RunLen};
 use crate::reading_codewords::{read_number, read_sequence};
-use crate::reading_values::{read_pairs, read_uncompressed, read_split};
+use crate::reading_values::{read_pairs, read_split, read_uncompressed};
 use aec_bits::BitReader;
 use aec_params::{Fault, Params};
 use std::alloc::Global;

@@ -1,12 +1,12 @@
 //! What is written for one block, and for a run of zero blocks.
 
-ghost use Rattle.std.specs.Prelude.{◌≡◌, ◌+◌, ◌<◌, ◌≤◌, ◌^◌, ◌++◌, false, length, if◌then◌else◌, OnOk, OnErr, IfErr};
+ghost use Rattle.std.specs.Prelude.{◌≡◌, ◌+◌, ◌-◌, ◌<◌, ◌≤◌, ◌^◌, ◌++◌, false, length, if◌then◌else◌, OnOk, OnErr, IfErr};
 ghost use Rattle.aec_params.specs.declared.fault.Fault.TheVariants.{Memory};
 ghost use Rattle.aec_params.specs.Params.{IsAllowed, split_count};
 ghost use Rattle.aec_params.specs.Codewords.{fs, binary};
 ghost use Rattle.aec_params.specs.CodedDataSets.{pair_bits, reference_bits, cds_bits};
 ghost use Rattle.aec_params.specs.Spellings.{uncompressed, paired, split};
-ghost use Rattle.aec_params.specs.Runs.{run_code};
+ghost use Rattle.aec_params.specs.Runs.{segment_len, run_code};
 ghost use Rattle.aec_block.specs.Lengths.{reference_len};
 ghost use Rattle.aec_block.specs.Choices.{FitsReference, IsFull, IsChoice};
 ghost use Rattle.aec_block.specs.Written.{high_parts, low_parts, shortest_bits, run_bits};
@@ -181,7 +181,7 @@ pub fn write_run(
 ) -> Result<(), Fault>
     requires reference { FitsReference params.now reference }
     requires least { 1 ≤ z }
-    requires most { z ≤ (if to_end then 64 else 63) }
+    requires most { z ≤ (if to_end then segment_len else segment_len - 1) }
     ensures ok { OnOk result (out.new.list ≡ out.old.list ++ run_bits params.now reference z to_end) }
     ensures room { OnOk result (out.old.room ≤ out.new.room + length (run_bits params.now reference z to_end)) }
     ensures err { OnErr result (out.new ≡ out.old) }

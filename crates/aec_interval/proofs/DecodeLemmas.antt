@@ -1,7 +1,7 @@
 -- What a coded data set that was read gives a reading: the blocks that come next, or its fault.
 use Rattle.std.proofs.Common.{◌≡◌, ℕ, suc, ◌+◌, ◌-◌, ◌%◌, ◌<◌, ◌≤◌, min, Bool, true, false, unwrap_or, Option, Some, None, ℤ, List, [], ◌∷◌, length, replicate, refl, sym, ap, ◌∙◌, arith, ⊎_elim}
 use Rattle.std.proofs.lemmas.Bool.{cases_lt, ltb-true}
-use Rattle.std.proofs.lemmas.List.{take_all, length-replicate}
+use Rattle.std.proofs.lemmas.List.{take_all, length-take, length-replicate}
 use Rattle.std.specs.Int.{div_ceil}
 use Rattle.aec_params.specs.declared.settings.Settings.{Settings}
 use Rattle.aec_params.specs.declared.fault.Fault.{Fault}
@@ -43,6 +43,11 @@ next-answer_of s i samples kept reference (uncompressed_values values) allowed f
 next-answer_of s i samples kept reference (value_pairs members) allowed filled shape small some within = single_next s i samples reference (value_pairs members) _ allowed filled shape small refl refl
 next-answer_of s i samples kept reference (split_values k values) allowed filled shape small some within = single_next s i samples reference (split_values k values) _ allowed filled shape small refl refl
 next-answer_of s i samples kept reference (zero_blocks m) allowed filled shape small some within = (some, (within, shape.reference))
+
+-- the number of blocks that are kept
+pub length-kept_blocks : (s : Settings) (count : Option ℕ) (i : ℕ) (blocks : List Block) → length (kept_blocks s count i blocks) ≡ kept_count s count i (length blocks)
+length-kept_blocks s None i blocks = refl
+length-kept_blocks s (Some count) i blocks = omega (arith, length-take (div_ceil count s.block_size - i) blocks)
 
 -- of one block or more, those that are kept
 kept_one : (s : Settings) (count : Option ℕ) (bits : List Bool) (i b : ℕ) (block : Block) → is_wanted s count bits i b ≡ true → block ∷ [] ≡ kept_blocks s count i (block ∷ [])

@@ -7,12 +7,12 @@ mod filling;
 mod interval;
 pub mod laws;
 mod reading;
-mod writing_runs;
+mod reading_runs;
 #[cfg(test)]
 mod tests;
 mod whole;
 mod whole_reading;
-mod reading_runs;
+mod writing_runs;
 
 pub use codec::AecCodec;
 pub use whole::encode_all;

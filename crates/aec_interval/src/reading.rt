@@ -11,6 +11,7 @@ ghost use Rattle.aec_interval.specs.NextSet.{cds_count, kept_count, IsNextCds, c
 ghost use Rattle.aec_interval.specs.Reached.{AreFilled, IsReached, IsReadFrom, RefusesReading};
 
 use crate::filling::push_block;
+use crate::interval::SEGMENT_BLOCKS;
 use crate::reading_runs::push_zero_run;
 use aec_bits::{BitBuf, BitReader};
 use aec_block::{Cds, RunLen, read_cds};
@@ -43,7 +44,8 @@ fn blocks_left(params: &Params, place: u64) -> u64
     ensures some { 0 < result }
     ensures within { place + result ≤ params.now.interval }
 {
-    (64 - place % 64).min(u64::from(params.interval()) - place)
+    let segment = u64::from(SEGMENT_BLOCKS);
+    (segment - place % segment).min(u64::from(params.interval()) - place)
 }
 
 /// Whether this block of an interval has a reference sample.
