@@ -8,3 +8,4 @@ pub mod CodingLemmas
 pub mod StoringLemmas
 pub mod AnswerLemmas
 pub mod FrontLemmas
+pub mod InMemoryLemmas

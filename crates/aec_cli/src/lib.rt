@@ -4,6 +4,7 @@
 mod engine;
 mod failure;
 mod files;
+mod in_memory;
 mod job;
 pub mod laws;
 mod program;
@@ -13,6 +14,7 @@ mod words;
 pub use engine::{decode, encode};
 pub use failure::{Failure, status};
 pub use files::{DestSink, FileSource};
+pub use in_memory::{decode_bytes, encode_bytes};
 pub use job::{Action, Job, settings};
 pub use program::perform;
 pub use usage::Usage;
