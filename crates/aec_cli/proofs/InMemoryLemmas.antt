@@ -109,11 +109,11 @@ reading_of : (s : Settings) (caps : Caps) (count : Option ℕ) (coded bytes : Li
     → IsDecoded s caps count (input_of coded false) answer → IsStoredReadingOf s caps count coded bytes
 reading_of s caps count coded bytes answer is (not_taken fault why) = absurd (cc)
 reading_of s caps count coded bytes answer is (output.not_counted fault taken above) = absurd (cc)
-reading_of s caps count coded bytes answer is (decoded samples taken within reading) = record {
-  short_enough = short_enough caps.bytes coded taken;
-  within = within;
+reading_of s caps count coded bytes answer is (decoded samples read) = record {
+  short_enough = short_enough caps.bytes coded read.taken;
+  within = read.within;
   samples = samples;
-  reading = reading;
+  reading = read.reading;
   stored = (let same : _ ≡ bytes = cc in sym same);
 }
 reading_of s caps count coded bytes answer is (output.faulty fault taken within wrong) = absurd (cc)
@@ -129,7 +129,7 @@ refusal_of s caps count coded answer fault is (not_taken f why) = by_length (nat
     by_length false e why = absurd (cc)
 refusal_of s caps count coded answer fault is (output.not_counted f taken above) =
     let same : f ≡ fault = cc in subst (RefusesCoded s caps count coded) same (not_counted f (short_enough caps.bytes coded taken) above)
-refusal_of s caps count coded answer fault is (decoded samples taken within reading) = absurd (cc)
+refusal_of s caps count coded answer fault is (decoded samples read) = absurd (cc)
 refusal_of s caps count coded answer fault is (output.faulty f taken within wrong) =
     let same : f ≡ fault = cc in subst (RefusesCoded s caps count coded) same (faulty f (short_enough caps.bytes coded taken) within wrong)
 

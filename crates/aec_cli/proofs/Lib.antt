@@ -1,11 +1,14 @@
+pub mod NumeralLemmas
 pub mod JobLemmas
 pub mod StatusLemmas
 pub mod WordLemmas
 pub mod DeviceLemmas
 pub mod OutputLemmas
+pub mod RangingLemmas
 pub mod JudgingLemmas
 pub mod CodingLemmas
 pub mod StoringLemmas
 pub mod AnswerLemmas
+pub mod RangeAnswerLemmas
 pub mod FrontLemmas
 pub mod InMemoryLemmas

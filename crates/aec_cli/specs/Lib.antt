@@ -1,5 +1,6 @@
 pub mod CommandExamples
 pub mod Commands
+pub mod Numerals
 pub mod Jobs
 pub mod Openings
 pub mod Statuses

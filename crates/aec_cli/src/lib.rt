@@ -7,11 +7,12 @@ mod files;
 mod in_memory;
 mod job;
 pub mod laws;
+mod numerals;
 mod program;
 mod usage;
 mod words;
 
-pub use engine::{decode, encode};
+pub use engine::{decode, encode, range};
 pub use failure::{Failure, status};
 pub use files::{DestSink, FileSource};
 pub use in_memory::{decode_bytes, encode_bytes};

@@ -9,7 +9,7 @@ ghost use Rattle.aec_cli.specs.Commands.{aec_app};
 ghost use Rattle.aec_cli.specs.Statuses.{EndsByMistake, parse_status, status_of};
 ghost use Rattle.aec_cli.specs.Transfers.{Taking, taking_of, Putting, putting_of, Leaves};
 
-use crate::engine::{decode, encode};
+use crate::engine::{decode, encode, range};
 use crate::failure::{Failure, status};
 use crate::files::{DestSink, FileSource};
 use crate::job::{Action, Job, settings};
@@ -75,6 +75,9 @@ fn act<R: Source, W: Sink>(
     match action {
         Action::Encode => encode(alloc, params, limits(), source, sink),
         Action::Decode { count } => decode(alloc, params, limits(), count, source, sink),
+        Action::Range { first, len, count } => {
+            range(alloc, params, limits(), count, first, len, source, sink)
+        }
     }
 }
 
