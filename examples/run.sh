@@ -18,9 +18,9 @@ bytes() {
     od -An -tx1 "$1"
 }
 
-# Whether a part of a file, from a byte on, is what another file has.
-is_part() {
-    tail -c +$(($2 + 1)) "$1" | head -c "$(wc -c < "$3")" | cmp -s - "$3"
+# Fails unless a file has, from a byte on, what another file holds.
+holds() {
+    tail -c +$(($2 + 1)) "$1" | head -c "$(wc -c < "$3")" | cmp - "$3"
 }
 
 echo "Eight samples, written by hand as one uncompressed block and by sample splitting:"
@@ -40,8 +40,8 @@ run -d --count 4090 -n 16 -j 16 -r 128 measured.aec back.raw
 cmp measured.raw back.raw
 echo "  the same $(wc -c < back.raw) bytes"
 run -d -n 16 -j 16 -r 128 measured.aec back.raw
-is_part back.raw 0 measured.raw
+holds back.raw 0 measured.raw
 echo "  $(wc -c < back.raw) bytes: without the count the filler of the last block comes too"
 run --range 2500:4 --count 4090 -n 16 -j 16 -r 128 measured.aec part.raw
-is_part measured.raw 5000 part.raw
+holds measured.raw 5000 part.raw
 echo "  the samples 2500 to 2503:$(od -An -tu2 part.raw)"
