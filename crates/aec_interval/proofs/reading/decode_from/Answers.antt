@@ -1,7 +1,7 @@
 use Rattle.std.proofs.Common.{◌∙◌, arith}
 use Rattle.std.proofs.lemmas.Result.{err_from_is_err_and}
 use Rattle.aec_interval.proofs.ReadNextLemmas.{reached-start, reading-refuses}
-use Rattle.aec_interval.proofs.reading.read_samples.Goals as goal
+use Rattle.aec_interval.proofs.reading.decode_from.Goals as goal
 
 pub loop-reader-init : goal.loop-reader-init
 loop-reader-init c = record {

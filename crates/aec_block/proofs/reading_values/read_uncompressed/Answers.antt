@@ -4,7 +4,7 @@ use Rattle.aec_params.specs.Blocks.{Block}
 use Rattle.aec_block.specs.ReadAt.{binary_at}
 use Rattle.aec_block.specs.Gathering.{bits_at}
 use Rattle.aec_block.proofs.GatheringLemmas.{put_behind, values_at-next, put_behind-next}
-use Rattle.aec_block.proofs.reading_values.read_plain.Goals as goal
+use Rattle.aec_block.proofs.reading_values.read_uncompressed.Goals as goal
 
 pub loop-i-preserved : goal.loop-i-preserved
 loop-i-preserved c =

@@ -1,8 +1,9 @@
 //! Runs of zero blocks: they are counted, and written where they end.
 
-ghost use Rattle.std.specs.Prelude.{◌≡◌, ◌+◌, ◌<◌, ◌≤◌, ◌++◌, ◌∷◌, List, length, OnOk, OnErr, IfOk, IfErr, if◌then◌else◌};
+ghost use Rattle.std.specs.Prelude.{◌≡◌, ◌+◌, ◌-◌, ◌<◌, ◌≤◌, ◌++◌, ◌∷◌, List, length, OnOk, OnErr, IfOk, IfErr, if◌then◌else◌};
 ghost use Rattle.aec_params.specs.declared.fault.Fault.TheVariants.{Memory};
 ghost use Rattle.aec_params.specs.Blocks.{Block as Values};
+ghost use Rattle.aec_params.specs.Runs.{segment_len};
 ghost use Rattle.aec_block.specs.Choices.{FitsReference, IsFull};
 ghost use Rattle.aec_interval.specs.Pending.{pending_bits, bits_of_run, longer_run, IsRun, IsKept};
 
@@ -26,7 +27,7 @@ pub(crate) const NO_RUN: Run = Run {
 impl Run {
     /// The run with one zero block more, which has this reference.
     fn longer(self, reference: Option<u32>) -> Run
-        requires { self.blocks < 64 }
+        requires { self.blocks < segment_len }
         ensures { result ≡ longer_run self reference }
     {
         Run {
@@ -41,7 +42,7 @@ impl Run {
 
     /// Appends the run, which ends its segment or not. `Memory` where a growth was refused, and nothing has changed then.
     pub(crate) fn write(self, params: &Params, to_end: bool, out: &mut BitBuf) -> Result<(), Fault>
-        requires { IsRun params.now (if to_end then 64 else 63) self }
+        requires { IsRun params.now (if to_end then segment_len else segment_len - 1) self }
         ensures ok { OnOk result (out.new.list ≡ out.old.list ++ bits_of_run params.now self.reference self.blocks to_end) }
         ensures err { OnErr result (out.new.list ≡ out.old.list) }
         ensures room { out.old.room + length out.old.list ≤ out.new.room + length out.new.list }
@@ -62,7 +63,7 @@ pub(crate) fn write_next(
     block: &Block,
     out: &mut BitBuf,
 ) -> Result<Run, Fault>
-    requires run { IsRun params.now 63 run }
+    requires run { IsRun params.now (segment_len - 1) run }
     requires block { IsFull params.now block.now }
     ensures ok { (rest : List Values) → IfOk result (λ next.
         out.new.list ++ pending_bits params.now next rest ≡ out.old.list ++ pending_bits params.now run (block.now ∷ rest)) }

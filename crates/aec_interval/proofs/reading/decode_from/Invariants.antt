@@ -1,6 +1,6 @@
 use Rattle.std.proofs.Common.{◌≡◌, ◌<◌, ◌-◌, ◌^◌}
 use Rattle.aec_interval.specs.Reached.{IsReached}
-use Rattle.aec_interval.proofs.reading.read_samples.Given as goal
+use Rattle.aec_interval.proofs.reading.decode_from.Given as goal
 
 abbrev pub invariant-loop-reader : goal.invariant-loop-reader
 invariant-loop-reader l = record {

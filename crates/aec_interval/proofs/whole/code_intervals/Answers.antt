@@ -3,7 +3,7 @@ use Rattle.std.specs.Slice.Iter.{chunks_rest}
 use Rattle.aec_params.specs.Params.{interval_len}
 use Rattle.aec_interval.proofs.SegmentLemmas.{piece_taken}
 use Rattle.aec_interval.proofs.WholeLemmas.{interval_samples, stream-more}
-use Rattle.aec_interval.proofs.whole.encode_held.Goals as goal
+use Rattle.aec_interval.proofs.whole.code_intervals.Goals as goal
 
 pub write_interval-requires : goal.write_interval-requires
 write_interval-requires c =

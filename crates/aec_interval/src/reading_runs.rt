@@ -4,7 +4,7 @@ ghost use Rattle.std.specs.Prelude.{◌≡◌, ◌≤◌, ◌<◌, ◌+◌, ◌-
 ghost use Rattle.aec_params.specs.declared.fault.Fault.TheVariants.{Memory};
 ghost use Rattle.aec_params.specs.Params.{IsAllowed};
 ghost use Rattle.aec_params.specs.CodedDataSets.{HasReference};
-ghost use Rattle.aec_params.specs.Places.{zero_block as block_of_zeros, is_reference_block};
+ghost use Rattle.aec_params.specs.Places.{zero_block, is_reference_block};
 ghost use Rattle.aec_interval.specs.NextBlock.{FillsNext, run_blocks};
 ghost use Rattle.aec_interval.specs.Reached.{AreFilled};
 
@@ -14,8 +14,8 @@ use aec_params::{Fault, Params};
 use std::alloc::Global;
 
 /// A block of zeros.
-fn zero_block(alloc: Global, params: &Params, reference: Option<u32>) -> Block
-    ensures { result ≡ block_of_zeros params.now reference }
+fn block_of_zeros(alloc: Global, params: &Params, reference: Option<u32>) -> Block
+    ensures { result ≡ zero_block params.now reference }
 {
     let mut block = Block::new(alloc, reference);
     let held = u32::from(reference.is_some());
@@ -43,8 +43,8 @@ pub(crate) fn push_zero_run(
     ensures ok { IfOk result (λ _. FillsNext params.now samples.old.items samples.new.items (run_blocks params.now reference blocks)) }
     ensures fault { IfErr result (λ e. e ≡ Memory) }
 {
-    push_block(params, &zero_block(alloc, params, reference), samples)?;
-    let later = zero_block(alloc, params, None);
+    push_block(params, &block_of_zeros(alloc, params, reference), samples)?;
+    let later = block_of_zeros(alloc, params, None);
     for _ in 1..blocks {
         push_block(params, &later, samples)?;
     }

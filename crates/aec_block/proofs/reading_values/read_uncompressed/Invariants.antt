@@ -3,7 +3,7 @@ use Rattle.aec_params.specs.Places.{placed_values}
 use Rattle.aec_block.specs.ReadAt.{map_taken, binary_at, values_at}
 use Rattle.aec_block.specs.Gathering.{bits_at}
 use Rattle.aec_block.proofs.GatheringLemmas.{HasMoved, put_behind}
-use Rattle.aec_block.proofs.reading_values.read_plain.Given as goal
+use Rattle.aec_block.proofs.reading_values.read_uncompressed.Given as goal
 
 abbrev pub invariant-loop-i : goal.invariant-loop-i
 invariant-loop-i l = record {

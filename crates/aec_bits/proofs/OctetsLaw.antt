@@ -11,7 +11,7 @@ use Rattle.std.proofs.lemmas.Int.{ints}
 use Rattle.aec_params.specs.Codewords.{binary, bits_number}
 use Rattle.aec_bits.specs.Codec.{IsLawful}
 use Rattle.aec_bits.specs.Octets.{octet_bits, is_octet, octets}
-use Rattle.aec_bits.specs.CodewordLaws.{length-binary, bits_number-binary}
+use Rattle.aec_params.proofs.CodewordLaws.{length-binary, bits_number-binary}
 
 pub octet_number : (x : ℤ) → is_octet x ≡ true → (n : ℕ) × (x ≡ pos n) × (n < 256)
 octet_number (pos n) h =
@@ -21,7 +21,7 @@ octet_number (negsuc n) h = absurd (cc)
 
 pub same_number : (m n : ℕ) → m < 256 → n < 256 → binary 8 m ≡ binary 8 n → m ≡ n
 same_number m n small few e =
-    sym (mod-eq_of_lt small) ∙ sym (bits_number-binary 8 m) ∙ ap bits_number e ∙ bits_number-binary 8 n ∙ mod-eq_of_lt few
+    sym (bits_number-binary 8 m small) ∙ ap bits_number e ∙ bits_number-binary 8 n few
 
 same_octet : (x y : ℤ) → is_octet x ≡ true → is_octet y ≡ true → octet_bits x ≡ octet_bits y → x ≡ y
 same_octet x y held kept e =

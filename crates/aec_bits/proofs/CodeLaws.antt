@@ -9,33 +9,10 @@ use Rattle.std.proofs.lemmas.Bool.{cases_lt, and_parts}
 use Rattle.std.proofs.lemmas.List.{append-nil, nil_from_length, length-take, length-drop, take-append-le, drop-append-le, take-append-drop, take_all, drop_all, drop-drop}
 use Rattle.std.proofs.lemmas.List.Concat.{flat_map-append}
 use Rattle.aec_params.specs.Cutting.{pieces_of}
+pub use Rattle.aec_params.proofs.CuttingLaws.{pieces_of-nil, pieces_of-step}
 use Rattle.aec_bits.specs.Codec.{Format, AreHeld, IsInterval, IsLawful, code_of}
 
 -- ---- pieces
-
-no_pieces : (n : ℕ) → 0 < n → div_ceil 0 n ≡ 0
-no_pieces n h = rw (div-eq_of_lt h, mod-eq_of_lt h) refl
-
-one_piece_more : (n m : ℕ) → 0 < n → 0 < m → div_ceil m n ≡ suc (div_ceil (m - n) n)
-one_piece_more n m h some =
-    elim (cases_lt m n) [
-      | inl short ↦
-          let none : m - n ≡ 0 = omega arith in
-          let one : min 1 m ≡ 1 = omega arith in
-          rw (none, no_pieces n h, div-eq_of_lt short, mod-eq_of_lt short, one) refl
-      | inr long ↦
-          let split : m ≡ (m - n) + n = omega arith in
-          ap (λ k. div_ceil k n) split ∙ rw (add-div_right (m - n) h, add-mod_right (m - n) n) (omega arith)
-    ]
-
--- the first piece, and the others
-pub pieces_of_first : {X : Type 0} (n : ℕ) (xs : List X) → 0 < n → 0 < length xs → pieces_of n xs ≡ take n xs ∷ pieces_of n (drop n xs)
-pieces_of_first n xs h some =
-    ap (λ k. first_chunks n k xs) (one_piece_more n (length xs) h some)
-    ∙ ap (λ m. take n xs ∷ first_chunks n (div_ceil m n) (drop n xs)) (sym (length-drop n xs))
-
-pub pieces_of-nil : {X : Type 0} (n : ℕ) → 0 < n → pieces_of {X = X} n [] ≡ []
-pieces_of-nil n h = ap (λ k. first_chunks n k []) (no_pieces n h)
 
 -- a list cut at the end of a piece
 pub pieces_of-append : {X : Type 0} (n k : ℕ) (xs ys : List X) → 0 < n → length xs ≡ k * n → pieces_of n (xs ++ ys) ≡ pieces_of n xs ++ pieces_of n ys
@@ -47,11 +24,11 @@ pieces_of-append n (suc k) xs ys h whole =
     let some : 0 < length xs = omega arith in
     let within : n ≤ length xs = omega arith in
     let left : length (drop n xs) ≡ k * n = length-drop n xs ∙ omega arith in
-    pieces_of_first n (xs ++ ys) h (omega (arith, length-append xs ys))
+    pieces_of-step n (xs ++ ys) h (omega (arith, length-append xs ys))
     ∙ ap (λ l. l ∷ pieces_of n (drop n (xs ++ ys))) (take-append-le n xs ys within)
     ∙ ap (λ l. take n xs ∷ pieces_of n l) (drop-append-le n xs ys within)
     ∙ ap (λ l. take n xs ∷ l) (pieces_of-append n k (drop n xs) ys h left)
-    ∙ ap (λ l. l ++ pieces_of n ys) (sym (pieces_of_first n xs h some))
+    ∙ ap (λ l. l ++ pieces_of n ys) (sym (pieces_of-step n xs h some))
 
 -- ---- the code of samples
 
@@ -60,7 +37,7 @@ code_of-nil f h = ap (flat_map f.bits_of) (pieces_of-nil f.most h)
 
 -- the first interval, and the others
 pub code_of_first : (f : Format) (s : List ℤ) → 1 ≤ f.most → 0 < length s → code_of f s ≡ f.bits_of (take f.most s) ++ code_of f (drop f.most s)
-code_of_first f s h some = ap (flat_map f.bits_of) (pieces_of_first f.most s h some)
+code_of_first f s h some = ap (flat_map f.bits_of) (pieces_of-step f.most s h some)
 
 -- the code of one interval
 pub code_of_interval : (f : Format) (s : List ℤ) → 1 ≤ length s → length s ≤ f.most → code_of f s ≡ f.bits_of s

@@ -1,7 +1,7 @@
 use Rattle.std.proofs.Common.{◌≡◌, drop}
 use Rattle.aec_params.specs.Params.{is_held}
 use Rattle.aec_bits.specs.Refusals.{first_unheld}
-use Rattle.aec_interval.proofs.whole.first_unheld.Given as goal
+use Rattle.aec_interval.proofs.whole.unheld_index.Given as goal
 
 -- every number so far is a sample, so the first that is none is among those that are left
 abbrev pub invariant-loop-index : goal.invariant-loop-index

@@ -3,7 +3,7 @@ use Rattle.std.specs.Slice.Iter.{chunks_rest, chunks_size}
 use Rattle.aec_params.specs.Params.{interval_len}
 use Rattle.aec_params.specs.Streams.{stream_of}
 use Rattle.aec_interval.proofs.WholeLemmas.{StreamSoFar}
-use Rattle.aec_interval.proofs.whole.encode_held.Given as goal
+use Rattle.aec_interval.proofs.whole.code_intervals.Given as goal
 
 abbrev pub invariant-loop-interval : goal.invariant-loop-interval
 invariant-loop-interval l = record {
