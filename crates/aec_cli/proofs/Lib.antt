@@ -8,3 +8,8 @@ pub mod CodingLemmas
 pub mod StoringLemmas
 pub mod AnswerLemmas
 pub mod FrontLemmas
+mod ScriptWordLemmas
+mod NumeralLemmas
+mod ValueLemmas
+mod ScriptNumberLemmas
+mod ScriptLineLemmas

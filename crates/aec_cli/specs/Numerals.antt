@@ -1,0 +1,13 @@
+-- The numbers that words write in decimal digits.
+use Rattle.std.specs.Prelude.{ℕ, ◌^◌, ◌&&◌, ◌==◌, nat_lt, if◌then◌else◌, Option, Some, None}
+use Rattle.std.specs.Str.Parse.{digits_value, without_leading_plus}
+use Rattle.clap.specs.ValueTests.{is_numeral}
+use Rattle.clap.specs.Walk.{Text}
+
+-- the whole number below 2^width that a text writes in decimal digits and in nothing else, where it is one
+abbrev pub decimal_in : ℕ → Text → Option ℕ
+decimal_in width text = if is_numeral text && nat_lt (digits_value 10 text) (2 ^ width) then Some (digits_value 10 text) else None
+
+-- the same where a plus may stand first, as in the number of an option
+abbrev pub number_in : ℕ → Text → Option ℕ
+number_in width text = decimal_in width (without_leading_plus text)
