@@ -1,15 +1,18 @@
+pub mod NumeralLemmas
 pub mod JobLemmas
 pub mod StatusLemmas
 pub mod WordLemmas
 pub mod DeviceLemmas
 pub mod OutputLemmas
+pub mod RangingLemmas
 pub mod JudgingLemmas
 pub mod CodingLemmas
 pub mod StoringLemmas
 pub mod AnswerLemmas
+pub mod RangeAnswerLemmas
 pub mod FrontLemmas
-mod ScriptWordLemmas
-mod NumeralLemmas
-mod ValueLemmas
-mod ScriptNumberLemmas
-mod ScriptLineLemmas
+pub mod ScriptWordLemmas
+pub mod ValueLemmas
+pub mod ScriptNumberLemmas
+pub mod ScriptLineLemmas
+pub mod InMemoryLemmas

@@ -10,4 +10,6 @@ pub mod Statuses
 pub mod Transfers
 pub mod Output
 pub mod OutputExamples
+pub mod Actions
+pub mod InMemory
 pub mod Laws

@@ -89,3 +89,15 @@ pub data Leaves (answers : Input → Result (List ℕ) Fault → Type 0) (source
 pub data GivesAnswer (answers : Input → Result (List ℕ) Fault → Type 0) (source : Taking) (limit : ℕ) : Result (List ℕ) Fault → Type 0 where
   given : (input : Input) (answer : Result (List ℕ) Fault) → Gave source limit input → answers input answer → GivesAnswer answers source limit answer
   lacks_memory : GivesAnswer answers source limit (Err Memory)
+
+-- an answer as its bytes, or its refusal
+abbrev pub answer_of : {X : Type 0} → (X → List ℕ) → Result X Fault → Result (List ℕ) Fault
+answer_of bytes_in (Ok x) = Ok (bytes_in x)
+answer_of bytes_in (Err fault) = Err fault
+
+-- what writing an answer leaves: its bytes, begun once; nothing for a refusal; or a front of its bytes where the sink failed
+pub data Settles (sink : Putting) : Result (List ℕ) Fault → Result (Unit {0}) Fault → Type 0 where
+  settled : (bytes : List ℕ) → Appends sink.before sink.after bytes → sink.begun_after ≡ counted sink.begun_before → Settles sink (Ok bytes) (Ok tt)
+  not_begun : (fault : Fault) → WroteNothing sink → Settles sink (Err fault) (Err fault)
+  stopped : (bytes : List ℕ) → AppendsFront sink.before sink.after bytes → sink.begun_after ≡ counted sink.begun_before → sink.failures ≡ 1
+      → Settles sink (Ok bytes) (Err Write)

@@ -1,7 +1,7 @@
 //! Numbers that words write in decimal digits.
 
 ghost use Rattle.std.specs.Prelude.{◌≡◌};
-ghost use Rattle.aec_cli.specs.Numerals.{decimal_in};
+ghost use Rattle.aec_cli.specs.Numerals.{decimal_in, range_in};
 ghost use Rattle.aec_cli.specs.Scripts.{value_in};
 
 #[tactic(auto, using(crate::proofs::NumeralLemmas::digits_alone))]
@@ -24,4 +24,12 @@ pub(crate) fn signed_decimal_in(text: &str) -> Option<i64>
         return None;
     }
     text.parse().ok()
+}
+
+/// The two numbers of `FIRST:LEN`, in digits alone with one colon between them.
+pub(crate) fn range_in(text: &str) -> Option<(u64, u64)>
+    ensures { result ≡ range_in text.now }
+{
+    let (first, len) = text.split_once(':')?;
+    Some((decimal_in(first)?, decimal_in(len)?))
 }

@@ -63,6 +63,41 @@ fn a_sink_creates_or_empties_its_file(rt: HostRuntime) -> Result<(), Fail> {
 }
 
 #[test]
+fn a_second_begin_keeps_what_was_taken(rt: HostRuntime) -> Result<(), Fail> {
+    let mut sink = DestSink::new(&rt, String::from_str(rt.alloc(), "kept")?);
+    sink.begin()?;
+    assert_eq!(rt; written(&mut sink, b"abc")?, 3);
+    sink.begin()?;
+    assert_eq!(rt; fs::read(&rt, "kept")?.as_slice(), b"abc".as_slice());
+    assert_eq!(rt; written(&mut sink, b"de")?, 2);
+    assert_eq!(rt; (sink.failures(), sink.begins()), (0, 2));
+    assert_eq!(rt; sink.finish(), Ok(()));
+    assert_eq!(rt; fs::read(&rt, "kept")?.as_slice(), b"abcde".as_slice());
+    fs::remove_file(&rt, "kept")?;
+    Ok(())
+}
+
+#[test]
+fn a_sink_is_finished(rt: HostRuntime) -> Result<(), Fail> {
+    let unbegun = DestSink::new(&rt, String::from_str(rt.alloc(), "unbegun")?);
+    assert_eq!(rt; unbegun.finish(), Ok(()));
+    assert!(rt; !fs::exists(&rt, "unbegun")?);
+    // a file that can't be synced
+    let mut nowhere = DestSink::new(&rt, String::from_str(rt.alloc(), "/dev/null")?);
+    nowhere.begin()?;
+    assert_eq!(rt; written(&mut nowhere, b"abc")?, 3);
+    assert_eq!(rt; nowhere.finish(), Ok(()));
+    let mut lost = DestSink::new(&rt, String::from_str(rt.alloc(), "no/such/folder")?);
+    assert_eq!(rt; lost.begin(), Err(Fault::Write));
+    assert_eq!(rt; lost.finish(), Err(Fault::Write));
+    let mut full = DestSink::new(&rt, String::from_str(rt.alloc(), "/dev/full")?);
+    full.begin()?;
+    assert_eq!(rt; written(&mut full, b"abc"), Err(Fault::Write));
+    assert_eq!(rt; full.finish(), Err(Fault::Write));
+    Ok(())
+}
+
+#[test]
 fn a_sink_fails_for_good(rt: HostRuntime) -> Result<(), Fail> {
     let mut early = DestSink::new(&rt, String::from_str(rt.alloc(), "early")?);
     assert_eq!(rt; written(&mut early, b"abc"), Err(Fault::Write));

@@ -3,6 +3,8 @@
 #![tactic(auto)]
 
 #[cfg(test)]
+mod bytes;
+#[cfg(test)]
 mod coded_files;
 #[cfg(test)]
 mod cut_streams;
@@ -18,6 +20,8 @@ mod limits;
 mod refused_files;
 #[cfg(test)]
 mod shared;
+#[cfg(test)]
+mod unsynced_files;
 #[cfg(test)]
 mod widths;
 #[cfg(test)]

@@ -8,17 +8,7 @@ use std::rt::Files;
 use std::test::Fail;
 
 /// The settings of a run with no options.
-pub(crate) const DEFAULTS: Settings = Settings {
-    bits: 8,
-    block_size: 8,
-    interval: 2,
-    signed: false,
-    msb_first: false,
-    three_byte: false,
-    preprocess: true,
-    pad: false,
-    restricted: false,
-};
+pub(crate) const DEFAULTS: Settings = Settings::USUAL;
 
 pub(crate) fn words_of(alloc: Global, words: &[&str]) -> Result<Vec<String>, AllocError> {
     let mut owned = Vec::new(alloc);

@@ -13,7 +13,7 @@ use crate::engine::intake::read_past;
 use crate::engine::outlet::deliver_bits;
 use aec_bits::{BitBuf, Sink, Source};
 use aec_interval::encode_all;
-use aec_params::{Fault, Limits, Params, read_samples};
+use aec_params::{Fault, Limits, Params, collect_samples, first_bad};
 use std::alloc::Global;
 
 /// The most bytes that hold no more whole samples than the limits.
@@ -24,8 +24,24 @@ fn most_bytes(params: &Params, limits: Limits) -> u64
     (limits.samples() + 1) * params.storage() as u64 - 1
 }
 
-/// The samples that bytes hold, which a source gave and then `failed`, or not. The first refusal in their order:
-/// `TooManySamples` at the sample behind the limit, before that `SampleRange`; then `Read`; then `Memory`.
+/// The first refusal of the samples that bytes hold, which a source gave and then `failed`, or not: `TooManySamples` at
+/// the sample behind the limit, before that `SampleRange`; then `Read`. Takes no memory.
+#[tactic(auto, using(crate::proofs::JudgingLemmas::judging))]
+fn refusal(params: &Params, limit: u64, bytes: &[u8], failed: bool) -> Option<Fault>
+    ensures { result ≡ coding_refusal params.now limit (input_of bytes.now failed) }
+{
+    let whole = (bytes.len() / params.storage()) as u64;
+    match first_bad(params, bytes) {
+        Some(index) if index < limit => Some(Fault::SampleRange { index }),
+        Some(_) => Some(Fault::TooManySamples { limit }),
+        None if whole > limit => Some(Fault::TooManySamples { limit }),
+        None if failed => Some(Fault::Read),
+        None => None,
+    }
+}
+
+/// The samples that bytes hold, or their refusal; where there is none, `Memory`.
+#[tactic(auto, using(crate::proofs::JudgingLemmas::judging))]
 fn judged(
     alloc: Global,
     params: &Params,
@@ -37,12 +53,9 @@ fn judged(
     ensures sound { IfOk result (λ _. coding_refusal params.now limit (input_of bytes.now failed) ≡ None) }
     ensures refuses { MatchOption (coding_refusal params.now limit (input_of bytes.now failed)) (IfErr result (λ e. e ≡ Memory)) (λ fault. result_err result ≡ Some fault) }
 {
-    let whole = (bytes.len() / params.storage()) as u64;
-    match read_samples(alloc, params, bytes) {
-        Err(Fault::SampleRange { index }) if index < limit => Err(Fault::SampleRange { index }),
-        _ if whole > limit => Err(Fault::TooManySamples { limit }),
-        _ if failed => Err(Fault::Read),
-        answer => answer,
+    match refusal(params, limit, bytes, failed) {
+        Some(fault) => Err(fault),
+        None => collect_samples(alloc, params, bytes),
     }
 }
 
