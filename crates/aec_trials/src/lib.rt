@@ -19,6 +19,8 @@ mod limits;
 #[cfg(test)]
 mod refused_files;
 #[cfg(test)]
+mod scripts;
+#[cfg(test)]
 mod shared;
 #[cfg(test)]
 mod unsynced_files;
