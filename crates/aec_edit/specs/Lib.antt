@@ -1,0 +1,4 @@
+pub mod Workspace
+pub mod Calls
+pub mod Steps
+pub mod Index

@@ -1,0 +1,10 @@
+//! A coded list of samples that is edited in place. Stands on any lawful codec of intervals.
+#![tactic(auto)]
+
+mod editing;
+mod outcome;
+mod ranging;
+mod workspace;
+
+pub use outcome::Outcome;
+pub use workspace::Workspace;
