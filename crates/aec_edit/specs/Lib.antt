@@ -2,3 +2,4 @@ pub mod Workspace
 pub mod Calls
 pub mod Steps
 pub mod Index
+pub mod Changes

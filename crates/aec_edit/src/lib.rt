@@ -1,7 +1,10 @@
 //! A coded list of samples that is edited in place. Stands on any lawful codec of intervals.
 #![tactic(auto)]
 
+mod coding;
 mod editing;
+mod exchanging;
+mod index;
 mod outcome;
 mod ranging;
 mod workspace;
