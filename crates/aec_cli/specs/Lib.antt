@@ -10,6 +10,8 @@ pub mod Statuses
 pub mod Transfers
 pub mod Output
 pub mod OutputExamples
+pub mod Editing
+pub mod EditingSteps
 pub mod Actions
 pub mod InMemory
 pub mod Laws

@@ -16,7 +16,7 @@ mod scripts;
 mod usage;
 mod words;
 
-pub use engine::{decode, encode, range};
+pub use engine::{decode, edit, encode, range};
 pub use failure::{Failure, status};
 pub use files::{DestSink, FileSource};
 pub use in_memory::{decode_bytes, encode_bytes};

@@ -1,0 +1,144 @@
+//! Coded data edited by a script.
+
+ghost use Rattle.std.specs.Prelude.{◌≡◌, ◌+◌, ◌-◌, ◌^◌, ◌≤◌, length, Ok, Err, IfOk, IfErr, OnOk, OnErr};
+ghost use Rattle.std.specs.Io.KnownBytes.{Appends};
+ghost use Rattle.aec_params.specs.declared.fault.Fault.TheVariants.{Write as WriteFault};
+ghost use Rattle.aec_params.specs.Codewords.{bytes_of};
+ghost use Rattle.aec_params.specs.Streams.{stream_of};
+ghost use Rattle.aec_bits.specs.Codec.{code_of};
+ghost use Rattle.aec_bits.specs.Devices.{counted, AppendsFront};
+ghost use Rattle.aec_interval.specs.IntervalFormat.{interval_format};
+ghost use Rattle.aec_cli.specs.Transfers.{Taking, taking_of, Putting, putting_of, GivesAnswer};
+ghost use Rattle.aec_cli.specs.Output.{GaveSamples, IsDecoded};
+ghost use Rattle.aec_cli.specs.Editing.{samples_edited, GivesEdited, LeavesEdited};
+ghost use Rattle.aec_cli.specs.EditingSteps.{GaveScript, RefusesScript, StopsEditing, most_calls};
+
+use crate::engine::decoding::read_source;
+use crate::engine::intake::read_whole;
+use crate::script_reading::script;
+use crate::scripts::{EditFault, Script};
+use aec_bits::{Codec, Sink, Source};
+use aec_edit::Workspace;
+use aec_interval::AecCodec;
+use aec_params::{Edit, Fault, Limits, Params, Samples};
+use std::alloc::Global;
+
+/// The script that a source gives.
+fn read_script<Q: Source>(alloc: Global, limits: Limits, from: &mut Q) -> Result<Script, Fault>
+    ensures ok { let took : Taking = taking_of Q.left Q.failed from.old from.new in
+        IfOk result (λ s. GaveScript took limits.bytes s.edits.items s.lines.items) }
+    ensures lines { IfOk result (λ s. length s.edits.items ≤ length s.lines.items) }
+    ensures calls { IfOk result (λ s. most_calls s.edits.items ≤ 2 ^ 40) }
+    ensures refuses { let took : Taking = taking_of Q.left Q.failed from.old from.new in
+        IfErr result (λ fault. RefusesScript took limits.bytes fault) }
+{
+    let text = read_whole(alloc, from, limits.bytes())?;
+    script(alloc, &text)
+}
+
+/// A workspace with the samples that a source is read as.
+fn workspace_of<R: Source>(
+    alloc: Global,
+    params: &Params,
+    limits: Limits,
+    count: Option<u64>,
+    source: &mut R,
+) -> Result<Workspace<AecCodec>, Fault>
+    ensures ok { let took : Taking = taking_of R.left R.failed source.old source.new in
+        IfOk result (λ w. GaveSamples params.now limits count took w.samples) }
+    ensures format { IfOk result (λ w. ⟦<AecCodec as Codec>⟧.format w.codec ≡ interval_format params.now) }
+    ensures limit { IfOk result (λ w. w.limit ≡ limits.samples) }
+    ensures calls { IfOk result (λ w. ⟦<AecCodec as Codec>⟧.called w.codec ≤ 2 ^ 32) }
+    ensures refuses { let took : Taking = taking_of R.left R.failed source.old source.new in
+        IfErr result (λ fault. GivesAnswer (IsDecoded params.now limits count) took limits.bytes (Err fault)) }
+{
+    let samples = read_source(alloc, params, limits, count, source)?;
+    let codec = AecCodec::new(alloc, *params);
+    let mut workspace = Workspace::new(alloc, codec, limits.samples());
+    workspace.apply(&Edit::Append {
+        values: Samples::new(samples),
+    })?;
+    Ok(workspace)
+}
+
+/// Makes the edits of a script, up to the first that is refused.
+fn carry_out<C: Codec>(workspace: &mut Workspace<C>, script: &Script) -> Result<(), EditFault>
+    requires lines { length script.now.edits.items ≤ length script.now.lines.items }
+    requires calls { C.called workspace.old.codec + most_calls script.now.edits.items ≤ 2 ^ 64 - 1 }
+    ensures ok { OnOk result (samples_edited (C.format workspace.old.codec) workspace.old.limit workspace.old.samples
+        script.now.edits.items script.now.lines.items ≡ Ok workspace.new.samples) }
+    ensures refuses { IfErr result (λ fault. StopsEditing (C.format workspace.old.codec) workspace.old.limit workspace.old.samples
+        script.now.edits.items script.now.lines.items fault) }
+    ensures format { C.format workspace.new.codec ≡ C.format workspace.old.codec }
+{
+    for (i, edit) in script.edits.iter().enumerate() {
+        let line = script.lines[i];
+        if let Err(fault) = workspace.apply(edit) {
+            return Err(EditFault::Line { line, fault });
+        }
+    }
+    Ok(())
+}
+
+/// A workspace with the samples that the edits of a script leave.
+fn edited_workspace<Q: Source, R: Source>(
+    alloc: Global,
+    params: &Params,
+    limits: Limits,
+    count: Option<u64>,
+    from: &mut Q,
+    source: &mut R,
+) -> Result<Workspace<AecCodec>, EditFault>
+    ensures ok { let read : Taking = taking_of Q.left Q.failed from.old from.new in
+        let took : Taking = taking_of R.left R.failed source.old source.new in
+        IfOk result (λ w. GivesEdited params.now limits count read took (Ok (bytes_of (stream_of params.now w.samples)))) }
+    ensures format { IfOk result (λ w. ⟦<AecCodec as Codec>⟧.format w.codec ≡ interval_format params.now) }
+    ensures refuses { let read : Taking = taking_of Q.left Q.failed from.old from.new in
+        let took : Taking = taking_of R.left R.failed source.old source.new in
+        IfErr result (λ fault. GivesEdited params.now limits count read took (Err fault)) }
+{
+    let script = read_script(alloc, limits, from)?;
+    let mut workspace = workspace_of(alloc, params, limits, count, source)?;
+    carry_out(&mut workspace, &script)?;
+    Ok(workspace)
+}
+
+/// Begins, and writes the bytes of the code of a workspace's samples. `Write` where the sink fails.
+fn deliver_code<C: Codec, W: Sink>(workspace: &Workspace<C>, sink: &mut W) -> Result<(), Fault>
+    ensures ok { OnOk result (Appends (W.taken sink.old) (W.taken sink.new)
+        (bytes_of (code_of (C.format workspace.now.codec) workspace.now.samples))) }
+    ensures front { OnErr result (AppendsFront (W.taken sink.old) (W.taken sink.new)
+        (bytes_of (code_of (C.format workspace.now.codec) workspace.now.samples))) }
+    ensures begun { W.begun sink.new ≡ counted (W.begun sink.old) }
+    ensures fault { IfErr result (λ e. (e ≡ WriteFault) × (W.failed sink.new ≡ 1)) }
+{
+    sink.begin()?;
+    workspace.write_to(sink)
+}
+
+/// Reads a script whole, then the source, makes the edits of the script on the samples that the source codes (with a count
+/// the first `count`, without one all), and writes the bytes of the code of the samples that they leave.
+///
+/// The refusals in their order: `Read`, `StreamTooLong` and `Memory` as they are met while the script is read, then
+/// `Script` or `Memory`, and until then nothing is taken of the source; those of `decode`; `Memory`. The first edit that is
+/// refused, for its samples or for want of memory, is named by its line; all other refusals are plain. `Spent` doesn't come.
+/// Nothing has been written then and `begin` was not called. After `begin` only `Write` can come, and a front of the answer
+/// has been written.
+pub fn edit<Q: Source, R: Source, W: Sink>(
+    alloc: Global,
+    params: &Params,
+    limits: Limits,
+    count: Option<u64>,
+    from: &mut Q,
+    source: &mut R,
+    sink: &mut W,
+) -> Result<(), EditFault>
+    ensures { let read : Taking = taking_of Q.left Q.failed from.old from.new in
+        let took : Taking = taking_of R.left R.failed source.old source.new in
+        let put : Putting = putting_of W.taken W.begun W.failed sink.old sink.new in
+        LeavesEdited params.now limits count read took put result }
+{
+    let workspace = edited_workspace(alloc, params, limits, count, from, source)?;
+    deliver_code(&workspace, sink)?;
+    Ok(())
+}

@@ -1,0 +1,6 @@
+pub mod CountLemmas
+pub mod HeldLemmas
+pub mod StartLemmas
+pub mod CodingLemmas
+pub mod KeptLemmas
+pub mod IndexLemmas
