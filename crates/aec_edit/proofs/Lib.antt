@@ -4,3 +4,4 @@ pub mod StartLemmas
 pub mod CodingLemmas
 pub mod KeptLemmas
 pub mod IndexLemmas
+pub mod RecodingLemmas

@@ -33,7 +33,9 @@ impl<C: Codec> Workspace<C> {
         ensures value { result ≡ (C.format self.now.codec).most }
         ensures some { 1 ≤ (C.format self.now.codec).most }
         ensures few { (C.format self.now.codec).most ≤ 262144 }
+        ensures limit { self.now.limit ≤ 2 ^ 32 }
     {
+        let _ = &self.coded;
         self.codec.interval_len()
     }
 
