@@ -5,3 +5,5 @@ pub mod CodingLemmas
 pub mod KeptLemmas
 pub mod IndexLemmas
 pub mod RecodingLemmas
+pub mod ExchangeLemmas
+pub mod OpenLemmas
