@@ -135,3 +135,6 @@ module _ (f : Format) (limit first stop : ℕ) (s values : List ℤ) (lawful : I
             ap (λ n. n * f.most) (fresh_count ∙ omega arith) in
             absurd (omega (arith, fresh_len, low, nothing))
       ]
+
+  pub fresh_codes : (fresh : List ℤ) → fresh ≡ head_of f.most first s ++ (values ++ tail_of f.most stop s) → 0 < length fresh → 0 < exchange_calls f.most first (length values)
+  fresh_codes fresh is some = codes_some (omega (arith, ap length is, fresh_len))

@@ -7,3 +7,4 @@ pub mod IndexLemmas
 pub mod RecodingLemmas
 pub mod ExchangeLemmas
 pub mod OpenLemmas
+pub mod CallLemmas
