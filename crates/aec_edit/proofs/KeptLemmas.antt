@@ -34,10 +34,10 @@ kept_again {f} {count = count} {bits = bits} {starts = starts} {s = s} kept same
     subst (λ h. IsKept h count bits starts s) (sym same) (subst (IsKept f count bits starts) e (stands kept))
 
 -- none are kept in empty fields
-pub none_kept : (f : Format) {bits : List Bool} {starts : List ℕ} → IsLawful f → bits ≡ [] → starts ≡ [] → IsKept f 0 bits starts []
-none_kept f lawful no_bits no_starts = record {
+pub none_kept : (f : Format) {count : ℕ} {bits : List Bool} {starts : List ℕ} → IsLawful f → count ≡ 0 → bits ≡ [] → starts ≡ [] → IsKept f count bits starts []
+none_kept f lawful no_samples no_bits no_starts = record {
   held = refl;
-  count_is = refl;
+  count_is = sym no_samples;
   bits_are = no_bits ∙ sym (code_of-nil f lawful.some);
   starts_are = no_starts ∙ sym (starts_of-nil f 0 lawful.some);
 }

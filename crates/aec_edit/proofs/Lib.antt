@@ -4,3 +4,7 @@ pub mod StartLemmas
 pub mod CodingLemmas
 pub mod KeptLemmas
 pub mod IndexLemmas
+pub mod RecodingLemmas
+pub mod ExchangeLemmas
+pub mod OpenLemmas
+pub mod CallLemmas
