@@ -5,6 +5,7 @@ pub mod Scripts
 pub mod ScriptExamples
 pub mod ScriptLines
 pub mod Jobs
+pub mod Asked
 pub mod Openings
 pub mod Statuses
 pub mod Transfers

@@ -20,6 +20,7 @@ usage_status Memory = 1
 abbrev pub status_of : Failure → ℕ
 status_of (failure.Usage usage) = usage_status usage
 status_of (failure.Fault fault) = 1
+status_of (failure.Edit fault) = 1
 
 -- where a parse gives no matches: 0 for what was asked for, 1 for want of memory, and else 2
 abbrev pub parse_status : ErrorKind → ℕ
