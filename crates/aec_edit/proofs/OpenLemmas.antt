@@ -23,10 +23,10 @@ opens_last-tail n count first stop keeps more = grind (arith, nat_tests)
 pub opens_last-one : (n count first stop : ℕ) → div_ceil stop n ≤ first / n + 1 → opens_last n count first stop ≡ false
 opens_last-one n count first stop one = grind (arith, nat_tests)
 
-nothing_first : (n count first stop : ℕ) → first ≤ first / n * n → min count (div_ceil stop n * n) ≤ stop → opens_first n count first stop ≡ false
+pub nothing_first : (n count first stop : ℕ) → first ≤ first / n * n → min count (div_ceil stop n * n) ≤ stop → opens_first n count first stop ≡ false
 nothing_first n count first stop whole past = grind (arith, nat_tests)
 
-nothing_last : (n count first stop : ℕ) → min count (div_ceil stop n * n) ≤ stop → opens_last n count first stop ≡ false
+pub nothing_last : (n count first stop : ℕ) → min count (div_ceil stop n * n) ≤ stop → opens_last n count first stop ≡ false
 nothing_last n count first stop past = grind (arith, nat_tests)
 
 -- ---- the samples
