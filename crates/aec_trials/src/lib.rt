@@ -17,7 +17,11 @@ mod files;
 #[cfg(test)]
 mod limits;
 #[cfg(test)]
+mod ranges;
+#[cfg(test)]
 mod refused_files;
+#[cfg(test)]
+mod scripts;
 #[cfg(test)]
 mod shared;
 #[cfg(test)]
