@@ -11,4 +11,8 @@ pub mod StoringLemmas
 pub mod AnswerLemmas
 pub mod RangeAnswerLemmas
 pub mod FrontLemmas
+pub mod ScriptWordLemmas
+pub mod ValueLemmas
+pub mod ScriptNumberLemmas
+pub mod ScriptLineLemmas
 pub mod InMemoryLemmas

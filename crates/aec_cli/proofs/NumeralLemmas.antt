@@ -13,15 +13,15 @@ use Rattle.clap.specs.ValueTests.{is_numeral}
 use Rattle.clap.specs.Walk.{Text}
 use Rattle.aec_cli.specs.Numerals.{decimal_in, number_in, numbers_in, range_in}
 
-split : (a b : Bool) → (a && b) ≡ true → (a ≡ true) × (b ≡ true)
+pub split : (a b : Bool) → (a && b) ≡ true → (a ≡ true) × (b ≡ true)
 split true b e = (refl, e)
 split false b e = cc
 
-list_all-digits : (ds : List ℕ) → AllDigits 10 ds → list_all (λ d. nat_lt (digit_value d) 10) ds ≡ true
+pub list_all-digits : (ds : List ℕ) → AllDigits 10 ds → list_all (λ d. nat_lt (digit_value d) 10) ds ≡ true
 list_all-digits [] h = refl
 list_all-digits (d ∷ ds) h = rw (lt-ltb (digit_value d) 10 h.0) (list_all-digits ds h.1)
 
-all_digits : (ds : List ℕ) → list_all (λ d. nat_lt (digit_value d) 10) ds ≡ true → AllDigits 10 ds
+pub all_digits : (ds : List ℕ) → list_all (λ d. nat_lt (digit_value d) 10) ds ≡ true → AllDigits 10 ds
 all_digits [] e = tt
 all_digits (d ∷ ds) e =
     let parts = split _ _ e in

@@ -1,6 +1,9 @@
 pub mod CommandExamples
 pub mod Commands
 pub mod Numerals
+pub mod Scripts
+pub mod ScriptExamples
+pub mod ScriptLines
 pub mod Jobs
 pub mod Openings
 pub mod Statuses

@@ -21,6 +21,8 @@ mod ranges;
 #[cfg(test)]
 mod refused_files;
 #[cfg(test)]
+mod scripts;
+#[cfg(test)]
 mod shared;
 #[cfg(test)]
 mod unsynced_files;
