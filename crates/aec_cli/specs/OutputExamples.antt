@@ -8,7 +8,7 @@ use Rattle.aec_cli.specs.Transfers.{Input}
 use Rattle.std.proofs.Common.{lit<, lit≤}
 use Rattle.aec_params.proofs.WorkedReadings.{ramp_without_count, five_sevens}
 use Rattle.aec_cli.specs.Output.{IsEncoded, bytes_within, samples_refusal, encoded, not_coded}
-use Rattle.aec_cli.specs.Output.{IsDecoded, IsRanged, not_taken, not_decoded, outside, cut_out}
+use Rattle.aec_cli.specs.Output.{IsRanged, not_taken, not_decoded, outside, cut_out}
 
 -- so many samples; coding has no limit of bytes
 abbrev at_most : ℕ → Caps

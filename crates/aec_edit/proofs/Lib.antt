@@ -8,3 +8,6 @@ pub mod RecodingLemmas
 pub mod ExchangeLemmas
 pub mod OpenLemmas
 pub mod CallLemmas
+pub mod AnswerLemmas
+pub mod OverwriteLemmas
+pub mod RangeLemmas
