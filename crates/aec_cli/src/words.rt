@@ -69,7 +69,7 @@ fn with_numbers<'a>(alloc: Global, command: Command<'a>) -> Result<Command<'a>, 
         "interval",
         'r',
         clap::value_parser!(u32),
-        "blocks per reference sample interval, 1 to 4096 (default 2)",
+        "blocks per reference sample interval, 1 to 4096{n}(default 2)",
     );
     command.arg(bits)?.arg(block_size)?.arg(interval)
 }
@@ -88,15 +88,15 @@ fn with_coding<'a>(alloc: Global, command: Command<'a>) -> Result<Command<'a>, A
         alloc,
         "pad",
         'p',
-        "each interval is filled up to a byte boundary; the rule is{n}\
-         this project's own and violates the standard: write such{n}\
-         streams only for this program",
+        "each interval is filled up to a byte boundary;{n}\
+         the rule is this project's own and violates the{n}\
+         standard: write such streams only for this program",
     );
     let restricted = flag(
         alloc,
         "restricted",
         't',
-        "restricted set of code options, for 4 bits per sample or fewer",
+        "restricted set of code options, for 4 bits per{n}sample or fewer",
     );
     command.arg(no_preprocessing)?.arg(pad)?.arg(restricted)
 }
@@ -136,8 +136,8 @@ fn with_work<'a>(alloc: Global, command: Command<'a>) -> Result<Command<'a>, All
         alloc,
         "count",
         clap::value_parser!(u64),
-        "sample count of a coded SOURCE; without it the filler of the{n}\
-         last block is decoded too",
+        "sample count of a coded SOURCE; without it the{n}\
+         filler of the last block is decoded too",
     );
     let buffer = number(
         alloc,

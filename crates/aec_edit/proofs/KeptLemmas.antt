@@ -1,7 +1,7 @@
 -- What is known of the samples that a workspace keeps.
 use Rattle.std.proofs.Common.{◌≡◌, ℕ, ◌-◌, ◌*◌, ◌<◌, ◌≤◌, min, Bool, List, [], length, take, drop, get_or, ℤ, refl, sym, ap, ◌∙◌, subst, arith}
 use Rattle.aec_bits.specs.Codec.{Format, AreHeld, IsLawful, BeginsAt, code_of}
-use Rattle.aec_bits.specs.CodeLaws.{code_of-nil, code_of_first, same_samples}
+use Rattle.aec_bits.proofs.CodeLaws.{code_of-nil, code_of_first, same_samples}
 use Rattle.std.proofs.lemmas.List.{length-take, length-drop, take_all}
 use Rattle.aec_edit.specs.Workspace.{Contents, interval_count, start_of}
 use Rattle.aec_edit.specs.Index.{IsKept, KeptSamples, kept_samples, starts_of}
@@ -34,10 +34,10 @@ kept_again {f} {count = count} {bits = bits} {starts = starts} {s = s} kept same
     subst (λ h. IsKept h count bits starts s) (sym same) (subst (IsKept f count bits starts) e (stands kept))
 
 -- none are kept in empty fields
-pub none_kept : (f : Format) {bits : List Bool} {starts : List ℕ} → IsLawful f → bits ≡ [] → starts ≡ [] → IsKept f 0 bits starts []
-none_kept f lawful no_bits no_starts = record {
+pub none_kept : (f : Format) {count : ℕ} {bits : List Bool} {starts : List ℕ} → IsLawful f → count ≡ 0 → bits ≡ [] → starts ≡ [] → IsKept f count bits starts []
+none_kept f lawful no_samples no_bits no_starts = record {
   held = refl;
-  count_is = refl;
+  count_is = sym no_samples;
   bits_are = no_bits ∙ sym (code_of-nil f lawful.some);
   starts_are = no_starts ∙ sym (starts_of-nil f 0 lawful.some);
 }

@@ -1,6 +1,6 @@
 //! The code of samples, with an index of its intervals.
 
-ghost use Rattle.std.specs.Prelude.{◌≡◌, ℕ, ◌+◌, ◌-◌, ◌<◌, ◌≤◌, ◌++◌, ◌⊎◌, ◌^◌, [], length, map, take, drop, vec_len, slice_index, OnOk, OnErr, IfErr};
+ghost use Rattle.std.specs.Prelude.{◌≡◌, ℕ, ◌+◌, ◌-◌, ◌<◌, ◌≤◌, ◌++◌, [], length, map, take, drop, vec_len, slice_index, OnOk, OnErr, IfErr};
 ghost use Rattle.aec_params.specs.declared.fault.Fault.TheVariants.{Memory};
 
 use crate::index::replace_starts;
@@ -44,9 +44,9 @@ impl Coded {
         requires intervals_within { to.interval ≤ length self.old.starts.items }
         requires bits { from.bit ≤ to.bit }
         requires bits_within { to.bit ≤ length self.old.bits.list }
-        requires short { (k : ℕ) → k < length with.now.starts.items → slice_index with.now.starts.items k ≤ 2 ^ 62 }
+        requires short { (k : ℕ) → k < length with.now.starts.items → slice_index with.now.starts.items k ≤ length with.now.bits.list }
         requires later { (k : ℕ) → to.interval ≤ k → k < length self.old.starts.items
-            → (to.bit ≤ slice_index self.old.starts.items k) × (slice_index self.old.starts.items k ≤ 2 ^ 62) }
+            → (to.bit ≤ slice_index self.old.starts.items k) × (slice_index self.old.starts.items k ≤ length self.old.bits.list) }
         ensures bits { OnOk result (self.new.bits.list ≡ take from.bit self.old.bits.list
             ++ (with.now.bits.list ++ drop to.bit self.old.bits.list)) }
         ensures starts { OnOk result (self.new.starts.items ≡ take from.interval self.old.starts.items
@@ -59,6 +59,7 @@ impl Coded {
         ensures fault { IfErr result (λ e. (e ≡ Memory)
             × (0 < length with.now.bits.list + length with.now.starts.items)) }
     {
+        prove!(to.bit <= self.bits.len());
         let gained = with.bits.len().saturating_sub(to.bit - from.bit);
         let (first, last) = (from.interval as usize, to.interval as usize);
         self.bits.reserve(gained)?;

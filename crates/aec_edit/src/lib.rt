@@ -8,6 +8,8 @@ mod exchanging;
 mod index;
 mod outcome;
 mod ranging;
+#[cfg(test)]
+mod tests;
 mod workspace;
 
 pub use outcome::Outcome;

@@ -17,6 +17,8 @@ mod files;
 #[cfg(test)]
 mod limits;
 #[cfg(test)]
+mod ranges;
+#[cfg(test)]
 mod refused_files;
 #[cfg(test)]
 mod scripts;

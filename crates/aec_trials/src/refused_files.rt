@@ -7,8 +7,8 @@ use std::process::Abort;
 use std::rt::Files;
 use std::test::Fail;
 
-// A run on a SOURCE of these bytes, first without a DEST and then with one, by the words with the names of both.
-fn refused<R: Abort + Alloc<A = Global> + Files>(
+/// A run on a SOURCE of these bytes, first without a DEST and then with one, by the words with the names of both.
+pub(crate) fn refused<R: Abort + Alloc<A = Global> + Files>(
     rt: &R,
     alloc: Global,
     words: &[&str],
