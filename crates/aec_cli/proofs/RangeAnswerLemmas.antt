@@ -18,12 +18,12 @@ abbrev range_answer : Settings → ℕ → ℕ → List ℤ → Result (List ℕ
 range_answer s first len samples =
     if nat_lt (length samples) (first + len) then Err (OutOfRange (length samples)) else Ok (all_stored s (samples_from first len samples))
 
-one_read : (s : Settings) (caps : Caps) (count : Option ℕ) (input : Input) (samples others : List ℤ) → IsAllowed s → IsRead s caps count input samples
+pub one_read : (s : Settings) (caps : Caps) (count : Option ℕ) (input : Input) (samples others : List ℤ) → IsAllowed s → IsRead s caps count input samples
     → IsRead s caps count input others → others ≡ samples
 one_read s caps count input samples others allowed read also =
     (bits_are_read_in_one_way s count caps.samples (bits_of_bytes input.bytes) allowed).one_reading others samples also.reading read.reading
 
-not_both : (s : Settings) (caps : Caps) (count : Option ℕ) (input : Input) (samples : List ℤ) (fault : Fault) → IsAllowed s
+pub not_both : (s : Settings) (caps : Caps) (count : Option ℕ) (input : Input) (samples : List ℤ) (fault : Fault) → IsAllowed s
     → IsRead s caps count input samples → IsDecoded s caps count input (Err fault) → ⊥
 not_both s caps count input samples fault allowed read refused =
     let one = decoding_has_one_answer s caps count input allowed in

@@ -1,5 +1,5 @@
 -- What the private functions of the engine that carries out scripts give, and how often its coder may be called.
-use Rattle.std.specs.Prelude.{◌≡◌, ℕ, ◌⊎◌, Some, None, Err, ℤ, List, length, sum_by}
+use Rattle.std.specs.Prelude.{◌≡◌, ℕ, ◌+◌, Some, None, Err, ℤ, List, [], ◌∷◌, length}
 use Rattle.aec_params.specs.declared.fault.Fault.{Fault}
 use Rattle.aec_params.specs.declared.fault.Fault.TheVariants.{Memory}
 use Rattle.aec_params.specs.declared.edit.Edit.{Edit}
@@ -36,4 +36,5 @@ most_calls_of (Append values) = length values
 most_calls_of (Truncate count) = 1
 
 abbrev pub most_calls : List Edit → ℕ
-most_calls edits = sum_by most_calls_of edits
+most_calls [] = 0
+most_calls (e ∷ edits) = most_calls_of e + most_calls edits

@@ -2,10 +2,10 @@
 
 ghost use Rattle.std.specs.Prelude.{◌≡◌, ◌+◌, ◌-◌, ◌^◌, ◌≤◌, length, Ok, Err, IfOk, IfErr, OnOk, OnErr};
 ghost use Rattle.std.specs.Io.KnownBytes.{Appends};
-ghost use Rattle.aec_params.specs.declared.fault.Fault.TheVariants.{Write as WriteFault};
+ghost use Rattle.aec_params.specs.declared.fault.Fault.TheVariants.{Memory, Write as WriteFault};
 ghost use Rattle.aec_params.specs.Codewords.{bytes_of};
 ghost use Rattle.aec_params.specs.Streams.{stream_of};
-ghost use Rattle.aec_bits.specs.Codec.{code_of};
+ghost use Rattle.aec_bits.specs.Codec.{AreHeld, code_of};
 ghost use Rattle.aec_bits.specs.Devices.{counted, AppendsFront};
 ghost use Rattle.aec_interval.specs.IntervalFormat.{interval_format};
 ghost use Rattle.aec_cli.specs.Transfers.{Taking, taking_of, Putting, putting_of, GivesAnswer};
@@ -36,6 +36,29 @@ fn read_script<Q: Source>(alloc: Global, limits: Limits, from: &mut Q) -> Result
     script(alloc, &text)
 }
 
+/// A workspace with samples, over a codec that has coded nothing.
+fn workspace_with<C: Codec + Drop>(
+    alloc: Global,
+    codec: C,
+    limit: u64,
+    samples: Vec<i64>,
+) -> Result<Workspace<C>, Fault>
+    requires limit { limit ≤ 2 ^ 32 }
+    requires few { length samples.items ≤ limit }
+    requires held { AreHeld (C.format codec) samples.items }
+    requires fresh { C.called codec ≡ 0 }
+    ensures ok { IfOk result (λ w. w.samples ≡ samples.items) }
+    ensures limit { IfOk result (λ w. w.limit ≡ limit) }
+    ensures format { IfOk result (λ w. C.format w.codec ≡ C.format codec) }
+    ensures calls { IfOk result (λ w. C.called w.codec ≤ length samples.items) }
+    ensures fault { IfErr result (λ e. e ≡ Memory) }
+{
+    let mut workspace = Workspace::new(alloc, codec, limit);
+    let values = Samples::new(samples);
+    workspace.apply(&Edit::Append { values })?;
+    Ok(workspace)
+}
+
 /// A workspace with the samples that a source is read as.
 fn workspace_of<R: Source>(
     alloc: Global,
@@ -46,19 +69,15 @@ fn workspace_of<R: Source>(
 ) -> Result<Workspace<AecCodec>, Fault>
     ensures ok { let took : Taking = taking_of R.left R.failed source.old source.new in
         IfOk result (λ w. GaveSamples params.now limits count took w.samples) }
-    ensures format { IfOk result (λ w. ⟦<AecCodec as Codec>⟧.format w.codec ≡ interval_format params.now) }
     ensures limit { IfOk result (λ w. w.limit ≡ limits.samples) }
+    ensures format { IfOk result (λ w. ⟦<AecCodec as Codec>⟧.format w.codec ≡ interval_format params.now) }
     ensures calls { IfOk result (λ w. ⟦<AecCodec as Codec>⟧.called w.codec ≤ 2 ^ 32) }
     ensures refuses { let took : Taking = taking_of R.left R.failed source.old source.new in
         IfErr result (λ fault. GivesAnswer (IsDecoded params.now limits count) took limits.bytes (Err fault)) }
 {
     let samples = read_source(alloc, params, limits, count, source)?;
     let codec = AecCodec::new(alloc, *params);
-    let mut workspace = Workspace::new(alloc, codec, limits.samples());
-    workspace.apply(&Edit::Append {
-        values: Samples::new(samples),
-    })?;
-    Ok(workspace)
+    workspace_with(alloc, codec, limits.samples(), samples)
 }
 
 /// Makes the edits of a script, up to the first that is refused.
