@@ -1,6 +1,6 @@
 //! One whole run of the program.
 
-ghost use Rattle.std.specs.Prelude.{◌≡◌, ◌≤◌, ℕ, List, [], map};
+ghost use Rattle.std.specs.Prelude.{◌≡◌, ◌≤◌, IfErr, ℕ, List, [], map};
 ghost use Rattle.std.specs.String.{string_bytes};
 ghost use Rattle.clap.specs.Faults.{fault_of};
 ghost use Rattle.clap.specs.Values.{kind_of};
@@ -72,7 +72,7 @@ fn act<R: Source, W: Sink>(
     source: &mut R,
     sink: &mut W,
 ) -> Result<(), Fault>
-    requires { HasNoScript action.entry }
+    requires { HasNoScript action }
     ensures { let took : Taking = taking_of R.left R.failed source.old source.new in
         let put : Putting = putting_of W.taken W.begun W.failed sink.old sink.new in
         let most : ℕ = bytes_allowed action params.now program_caps in
@@ -106,7 +106,9 @@ fn act_by_script<Q: Source, R: Source, W: Sink>(
 }
 
 // Does a job with its files.
-fn run<F: Files>(rt: &F, alloc: Global, job: Job) -> Result<(), Failure> {
+fn run<F: Files>(rt: &F, alloc: Global, job: Job) -> Result<(), Failure>
+    ensures { IfErr result (λ failure. status_of failure ≡ 1) }
+{
     let Job {
         params,
         action,

@@ -29,3 +29,8 @@ pub returns-in-Ok-run-clause-refusals : goal.returns-in-Ok-run-clause-refusals
 returns-in-Ok-run-clause-refusals g c sound =
     let finds : IsFoundIn (map string_bytes c.args.words.items) (found_of c.in-Ok.matches) = rw c.as_slice.ensures.value at c.in-Ok.ensures.entries in
     ends_by_job _ (found_of c.in-Ok.matches) _ _ finds c.in-Ok-settings.ensures.ok
+
+pub returns-clause-refusals : goal.returns-clause-refusals
+returns-clause-refusals g c sound =
+    let finds : IsFoundIn (map string_bytes c.args.words.items) (found_of c.in-Ok.matches) = rw c.as_slice.ensures.value at c.in-Ok.ensures.entries in
+    ends_by_job _ (found_of c.in-Ok.matches) _ _ finds c.in-Ok-settings.ensures.ok
