@@ -2,3 +2,5 @@ pub mod Workspace
 pub mod Calls
 pub mod Steps
 pub mod Index
+pub mod Runs
+pub mod Laws

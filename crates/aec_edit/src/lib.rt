@@ -1,10 +1,14 @@
 //! A coded list of samples that is edited in place. Stands on any lawful codec of intervals.
 #![tactic(auto)]
 
+mod edited;
 mod editing;
+pub mod laws;
 mod outcome;
 mod ranging;
+mod running;
 mod workspace;
 
+pub use edited::{Edited, write_edited};
 pub use outcome::Outcome;
 pub use workspace::Workspace;
