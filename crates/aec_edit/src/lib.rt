@@ -7,6 +7,8 @@ pub mod laws;
 mod outcome;
 mod ranging;
 mod running;
+#[cfg(test)]
+mod tests;
 mod workspace;
 
 pub use edited::{Edited, write_edited};
