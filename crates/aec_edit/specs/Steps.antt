@@ -7,7 +7,7 @@ use Rattle.aec_params.specs.Edits.{needed_calls, samples_after}
 use Rattle.aec_bits.specs.Codec.{Format}
 use Rattle.aec_edit.specs.declared.outcome.Outcome.{Outcome}
 use Rattle.aec_edit.specs.declared.outcome.Outcome.TheVariants.{Done, Refused}
-use Rattle.aec_edit.specs.Calls.{due_refusal}
+use Rattle.aec_edit.specs.Calls.{due_refusal, opened_at_most, RisesAtMost}
 
 -- an edit of the samples s that is made: nothing is against it, and the coder is called once for each interval that it codes
 pub record IsAccepted (f : Format) (limit : ℕ) (s : List ℤ) (calls : ℕ) (e : Edit) (coded after : ℕ) : Type 0 where
@@ -43,3 +43,9 @@ samples_left s e (Refused fault) = s
 abbrev pub outcome_of : Result ℕ Fault → Outcome
 outcome_of (Ok coded) = Done coded
 outcome_of (Err fault) = Refused fault
+
+-- an edit and all that it does: its answer, the samples s' that it leaves, and the calls of the coder and the decoder after it
+pub record Applies (f : Format) (limit : ℕ) (s : List ℤ) (calls reads : ℕ) (e : Edit) (r : Result ℕ Fault) (s' : List ℤ) (calls' reads' : ℕ) : Type 0 where
+  pub answer : Answers f limit s calls e (outcome_of r) calls'
+  pub samples : s' ≡ samples_left s e (outcome_of r)
+  pub opens : RisesAtMost (opened_at_most f limit s calls e) reads reads'

@@ -1,8 +1,11 @@
 //! A coded list of samples that is edited in place. Stands on any lawful codec of intervals.
 #![tactic(auto)]
 
+mod coding;
 mod edited;
 mod editing;
+mod exchanging;
+mod index;
 pub mod laws;
 mod outcome;
 mod ranging;

@@ -1,5 +1,8 @@
 //! The workspace: a coded list of samples.
 
+mod intervals;
+mod recoding;
+
 ghost use Rattle.aec_edit.specs.Index.{KeptSamples, one_list};
 
 use aec_bits::{BitBuf, Codec, Sink};
@@ -72,14 +75,14 @@ impl<C: Codec> Workspace<C> {
     pub fn intervals(&self) -> u64
         ensures { result ≡ interval_count (C.format self.now.codec) self.now.samples }
     {
-        unreachable!()
+        self.starts.len() as u64
     }
 
     /// The number of bits in the code of the samples.
     pub fn stream_bits(&self) -> u64
         ensures { result ≡ length (code_of (C.format self.now.codec) self.now.samples) }
     {
-        unreachable!()
+        self.stream.len()
     }
 
     /// The bit where interval `i` begins in the code, which is the number of bits in the code of the samples before it. `None`
@@ -90,21 +93,25 @@ impl<C: Codec> Workspace<C> {
             (λ start. (i < interval_count (C.format self.now.codec) self.now.samples)
             × (start ≡ start_of (C.format self.now.codec) self.now.samples i)) }
     {
-        unreachable!()
+        if i < self.intervals() {
+            Some(self.start_at(i))
+        } else {
+            None
+        }
     }
 
     /// How many intervals the codec has coded.
     pub fn calls(&self) -> u64
         ensures { result ≡ C.called self.now.codec }
     {
-        unreachable!()
+        self.codec.calls()
     }
 
     /// How often the codec has been asked to decode an interval.
     pub fn reads(&self) -> u64
         ensures { result ≡ C.read self.now.codec }
     {
-        unreachable!()
+        self.codec.reads()
     }
 
     /// Appends the bytes that the code of the samples fills to what the sink has taken; zeros fill the last one. `Write` where
@@ -120,6 +127,6 @@ impl<C: Codec> Workspace<C> {
         ensures refuses { OnOk result
             (0 < length (code_of (C.format self.now.codec) self.now.samples) → W.failed out.old ≡ 0) }
     {
-        unreachable!()
+        self.stream.write_to(out)
     }
 }

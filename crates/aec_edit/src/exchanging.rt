@@ -1,0 +1,100 @@
+//! The one operation behind every edit: places are exchanged for values.
+
+use crate::workspace::Workspace;
+use aec_bits::Codec;
+use aec_params::Fault;
+
+impl<C: Codec> Workspace<C> {
+    ghost use Rattle.std.specs.Prelude.{◌≡◌, ◌+◌, ◌-◌, ◌*◌, ◌/◌, ◌^◌, ◌<◌, ◌≤◌, ◌++◌, min, None, length, take, drop, IfOk, OnOk, OnErr, IfErr, MatchResult};
+    ghost use Rattle.std.specs.Int.{div_ceil};
+    ghost use Rattle.aec_params.specs.declared.fault.Fault.TheVariants.{Memory};
+    ghost use Rattle.aec_edit.specs.Calls.{RisesAtMost};
+    ghost use Rattle.aec_edit.specs.Changes.{IsExchange, IsExchanged, IsNotExchanged, exchanged, exchange_calls, head_of, tail_of, opened_ends, opened_by};
+
+    /// Exchanges the samples from place `first` up to place `stop` for values, and answers how many intervals it has coded.
+    pub(crate) fn exchange(&mut self, first: u64, stop: u64, values: &[i64]) -> Result<u64, Fault>
+        requires { IsExchange (C.format self.old.codec) self.old.limit self.old.samples first stop values.now }
+        ensures answer { let needed = exchange_calls (C.format self.old.codec).most first (length values.now) in
+            MatchResult result
+            (λ coded. IsExchanged needed (C.called self.old.codec) coded (C.called self.new.codec))
+            (λ fault. IsNotExchanged needed (C.called self.old.codec) fault (C.called self.new.codec)) }
+        ensures ok { OnOk result (self.new.samples ≡ exchanged first stop values.now self.old.samples) }
+        ensures err { OnErr result (self.new.samples ≡ self.old.samples) }
+        ensures reads { RisesAtMost
+            (opened_by (exchange_calls (C.format self.old.codec).most first (length values.now)) (C.called self.old.codec)
+            (opened_ends (C.format self.old.codec).most (length self.old.samples) first stop))
+            (C.read self.old.codec) (C.read self.new.codec) }
+        ensures limit { self.new.limit ≡ self.old.limit }
+        ensures format { C.format self.new.codec ≡ C.format self.old.codec }
+    {
+        let most = self.interval_len();
+        let from = first / most;
+        let needed = (first + values.len() as u64).div_ceil(most) - from;
+        if needed > u64::MAX - self.calls() {
+            return Err(Fault::Spent);
+        }
+        let fresh = self.fresh_samples(first, stop, values)?;
+        let coded = self.code(&fresh)?;
+        self.put(from, stop.div_ceil(most), &fresh, &coded)?;
+        Ok(needed)
+    }
+
+    /// The samples of the intervals that an exchange touches, as they are after it.
+    fn fresh_samples(&mut self, first: u64, stop: u64, values: &[i64]) -> Result<Vec<i64>, Fault>
+        requires { IsExchange (C.format self.old.codec) self.old.limit self.old.samples first stop values.now }
+        ensures ok { IfOk result (λ fresh. fresh.items ≡ head_of (C.format self.old.codec).most first self.old.samples
+            ++ (values.now ++ tail_of (C.format self.old.codec).most stop self.old.samples)) }
+        ensures fault { IfErr result (λ e. (e ≡ Memory) × (0 < exchange_calls (C.format self.old.codec).most first (length values.now))) }
+        ensures samples { self.new.samples ≡ self.old.samples }
+        ensures limit { self.new.limit ≡ self.old.limit }
+        ensures calls { C.called self.new.codec ≡ C.called self.old.codec }
+        ensures reads { RisesAtMost (opened_ends (C.format self.old.codec).most (length self.old.samples) first stop)
+            (C.read self.old.codec) (C.read self.new.codec) }
+        ensures format { C.format self.new.codec ≡ C.format self.old.codec }
+    {
+        let most = self.interval_len();
+        let head = (first % most) as usize;
+        let tail = (self.count().min(stop.div_ceil(most) * most) - stop) as usize;
+        let ends = self.end_intervals(first, stop)?;
+        let mut fresh = Vec::new(self.alloc());
+        fresh.reserve(head + values.len() + tail)?;
+        fresh.extend_from_slice(&ends[..head])?;
+        fresh.extend_from_slice(values)?;
+        fresh.extend_from_slice(&ends[ends.len() - tail..])?;
+        Ok(fresh)
+    }
+
+    /// The first and the last interval that an exchange touches, as far as they keep a sample: the samples that the first one
+    /// keeps stand in front, and those that the last one keeps at the end.
+    fn end_intervals(&mut self, first: u64, stop: u64) -> Result<Vec<i64>, Fault>
+        requires order { first ≤ stop }
+        requires within { stop ≤ length self.old.samples }
+        ensures head { let f = C.format self.old.codec in
+            IfOk result (λ ends. (length (head_of f.most first self.old.samples) ≤ length ends.items)
+            × (take (length (head_of f.most first self.old.samples)) ends.items ≡ head_of f.most first self.old.samples)) }
+        ensures tail { let f = C.format self.old.codec in
+            IfOk result (λ ends. (length (tail_of f.most stop self.old.samples) ≤ length ends.items)
+            × (drop (length ends.items - length (tail_of f.most stop self.old.samples)) ends.items ≡ tail_of f.most stop self.old.samples)) }
+        ensures fault { IfErr result (λ e. (e ≡ Memory)
+            × (0 < opened_ends (C.format self.old.codec).most (length self.old.samples) first stop)) }
+        ensures samples { self.new.samples ≡ self.old.samples }
+        ensures limit { self.new.limit ≡ self.old.limit }
+        ensures calls { C.called self.new.codec ≡ C.called self.old.codec }
+        ensures reads { RisesAtMost (opened_ends (C.format self.old.codec).most (length self.old.samples) first stop)
+            (C.read self.old.codec) (C.read self.new.codec) }
+        ensures format { C.format self.new.codec ≡ C.format self.old.codec }
+    {
+        let most = self.interval_len();
+        let from = first / most;
+        let to = stop.div_ceil(most);
+        let keeps_tail = stop < self.count().min(to * most);
+        let mut ends = Vec::new(self.alloc());
+        if first > from * most || (keeps_tail && from + 1 == to) {
+            self.decode_interval(from, &mut ends)?;
+        }
+        if keeps_tail && from + 1 < to {
+            self.decode_interval(to - 1, &mut ends)?;
+        }
+        Ok(ends)
+    }
+}
