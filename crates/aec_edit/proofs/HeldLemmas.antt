@@ -1,7 +1,8 @@
 -- Parts of held lists are held, and held lists joined are.
-use Rattle.std.proofs.Common.{◌≡◌, ℕ, zero, suc, Bool, true, ◌&&◌, List, [], ◌∷◌, ◌++◌, take, drop, ℤ, refl}
+use Rattle.std.proofs.Common.{◌≡◌, ℕ, zero, suc, ◌+◌, Bool, true, false, ◌&&◌, cond, Some, None, List, [], ◌∷◌, ◌++◌, take, drop, ℤ, refl}
 use Rattle.std.specs.List.{list_all}
 use Rattle.std.proofs.lemmas.Bool.{and_parts}
+use Rattle.aec_bits.specs.Refusals.{first_unheld}
 
 pub held-take : (holds : ℤ → Bool) (n : ℕ) (s : List ℤ) → list_all holds s ≡ true → list_all holds (take n s) ≡ true
 held-take holds zero s held = refl
@@ -20,3 +21,13 @@ held-append holds [] t held kept = kept
 held-append holds (x ∷ s) t held kept =
     let both = and_parts (holds x) (list_all holds s) held in
     rw (both.0, held-append holds s t both.1 kept) refl
+
+-- where none is found that is not held, all are
+pub held-from_none : (holds : ℤ → Bool) (i : ℕ) (s : List ℤ) → first_unheld holds i s ≡ None → list_all holds s ≡ true
+held-from_none holds i [] none = refl
+held-from_none holds i (x ∷ s) none = by_test (holds x) none (held-from_none holds (i + 1) s)
+  where
+    by_test : (t : Bool) → cond t (first_unheld holds (i + 1) s) (Some i) ≡ None → (first_unheld holds (i + 1) s ≡ None → list_all holds s ≡ true)
+        → t && list_all holds s ≡ true
+    by_test true e later = later e
+    by_test false e later = absurd (cc)

@@ -27,11 +27,17 @@ pub at_view : {C : Type 0} (format : C → Format) {codec : C} {count limit : �
     (seen : Contents C) → record { samples = kept_samples kept; limit = limit; codec = codec } ≡ seen → IsKept (format seen.codec) count bits starts seen.samples
 at_view format {count = count} {bits = bits} {starts = starts} kept seen e = subst (λ w. IsKept (format w.codec) count bits starts w.samples) e (stands kept)
 
+-- under a format that is the same, for a list that is
+pub kept_again : {f g : Format} {count : ℕ} {bits : List Bool} {starts : List ℕ} {s : List ℤ} (kept : KeptSamples f count bits starts)
+    → g ≡ f → kept_samples kept ≡ s → IsKept g count bits starts s
+kept_again {f} {count = count} {bits = bits} {starts = starts} {s = s} kept same e =
+    subst (λ h. IsKept h count bits starts s) (sym same) (subst (IsKept f count bits starts) e (stands kept))
+
 -- none are kept in empty fields
-pub none_kept : (f : Format) {bits : List Bool} {starts : List ℕ} → IsLawful f → bits ≡ [] → starts ≡ [] → IsKept f 0 bits starts []
-none_kept f lawful no_bits no_starts = record {
+pub none_kept : (f : Format) {count : ℕ} {bits : List Bool} {starts : List ℕ} → IsLawful f → count ≡ 0 → bits ≡ [] → starts ≡ [] → IsKept f count bits starts []
+none_kept f lawful no_samples no_bits no_starts = record {
   held = refl;
-  count_is = refl;
+  count_is = sym no_samples;
   bits_are = no_bits ∙ sym (code_of-nil f lawful.some);
   starts_are = no_starts ∙ sym (starts_of-nil f 0 lawful.some);
 }
@@ -71,3 +77,15 @@ begins_there f s i lawful held within =
       length_is = omega arith;
       stands = (code_of f (drop f.most rest), drop-code_of f i s lawful.some ∙ code_of_first f rest lawful.some (omega arith));
     }
+
+-- the same where an interval is to be decoded: g is the format of the codec itself, f that of the codec as callers see it
+pub begins_for : (f g : Format) {count : ℕ} {bits : List Bool} {starts : List ℕ} {s : List ℤ} (i start len : ℕ) → g ≡ f → IsLawful f
+    → IsKept f count bits starts s → i < interval_count f s → start ≡ start_of f s i → len ≡ min f.most (count - i * f.most)
+    → BeginsAt g bits start len (take f.most (drop (i * f.most) s))
+begins_for f g {count = count} {bits = bits} {s = s} i start len same lawful kept within start_is len_is =
+    let count_is : min f.most (length s - i * f.most) ≡ len = ap (λ n. min f.most (n - i * f.most)) kept.count_is ∙ sym len_is in
+    let there = begins_there f s i lawful kept.held within in
+    let at_start = subst (λ n. BeginsAt f (code_of f s) n (min f.most (length s - i * f.most)) (take f.most (drop (i * f.most) s))) (sym start_is) there in
+    let with_len = subst (λ n. BeginsAt f (code_of f s) start n (take f.most (drop (i * f.most) s))) count_is at_start in
+    let in_bits = subst (λ l. BeginsAt f l start len (take f.most (drop (i * f.most) s))) (sym kept.bits_are) with_len in
+    subst (λ h. BeginsAt h bits start len (take f.most (drop (i * f.most) s))) (sym same) in_bits

@@ -4,5 +4,6 @@ pub mod StartLemmas
 pub mod CodingLemmas
 pub mod KeptLemmas
 pub mod IndexLemmas
+pub mod RecodingLemmas
 pub mod RunLemmas
 pub mod RunLaws

@@ -10,6 +10,7 @@ use Rattle.aec_params.proofs.CuttingLaws.{length-pieces_of, div_ceil-zero, div_c
 use Rattle.aec_bits.specs.Codec.{Format, code_of}
 use Rattle.aec_bits.specs.CodeLaws.{pieces_of_first, pieces_of-nil, pieces_of-append, code_of-nil, code_of-append, code_of_split}
 use Rattle.aec_edit.specs.Workspace.{interval_count, start_of}
+use Rattle.aec_edit.proofs.CountLemmas.{before_end}
 use Rattle.aec_edit.specs.Index.{piece_starts, starts_of}
 
 -- ---- pieces
@@ -168,3 +169,37 @@ whole_count n (suc k) h =
     let some : 0 < suc k * n = omega arith in
     let less : suc k * n - n ≡ k * n = omega arith in
     div_ceil-step (suc k * n) n h some ∙ ap suc (ap (λ m. div_ceil m n) less ∙ whole_count n k h)
+
+-- later intervals begin later
+pub start_of-mono : (f : Format) (i j : ℕ) (s : List ℤ) → 1 ≤ f.most → i ≤ j → start_of f s i ≤ start_of f s j
+start_of-mono f i j s h order =
+    let front : take (i * f.most) (take (j * f.most) s) ≡ take (i * f.most) s = take-take (i * f.most) (j * f.most) s (mul-le-mul_right f.most order) in
+    let within = start_of-le f i (take (j * f.most) s) h in
+    omega (arith, ap (λ l. length (code_of f l)) front)
+
+-- so many intervals in front have so many starts
+pub starts_of-front : (f : Format) (place k : ℕ) (s : List ℤ) → 1 ≤ f.most → k ≤ interval_count f s → length (starts_of f place (take (k * f.most) s)) ≡ k
+starts_of-front f place k s h within =
+    length-starts_of f place (take (k * f.most) s) h
+    ∙ elim (ends_within f.most k (length s)) as (λ _. div_ceil (length (take (k * f.most) s)) f.most ≡ k) [
+      | inl past ↦
+          ap (λ l. div_ceil (length l) f.most) (take_all (k * f.most) s past)
+          ∙ elim (cases_lt k (div_ceil (length s) f.most)) as (λ _. div_ceil (length s) f.most ≡ k) [
+            | inl less ↦ absurd (omega (arith, before_end k (length s) f.most h less))
+            | inr all ↦ omega arith
+          ]
+      | inr inside ↦ ap (λ n. div_ceil n f.most) (let e : length (take (k * f.most) s) ≡ k * f.most = omega (arith, length-take (k * f.most) s) in e) ∙ whole_count f.most k h
+    ]
+
+pub take-starts_of : (f : Format) (k : ℕ) (s : List ℤ) → 1 ≤ f.most → k ≤ interval_count f s → take k (starts_of f 0 s) ≡ starts_of f 0 (take (k * f.most) s)
+take-starts_of f k s h within =
+    ap (take k) (starts_of-cut f 0 k s h)
+    ∙ take_at (starts_of f 0 (take (k * f.most) s)) (starts_of f (0 + start_of f s k) (drop (k * f.most) s)) k (starts_of-front f 0 k s h within)
+
+pub drop-starts_of : (f : Format) (k : ℕ) (s : List ℤ) → 1 ≤ f.most → k ≤ interval_count f s
+    → drop k (starts_of f 0 s) ≡ starts_of f (start_of f s k) (drop (k * f.most) s)
+drop-starts_of f k s h within =
+    let e : 0 + start_of f s k ≡ start_of f s k = omega arith in
+    ap (drop k) (starts_of-cut f 0 k s h)
+    ∙ drop_at (starts_of f 0 (take (k * f.most) s)) (starts_of f (0 + start_of f s k) (drop (k * f.most) s)) k (starts_of-front f 0 k s h within)
+    ∙ ap (λ n. starts_of f n (drop (k * f.most) s)) e

@@ -8,9 +8,9 @@ use Rattle.aec_params.specs.Edits.{needed_calls, opened_intervals}
 use Rattle.aec_bits.specs.Codec.{Format}
 use Rattle.aec_bits.specs.Refusals.{refusal_of}
 
--- after so many calls, want of calls to code needed intervals
+-- after so many calls, fewer are left of 2^64 - 1 than are needed
 abbrev pub want_of_calls : ℕ → ℕ → Option Fault
-want_of_calls calls needed = if nat_lt (2 ^ 64 - 1) (calls + needed) then Some Spent else None
+want_of_calls calls needed = if nat_lt (2 ^ 64 - 1 - calls) needed then Some Spent else None
 
 -- what an edit of the samples s is refused for where there is memory: it does not fit, or too few calls are left
 abbrev pub due_refusal : Format → ℕ → List ℤ → ℕ → Edit → Option Fault

@@ -1,5 +1,5 @@
 -- What the private functions do to the samples: places are exchanged for values, and for that intervals for fresh samples.
-use Rattle.std.specs.Prelude.{◌≡◌, ℕ, ◌+◌, ◌-◌, ◌*◌, ◌/◌, ◌≤◌, ◌<◌, ◌⊎◌, min, Bool, ◌||◌, ◌&&◌, nat_lt, ◌==◌, if◌then◌else◌, None, MatchOption, is_some, List, ◌++◌, length, take, drop, ℤ}
+use Rattle.std.specs.Prelude.{◌≡◌, ℕ, ◌+◌, ◌-◌, ◌*◌, ◌/◌, ◌≤◌, ◌<◌, ◌⊎◌, min, Bool, ◌||◌, ◌&&◌, nat_lt, ◌==◌, if◌then◌else◌, None, MatchOption, is_some, List, [], ◌++◌, length, take, drop, ℤ}
 use Rattle.std.specs.Int.{div_ceil}
 use Rattle.aec_bits.specs.Codec.{Format, AreHeld}
 use Rattle.aec_params.specs.declared.fault.Fault.{Fault}
@@ -47,15 +47,29 @@ tail_of n stop s = drop stop (take (div_ceil stop n * n) s)
 -- whether the first touched interval keeps a sample: in front of the places, or behind them where it is the last one too
 abbrev pub opens_first : ℕ → ℕ → ℕ → ℕ → Bool
 opens_first n count first stop =
-    nat_lt (first / n * n) first || (nat_lt stop (min (div_ceil stop n * n) count) && (first / n + 1 == div_ceil stop n))
+    nat_lt (first / n * n) first || (nat_lt stop (min count (div_ceil stop n * n)) && (first / n + 1 == div_ceil stop n))
 
 -- whether the last touched interval is another one, and keeps a sample
 abbrev pub opens_last : ℕ → ℕ → ℕ → ℕ → Bool
-opens_last n count first stop = nat_lt stop (min (div_ceil stop n * n) count) && nat_lt (first / n + 1) (div_ceil stop n)
+opens_last n count first stop = nat_lt stop (min count (div_ceil stop n * n)) && nat_lt (first / n + 1) (div_ceil stop n)
+
+-- one where a test holds, else none
+abbrev pub one_if : Bool → ℕ
+one_if b = if b then 1 else 0
 
 -- how many intervals an exchange decodes
 abbrev pub opened_ends : ℕ → ℕ → ℕ → ℕ → ℕ
-opened_ends n count first stop = (if opens_first n count first stop then 1 else 0) + (if opens_last n count first stop then 1 else 0)
+opened_ends n count first stop = one_if (opens_first n count first stop) + one_if (opens_last n count first stop)
+
+-- the samples of these intervals
+abbrev pub first_samples : ℕ → ℕ → ℕ → List ℤ → List ℤ
+first_samples n first stop s = if opens_first n (length s) first stop then take n (drop (first / n * n) s) else []
+
+abbrev pub last_samples : ℕ → ℕ → ℕ → List ℤ → List ℤ
+last_samples n first stop s = if opens_last n (length s) first stop then take n (drop ((div_ceil stop n - 1) * n) s) else []
+
+abbrev pub end_samples : ℕ → ℕ → ℕ → List ℤ → List ℤ
+end_samples n first stop s = first_samples n first stop s ++ last_samples n first stop s
 
 -- an exchange that was made: calls were left for it, and each interval was coded once
 pub record IsExchanged (needed calls coded after : ℕ) : Type 0 where

@@ -8,7 +8,7 @@ impl<C: Codec> Workspace<C> {
     ghost use Rattle.std.specs.Prelude.{◌≡◌, None, Some, length, OnOk, IfErr};
     ghost use Rattle.aec_params.specs.declared.edit.Edit.TheVariants.{Overwrite, Append, Truncate};
     ghost use Rattle.aec_bits.specs.Codec.{AreHeld};
-    ghost use Rattle.aec_bits.specs.Refusals.{values_refusal};
+    ghost use Rattle.aec_bits.specs.Refusals.{values_refusal, first_unheld as first_unheld_of};
     ghost use Rattle.aec_edit.specs.Calls.{RisesAtMost, opened_at_most};
     ghost use Rattle.aec_edit.specs.Steps.{Answers, Applies, samples_left, outcome_of};
 
@@ -96,11 +96,21 @@ impl<C: Codec> Workspace<C> {
         ensures held { OnOk result (AreHeld (C.format self.now.codec) values.now) }
         ensures refuses { IfErr result (λ e. values_refusal (C.format self.now.codec) values.now ≡ Some e) }
     {
-        for (i, x) in values.iter().enumerate() {
+        match self.first_unheld(values) {
+            Some(index) => Err(Fault::SampleRange { index }),
+            None => Ok(()),
+        }
+    }
+
+    /// The place of the first value that is no sample.
+    fn first_unheld(&self, values: &[i64]) -> Option<u64>
+        ensures { result ≡ first_unheld_of (C.format self.now.codec).holds 0 values.now }
+    {
+        for (index, x) in values.iter().enumerate() {
             if !self.holds(*x) {
-                return Err(Fault::SampleRange { index: i as u64 });
+                return Some(index as u64);
             }
         }
-        Ok(())
+        None
     }
 }

@@ -5,11 +5,10 @@ use aec_bits::Codec;
 use aec_params::Fault;
 
 impl<C: Codec> Workspace<C> {
-    ghost use Rattle.std.specs.Prelude.{◌≡◌, ◌+◌, ◌-◌, ◌*◌, ◌/◌, ◌^◌, ◌<◌, ◌≤◌, ◌++◌, min, None, length, take, drop, IfOk, OnOk, OnErr, IfErr, MatchResult};
-    ghost use Rattle.std.specs.Int.{div_ceil};
+    ghost use Rattle.std.specs.Prelude.{◌≡◌, ◌<◌, ◌≤◌, ◌++◌, true, length, IfOk, OnOk, OnErr, IfErr, MatchResult};
     ghost use Rattle.aec_params.specs.declared.fault.Fault.TheVariants.{Memory};
     ghost use Rattle.aec_edit.specs.Calls.{RisesAtMost};
-    ghost use Rattle.aec_edit.specs.Changes.{IsExchange, IsExchanged, IsNotExchanged, exchanged, exchange_calls, head_of, tail_of, opened_ends, opened_by};
+    ghost use Rattle.aec_edit.specs.Changes.{IsExchange, IsExchanged, IsNotExchanged, exchanged, exchange_calls, head_of, tail_of, opens_first, opens_last, one_if, first_samples, last_samples, end_samples, opened_ends, opened_by};
 
     /// Exchanges the samples from place `first` up to place `stop` for values, and answers how many intervals it has coded.
     pub(crate) fn exchange(&mut self, first: u64, stop: u64, values: &[i64]) -> Result<u64, Fault>
@@ -64,17 +63,11 @@ impl<C: Codec> Workspace<C> {
         Ok(fresh)
     }
 
-    /// The first and the last interval that an exchange touches, as far as they keep a sample: the samples that the first one
-    /// keeps stand in front, and those that the last one keeps at the end.
+    /// The first and the last interval that an exchange touches, where they keep a sample.
     fn end_intervals(&mut self, first: u64, stop: u64) -> Result<Vec<i64>, Fault>
         requires order { first ≤ stop }
         requires within { stop ≤ length self.old.samples }
-        ensures head { let f = C.format self.old.codec in
-            IfOk result (λ ends. (length (head_of f.most first self.old.samples) ≤ length ends.items)
-            × (take (length (head_of f.most first self.old.samples)) ends.items ≡ head_of f.most first self.old.samples)) }
-        ensures tail { let f = C.format self.old.codec in
-            IfOk result (λ ends. (length (tail_of f.most stop self.old.samples) ≤ length ends.items)
-            × (drop (length ends.items - length (tail_of f.most stop self.old.samples)) ends.items ≡ tail_of f.most stop self.old.samples)) }
+        ensures ok { IfOk result (λ ends. ends.items ≡ end_samples (C.format self.old.codec).most first stop self.old.samples) }
         ensures fault { IfErr result (λ e. (e ≡ Memory)
             × (0 < opened_ends (C.format self.old.codec).most (length self.old.samples) first stop)) }
         ensures samples { self.new.samples ≡ self.old.samples }
@@ -84,17 +77,57 @@ impl<C: Codec> Workspace<C> {
             (C.read self.old.codec) (C.read self.new.codec) }
         ensures format { C.format self.new.codec ≡ C.format self.old.codec }
     {
+        let mut ends = Vec::new(self.alloc());
+        self.open_first(first, stop, &mut ends)?;
+        self.open_last(first, stop, &mut ends)?;
+        Ok(ends)
+    }
+
+    /// Decodes the first touched interval where it keeps a sample in front of the places, or is the last one too and keeps one
+    /// behind them.
+    fn open_first(&mut self, first: u64, stop: u64, ends: &mut Vec<i64>) -> Result<(), Fault>
+        requires order { first ≤ stop }
+        requires within { stop ≤ length self.old.samples }
+        ensures ok { OnOk result (ends.new.items ≡ ends.old.items
+            ++ first_samples (C.format self.old.codec).most first stop self.old.samples) }
+        ensures fault { IfErr result (λ e. (e ≡ Memory)
+            × (opens_first (C.format self.old.codec).most (length self.old.samples) first stop ≡ true)) }
+        ensures samples { self.new.samples ≡ self.old.samples }
+        ensures limit { self.new.limit ≡ self.old.limit }
+        ensures calls { C.called self.new.codec ≡ C.called self.old.codec }
+        ensures reads { RisesAtMost (one_if (opens_first (C.format self.old.codec).most (length self.old.samples) first stop))
+            (C.read self.old.codec) (C.read self.new.codec) }
+        ensures format { C.format self.new.codec ≡ C.format self.old.codec }
+    {
         let most = self.interval_len();
         let from = first / most;
         let to = stop.div_ceil(most);
-        let keeps_tail = stop < self.count().min(to * most);
-        let mut ends = Vec::new(self.alloc());
-        if first > from * most || (keeps_tail && from + 1 == to) {
-            self.decode_interval(from, &mut ends)?;
+        if from * most < first || (stop < self.count().min(to * most) && from + 1 == to) {
+            return self.decode_interval(from, ends);
         }
-        if keeps_tail && from + 1 < to {
-            self.decode_interval(to - 1, &mut ends)?;
+        Ok(())
+    }
+
+    /// Decodes the last touched interval where it isn't the first and keeps a sample behind the places.
+    fn open_last(&mut self, first: u64, stop: u64, ends: &mut Vec<i64>) -> Result<(), Fault>
+        requires order { first ≤ stop }
+        requires within { stop ≤ length self.old.samples }
+        ensures ok { OnOk result (ends.new.items ≡ ends.old.items
+            ++ last_samples (C.format self.old.codec).most first stop self.old.samples) }
+        ensures fault { IfErr result (λ e. (e ≡ Memory)
+            × (opens_last (C.format self.old.codec).most (length self.old.samples) first stop ≡ true)) }
+        ensures samples { self.new.samples ≡ self.old.samples }
+        ensures limit { self.new.limit ≡ self.old.limit }
+        ensures calls { C.called self.new.codec ≡ C.called self.old.codec }
+        ensures reads { RisesAtMost (one_if (opens_last (C.format self.old.codec).most (length self.old.samples) first stop))
+            (C.read self.old.codec) (C.read self.new.codec) }
+        ensures format { C.format self.new.codec ≡ C.format self.old.codec }
+    {
+        let most = self.interval_len();
+        let to = stop.div_ceil(most);
+        if stop < self.count().min(to * most) && first / most + 1 < to {
+            return self.decode_interval(to - 1, ends);
         }
-        Ok(ends)
+        Ok(())
     }
 }

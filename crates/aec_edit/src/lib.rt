@@ -1,6 +1,7 @@
 //! A coded list of samples that is edited in place. Stands on any lawful codec of intervals.
 #![tactic(auto)]
 
+mod coded;
 mod coding;
 mod edited;
 mod editing;

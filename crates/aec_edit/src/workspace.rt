@@ -5,7 +5,8 @@ mod recoding;
 
 ghost use Rattle.aec_edit.specs.Index.{KeptSamples, one_list};
 
-use aec_bits::{BitBuf, Codec, Sink};
+use crate::coded::Coded;
+use aec_bits::{Codec, Sink};
 use aec_params::Fault;
 use std::alloc::Global;
 use std::marker::Model;
@@ -13,13 +14,11 @@ use std::marker::Model;
 /// Samples, kept as their code and the places where its intervals begin. The samples themselves aren't kept.
 #[derive(Debug, Drop)]
 pub struct Workspace<C: Codec> {
-    stream: BitBuf,
-    starts: Vec<u64>,
-    count: u64,
+    coded: Coded,
     limit: u64,
     codec: C,
     alloc: Global,
-    ghost written: { KeptSamples (C.format codec) count stream.list starts.items } by { one_list (C.format codec) count stream.list starts.items (C.lawful codec) },
+    ghost written: { KeptSamples (C.format codec) coded.count coded.bits.list coded.starts.items } by { one_list (C.format codec) coded.count coded.bits.list coded.starts.items (C.lawful codec) },
 }
 
 impl<C: Codec> Model for Workspace<C> {
@@ -31,7 +30,7 @@ impl<C: Codec> Model for Workspace<C> {
 
     ghost view = { λ w. record { samples = kept_samples w.written; limit = w.limit; codec = w.codec } };
 
-    ghost invariant = { λ w. (w.count ≤ w.limit) × (w.limit ≤ 2 ^ 32) × (C.read w.codec ≤ 2 ^ 64 - 1) };
+    ghost invariant = { λ w. (w.coded.count ≤ w.limit) × (w.limit ≤ 2 ^ 32) × (C.read w.codec ≤ 2 ^ 64 - 1) };
 }
 
 impl<C: Codec> Workspace<C> {
@@ -52,9 +51,7 @@ impl<C: Codec> Workspace<C> {
     {
         let _reads = codec.reads();
         Workspace {
-            stream: BitBuf::new(alloc),
-            starts: Vec::new(alloc),
-            count: 0,
+            coded: Coded::new(alloc),
             limit,
             codec,
             alloc,
@@ -68,21 +65,21 @@ impl<C: Codec> Workspace<C> {
         ensures bound { self.now.limit ≤ 2 ^ 32 }
         ensures held { AreHeld (C.format self.now.codec) self.now.samples }
     {
-        self.count
+        self.coded.count
     }
 
     /// The number of intervals that the samples fill.
     pub fn intervals(&self) -> u64
         ensures { result ≡ interval_count (C.format self.now.codec) self.now.samples }
     {
-        self.starts.len() as u64
+        self.coded.starts.len() as u64
     }
 
     /// The number of bits in the code of the samples.
     pub fn stream_bits(&self) -> u64
         ensures { result ≡ length (code_of (C.format self.now.codec) self.now.samples) }
     {
-        self.stream.len()
+        self.coded.bits.len()
     }
 
     /// The bit where interval `i` begins in the code, which is the number of bits in the code of the samples before it. `None`
@@ -127,6 +124,6 @@ impl<C: Codec> Workspace<C> {
         ensures refuses { OnOk result
             (0 < length (code_of (C.format self.now.codec) self.now.samples) → W.failed out.old ≡ 0) }
     {
-        self.stream.write_to(out)
+        self.coded.bits.write_to(out)
     }
 }

@@ -1,7 +1,8 @@
 //! One interval of a workspace, and what is asked of its codec.
 
 use super::Workspace;
-use crate::coding::{Coded, code_all};
+use crate::coded::{Coded, Cut};
+use crate::coding::code_all;
 use aec_bits::Codec;
 use aec_params::Fault;
 use std::alloc::Global;
@@ -32,7 +33,9 @@ impl<C: Codec> Workspace<C> {
         ensures value { result ≡ (C.format self.now.codec).most }
         ensures some { 1 ≤ (C.format self.now.codec).most }
         ensures few { (C.format self.now.codec).most ≤ 262144 }
+        ensures limit { self.now.limit ≤ 2 ^ 32 }
     {
+        let _ = &self.coded;
         self.codec.interval_len()
     }
 
@@ -48,10 +51,22 @@ impl<C: Codec> Workspace<C> {
         requires { i ≤ interval_count (C.format self.now.codec) self.now.samples }
         ensures { result ≡ start_of (C.format self.now.codec) self.now.samples i }
     {
-        if i < self.starts.len() as u64 {
-            self.starts[i as usize]
+        if i < self.coded.starts.len() as u64 {
+            self.coded.starts[i as usize]
         } else {
-            self.stream.len()
+            self.coded.bits.len()
+        }
+    }
+
+    /// That place, with the interval's number.
+    pub(crate) fn cut_at(&self, i: u64) -> Cut
+        requires { i ≤ interval_count (C.format self.now.codec) self.now.samples }
+        ensures interval { result.interval ≡ i }
+        ensures bit { result.bit ≡ start_of (C.format self.now.codec) self.now.samples i }
+    {
+        Cut {
+            interval: i,
+            bit: self.start_at(i),
         }
     }
 
@@ -70,8 +85,8 @@ impl<C: Codec> Workspace<C> {
     {
         let start = self.start_at(i);
         let most = self.interval_len();
-        let len = most.min(self.count - i * most);
-        self.codec.decode(&self.stream, start, len, out)
+        let len = most.min(self.coded.count - i * most);
+        self.codec.decode(&self.coded.bits, start, len, out)
     }
 
     /// Codes fresh samples. `Memory` where a growth was refused; some calls may have been made then.
@@ -80,6 +95,7 @@ impl<C: Codec> Workspace<C> {
         requires calls { C.called self.old.codec + div_ceil (length fresh.now) (C.format self.old.codec).most ≤ 2 ^ 64 - 1 }
         ensures bits { IfOk result (λ coded. coded.bits.list ≡ code_of (C.format self.old.codec) fresh.now) }
         ensures starts { IfOk result (λ coded. coded.starts.items ≡ starts_of (C.format self.old.codec) 0 fresh.now) }
+        ensures count { IfOk result (λ coded. coded.count ≡ length fresh.now) }
         ensures calls { OnOk result (C.called self.new.codec
             ≡ C.called self.old.codec + div_ceil (length fresh.now) (C.format self.old.codec).most) }
         ensures fault { IfErr result (λ e. (e ≡ Memory) × (0 < length fresh.now)) }

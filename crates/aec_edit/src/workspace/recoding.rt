@@ -1,8 +1,7 @@
 //! Intervals of a workspace exchanged for others.
 
 use super::Workspace;
-use crate::coding::Coded;
-use crate::index::replace_starts;
+use crate::coded::Coded;
 use aec_bits::Codec;
 use aec_params::Fault;
 
@@ -24,6 +23,7 @@ impl<C: Codec> Workspace<C> {
     ) -> Result<(), Fault>
         requires recoding { IsRecoding (C.format self.old.codec) self.old.limit self.old.samples from to fresh.now }
         requires bits { coded.now.bits.list ≡ code_of (C.format self.old.codec) fresh.now }
+        requires count { coded.now.count ≡ length fresh.now }
         requires starts { coded.now.starts.items ≡ starts_of (C.format self.old.codec) 0 fresh.now }
         ensures ok { OnOk result (self.new.samples ≡ recoded (C.format self.old.codec) from to fresh.now self.old.samples) }
         ensures err { OnErr result (self.new.samples ≡ self.old.samples) }
@@ -31,24 +31,11 @@ impl<C: Codec> Workspace<C> {
         ensures limit { self.new.limit ≡ self.old.limit }
         ensures codec { self.new.codec ≡ self.old.codec }
     {
-        let start = self.start_at(from);
-        let stop = self.start_at(to);
+        let from = self.cut_at(from);
+        let to = self.cut_at(to);
         let most = self.interval_len();
-        let gained = coded.bits.len().saturating_sub(stop - start);
-        let more = coded.starts.len().saturating_sub((to - from) as usize);
-        self.stream.reserve(gained)?;
-        self.starts.reserve(more)?;
-        self.stream.splice(start, stop, &coded.bits).unwrap();
-        replace_starts(
-            &mut self.starts,
-            from as usize,
-            to as usize,
-            &coded.starts,
-            start,
-            stop,
-            start + coded.bits.len(),
-        );
-        self.count = from * most + fresh.len() as u64 + self.count.saturating_sub(to * most);
-        Ok(())
+        let later = self.count().saturating_sub(to.interval * most);
+        let count = from.interval * most + coded.count + later;
+        self.coded.replace(from, to, coded, count)
     }
 }

@@ -16,13 +16,13 @@ loop-rest-preserved g c =
       later_is = c.split_at.ensures.back ∙ ap (λ n. drop n rest) count;
       some = search rules;
     } in
-    let grown : c.code.new.out.list ≡ c.loop-rest.bits.list ++ f.bits_of c.split_at.result.0.now = rw so_far.format at c.in_ok-code.ensures.ok in
-    let pushed : c.push.new.self.items ≡ c.loop-rest.starts.items ++ c.len.result ∷ [] = c.in_ok-push.ensures.items in
+    let grown : c.code.new.out.list ≡ c.loop-rest.coded.bits.list ++ f.bits_of c.split_at.result.0.now = rw so_far.format at c.in_ok-code.ensures.ok in
+    let pushed : c.push.new.self.items ≡ c.loop-rest.coded.starts.items ++ c.len.result ∷ [] = c.in_ok-push.ensures.items in
     record {
       format = c.in_ok-code.ensures.same_format ∙ so_far.format;
       held = later_held f split so_far.held;
-      bits = bits_more f c.loop-rest.bits.list c.code.new.out.list _ lawful split so_far.bits grown;
-      starts = starts_more f c.loop-rest.bits.list c.code.new.out.list c.loop-rest.starts.items c.push.new.self.items _ c.len.result lawful split so_far.starts
+      bits = bits_more f c.loop-rest.coded.bits.list c.code.new.out.list _ lawful split so_far.bits grown;
+      starts = starts_more f c.loop-rest.coded.bits.list c.code.new.out.list c.loop-rest.coded.starts.items c.push.new.self.items _ c.len.result lawful split so_far.starts
           c.len.ensures.value pushed grown;
       calls = omega (arith, c.in_ok-code.ensures.counts, so_far.calls, one_call_less f lawful split);
       least = omega (arith, c.in_ok-code.ensures.counts, so_far.least);

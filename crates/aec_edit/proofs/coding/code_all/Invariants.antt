@@ -10,8 +10,8 @@ invariant-loop-rest g l =
     record {
       format : g.C.Codec.format l.codec ≡ f;
       held : AreHeld f l.rest;
-      bits : code_of f l.fn.samples ≡ l.bits.list ++ code_of f l.rest;
-      starts : starts_of f 0 l.fn.samples ≡ l.starts.items ++ starts_of f (length l.bits.list) l.rest;
+      bits : code_of f l.fn.samples ≡ l.coded.bits.list ++ code_of f l.rest;
+      starts : starts_of f 0 l.fn.samples ≡ l.coded.starts.items ++ starts_of f (length l.coded.bits.list) l.rest;
       calls : g.C.Codec.called l.codec + div_ceil (length l.rest) f.most ≡ g.C.Codec.called l.initial.codec + div_ceil (length l.fn.samples) f.most;
       least : g.C.Codec.called l.initial.codec ≤ g.C.Codec.called l.codec;
       few : length l.rest ≤ length l.fn.samples;

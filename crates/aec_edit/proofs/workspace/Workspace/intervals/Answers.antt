@@ -7,5 +7,9 @@ pub returns : goal.returns
 returns g c =
     let seen = c.args.self.now in
     let kept = at_view g.C.Codec.format c.self.inside.written seen c.self.view_is in
-    omega (arith, c.self.inside.starts.ok.0, ap length kept.starts_are,
-    length-starts_of (g.C.Codec.format seen.codec) 0 seen.samples (g.C.Codec.lawful seen.codec).some)
+    omega (
+      arith,
+      c.self.inside.coded.starts.ok.0,
+      ap length kept.starts_are,
+      length-starts_of (g.C.Codec.format seen.codec) 0 seen.samples (g.C.Codec.lawful seen.codec).some,
+    )
