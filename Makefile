@@ -1,21 +1,25 @@
 # What a user and a developer run. The toolchain's command `rt` has to be on the path.
 PREFIX ?= /usr/local
 
-.PHONY: all example test install bench clean
+.PHONY: all example sizes test install bench clean
 
 # Proves the program and everything that it stands on, builds it, and leaves it in bin/aec.
 all: bin/aec
 
 bin/aec: FORCE
-	@mkdir -p bin
-	cd crates/aec && rt run -- --help > /dev/null
-	cp crates/aec/out/aec bin/aec
+	@sh build.sh
 
 FORCE:
 
 # The main job on the files of examples/.
 example: bin/aec
-	sh examples/run.sh bin/aec
+	@sh examples/run.sh bin/aec
+
+# How many bytes a file takes with each block size and interval: make sizes FILE=.. OPTIONS="-n 16"
+FILE ?= examples/durations.raw
+OPTIONS ?= -n 16
+sizes: bin/aec
+	@sh examples/sizes.sh bin/aec $(FILE) $(OPTIONS)
 
 # The gate, and then the round trips with the client of libaec.
 test:

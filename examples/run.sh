@@ -1,22 +1,47 @@
 #!/bin/sh
-# Runs the main job on small files and shows what came out: run.sh PATH_OF_AEC
-set -e
-aec=$1
-here=$(dirname "$0")
+# Runs the main jobs on small files and shows each command with what came out: run.sh PATH_OF_AEC
+set -eu
+aec=$(realpath "$1")
+here=$(cd "$(dirname "$0")" && pwd)
 out=$(mktemp -d)
 trap 'rm -rf "$out"' EXIT
+cp "$here"/*.aec "$here"/*.raw "$out"
+cd "$out"
 
-"$aec" -d -N "$here/eight_values.aec" "$out/eight_values.raw"
-echo "eight_values.aec, decoded without preprocessing:"
-od -An -tx1 "$out/eight_values.raw"
-"$aec" -d "$here/ramp.aec" "$out/ramp.raw"
-echo "ramp.aec, decoded:"
-od -An -tx1 "$out/ramp.raw"
+# Prints the command as a user types it, and runs it.
+run() {
+    echo "aec $*"
+    "$aec" "$@"
+}
 
-# samples of 16 bits, blocks of 16 samples, intervals of 128 blocks
-options="-n 16 -j 16 -r 128"
-"$aec" $options "$here/durations.raw" "$out/durations.aec"
-"$aec" -d $options "$out/durations.aec" "$out/durations.raw"
-cmp "$here/durations.raw" "$out/durations.raw"
-echo "durations.raw, coded with $options:"
-echo " $(wc -c < "$here/durations.raw") bytes of samples, $(wc -c < "$out/durations.aec") bytes coded; decoded, the same samples"
+bytes() {
+    od -An -tx1 "$1"
+}
+
+# Fails unless a file has, from a byte on, what another file holds.
+holds() {
+    tail -c +$(($2 + 1)) "$1" | head -c "$(wc -c < "$3")" | cmp - "$3"
+}
+
+echo "Eight samples, written by hand as one uncompressed block and by sample splitting:"
+run -d --count 8 -N eight_values.aec samples
+bytes samples
+run -d --count 8 ramp.aec samples
+bytes samples
+run --range 2:3 ramp.aec samples
+bytes samples
+
+echo
+echo "4,090 measured samples of 16 bits, the last block not full:"
+head -c 8180 durations.raw > measured.raw
+run -n 16 -j 16 -r 128 measured.raw measured.aec
+echo "  $(wc -c < measured.raw) bytes of samples are $(wc -c < measured.aec) bytes coded"
+run -d --count 4090 -n 16 -j 16 -r 128 measured.aec back.raw
+cmp measured.raw back.raw
+echo "  the same $(wc -c < back.raw) bytes"
+run -d -n 16 -j 16 -r 128 measured.aec back.raw
+holds back.raw 0 measured.raw
+echo "  $(wc -c < back.raw) bytes: without the count the filler of the last block comes too"
+run --range 2500:4 --count 4090 -n 16 -j 16 -r 128 measured.aec part.raw
+holds measured.raw 5000 part.raw
+echo "  the samples 2500 to 2503:$(od -An -tu2 part.raw)"

@@ -11,7 +11,7 @@ use Rattle.std.proofs.lemmas.List.{take_more, append-nil, take_at, drop-append-l
 use Rattle.aec_params.specs.Codewords.{binary, bits_number, bytes_of, padded_to_byte, bits_of_bytes}
 use Rattle.aec_params.specs.Cutting.{pieces_of, up_to_multiple}
 use Rattle.aec_bits.specs.BitReader.{has_one}
-use Rattle.aec_bits.specs.CodewordLaws.{length-binary, bits_number-append, bits_number-zeros, bits_number-binary}
+use Rattle.aec_bits.proofs.CodewordLaws.{length-binary, bits_number-append, bits_number-zeros, bits_number-binary_mod}
 
 -- the first bit of a number in bits, and the others
 pub binary_first : (w v : ℕ) → 0 < w → binary w v ≡ (bit_and (v / 2 ^ (w - 1)) 1 == 1) ∷ binary (w - 1) v
@@ -143,7 +143,7 @@ byte_at bits i w v within width fits stands =
     let there : 8 * i < length bits = omega (arith, length-bytes_of bits) in
     let spelled : bits_number (binary w v ++ replicate (8 - w) false) ≡ v * 2 ^ (8 - w) =
     bits_number-append (binary w v) (replicate (8 - w) false)
-    ∙ rw (bits_number-binary, bits_number-zeros, length-replicate, mod-eq_of_lt fits) (omega arith) in
+    ∙ rw (bits_number-binary_mod, bits_number-zeros, length-replicate, mod-eq_of_lt fits) (omega arith) in
     sym (
     get_or-map bits_number (pieces_of 8 (padded_to_byte bits)) i [] 0 (omega arith)
     ∙ ap bits_number (get_or-first_chunks 8 count i (padded_to_byte bits) (omega arith) ∙ eight_of bits i w v there width stands)

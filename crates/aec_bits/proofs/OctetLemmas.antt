@@ -7,8 +7,8 @@ use Rattle.std.proofs.lemmas.List.Concat.{flat_map-append}
 use Rattle.aec_params.specs.Codewords.{binary}
 use Rattle.aec_bits.specs.Codec.{BeginsAt}
 use Rattle.aec_bits.specs.Octets.{octet_bits, is_octet, octets}
-use Rattle.aec_bits.specs.OctetsLaw.{octet_number, same_number}
-use Rattle.aec_bits.specs.CodewordLaws.{length-binary}
+use Rattle.aec_bits.proofs.OctetsLaw.{octet_number, same_number}
+use Rattle.aec_bits.proofs.CodewordLaws.{length-binary}
 
 -- each number of a held list is an octet
 pub held_at : (s : List ℤ) (k : ℕ) (d : ℤ) → list_all is_octet s ≡ true → k < length s → is_octet (get_or s k d) ≡ true

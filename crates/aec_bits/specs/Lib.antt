@@ -1,11 +1,7 @@
 pub mod Devices
 pub mod BitBuf
 pub mod BitReader
-pub mod CodewordLaws
 pub mod Codec
 pub mod Refusals
 pub mod Octets
-pub mod OctetsLaw
-pub mod CodeLaws
-pub mod RefusalLaws
 pub mod Laws

@@ -1,5 +1,8 @@
 //! A second lawful codec, and laws that hold of every lawful codec.
 
+ghost use Rattle.std.proofs.Props.{props};
+ghost use Rattle.aec_bits.specs.Codec.{IsLawful};
+ghost use Rattle.aec_bits.specs.Octets.{octets};
 ghost use Rattle.aec_bits.specs.Laws.{CutsAtIntervals, CodesIntervals, StandsBetween, HasOneList, JudgesPlacesFirst, JudgesTheLimitFirst, NamesTheFirstValue, AllowsWhatFits};
 
 use crate::bit_buf::BitBuf;
@@ -13,11 +16,11 @@ use std::alloc::Global;
 pub struct Octets {
     calls: u64,
     reads: u64,
+    ghost lawful: { IsLawful octets } by { Prim.hlevel props },
 }
 
 impl Octets {
     ghost use Rattle.std.specs.Prelude.{◌≡◌};
-    ghost use Rattle.aec_bits.specs.Octets.{octets};
 
     /// A codec that counts on from so many calls. Takes no memory.
     pub fn new(_alloc: Global, calls: u64) -> Octets
@@ -30,16 +33,13 @@ impl Octets {
 }
 
 impl Codec for Octets {
-    ghost use Rattle.aec_bits.specs.Octets.{octets};
-    ghost use Rattle.aec_bits.specs.OctetsLaw.{octets_are_lawful};
-
     ghost format = { λ _. octets };
 
     ghost called = { λ c. c.calls };
 
     ghost read = { λ c. c.reads };
 
-    ghost lawful = { λ _. octets_are_lawful };
+    ghost lawful = { λ c. c.lawful };
 
     fn interval_len(&self) -> u64 {
         4

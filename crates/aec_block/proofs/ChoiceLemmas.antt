@@ -13,7 +13,7 @@ use Rattle.aec_block.specs.declared.choice.Coding.{Coding}
 use Rattle.aec_block.specs.declared.choice.Choice.{Choice}
 use Rattle.aec_block.specs.Choices.{spelling_by, Names, IsChoice}
 use Rattle.aec_block.specs.declared.choice.Coding.TheVariants.{NoCompression, SecondExtension, Split}
-use Rattle.aec_block.specs.Lengths.{uncompressed_len, paired_len, split_len}
+use Rattle.aec_block.specs.Lengths.{uncompressed_length, paired_length, split_length}
 use Rattle.aec_block.proofs.LengthLemmas.{length-uncompressed, length-paired, length-split}
 
 -- the first of the shortest among no compression, second extension and the first so many splitting options
@@ -49,7 +49,7 @@ names-shorter s b c d coding bits best next named by len is =
     names-decided s b c d coding bits best next (is_shorter s c d) named by len chosen
 
 -- the loop's steps
-pub names-first : (s : Settings) (b : Block) (plain pairs : ℕ) (next : Choice) → plain ≡ uncompressed_len s b → pairs ≡ paired_len s b
+pub names-first : (s : Settings) (b : Block) (plain pairs : ℕ) (next : Choice) → plain ≡ uncompressed_length s b → pairs ≡ paired_length s b
     → next ≡ (if nat_lt pairs plain then record { coding = SecondExtension; bits = pairs } else record { coding = NoCompression; bits = plain })
     → Names s b (best_among s b 0) next
 names-first s b plain pairs next at_plain at_pairs is =
@@ -57,7 +57,7 @@ names-first s b plain pairs next at_plain at_pairs is =
     (record { coding = refl; bits = at_plain ∙ sym (length-uncompressed s b) }) refl (at_pairs ∙ sym (length-paired s b)) is
 
 pub names-more : (s : Settings) (b : Block) (k bits : ℕ) (best next : Choice) → Names s b (best_among s b k) best
-    → bits ≡ split_len s b k → next ≡ (if nat_lt bits best.bits then record { coding = Split k; bits = bits } else best)
+    → bits ≡ split_length s b k → next ≡ (if nat_lt bits best.bits then record { coding = Split k; bits = bits } else best)
     → Names s b (best_among s b (k + 1)) next
 names-more s b k bits best next named len is =
     let P : CodedDataSet → Type 0 = λ c. Names s b c next in

@@ -4,7 +4,7 @@ use Rattle.std.proofs.lemmas.Bool.{cases_Bool}
 use Rattle.std.proofs.lemmas.List.{take_all, drop_all, length-append}
 use Rattle.aec_params.specs.Places.{placed_values}
 use Rattle.aec_bits.specs.BitReader.{Cursor}
-use Rattle.aec_block.specs.ReadAt.{Taken, nothing, taken, map_taken, fs_at, binary_at, values_at, members_at, pair_of, before_members, joined_values}
+use Rattle.aec_block.specs.ReadAt.{Taken, nothing, taken, map_taken, fs_at, binary_at, values_at, members_at, pair_with_number, before_members, joined_values}
 use Rattle.aec_block.specs.Gathering.{when, gathered, lows_gathered, with_value}
 
 -- a reader that has moved in its list
@@ -37,12 +37,12 @@ pub values_at-done : {Y : Type 0} (value_at : List Bool → Taken ℕ) (f : List
 values_at-done value_at f n bits count = rw count refl
 
 pub members_at-next : {Y : Type 0} (f g : List ℕ → Y) (n m number : ℕ) (bits rest : List Bool) → n ≡ suc m
-    → fs_at bits ≡ taken number rest → ((later : List ℕ) → f (before_members (pair_of number) later) ≡ g later)
+    → fs_at bits ≡ taken number rest → ((later : List ℕ) → f (before_members (pair_with_number number) later) ≡ g later)
     → map_taken f (members_at n bits) ≡ map_taken g (members_at m rest)
 members_at-next f g n m number bits rest count first same =
     rw (count, first) (joined (members_at m rest))
   where
-    joined : (t : _) → map_taken f (map_taken (before_members (pair_of number)) t) ≡ map_taken g t
+    joined : (t : _) → map_taken f (map_taken (before_members (pair_with_number number)) t) ≡ map_taken g t
     joined nothing = refl
     joined (taken later behind) = ap (λ y. taken y behind) (same later)
 
@@ -95,10 +95,10 @@ gathered-pushed limit before values fit fits v test is later =
 
 -- the members of one more pair have been pushed
 pub gathered-pushed_pair : (limit : ℕ) (before between values : List ℕ) (fit first_fits second_fits : Bool) (first second number : ℕ)
-    → first ≡ (pair_of number).first → second ≡ (pair_of number).second
+    → first ≡ (pair_with_number number).first → second ≡ (pair_with_number number).second
     → first_fits ≡ nat_lt first limit → between ≡ with_value limit before first
     → second_fits ≡ nat_lt second limit → values ≡ with_value limit between second
-    → (later : List ℕ) → gathered limit before fit (before_members (pair_of number) later) ≡ gathered limit values (fit && first_fits && second_fits) later
+    → (later : List ℕ) → gathered limit before fit (before_members (pair_with_number number) later) ≡ gathered limit values (fit && first_fits && second_fits) later
 gathered-pushed_pair limit before between values fit first_fits second_fits first second number
     is_first is_second first_test first_is second_test second_is later =
     rw (← is_first, ← is_second) (gathered-pushed limit before between fit first_fits first first_test first_is (second ∷ later)

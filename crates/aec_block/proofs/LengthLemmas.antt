@@ -9,7 +9,7 @@ use Rattle.aec_params.specs.Codewords.{fs, binary}
 use Rattle.aec_params.specs.Blocks.{Block}
 use Rattle.aec_params.specs.CodedDataSets.{pair_number, pair_bits, reference_bits, cds_bits}
 use Rattle.aec_params.specs.Spellings.{written_values, uncompressed, paired, split}
-use Rattle.aec_block.specs.Lengths.{reference_len, shifted_sum, pairs_len, uncompressed_len, paired_len, split_len}
+use Rattle.aec_block.specs.Lengths.{reference_len, sum_of_shifted, pairs_length, uncompressed_length, paired_length, split_length}
 
 pub length-binary : (w v : ℕ) → length (binary w v) ≡ w
 length-binary zero v = refl
@@ -31,7 +31,7 @@ length-binaries w (v ∷ values) =
     simp length-append (omega arith)
 
 -- the high parts and the low parts of values that are split
-length-high_parts : (k : ℕ) (values : List ℕ) → length (flat_map (λ v. fs (v / 2 ^ k)) values) ≡ shifted_sum k values + length values
+length-high_parts : (k : ℕ) (values : List ℕ) → length (flat_map (λ v. fs (v / 2 ^ k)) values) ≡ sum_of_shifted k values + length values
 length-high_parts k [] = refl
 length-high_parts k (v ∷ values) =
     let rest = length-high_parts k values in
@@ -45,28 +45,28 @@ length-low_parts k (v ∷ values) =
     let here = length-binary k (v % 2 ^ k) in
     simp length-append (omega arith)
 
-pub length-pair_bits : (values : List ℕ) → length (pair_bits values) ≡ pairs_len values
+pub length-pair_bits : (values : List ℕ) → length (pair_bits values) ≡ pairs_length values
 length-pair_bits [] = refl
 length-pair_bits (a ∷ []) = refl
 length-pair_bits (a ∷ (b ∷ values)) =
     let rest = length-pair_bits values in
     simp (length-append, length-replicate) (omega arith)
 
-pub length-uncompressed : (s : Settings) (b : Block) → length (cds_bits s (uncompressed b)) ≡ uncompressed_len s b
+pub length-uncompressed : (s : Settings) (b : Block) → length (cds_bits s (uncompressed b)) ≡ uncompressed_length s b
 length-uncompressed s b =
     let head = length-binary (id_len s) (2 ^ id_len s - 1) in
     let reference = length-reference_bits s b.reference in
     let body = length-binaries s.bits (written_values b) in
     simp length-append (omega arith)
 
-pub length-paired : (s : Settings) (b : Block) → length (cds_bits s (paired b)) ≡ paired_len s b
+pub length-paired : (s : Settings) (b : Block) → length (cds_bits s (paired b)) ≡ paired_length s b
 length-paired s b =
     let head = length-binary (id_len s + 1) 1 in
     let reference = length-reference_bits s b.reference in
     let body = length-pair_bits b.values in
     simp length-append (omega arith)
 
-pub length-split : (s : Settings) (b : Block) (k : ℕ) → length (cds_bits s (split b k)) ≡ split_len s b k
+pub length-split : (s : Settings) (b : Block) (k : ℕ) → length (cds_bits s (split b k)) ≡ split_length s b k
 length-split s b k =
     let head = length-binary (id_len s) (k + 1) in
     let reference = length-reference_bits s b.reference in
@@ -75,23 +75,23 @@ length-split s b k =
     simp length-append (omega arith)
 
 -- the next pair of values, and the end
-pub pairs_len-drop : (values : List ℕ) (i j k : ℕ) → j ≡ i + 1 → k ≡ i + 2 → j < length values
-    → pairs_len (drop i values) ≡ pair_number (get_or values i 0) (get_or values j 0) + 1 + pairs_len (drop k values)
-pairs_len-drop values i j k next after within =
+pub pairs_length-drop : (values : List ℕ) (i j k : ℕ) → j ≡ i + 1 → k ≡ i + 2 → j < length values
+    → pairs_length (drop i values) ≡ pair_number (get_or values i 0) (get_or values j 0) + 1 + pairs_length (drop k values)
+pairs_length-drop values i j k next after within =
     let here : i < length values = omega arith in
     let there : suc i < length values = omega arith in
     let first = drop-cons values i 0 here in
     let second = drop-cons values (suc i) 0 there in
     let at_j : j ≡ suc i = omega arith in
     let at_k : k ≡ suc (suc i) = omega arith in
-    rw (at_j, at_k) (ap pairs_len first ∙ ap (λ (rest : List ℕ). pairs_len (get_or values i 0 ∷ rest)) second)
+    rw (at_j, at_k) (ap pairs_length first ∙ ap (λ (rest : List ℕ). pairs_length (get_or values i 0 ∷ rest)) second)
 
-pairs_len-short : (values : List ℕ) → length values ≤ 1 → pairs_len values ≡ 0
-pairs_len-short [] few = refl
-pairs_len-short (a ∷ []) few = refl
-pairs_len-short (a ∷ (b ∷ values)) few = absurd (omega arith)
+pairs_length-short : (values : List ℕ) → length values ≤ 1 → pairs_length values ≡ 0
+pairs_length-short [] few = refl
+pairs_length-short (a ∷ []) few = refl
+pairs_length-short (a ∷ (b ∷ values)) few = absurd (omega arith)
 
-pub pairs_len-drop_end : (values : List ℕ) (i : ℕ) → length values ≤ i + 1 → pairs_len (drop i values) ≡ 0
-pairs_len-drop_end values i few = pairs_len-short (drop i values) (omega (arith, length-drop i values))
+pub pairs_length-drop_end : (values : List ℕ) (i : ℕ) → length values ≤ i + 1 → pairs_length (drop i values) ≡ 0
+pairs_length-drop_end values i few = pairs_length-short (drop i values) (omega (arith, length-drop i values))
 
-pub ruleset pair_steps = (pairs_len-drop, pairs_len-drop_end)
+pub ruleset pair_steps = (pairs_length-drop, pairs_length-drop_end)

@@ -2,7 +2,7 @@
 use Rattle.std.proofs.Common.{◌≡◌, ℕ, zero, suc, ◌+◌, ◌-◌, ◌*◌, ◌≤◌, Bool, refl, sym, ap, ◌∙◌, add-one, zero-add, append_assoc, List, [], ◌∷◌, ◌++◌, length, arith}
 use Rattle.aec_params.specs.Codewords.{fs}
 use Rattle.aec_params.specs.CodedDataSets.{pair_number, pair_bits}
-use Rattle.aec_block.specs.ReadAt.{taken, map_taken, fs_at, next_pair, pair_of, before_members, members_at}
+use Rattle.aec_block.specs.ReadAt.{taken, map_taken, fs_at, next_pair, pair_with_number, before_members, members_at}
 use Rattle.aec_block.proofs.CodewordLemmas.{fs_at-fs, fs_at-spelled, then_at-passed, map_taken-mapped}
 
 -- the sum of the numbers up to n
@@ -22,34 +22,34 @@ le_triangle zero = omega arith
 le_triangle (suc n) = omega (arith, le_triangle n)
 
 -- the pair before another has the number before
-pub pair_of-number : (m a b : ℕ) → triangle (a + b) + b ≡ m → pair_of m ≡ record { first = a; second = b }
-pair_of-number zero a b e =
+pub pair_with_number-number : (m a b : ℕ) → triangle (a + b) + b ≡ m → pair_with_number m ≡ record { first = a; second = b }
+pair_with_number-number zero a b e =
     let low = le_triangle (a + b) in
     let no_first : a ≡ 0 = omega arith in
     let no_second : b ≡ 0 = omega arith in
     rw (no_first, no_second) refl
-pair_of-number (suc m) zero zero e = absurd (omega arith)
-pair_of-number (suc m) (suc a) zero e =
+pair_with_number-number (suc m) zero zero e = absurd (omega arith)
+pair_with_number-number (suc m) (suc a) zero e =
     let sum : suc a + 0 ≡ suc a = omega arith in
     let number : triangle (suc a) + 0 ≡ suc m = rw sum at e in
     let from_zero : 0 + a ≡ a = zero-add a in
     let before : triangle (0 + a) + a ≡ m = rw from_zero (omega arith) in
     let place : a + 1 ≡ suc a = add-one a in
-    ap next_pair (pair_of-number m 0 a before) ∙ ap (λ n. record { first = n; second = 0 }) place
-pair_of-number (suc m) a (suc b) e =
+    ap next_pair (pair_with_number-number m 0 a before) ∙ ap (λ n. record { first = n; second = 0 }) place
+pair_with_number-number (suc m) a (suc b) e =
     let sum : a + suc b ≡ suc a + b = omega arith in
     let number : triangle (suc a + b) + suc b ≡ suc m = rw sum at e in
     let before : triangle (suc a + b) + b ≡ m = omega arith in
-    ap next_pair (pair_of-number m (suc a) b before) ∙ rw (add-one b) refl
+    ap next_pair (pair_with_number-number m (suc a) b before) ∙ rw (add-one b) refl
 
-pub pair_of-pair_number : (a b : ℕ) → pair_of (pair_number a b) ≡ record { first = a; second = b }
-pair_of-pair_number a b = pair_of-number (pair_number a b) a b (sym (pair_number-triangle a b))
+pub pair_with_number-pair_number : (a b : ℕ) → pair_with_number (pair_number a b) ≡ record { first = a; second = b }
+pair_with_number-pair_number a b = pair_with_number-number (pair_number a b) a b (sym (pair_number-triangle a b))
 
 -- the pair by its sum and its second member
-pub pair_of-sum : (m sum second : ℕ) → triangle sum + second ≡ m → second ≤ sum → pair_of m ≡ record { first = sum - second; second = second }
-pair_of-sum m sum second number within =
+pub pair_with_number-sum : (m sum second : ℕ) → triangle sum + second ≡ m → second ≤ sum → pair_with_number m ≡ record { first = sum - second; second = second }
+pair_with_number-sum m sum second number within =
     let whole : sum - second + second ≡ sum = omega arith in
-    pair_of-number m (sum - second) second (ap (λ n. triangle n + second) whole ∙ number)
+    pair_with_number-number m (sum - second) second (ap (λ n. triangle n + second) whole ∙ number)
 
 next_number : (a b : ℕ) → let p = next_pair (record { first = a; second = b }) in
     triangle (p.first + p.second) + p.second ≡ suc (triangle (a + b) + b)
@@ -61,12 +61,12 @@ next_number (suc a) b =
     let sum : a + (b + 1) ≡ suc a + b = omega arith in
     rw sum (omega arith)
 
-triangle_number : (m : ℕ) → triangle ((pair_of m).first + (pair_of m).second) + (pair_of m).second ≡ m
+triangle_number : (m : ℕ) → triangle ((pair_with_number m).first + (pair_with_number m).second) + (pair_with_number m).second ≡ m
 triangle_number zero = refl
-triangle_number (suc m) = next_number (pair_of m).first (pair_of m).second ∙ ap (λ n. suc n) (triangle_number m)
+triangle_number (suc m) = next_number (pair_with_number m).first (pair_with_number m).second ∙ ap (λ n. suc n) (triangle_number m)
 
-pub pair_number-pair_of : (m : ℕ) → pair_number (pair_of m).first (pair_of m).second ≡ m
-pair_number-pair_of m = pair_number-triangle (pair_of m).first (pair_of m).second ∙ triangle_number m
+pub pair_number-pair_with_number : (m : ℕ) → pair_number (pair_with_number m).first (pair_with_number m).second ≡ m
+pair_number-pair_with_number m = pair_number-triangle (pair_with_number m).first (pair_with_number m).second ∙ triangle_number m
 
 -- ---- the codewords of pairs
 
@@ -79,7 +79,7 @@ members_at-pair_bits (suc n) (a ∷ (b ∷ values)) rest even =
     rw (
       append_assoc (fs (pair_number a b)) (pair_bits values) rest,
       fs_at-fs (pair_number a b) (pair_bits values ++ rest),
-      pair_of-pair_number a b,
+      pair_with_number-pair_number a b,
       members_at-pair_bits n values rest (omega arith),
     ) refl
 
@@ -95,11 +95,11 @@ members_at-spelled zero bits values rest e =
     let same : bits ≡ rest = cc in
     rw (← none) (record { count = refl; spelled = same })
 members_at-spelled (suc n) bits values rest e =
-    let p = then_at-passed (fs_at bits) (λ m behind. map_taken (before_members (pair_of m)) (members_at n behind)) values rest e in
-    let m = map_taken-mapped (before_members (pair_of p.value)) (members_at n p.behind) values rest p.after in
+    let p = then_at-passed (fs_at bits) (λ m behind. map_taken (before_members (pair_with_number m)) (members_at n behind)) values rest e in
+    let m = map_taken-mapped (before_members (pair_with_number p.value)) (members_at n p.behind) values rest p.after in
     let later = members_at-spelled n p.behind m.value rest m.before in
     let first = fs_at-spelled bits p.value p.behind p.before in
-    let number = pair_number-pair_of p.value in
+    let number = pair_number-pair_with_number p.value in
     let even : suc (suc (length m.value)) ≡ 2 * suc n = omega (arith, later.count) in
     rw (← m.after) (record {
       count = even;

@@ -9,13 +9,13 @@ use Rattle.std.proofs.lemmas.Nat.{pow_pos, mul-le}
 use Rattle.aec_params.specs.declared.settings.Settings.{Settings}
 use Rattle.aec_params.specs.Codewords.{fs, binary}
 use Rattle.aec_params.specs.Blocks.{Block}
-use Rattle.aec_params.specs.Places.{placed_values}
-use Rattle.aec_params.specs.CodedDataSets.{plain_values, value_pairs, judged_in, written_count}
+use Rattle.aec_params.specs.Places.{placed_values, block_of_values}
+use Rattle.aec_params.specs.CodedDataSets.{uncompressed_values, value_pairs, judged_in, written_count}
 use Rattle.aec_block.specs.declared.cds.Cds.TheVariants.{Single}
 use Rattle.aec_block.specs.declared.reading.Kind.{Kind}
 use Rattle.aec_block.specs.declared.reading.Kind.TheVariants.{NoCompression}
-use Rattle.aec_block.specs.ReadAt.{Taken, nothing, taken, map_taken, fs_at, binary_at, values_at, members_at, split_at, joined_values, pair_of, before_members, body_at}
-use Rattle.aec_block.specs.Gathering.{when, all_below, gathered, lows_gathered, with_value, plain_block, small_block, pair_block}
+use Rattle.aec_block.specs.ReadAt.{Taken, nothing, taken, map_taken, fs_at, binary_at, values_at, members_at, split_at, joined_values, pair_with_number, before_members, body_at}
+use Rattle.aec_block.specs.Gathering.{when, all_below, gathered, lows_gathered, with_value, small_block, pair_block}
 use Rattle.aec_block.specs.ReadCds.{checked_body}
 use Rattle.aec_block.proofs.CodewordLemmas.{map_taken-mapped, binary_reader, fs_reader, values_at-spelled}
 use Rattle.aec_block.proofs.GatheringLemmas.{placed_values-append, members_at-next, gathered-pushed}
@@ -66,11 +66,11 @@ fitted limit values false later_fit f (taken x behind) gathered_values rest read
 
 -- the members of the first pair have been pushed
 first_pair : (limit number : ℕ) (reference : Option ℕ) (between values : List ℕ) (first second : ℕ) (first_fits second_fits : Bool)
-    → first ≡ (pair_of number).first → second ≡ (pair_of number).second
+    → first ≡ (pair_with_number number).first → second ≡ (pair_with_number number).second
     → first_fits ≡ (is_some reference || nat_lt first limit)
     → between ≡ (if is_some reference then placed_values reference [] else with_value limit (placed_values reference []) first)
     → second_fits ≡ nat_lt second limit → values ≡ with_value limit between second → (later : List ℕ)
-    → gathered limit (placed_values reference []) true (judged_in reference (value_pairs (before_members (pair_of number) later)))
+    → gathered limit (placed_values reference []) true (judged_in reference (value_pairs (before_members (pair_with_number number) later)))
     ≡ gathered limit values (first_fits && second_fits) later
 first_pair limit number None between values first second first_fits second_fits is_first is_second first_test first_is second_test second_is later =
     rw (← is_first, ← is_second) (gathered-pushed limit [] between true first_fits first first_test first_is (second ∷ later)
@@ -82,7 +82,7 @@ first_pair limit number (Some r) between values first second first_fits second_f
 pub pairs_taken : (limit n m number : ℕ) (reference : Option ℕ) (start behind rest : List Bool) (between values : List ℕ) (first second : ℕ)
     (first_fits second_fits later_fit : Bool) (block : Block)
     → n ≡ suc m → fs_at start ≡ taken number behind
-    → first ≡ (pair_of number).first → second ≡ (pair_of number).second
+    → first ≡ (pair_with_number number).first → second ≡ (pair_with_number number).second
     → first_fits ≡ (is_some reference || nat_lt first limit)
     → between ≡ (if is_some reference then placed_values reference [] else with_value limit (placed_values reference []) first)
     → second_fits ≡ nat_lt second limit → values ≡ with_value limit between second
@@ -102,7 +102,7 @@ pairs_taken limit n m number reference start behind rest between values first se
 pub pairs_answered : (bits limit n m number : ℕ) (reference : Option ℕ) (start behind rest : List Bool) (new : Block) (between values : List ℕ)
     (first second : ℕ) (first_fits second_fits later_fit : Bool) (block : Block) (answer : Option Block)
     → limit ≡ 2 ^ bits → n ≡ suc m → fs_at start ≡ taken number behind
-    → first ≡ (pair_of number).first → second ≡ (pair_of number).second
+    → first ≡ (pair_with_number number).first → second ≡ (pair_with_number number).second
     → new.reference ≡ reference → new.values ≡ placed_values reference []
     → first_fits ≡ (is_some new.reference || nat_lt first limit)
     → between ≡ (if is_some new.reference then new.values else with_value limit new.values first)
@@ -209,21 +209,21 @@ all_below-from_all limit [] all = refl
 all_below-from_all limit (v ∷ values) all = rw (lt-ltb v limit all.0, all_below-from_all limit values all.1) refl
 
 plain_checked : (s : Settings) (reference : Option ℕ) (values : List ℕ) → AllByRecursion (λ v. v < 2 ^ s.bits) values
-    → checked_body s reference (plain_values values) ≡ Some (Single (plain_block reference values))
+    → checked_body s reference (uncompressed_values values) ≡ Some (Single (block_of_values reference values))
 plain_checked s reference values all = rw (all_below-from_all (2 ^ s.bits) values all) refl
 
 pub plain_taken : (s : Settings) (reference : Option ℕ) (n : ℕ) (start rest : List Bool) (block : Block)
-    → map_taken (plain_block reference) (values_at (binary_at s.bits) n start) ≡ taken block rest
-    → map_taken (checked_body s reference) (map_taken plain_values (values_at (binary_at s.bits) n start)) ≡ taken (Some (Single block)) rest
+    → map_taken (block_of_values reference) (values_at (binary_at s.bits) n start) ≡ taken block rest
+    → map_taken (checked_body s reference) (map_taken uncompressed_values (values_at (binary_at s.bits) n start)) ≡ taken (Some (Single block)) rest
 plain_taken s reference n start rest block read =
-    let m = map_taken-mapped (plain_block reference) (values_at (binary_at s.bits) n start) block rest read in
+    let m = map_taken-mapped (block_of_values reference) (values_at (binary_at s.bits) n start) block rest read in
     let spelled = values_at-spelled (binary s.bits) (λ v. v < 2 ^ s.bits) (binary_at s.bits) (binary_reader s.bits) n start m.value rest m.before in
-    ap (λ t. map_taken (checked_body s reference) (map_taken plain_values t)) m.before
+    ap (λ t. map_taken (checked_body s reference) (map_taken uncompressed_values t)) m.before
     ∙ ap (λ o. taken o rest) (plain_checked s reference m.value spelled.all ∙ ap (λ b. Some (Single b)) m.after)
 
 pub plain_body : (s : Settings) (reference : Option ℕ) (is_reference : Bool) (kind : Kind) (n : ℕ) (start rest : List Bool) (block : Block)
     → kind ≡ NoCompression → n ≡ written_count s (is_some reference) → is_some reference ≡ is_reference
-    → map_taken (plain_block reference) (values_at (binary_at s.bits) n start) ≡ taken block rest
+    → map_taken (block_of_values reference) (values_at (binary_at s.bits) n start) ≡ taken block rest
     → map_taken (checked_body s reference) (body_at s is_reference kind start) ≡ taken (Some (Single block)) rest
 plain_body s reference is_reference kind n start rest block is_kind count due read =
     rw (is_kind, ← due, ← count) (plain_taken s reference n start rest block read)

@@ -4,7 +4,7 @@ use Rattle.std.proofs.lemmas.Bool.{or_cases, eqb-true, cases_eq}
 use Rattle.aec_params.specs.declared.settings.Settings.{Settings}
 use Rattle.aec_params.specs.Params.{IsAllowed, id_len, is_block_size}
 use Rattle.aec_params.specs.Codewords.{binary}
-use Rattle.aec_params.specs.CodedDataSets.{Body, plain_values, value_pairs, split_values, zero_blocks, CodedDataSet, identifier, reference_bits, body_bits, cds_bits, HasReference, written_count, HasBody, HasShape}
+use Rattle.aec_params.specs.CodedDataSets.{Body, uncompressed_values, value_pairs, split_values, zero_blocks, CodedDataSet, identifier, reference_bits, body_bits, cds_bits, HasReference, written_count, HasBody, HasShape}
 use Rattle.aec_block.specs.declared.reading.Kind.{Kind}
 use Rattle.aec_block.specs.declared.reading.Kind.TheVariants.{ZeroBlocks, SecondExtension, Split, NoCompression}
 use Rattle.aec_block.specs.ReadAt.{nothing, taken, then_at, map_taken, fs_at, binary_at, values_at, members_at, split_at, kind_at, reference_at, body_at, set_of, set_after_reference, set_after_kind, cds_at}
@@ -59,19 +59,19 @@ block_size-some s allowed =
 -- ---- the kind of a body
 
 abbrev pub kind_of : Body → Kind
-kind_of (plain_values values) = NoCompression
+kind_of (uncompressed_values values) = NoCompression
 kind_of (value_pairs values) = SecondExtension
 kind_of (split_values k values) = Split k
 kind_of (zero_blocks m) = ZeroBlocks
 
 pub identifier-kind_bits : (s : Settings) (body : Body) → identifier s body ≡ kind_bits (id_len s) (kind_of body)
-identifier-kind_bits s (plain_values values) = refl
+identifier-kind_bits s (uncompressed_values values) = refl
 identifier-kind_bits s (value_pairs values) = refl
 identifier-kind_bits s (split_values k values) = refl
 identifier-kind_bits s (zero_blocks m) = refl
 
 has_kind : (s : Settings) (is_reference : Bool) (body : Body) → HasBody s is_reference body → IsKind (id_len s) (kind_of body)
-has_kind s is_reference (plain_values values) has = tt
+has_kind s is_reference (uncompressed_values values) has = tt
 has_kind s is_reference (value_pairs values) has = tt
 has_kind s is_reference (split_values k values) has = has.0
 has_kind s is_reference (zero_blocks m) has = tt
@@ -104,7 +104,7 @@ reference_at-spelled s false bits reference rest e =
 
 body_at-bits : (s : Settings) (is_reference : Bool) (body : Body) (rest : List Bool) → IsAllowed s → HasBody s is_reference body
     → body_at s is_reference (kind_of body) (body_bits s body ++ rest) ≡ taken body rest
-body_at-bits s is_reference (plain_values values) rest allowed has =
+body_at-bits s is_reference (uncompressed_values values) rest allowed has =
     rw (← has.0, values_at-reads (binary s.bits) (λ v. v < 2 ^ s.bits) (binary_at s.bits) (binary_reader s.bits) values rest has.1) refl
 body_at-bits s is_reference (value_pairs values) rest allowed has =
     rw (members_at-pair_bits (s.block_size / 2) values rest (has ∙ sym (block_size-even s allowed))) refl
@@ -121,7 +121,7 @@ body_at-spelled : (s : Settings) (is_reference : Bool) (kind : Kind) (bits : Lis
     → body_at s is_reference kind bits ≡ taken body rest → SpelledBody s is_reference kind bits body rest
 body_at-spelled s is_reference NoCompression bits body rest allowed is_kind e =
     let n = written_count s is_reference in
-    let m = map_taken-mapped plain_values (values_at (binary_at s.bits) n bits) body rest e in
+    let m = map_taken-mapped uncompressed_values (values_at (binary_at s.bits) n bits) body rest e in
     let read = values_at-spelled (binary s.bits) (λ v. v < 2 ^ s.bits) (binary_at s.bits) (binary_reader s.bits) n bits m.value rest m.before in
     rw (← m.after) (record { kind_is = refl; has = (read.count, read.all); spelled = read.spelled })
 body_at-spelled s is_reference SecondExtension bits body rest allowed is_kind e =

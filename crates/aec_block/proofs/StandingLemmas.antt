@@ -12,7 +12,8 @@ use Rattle.aec_bits.specs.BitReader.{Cursor}
 use Rattle.aec_block.specs.declared.cds.Cds.{Cds}
 use Rattle.aec_block.specs.ReadAt.{Taken, nothing, taken, map_taken, cds_at}
 use Rattle.aec_block.specs.Gathering.{bits_at, when}
-use Rattle.aec_block.specs.ReadCds.{cds_of, checked, IsSetAt, IsReadAs, IsNotRead, cut_short, too_large}
+use Rattle.aec_params.specs.Faults.{IsSetAt, IsNotRead, cut_short, too_large}
+use Rattle.aec_block.specs.ReadCds.{cds_of, checked, IsReadAs}
 use Rattle.aec_block.specs.Laws.{OneSetStands}
 use Rattle.aec_block.proofs.CodewordLemmas.{map_taken-mapped}
 use Rattle.aec_block.proofs.SetLemmas.{what_is_read_is_spelled, none_begins, no_set_is_a_prefix}

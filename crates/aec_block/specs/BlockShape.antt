@@ -1,10 +1,13 @@
--- What holds of every block.
-use Rattle.std.specs.Prelude.{◌≡◌, ◌≤◌, length}
+-- What holds of every block in code: the invariant of `Block`.
+use Rattle.std.specs.Prelude.{ℕ, ◌≤◌, length}
 use Rattle.aec_params.specs.Blocks.{Block}
-use Rattle.aec_params.specs.Places.{placed_values}
-use Rattle.aec_params.specs.Spellings.{written_values}
+use Rattle.aec_params.specs.BlockShapes.{HasReferencePlace}
 
--- at most 64 values, of which the first is 0 where there is a reference
+-- the most values of a block: those of the greatest block size
+abbrev pub most_values : ℕ
+most_values = 64
+
+-- at most so many values, of which the first is 0 where there is a reference
 pub record IsSound (b : Block) : Type 0 where
-  pub len : length b.values ≤ 64
-  pub placed : b.values ≡ placed_values b.reference (written_values b)
+  pub len : length b.values ≤ most_values
+  pub placed : HasReferencePlace b.reference b.values

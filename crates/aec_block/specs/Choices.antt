@@ -1,9 +1,9 @@
 -- The choice of a block's coding: which spelling each names, and the one that is made.
-use Rattle.std.specs.Prelude.{◌≡◌, ℕ, ◌^◌, ◌<◌, ⊤, Option, Some, None, length}
+use Rattle.std.specs.Prelude.{◌≡◌, ℕ, ◌^◌, ◌<◌, Option, is_some, length}
 use Rattle.std.specs.List.{AllByRecursion}
 use Rattle.aec_params.specs.declared.settings.Settings.{Settings}
 use Rattle.aec_params.specs.Blocks.{Block}
-use Rattle.aec_params.specs.CodedDataSets.{CodedDataSet, cds_bits}
+use Rattle.aec_params.specs.CodedDataSets.{CodedDataSet, cds_bits, HasReference}
 use Rattle.aec_params.specs.Spellings.{uncompressed, paired, split, shortest_spelling}
 use Rattle.aec_block.specs.declared.choice.Coding.{Coding}
 use Rattle.aec_block.specs.declared.choice.Coding.TheVariants.{NoCompression, SecondExtension, Split}
@@ -11,8 +11,7 @@ use Rattle.aec_block.specs.declared.choice.Choice.{Choice}
 
 -- a reference sample's pattern fits n bits, where there is one
 abbrev pub FitsReference : Settings → Option ℕ → Type 0
-FitsReference s None = ⊤
-FitsReference s (Some r) = r < 2 ^ s.bits
+FitsReference s reference = HasReference s (is_some reference) reference
 
 -- a block that these settings have: J values and a reference, all of n bits
 pub record IsFull (s : Settings) (b : Block) : Type 0 where

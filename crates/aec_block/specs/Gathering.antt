@@ -4,7 +4,7 @@ use Rattle.std.specs.Prelude.{ℕ, Bool, ◌&&◌, nat_lt, if◌then◌else◌, 
 use Rattle.std.specs.List.{list_all}
 use Rattle.aec_bits.specs.BitReader.{Cursor}
 use Rattle.aec_params.specs.Blocks.{Block}
-use Rattle.aec_params.specs.Places.{placed_values, placed_members}
+use Rattle.aec_params.specs.Places.{block_of_values, block_of_members}
 use Rattle.aec_params.specs.CodedDataSets.{value_pairs, judged_in}
 use Rattle.aec_block.specs.ReadAt.{Taken, nothing, taken, joined_values}
 
@@ -41,15 +41,11 @@ lows_gathered limit before fit k highs lows = gathered limit before fit (joined_
 abbrev pub with_value : ℕ → List ℕ → ℕ → List ℕ
 with_value limit before v = if nat_lt v limit then before ++ v ∷ [] else before
 
--- the block of values that are written one by one
-abbrev pub plain_block : Option ℕ → List ℕ → Block
-plain_block reference values = record { reference = reference; values = placed_values reference values }
-
 -- the block of such values, where they are below the limit
 abbrev pub small_block : ℕ → Option ℕ → List ℕ → Option Block
-small_block limit reference values = when (all_below limit values) (plain_block reference values)
+small_block limit reference values = when (all_below limit values) (block_of_values reference values)
 
 -- the block of the members of pairs, where those that are values are below the limit
 abbrev pub pair_block : ℕ → Option ℕ → List ℕ → Option Block
 pair_block limit reference members =
-    when (all_below limit (judged_in reference (value_pairs members))) (record { reference = reference; values = placed_members reference members })
+    when (all_below limit (judged_in reference (value_pairs members))) (block_of_members reference members)

@@ -3,8 +3,8 @@ use Rattle.std.specs.Prelude.{◌≡◌, ℕ, Bool, ◌↔◌, List, ◌++◌}
 use Rattle.aec_params.specs.declared.settings.Settings.{Settings}
 use Rattle.aec_params.specs.Params.{IsAllowed}
 use Rattle.aec_params.specs.CodedDataSets.{CodedDataSet, cds_bits, HasShape}
+use Rattle.aec_params.specs.Faults.{IsSetAt}
 use Rattle.aec_block.specs.ReadAt.{nothing, taken, cds_at}
-use Rattle.aec_block.specs.ReadCds.{IsSetAt}
 
 -- a coded data set is read back from its bits, whatever stands behind them
 abbrev pub WhatIsSpelledIsRead : Type 0

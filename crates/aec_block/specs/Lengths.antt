@@ -1,4 +1,4 @@
--- The length of each spelling of a block, as a sum.
+-- What the private functions of `lengths` compute: the length of each spelling of a block, as a sum.
 use Rattle.std.specs.Prelude.{ℕ, ◌+◌, ◌*◌, ◌/◌, ◌^◌, Option, Some, None, List, [], ◌∷◌, length}
 use Rattle.std.specs.List.{sum_by}
 use Rattle.aec_params.specs.declared.settings.Settings.{Settings}
@@ -13,25 +13,25 @@ reference_len s None = 0
 reference_len s (Some r) = s.bits
 
 -- bits of an identifier of the usual length and the reference sample
-abbrev pub head_len : Settings → Option ℕ → ℕ
-head_len s reference = id_len s + reference_len s reference
+abbrev pub head_length : Settings → Option ℕ → ℕ
+head_length s reference = id_len s + reference_len s reference
 
 -- the values without their k low bits, added up
-abbrev pub shifted_sum : ℕ → List ℕ → ℕ
-shifted_sum k values = sum_by (λ v. v / 2 ^ k) values
+abbrev pub sum_of_shifted : ℕ → List ℕ → ℕ
+sum_of_shifted k values = sum_by (λ v. v / 2 ^ k) values
 
 -- bits of the codewords of consecutive pairs
-abbrev pub pairs_len : List ℕ → ℕ
-pairs_len [] = 0
-pairs_len (a ∷ []) = 0
-pairs_len (a ∷ (b ∷ values)) = pair_number a b + 1 + pairs_len values
+abbrev pub pairs_length : List ℕ → ℕ
+pairs_length [] = 0
+pairs_length (a ∷ []) = 0
+pairs_length (a ∷ (b ∷ values)) = pair_number a b + 1 + pairs_length values
 
 -- bits of the spelling by no compression, by second extension, and by splitting with k
-abbrev pub uncompressed_len : Settings → Block → ℕ
-uncompressed_len s b = head_len s b.reference + length (written_values b) * s.bits
+abbrev pub uncompressed_length : Settings → Block → ℕ
+uncompressed_length s b = head_length s b.reference + length (written_values b) * s.bits
 
-abbrev pub paired_len : Settings → Block → ℕ
-paired_len s b = head_len s b.reference + 1 + pairs_len b.values
+abbrev pub paired_length : Settings → Block → ℕ
+paired_length s b = head_length s b.reference + 1 + pairs_length b.values
 
-abbrev pub split_len : Settings → Block → ℕ → ℕ
-split_len s b k = head_len s b.reference + (shifted_sum k (written_values b) + length (written_values b) * (k + 1))
+abbrev pub split_length : Settings → Block → ℕ → ℕ
+split_length s b k = head_length s b.reference + (sum_of_shifted k (written_values b) + length (written_values b) * (k + 1))

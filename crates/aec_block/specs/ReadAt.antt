@@ -3,7 +3,7 @@ use Rattle.std.specs.Prelude.{ℕ, zero, suc, ◌+◌, ◌-◌, ◌*◌, ◌/◌
 use Rattle.aec_params.specs.declared.settings.Settings.{Settings}
 use Rattle.aec_params.specs.Params.{id_len}
 use Rattle.aec_params.specs.Codewords.{bits_number}
-use Rattle.aec_params.specs.CodedDataSets.{Body, plain_values, value_pairs, split_values, zero_blocks, CodedDataSet, written_count}
+use Rattle.aec_params.specs.CodedDataSets.{Body, uncompressed_values, value_pairs, split_values, zero_blocks, CodedDataSet, written_count}
 use Rattle.aec_block.specs.declared.reading.Kind.{Kind}
 use Rattle.aec_block.specs.declared.reading.Kind.TheVariants.{ZeroBlocks, SecondExtension, Split, NoCompression}
 
@@ -72,9 +72,9 @@ abbrev pub next_pair : Pair → Pair
 next_pair p = pair_after p.first p.second
 
 -- the pair of a number
-abbrev pub pair_of : ℕ → Pair
-pair_of zero = record { first = 0; second = 0 }
-pair_of (suc m) = next_pair (pair_of m)
+abbrev pub pair_with_number : ℕ → Pair
+pair_with_number zero = record { first = 0; second = 0 }
+pair_with_number (suc m) = next_pair (pair_with_number m)
 
 abbrev pub before_members : Pair → List ℕ → List ℕ
 before_members p members = p.first ∷ (p.second ∷ members)
@@ -82,7 +82,7 @@ before_members p members = p.first ∷ (p.second ∷ members)
 -- the members of so many pairs
 abbrev pub members_at : ℕ → List Bool → Taken (List ℕ)
 members_at zero bits = taken [] bits
-members_at (suc n) bits = then_at (fs_at bits) (λ m rest. map_taken (before_members (pair_of m)) (members_at n rest))
+members_at (suc n) bits = then_at (fs_at bits) (λ m rest. map_taken (before_members (pair_with_number m)) (members_at n rest))
 
 -- values from their high parts and their lowest k bits
 abbrev pub joined_values : ℕ → List ℕ → List ℕ → List ℕ
@@ -98,7 +98,7 @@ abbrev pub split_at : ℕ → ℕ → List Bool → Taken (List ℕ)
 split_at k n bits = then_at (values_at fs_at n bits) (lows_at k n)
 
 abbrev pub body_at : Settings → Bool → Kind → List Bool → Taken Body
-body_at s is_reference NoCompression bits = map_taken plain_values (values_at (binary_at s.bits) (written_count s is_reference) bits)
+body_at s is_reference NoCompression bits = map_taken uncompressed_values (values_at (binary_at s.bits) (written_count s is_reference) bits)
 body_at s is_reference SecondExtension bits = map_taken value_pairs (members_at (s.block_size / 2) bits)
 body_at s is_reference (Split k) bits = map_taken (split_values k) (split_at k (written_count s is_reference) bits)
 body_at s is_reference ZeroBlocks bits = map_taken zero_blocks (fs_at bits)

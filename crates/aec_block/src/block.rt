@@ -5,7 +5,7 @@ use std::alloc::Global;
 use std::marker::Model;
 
 /// The most values of a block.
-const MOST_VALUES: usize = 64;
+pub(crate) const MOST_VALUES: usize = 64;
 
 /// A block of at most 64 mapped values, and the reference sample's pattern where it has one; then 0 stands in the
 /// reference place, which is the first. The values lie in the block itself, so no call takes memory.
@@ -18,21 +18,21 @@ pub struct Block {
 impl Model for Block {
     ghost use Rattle.std.specs.Prelude.{◌≡◌};
     ghost use Rattle.aec_params.specs.Blocks.{Block as Values};
-    ghost use Rattle.aec_block.specs.BlockShape.{IsSound};
+    ghost use Rattle.aec_block.specs.BlockShape.{most_values, IsSound};
 
     ghost Value = { Values };
 
     ghost view = { λ b. record { reference = b.reference; values = b.values.items } };
 
-    ghost invariant = { λ b. (b.values.capacity ≡ 64) × IsSound (record { reference = b.reference; values = b.values.items }) };
+    ghost invariant = { λ b. (b.values.capacity ≡ most_values) × IsSound (record { reference = b.reference; values = b.values.items }) };
 }
 
 impl Block {
     ghost use Rattle.std.specs.Prelude.{◌≡◌, ◌<◌, ◌≤◌, [], ◌∷◌, ◌++◌, length};
     ghost use Rattle.aec_params.specs.Blocks.{Block as Values, is_zero_block};
     ghost use Rattle.aec_params.specs.Places.{placed_values};
-    ghost use Rattle.aec_params.specs.Spellings.{written_values as written_values_of};
-    ghost use Rattle.aec_block.specs.BlockShape.{IsSound};
+    ghost use Rattle.aec_params.specs.Spellings.{written_values};
+    ghost use Rattle.aec_block.specs.BlockShape.{most_values, IsSound};
 
     /// A block with no values but the 0 in the reference place, where there is a reference.
     pub fn new(alloc: Global, reference: Option<u32>) -> Block
@@ -48,7 +48,7 @@ impl Block {
 
     /// Appends a value.
     pub fn push(&mut self, m: u32)
-        requires { length self.old.values < 64 }
+        requires { length self.old.values < most_values }
         ensures { self.new ≡ record self.old { values = self.old.values ++ m ∷ [] } }
     {
         self.values.push_reserved(m);
@@ -87,9 +87,9 @@ impl Block {
 
     /// The values that are written one by one: those behind the reference place, where there is one.
     #[tactic(auto, using(crate::proofs::BlockLemmas::some_values))]
-    pub(crate) fn written_values(&self) -> &[u32]
-        ensures value { result.now ≡ written_values_of self.now }
-        ensures len { length result.now ≤ 64 }
+    pub(crate) fn written(&self) -> &[u32]
+        ensures value { result.now ≡ written_values self.now }
+        ensures len { length result.now ≤ most_values }
     {
         match self.reference() {
             None => self.values(),

@@ -1,7 +1,7 @@
 //! The choice of the shortest option for a block.
 
 ghost use Rattle.std.specs.Prelude.{◌≡◌, nat_lt, if◌then◌else◌};
-ghost use Rattle.aec_params.specs.Params.{IsAllowed, split_count as split_options};
+ghost use Rattle.aec_params.specs.Params.{IsAllowed, split_count};
 ghost use Rattle.aec_block.specs.Choices.{IsFull, IsChoice};
 
 use crate::block::Block;
@@ -27,8 +27,8 @@ pub struct Choice {
 }
 
 /// How many sample-splitting options there are.
-fn split_count(params: &Params) -> u32
-    ensures { result ≡ split_options params.now }
+fn split_options(params: &Params) -> u32
+    ensures { result ≡ split_count params.now }
 {
     (1 << params.id_len()) - 2
 }
@@ -58,7 +58,7 @@ pub fn choose(params: &Params, block: &Block) -> Choice
         bits: uncompressed_len(params, block),
     };
     best = shorter_of(best, Coding::SecondExtension, paired_len(params, block));
-    for k in 0..split_count(params) {
+    for k in 0..split_options(params) {
         best = shorter_of(best, Coding::Split(k), split_len(params, block, k));
     }
     best

@@ -4,7 +4,8 @@ ghost use Rattle.std.specs.Prelude.{◌≡◌, ◌+◌, ◌*◌, ◌^◌, ◌<�
 ghost use Rattle.aec_params.specs.Params.{IsAllowed};
 ghost use Rattle.aec_params.specs.CodedDataSets.{pair_number};
 ghost use Rattle.aec_params.specs.Spellings.{written_values};
-ghost use Rattle.aec_block.specs.Lengths.{head_len as head_length, shifted_sum as sum_of_shifted, pairs_len as pairs_length, uncompressed_len as uncompressed_length, paired_len as paired_length, split_len as split_length};
+ghost use Rattle.aec_block.specs.BlockShape.{most_values};
+ghost use Rattle.aec_block.specs.Lengths.{head_length, sum_of_shifted, pairs_length, uncompressed_length, paired_length, split_length};
 
 use crate::block::Block;
 use aec_params::Params;
@@ -23,9 +24,9 @@ pub(crate) fn head_len(params: &Params, reference: Option<u32>) -> u32
 /// The values without their `k` low bits, added up.
 fn shifted_sum(values: &[u32], k: u32) -> u128
     requires k { k < 32 }
-    requires len { length values.now ≤ 64 }
+    requires len { length values.now ≤ most_values }
     ensures sum { result ≡ sum_of_shifted k values.now }
-    ensures bound { result ≤ 64 * 2 ^ 32 }
+    ensures bound { result ≤ most_values * 2 ^ 32 }
 {
     let mut sum = 0u128;
     for v in values {
@@ -46,9 +47,9 @@ pub(crate) fn pair_len(a: u32, b: u32) -> u128
 /// The codewords of consecutive pairs.
 #[tactic(auto, using(crate::proofs::LengthLemmas::pair_steps))]
 fn pairs_len(values: &[u32]) -> u128
-    requires { length values.now ≤ 64 }
+    requires { length values.now ≤ most_values }
     ensures len { result ≡ pairs_length values.now }
-    ensures bound { result ≤ 64 * 2 ^ 66 }
+    ensures bound { result ≤ most_values * 2 ^ 66 }
 {
     let mut sum = 0u128;
     for i in 0..values.len() / 2 {
@@ -62,7 +63,7 @@ pub(crate) fn uncompressed_len(params: &Params, block: &Block) -> u64
     ensures { result ≡ uncompressed_length params.now block.now }
 {
     u64::from(head_len(params, block.reference()))
-        + block.written_values().len() as u64 * u64::from(params.bits())
+        + block.written().len() as u64 * u64::from(params.bits())
 }
 
 /// The length by the second extension.
@@ -77,7 +78,7 @@ pub(crate) fn split_len(params: &Params, block: &Block, k: u32) -> u128
     requires { k < 32 }
     ensures { result ≡ split_length params.now block.now k }
 {
-    let values = block.written_values();
+    let values = block.written();
     u128::from(head_len(params, block.reference()))
         + (shifted_sum(values, k) + values.len() as u128 * u128::from(k + 1))
 }

@@ -2,18 +2,19 @@
 
 ghost use Rattle.std.specs.Prelude.{◌≡◌, ◌+◌, ◌≤◌, length, [], IfOk, IfErr, OnErr, option_map};
 ghost use Rattle.std.specs.Option.{is_some};
-ghost use Rattle.aec_params.specs.Params.{IsAllowed, id_len as identifier_len};
-ghost use Rattle.aec_params.specs.CodedDataSets.{CodedDataSet, written_count as count_of_written};
+ghost use Rattle.aec_params.specs.Params.{IsAllowed, id_len};
+ghost use Rattle.aec_params.specs.CodedDataSets.{CodedDataSet, written_count};
 ghost use Rattle.aec_params.specs.Places.{placed_values};
 ghost use Rattle.aec_block.specs.declared.cds.Cds.TheVariants.{Single};
 ghost use Rattle.aec_block.specs.ReadAt.{map_taken, kind_at, reference_at, body_at, cds_at};
 ghost use Rattle.aec_block.specs.Gathering.{bits_at, as_taken};
-ghost use Rattle.aec_block.specs.ReadCds.{run_len_of, checked, checked_body, HasShortSplit, IsReadAs, IsNotRead};
+ghost use Rattle.aec_block.specs.ReadCds.{run_len_of, checked, checked_body, HasShortSplit, IsReadAs};
+ghost use Rattle.aec_params.specs.Faults.{IsNotRead};
 
 use crate::block::Block;
 use crate::cds::{Cds, RunLen};
 use crate::reading_codewords::{read_number, read_sequence};
-use crate::reading_values::{read_pairs, read_plain, read_split};
+use crate::reading_values::{read_pairs, read_split, read_uncompressed};
 use aec_bits::BitReader;
 use aec_params::{Fault, Params};
 use std::alloc::Global;
@@ -30,7 +31,7 @@ pub(crate) enum Kind {
 /// The kind that the next bits identify.
 fn read_kind(params: &Params, reader: &mut BitReader) -> Result<Kind, Fault>
     requires within { reader.old.pos ≤ length reader.old.list }
-    ensures taken { kind_at (identifier_len params.now) (bits_at reader.old) ≡ as_taken result (bits_at reader.new) }
+    ensures taken { kind_at (id_len params.now) (bits_at reader.old) ≡ as_taken result (bits_at reader.new) }
     ensures short { IfOk result HasShortSplit }
     ensures allowed { IsAllowed params.now }
     ensures list { reader.new.list ≡ reader.old.list }
@@ -84,8 +85,8 @@ fn run_len(number: u64) -> RunLen
 }
 
 /// How many values a block with that reference sample or without one writes one by one.
-fn written_count(params: &Params, reference: Option<u32>) -> u32
-    ensures count { result ≡ count_of_written params.now (is_some reference) }
+fn values_due(params: &Params, reference: Option<u32>) -> u32
+    ensures count { result ≡ written_count params.now (is_some reference) }
     ensures most { length (placed_values reference []) + result ≤ 64 }
 {
     match reference {
@@ -122,14 +123,14 @@ fn read_body(
     ensures list { reader.new.list ≡ reader.old.list }
     ensures within { reader.new.pos ≤ length reader.new.list }
 {
-    let count = written_count(params, reference);
+    let count = values_due(params, reference);
     match kind {
         Kind::ZeroBlocks => {
             let len = run_len(read_sequence(reader)?);
             Ok(Some(Cds::Zeros { reference, len }))
         }
         Kind::NoCompression => {
-            let block = read_plain(alloc, params, reader, reference, count)?;
+            let block = read_uncompressed(alloc, params, reader, reference, count)?;
             Ok(Some(Cds::Single(block)))
         }
         Kind::SecondExtension => Ok(single(read_pairs(alloc, params, reader, reference)?)),

@@ -1,7 +1,7 @@
 //! Reads the codewords of a coded data set.
 
 ghost use Rattle.std.specs.Prelude.{◌≡◌, ◌≤◌, ◌<◌, ◌^◌, length, IfOk};
-ghost use Rattle.aec_block.specs.ReadAt.{fs_at, binary_at, pair_of as pair_with_number};
+ghost use Rattle.aec_block.specs.ReadAt.{fs_at, binary_at, pair_with_number};
 ghost use Rattle.aec_block.specs.Gathering.{bits_at, as_taken};
 
 use aec_bits::BitReader;

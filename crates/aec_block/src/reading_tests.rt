@@ -7,21 +7,6 @@ use std::alloc::Global;
 use std::process::Abort;
 use std::test::Fail;
 
-/// Settings of 8 bits, blocks of 8 values and intervals of two blocks, unsigned and with preprocessing.
-fn usual() -> Settings {
-    Settings {
-        bits: 8,
-        block_size: 8,
-        interval: 2,
-        signed: false,
-        msb_first: false,
-        three_byte: false,
-        preprocess: true,
-        pad: false,
-        restricted: false,
-    }
-}
-
 /// A block without a reference sample, or with this one, stands at the bits' start and ends at `end`.
 fn expect_block(
     rt: &impl Abort,
@@ -88,7 +73,7 @@ fn expect_fault(
 
 #[test]
 fn reads_reference_blocks(rt: HostRuntime) -> Result<(), Fail> {
-    let params = Params::new(usual())?;
+    let params = Params::new(Settings::USUAL)?;
     let ramp = BitBuf::from_bytes(rt.alloc(), &[0x40, 0x15, 0x55, 0x80])?;
     expect_block(
         &rt,
@@ -121,7 +106,7 @@ fn reads_the_greatest_values(rt: HostRuntime) -> Result<(), Fail> {
     let params = Params::new(Settings {
         bits: 32,
         signed: true,
-        ..usual()
+        ..Settings::USUAL
     })?;
     let mut bytes = [0xFF; 33];
     bytes[0] = 0xFC;
@@ -159,7 +144,7 @@ fn one_pair(alloc: Global, reference: Option<u32>, number: u64) -> Result<BitBuf
 
 #[test]
 fn judges_the_members_of_pairs(rt: HostRuntime) -> Result<(), Fail> {
-    let params = Params::new(usual())?;
+    let params = Params::new(Settings::USUAL)?;
     // The pair (0, 255).
     let greatest = one_pair(rt.alloc(), None, 32_895)?;
     expect_block(
@@ -210,7 +195,7 @@ fn judges_the_members_of_pairs(rt: HostRuntime) -> Result<(), Fail> {
 
 #[test]
 fn reads_the_lengths_of_runs(rt: HostRuntime) -> Result<(), Fail> {
-    let params = Params::new(usual())?;
+    let params = Params::new(Settings::USUAL)?;
     let lengths = [
         (0, RunLen::Blocks(1)),
         (1, RunLen::Blocks(2)),
@@ -236,7 +221,7 @@ fn judges_values_behind_the_last_bit(rt: HostRuntime) -> Result<(), Fail> {
     let params = Params::new(Settings {
         bits: 1,
         preprocess: false,
-        ..usual()
+        ..Settings::USUAL
     })?;
     // k = 5: eight ones, and a 2 among them.
     let ones = BitBuf::from_bytes(rt.alloc(), &[0xDF, 0xE1, 0x08, 0x42, 0x10, 0x84, 0x20])?;
@@ -277,7 +262,7 @@ fn judges_values_behind_the_last_bit(rt: HostRuntime) -> Result<(), Fail> {
 
 #[test]
 fn refuses_each_cut(rt: HostRuntime) -> Result<(), Fail> {
-    let params = Params::new(usual())?;
+    let params = Params::new(Settings::USUAL)?;
     for len in 3..34 {
         let mut bits = BitBuf::new(rt.alloc());
         bits.push_bits(0b101, 3)?;
@@ -311,7 +296,7 @@ fn unprocessed(bits: u32, restricted: bool) -> Result<Params, Fault> {
         bits,
         preprocess: false,
         restricted,
-        ..usual()
+        ..Settings::USUAL
     })
 }
 

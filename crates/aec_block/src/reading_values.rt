@@ -2,18 +2,16 @@
 
 ghost use Rattle.std.specs.Prelude.{◌≡◌, ◌≤◌, ◌<◌, ◌+◌, ◌-◌, ◌*◌, ◌/◌, ◌^◌, ◌++◌, [], ◌∷◌, true, ◌||◌, if◌then◌else◌, nat_lt, length};
 ghost use Rattle.std.specs.Option.{is_some};
-ghost use Rattle.aec_params.specs.Places.{placed_values};
+ghost use Rattle.aec_params.specs.Places.{placed_values, block_of_values};
+ghost use Rattle.aec_block.specs.BlockShape.{most_values};
 ghost use Rattle.aec_block.specs.ReadAt.{map_taken, fs_at, binary_at, values_at, members_at, split_at};
-ghost use Rattle.aec_block.specs.Gathering.{bits_at, as_taken, as_taken_by, when, gathered, lows_gathered, with_value, plain_block, small_block, pair_block};
+ghost use Rattle.aec_block.specs.Gathering.{bits_at, as_taken, as_taken_by, when, gathered, lows_gathered, with_value, small_block, pair_block};
 
-use crate::block::Block;
+use crate::block::{Block, MOST_VALUES};
 use crate::reading_codewords::{pair_of, read_number, read_sequence};
 use aec_bits::BitReader;
 use aec_params::{Fault, Params};
 use std::alloc::Global;
-
-/// The most values of a block.
-const MOST_VALUES: usize = 64;
 
 /// The number above the greatest value that the width has.
 fn value_limit(params: &Params) -> u64
@@ -36,7 +34,7 @@ fn high_limit(limit: u64, k: u32) -> u64
 
 /// Appends a value that is below `limit`, and no other. Whether it is below.
 fn push_value(block: &mut Block, value: u64, limit: u64) -> bool
-    requires room { length block.old.values < 64 }
+    requires room { length block.old.values < most_values }
     requires limit { limit ≤ 2 ^ 32 }
     ensures fits { result ≡ nat_lt value limit }
     ensures reference { block.new.reference ≡ block.old.reference }
@@ -53,7 +51,7 @@ fn push_value(block: &mut Block, value: u64, limit: u64) -> bool
 /// Appends a first member of a pair, which in a reference block stands in the reference place and is no value. Whether
 /// it is below `limit` or no value.
 fn push_first_member(block: &mut Block, value: u64, limit: u64) -> bool
-    requires room { length block.old.values < 64 }
+    requires room { length block.old.values < most_values }
     requires limit { limit ≤ 2 ^ 32 }
     ensures fits { result ≡ (is_some block.old.reference || nat_lt value limit) }
     ensures reference { block.new.reference ≡ block.old.reference }
@@ -74,7 +72,7 @@ fn fitting(fit: bool, block: Block) -> Option<Block>
 }
 
 /// A block of the next `count` numbers, each in as many bits as a sample has.
-pub(crate) fn read_plain(
+pub(crate) fn read_uncompressed(
     alloc: Global,
     params: &Params,
     reader: &mut BitReader,
@@ -82,8 +80,8 @@ pub(crate) fn read_plain(
     count: u32,
 ) -> Result<Block, Fault>
     requires within { reader.old.pos ≤ length reader.old.list }
-    requires room { length (placed_values reference []) + count ≤ 64 }
-    ensures taken { map_taken (plain_block reference) (values_at (binary_at params.now.bits) count (bits_at reader.old))
+    requires room { length (placed_values reference []) + count ≤ most_values }
+    ensures taken { map_taken (block_of_values reference) (values_at (binary_at params.now.bits) count (bits_at reader.old))
         ≡ as_taken result (bits_at reader.new) }
     ensures list { reader.new.list ≡ reader.old.list }
     ensures within { reader.new.pos ≤ length reader.new.list }
@@ -104,7 +102,7 @@ fn read_later_pairs(
     limit: u64,
 ) -> Result<bool, Fault>
     requires within { reader.old.pos ≤ length reader.old.list }
-    requires room { length block.old.values + 2 * count ≤ 64 }
+    requires room { length block.old.values + 2 * count ≤ most_values }
     requires limit { limit ≤ 2 ^ 32 }
     ensures taken { map_taken (gathered limit block.old.values true) (members_at count (bits_at reader.old))
         ≡ as_taken_by (λ fit. when fit block.new.values) result (bits_at reader.new) }
@@ -152,7 +150,7 @@ fn read_lows(
     limit: u64,
 ) -> Result<bool, Fault>
     requires within { reader.old.pos ≤ length reader.old.list }
-    requires room { length block.old.values + length highs.now ≤ 64 }
+    requires room { length block.old.values + length highs.now ≤ most_values }
     requires shift { k < 32 }
     requires limit { limit ≤ 2 ^ 32 }
     ensures taken { map_taken (lows_gathered limit block.old.values true k highs.now)
@@ -180,7 +178,7 @@ pub(crate) fn read_split(
     k: u32,
 ) -> Result<Option<Block>, Fault>
     requires within { reader.old.pos ≤ length reader.old.list }
-    requires room { length (placed_values reference []) + count ≤ 64 }
+    requires room { length (placed_values reference []) + count ≤ most_values }
     requires shift { k < 32 }
     ensures taken { map_taken (small_block (2 ^ params.now.bits) reference) (split_at k count (bits_at reader.old))
         ≡ as_taken result (bits_at reader.new) }

@@ -12,21 +12,6 @@ use std::alloc::Global;
 use std::process::Abort;
 use std::test::Fail;
 
-/// Settings of 8 bits, blocks of 8 values and intervals of two blocks, unsigned and with preprocessing.
-fn settings() -> Settings {
-    Settings {
-        bits: 8,
-        block_size: 8,
-        interval: 2,
-        signed: false,
-        msb_first: false,
-        three_byte: false,
-        preprocess: true,
-        pad: false,
-        restricted: false,
-    }
-}
-
 /// A block of the values behind the reference place.
 fn block_of(alloc: Global, reference: Option<u32>, values: &[u32]) -> Block {
     let mut block = Block::new(alloc, reference);
@@ -78,7 +63,7 @@ fn expect_bits(rt: &impl Abort, bits: &BitBuf, len: u64, bytes: &[u8]) {
 
 #[test]
 fn maps_by_the_table(rt: HostRuntime) -> Result<(), Fail> {
-    let params = Params::new(settings())?;
+    let params = Params::new(Settings::USUAL)?;
     for (p, x, m) in [(3, 10, 10), (3, 1, 3), (250, 240, 15), (250, 255, 10)] {
         assert!(rt; params.holds(p) && params.holds(x));
         assert_eq!(rt; map(&params, p, x), m, "{x} at {p}");
@@ -90,7 +75,7 @@ fn maps_by_the_table(rt: HostRuntime) -> Result<(), Fail> {
 
 #[test]
 fn chooses_and_writes_the_shortest(rt: HostRuntime) -> Result<(), Fail> {
-    let params = Params::new(settings())?;
+    let params = Params::new(Settings::USUAL)?;
     // k = 0 and k = 1 have equal lengths.
     let block = block_of(rt.alloc(), Some(0), &[1, 2, 2, 2, 2, 2, 2]);
     assert!(rt; is_full(&params, &block));
@@ -115,7 +100,7 @@ fn takes_the_first_of_equal_lengths(rt: HostRuntime) -> Result<(), Fail> {
         bits: 2,
         interval: 1,
         restricted: true,
-        ..settings()
+        ..Settings::USUAL
     })?;
     let block = block_of(rt.alloc(), Some(0), &[0, 0, 0, 0, 0, 0, 3]);
     assert!(rt; is_full(&narrow, &block));
@@ -128,7 +113,7 @@ fn takes_the_first_of_equal_lengths(rt: HostRuntime) -> Result<(), Fail> {
     );
 
     // The second extension has the length of splitting with k = 0.
-    let params = Params::new(settings())?;
+    let params = Params::new(Settings::USUAL)?;
     let block = block_of(rt.alloc(), Some(0), &[0, 0, 0, 1, 1, 0, 0]);
     assert!(rt; is_full(&params, &block));
     assert_eq!(rt;
@@ -146,7 +131,7 @@ fn adds_up_values_of_32_bits(rt: HostRuntime) -> Result<(), Fail> {
     let params = Params::new(Settings {
         bits: 32,
         preprocess: false,
-        ..settings()
+        ..Settings::USUAL
     })?;
     for (reference, values, choice) in [
         (
@@ -183,7 +168,7 @@ fn adds_up_values_of_32_bits(rt: HostRuntime) -> Result<(), Fail> {
 
 #[test]
 fn writes_runs(rt: HostRuntime) -> Result<(), Fail> {
-    let params = Params::new(settings())?;
+    let params = Params::new(Settings::USUAL)?;
     let mut out = BitBuf::new(rt.alloc());
     write_run(&params, Some(0), 1, true, &mut out)?;
     expect_bits(&rt, &out, 13, &[0x00, 0x08]);
@@ -212,7 +197,7 @@ fn writes_the_zero_block_of_each_code_set(rt: HostRuntime) -> Result<(), Fail> {
         let params = Params::new(Settings {
             bits,
             restricted,
-            ..settings()
+            ..Settings::USUAL
         })?;
         let mut out = BitBuf::new(rt.alloc());
         write_run(&params, None, 1, true, &mut out)?;
@@ -353,7 +338,7 @@ fn chooses_as_plain_lengths_say(rt: HostRuntime) -> Result<(), Fail> {
             let params = Params::new(Settings {
                 bits,
                 block_size,
-                ..settings()
+                ..Settings::USUAL
             })?;
             compare_choices(&rt, rt.alloc(), &params)?;
             if bits <= 4 {
@@ -361,7 +346,7 @@ fn chooses_as_plain_lengths_say(rt: HostRuntime) -> Result<(), Fail> {
                     bits,
                     block_size,
                     restricted: true,
-                    ..settings()
+                    ..Settings::USUAL
                 })?;
                 compare_choices(&rt, rt.alloc(), &params)?;
             }

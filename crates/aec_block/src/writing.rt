@@ -1,12 +1,12 @@
 //! What is written for one block, and for a run of zero blocks.
 
-ghost use Rattle.std.specs.Prelude.{◌≡◌, ◌+◌, ◌<◌, ◌≤◌, ◌^◌, ◌++◌, false, length, if◌then◌else◌, OnOk, OnErr, IfErr};
+ghost use Rattle.std.specs.Prelude.{◌≡◌, ◌+◌, ◌-◌, ◌<◌, ◌≤◌, ◌^◌, ◌++◌, false, length, if◌then◌else◌, OnOk, OnErr, IfErr};
 ghost use Rattle.aec_params.specs.declared.fault.Fault.TheVariants.{Memory};
 ghost use Rattle.aec_params.specs.Params.{IsAllowed, split_count};
 ghost use Rattle.aec_params.specs.Codewords.{fs, binary};
 ghost use Rattle.aec_params.specs.CodedDataSets.{pair_bits, reference_bits, cds_bits};
 ghost use Rattle.aec_params.specs.Spellings.{uncompressed, paired, split};
-ghost use Rattle.aec_params.specs.Runs.{run_code as code_of_run};
+ghost use Rattle.aec_params.specs.Runs.{segment_len, run_code};
 ghost use Rattle.aec_block.specs.Lengths.{reference_len};
 ghost use Rattle.aec_block.specs.Choices.{FitsReference, IsFull, IsChoice};
 ghost use Rattle.aec_block.specs.Written.{high_parts, low_parts, shortest_bits, run_bits};
@@ -99,7 +99,7 @@ fn put_uncompressed(params: &Params, block: &Block, out: &mut BitBuf)
 {
     let width = params.id_len();
     put_head(params, block.reference(), (1 << width) - 1, width, out);
-    put_low_parts(block.written_values(), params.bits(), out);
+    put_low_parts(block.written(), params.bits(), out);
 }
 
 /// Appends a block by the second extension, for which there is room.
@@ -125,8 +125,8 @@ fn put_split(params: &Params, block: &Block, k: u32, out: &mut BitBuf)
     ensures room { out.old.room ≤ out.new.room + length (cds_bits params.now (split block.now k)) }
 {
     put_head(params, block.reference(), k + 1, params.id_len(), out);
-    put_high_parts(block.written_values(), k, out);
-    put_low_parts(block.written_values(), k, out);
+    put_high_parts(block.written(), k, out);
+    put_low_parts(block.written(), k, out);
 }
 
 /// Appends the coded data set of a block that is in no run, by the option of `choose`. `Memory` where a growth was
@@ -155,9 +155,9 @@ pub fn write_block(
 }
 
 /// The number that the code of a run of `z` blocks spells.
-fn run_code(z: u32, to_end: bool) -> u32
+fn code_of_run(z: u32, to_end: bool) -> u32
     requires { 1 ≤ z }
-    ensures { result ≡ code_of_run z to_end }
+    ensures { result ≡ run_code z to_end }
 {
     if z <= 4 {
         z - 1
@@ -181,14 +181,14 @@ pub fn write_run(
 ) -> Result<(), Fault>
     requires reference { FitsReference params.now reference }
     requires least { 1 ≤ z }
-    requires most { z ≤ (if to_end then 64 else 63) }
+    requires most { z ≤ (if to_end then segment_len else segment_len - 1) }
     ensures ok { OnOk result (out.new.list ≡ out.old.list ++ run_bits params.now reference z to_end) }
     ensures room { OnOk result (out.old.room ≤ out.new.room + length (run_bits params.now reference z to_end)) }
     ensures err { OnErr result (out.new ≡ out.old) }
     ensures full { OnErr result (out.old.room < length (run_bits params.now reference z to_end)) }
     ensures fault { IfErr result (λ e. e ≡ Memory) }
 {
-    let code = run_code(z, to_end);
+    let code = code_of_run(z, to_end);
     out.reserve(u64::from(head_len(params, reference) + 1 + (code + 1)))?;
     put_head(params, reference, 0, params.id_len() + 1, out);
     put_fs(out, u64::from(code));

@@ -14,8 +14,8 @@ use Rattle.aec_params.specs.Faults.{IsFault}
 use Rattle.aec_interval.specs.Reached.{count_refusal}
 use Rattle.aec_interval.specs.Laws.{BitsAreReadInOneWay}
 use Rattle.aec_interval.proofs.ReadingLemmas.{bits_are_read_in_one_way}
-use Rattle.aec_cli.specs.Devices.{Input}
-use Rattle.aec_cli.specs.Output.{IsEncoded, samples_refusal, coding_refusal, not_coded, encoded, IsDecoded, intake_refusal, all_stored, not_taken, not_counted, decoded, faulty}
+use Rattle.aec_cli.specs.Transfers.{Input}
+use Rattle.aec_cli.specs.Output.{IsEncoded, samples_refusal, coding_refusal, not_coded, encoded, IsRead, IsDecoded, intake_refusal, all_stored, not_taken, not_counted, decoded, faulty}
 use Rattle.aec_cli.specs.Laws.{HasOneAnswer}
 
 -- ---- coding
@@ -60,31 +60,31 @@ pub only-not_taken : (s : Settings) (caps : Caps) (count : Option ℕ) (input : 
     → intake_refusal caps.bytes input ≡ Some fault → IsDecoded s caps count input other → other ≡ Err fault
 only-not_taken s caps count input fault other is (not_taken g also) = let same : g ≡ fault = cc in ap Err same
 only-not_taken s caps count input fault other is (not_counted g taken above) = absurd (cc)
-only-not_taken s caps count input fault other is (decoded samples taken within reading) = absurd (cc)
+only-not_taken s caps count input fault other is (decoded samples read) = let sound = read.taken in absurd (cc)
 only-not_taken s caps count input fault other is (faulty g taken within wrong) = absurd (cc)
 
 only-not_counted : (s : Settings) (caps : Caps) (count : Option ℕ) (input : Input) (fault : Fault) (other : Result (List ℕ) Fault)
     → intake_refusal caps.bytes input ≡ None → count_refusal caps.samples count ≡ Some fault → IsDecoded s caps count input other → other ≡ Err fault
 only-not_counted s caps count input fault other taken above (not_taken g is) = absurd (cc)
 only-not_counted s caps count input fault other taken above (not_counted g also is) = let same : g ≡ fault = cc in ap Err same
-only-not_counted s caps count input fault other taken above (decoded samples also within reading) = absurd (cc)
+only-not_counted s caps count input fault other taken above (decoded samples read) = let within = read.within in absurd (cc)
 only-not_counted s caps count input fault other taken above (faulty g also within wrong) = absurd (cc)
 
 only-decoded : (s : Settings) (caps : Caps) (count : Option ℕ) (input : Input) (samples : List ℤ) (other : Result (List ℕ) Fault)
-    → BitsAreReadInOneWay s count caps.samples (bits_of_bytes input.bytes) → intake_refusal caps.bytes input ≡ None → count_refusal caps.samples count ≡ None
-    → IsReading s count caps.samples (bits_of_bytes input.bytes) samples → IsDecoded s caps count input other → other ≡ Ok (all_stored s samples)
-only-decoded s caps count input samples other ways taken within reading (not_taken g is) = absurd (cc)
-only-decoded s caps count input samples other ways taken within reading (not_counted g also above) = absurd (cc)
-only-decoded s caps count input samples other ways taken within reading (decoded others also below is) =
-    ap (λ xs. Ok (all_stored s xs)) (ways.one_reading others samples is reading)
-only-decoded s caps count input samples other ways taken within reading (faulty g also below wrong) = absurd (ways.not_both samples g reading wrong)
+    → BitsAreReadInOneWay s count caps.samples (bits_of_bytes input.bytes) → IsRead s caps count input samples → IsDecoded s caps count input other
+    → other ≡ Ok (all_stored s samples)
+only-decoded s caps count input samples other ways read (not_taken g is) = let sound = read.taken in absurd (cc)
+only-decoded s caps count input samples other ways read (not_counted g also above) = let within = read.within in absurd (cc)
+only-decoded s caps count input samples other ways read (decoded others is) =
+    ap (λ xs. Ok (all_stored s xs)) (ways.one_reading others samples is.reading read.reading)
+only-decoded s caps count input samples other ways read (faulty g also below wrong) = absurd (ways.not_both samples g read.reading wrong)
 
 only-faulty : (s : Settings) (caps : Caps) (count : Option ℕ) (input : Input) (fault : Fault) (other : Result (List ℕ) Fault)
     → BitsAreReadInOneWay s count caps.samples (bits_of_bytes input.bytes) → intake_refusal caps.bytes input ≡ None → count_refusal caps.samples count ≡ None
     → IsFault s count caps.samples (bits_of_bytes input.bytes) 0 0 fault → IsDecoded s caps count input other → other ≡ Err fault
 only-faulty s caps count input fault other ways taken within wrong (not_taken g is) = absurd (cc)
 only-faulty s caps count input fault other ways taken within wrong (not_counted g also above) = absurd (cc)
-only-faulty s caps count input fault other ways taken within wrong (decoded others also below is) = absurd (ways.not_both others fault is wrong)
+only-faulty s caps count input fault other ways taken within wrong (decoded others read) = absurd (ways.not_both others fault read.reading wrong)
 only-faulty s caps count input fault other ways taken within wrong (faulty g also below is) = ap Err (ways.one_fault g fault is wrong)
 
 pub decoding_has_one_answer : (s : Settings) (caps : Caps) (count : Option ℕ) (input : Input) → IsAllowed s → HasOneAnswer (IsDecoded s caps count) input
@@ -96,11 +96,13 @@ decoding_has_one_answer s caps count input allowed = by_intake (intake_refusal c
     by_way : ((samples : List ℤ) × IsReading s count caps.samples (bits_of_bytes input.bytes) samples)
         ⊎ ((fault : Fault) × IsFault s count caps.samples (bits_of_bytes input.bytes) 0 0 fault)
         → intake_refusal caps.bytes input ≡ None → count_refusal caps.samples count ≡ None → HasOneAnswer (IsDecoded s caps count) input
-    by_way (inl read) taken within = record {
-      answer = Ok (all_stored s read.0);
-      is_answer = decoded read.0 taken within read.1;
-      only = λ other answered. only-decoded s caps count input read.0 other ways taken within read.1 answered;
-    }
+    by_way (inl reads) taken within =
+        let read : IsRead s caps count input reads.0 = record { taken = taken; within = within; reading = reads.1 } in
+        record {
+          answer = Ok (all_stored s reads.0);
+          is_answer = decoded reads.0 read;
+          only = λ other answered. only-decoded s caps count input reads.0 other ways read answered;
+        }
     by_way (inr wrong) taken within = record {
       answer = Err wrong.0;
       is_answer = faulty wrong.0 taken within wrong.1;

@@ -18,11 +18,10 @@ use Rattle.aec_params.specs.Streams.{stream_of}
 use Rattle.aec_params.proofs.PatternLaws.{pattern-reaches}
 use Rattle.aec_params.proofs.ParamsLemmas.{value-pattern}
 use Rattle.aec_bits.specs.Refusals.{first_unheld}
-use Rattle.aec_bits.specs.RefusalLaws.{first_unheld-held}
-use Rattle.aec_cli.specs.Devices.{Input, Taking, Gave, GivesAnswer, given, lacks_memory}
+use Rattle.aec_bits.proofs.RefusalLaws.{first_unheld-held}
+use Rattle.aec_cli.specs.Transfers.{Input, input_of, Taking, Gave, GivesAnswer, given, lacks_memory}
 use Rattle.aec_cli.specs.Output.{IsEncoded, bytes_within, coding_refusal, not_coded, encoded}
 use Rattle.aec_cli.proofs.OutputLemmas.{answers_err, answers_storing}
-use Rattle.aec_cli.specs.Laws.{input_of}
 
 -- ---- stored samples are held
 

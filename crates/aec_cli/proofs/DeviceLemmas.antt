@@ -2,7 +2,7 @@
 use Rattle.std.proofs.Common.{◌≡◌, ℕ, Option, Result, Err, List, IfErr, ap, ◌∙◌, sym, subst}
 use Rattle.aec_params.specs.declared.fault.Fault.{Fault}
 use Rattle.aec_params.specs.declared.fault.Fault.TheVariants.{Memory}
-use Rattle.aec_cli.specs.Devices.{RefusesIntake, no_memory}
+use Rattle.aec_cli.specs.Transfers.{RefusesIntake, no_memory}
 
 -- a growth that is refused
 pub refused_by_memory : {X : Type 0} (r : Result X Fault) (fault f : Fault) (before after : Option (List ℕ)) (failures limit : ℕ)

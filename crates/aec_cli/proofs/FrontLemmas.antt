@@ -13,9 +13,9 @@ use Rattle.aec_params.specs.Limits.{Caps}
 use Rattle.aec_params.specs.Params.{IsAllowed, storage_len}
 use Rattle.aec_params.specs.Stored.{number_in, sample_of_number, sample_before, samples_of_groups, samples_of_bytes}
 use Rattle.aec_params.proofs.StoredLemmas.{storage-least}
-use Rattle.aec_cli.specs.Devices.{Input}
-use Rattle.aec_cli.specs.Output.{IsEncoded, bytes_within, samples_refusal, coding_refusal, not_coded, IsDecoded, intake_refusal, not_taken}
-use Rattle.aec_cli.specs.Laws.{input_of, IsJudgedByFront, IsJudgedWhole}
+use Rattle.aec_cli.specs.Transfers.{Input, input_of}
+use Rattle.aec_cli.specs.Output.{IsEncoded, bytes_within, samples_refusal, coding_refusal, not_coded, IsDecoded, intake_refusal, not_taken, IsRanged, not_decoded, outside, cut_out}
+use Rattle.aec_cli.specs.Laws.{IsJudgedByFront, IsJudgedWhole}
 use Rattle.aec_cli.proofs.AnswerLemmas.{only-not_coded, only-not_taken}
 
 -- ---- the refusal of samples past a limit
@@ -137,26 +137,43 @@ coding-front s caps front rest allowed past = record {
 
 -- ---- decoding
 
+refused_whole : (limit : ℕ) (bytes : List ℕ) (failed : Bool) → limit < length bytes → intake_refusal limit (input_of bytes failed) ≡ Some (StreamTooLong limit)
+refused_whole limit bytes failed past = ap (λ t. if t then Some (StreamTooLong limit) else (if failed then Some Read else None)) (lt-ltb limit (length bytes) past)
+
+-- answers that begin with the refusal of the intake
+judged_by_intake : (answers : Input → Result (List ℕ) Fault → Type 0) (limit : ℕ) (front rest : List ℕ) → limit < length front
+    → ((input : Input) (fault : Fault) (answer : Result (List ℕ) Fault) → intake_refusal limit input ≡ Some fault → answers input answer ↔ (answer ≡ Err fault))
+    → IsJudgedByFront answers front rest
+judged_by_intake answers limit front rest past refusing =
+    let longer : limit < length (front ++ rest) = (let e : length (front ++ rest) ≡ length front + length rest = length-append front rest in omega (arith, past, e)) in
+    record {
+      fault = StreamTooLong limit;
+      of_front = λ failed answer. refusing (input_of front failed) (StreamTooLong limit) answer (refused_whole limit front failed past);
+      of_whole = λ failed answer. refusing (input_of (front ++ rest) failed) (StreamTooLong limit) answer (refused_whole limit (front ++ rest) failed longer);
+    }
+
 pub decoding-front : (s : Settings) (caps : Caps) (count : Option ℕ) (front rest : List ℕ) → caps.bytes < length front
     → IsJudgedByFront (IsDecoded s caps count) front rest
-decoding-front s caps count front rest past = record {
-  fault = StreamTooLong caps.bytes;
-  of_front = λ failed answer. judged (input_of front failed) answer (refused front failed past);
-  of_whole = λ failed answer. judged (input_of (front ++ rest) failed) answer (refused (front ++ rest) failed longer);
-}
-  where
-    longer : caps.bytes < length (front ++ rest)
-    longer = let e : length (front ++ rest) ≡ length front + length rest = length-append front rest in omega (arith, past, e)
+decoding-front s caps count front rest past = judged_by_intake (IsDecoded s caps count) caps.bytes front rest past (λ input fault answer refused. (
+  λ answered. only-not_taken s caps count input fault answer refused answered,
+  λ is. subst (IsDecoded s caps count input) (sym is) (not_taken fault refused),
+))
 
-    refused : (bytes : List ℕ) (failed : Bool) → caps.bytes < length bytes → intake_refusal caps.bytes (input_of bytes failed) ≡ Some (StreamTooLong caps.bytes)
-    refused bytes failed past = ap (λ t. if t then Some (StreamTooLong caps.bytes) else (if failed then Some Read else None)) (lt-ltb caps.bytes (length bytes) past)
+-- ---- ranges
 
-    judged : (input : Input) (answer : Result (List ℕ) Fault) → intake_refusal caps.bytes input ≡ Some (StreamTooLong caps.bytes)
-        → IsDecoded s caps count input answer ↔ (answer ≡ Err (StreamTooLong caps.bytes))
-    judged input answer refused = (
-      λ answered. only-not_taken s caps count input (StreamTooLong caps.bytes) answer refused answered,
-      λ is. subst (IsDecoded s caps count input) (sym is) (not_taken (StreamTooLong caps.bytes) refused),
-    )
+only-not_ranged : (s : Settings) (caps : Caps) (count : Option ℕ) (first len : ℕ) (input : Input) (fault : Fault) (answer : Result (List ℕ) Fault)
+    → intake_refusal caps.bytes input ≡ Some fault → IsRanged s caps count first len input answer → answer ≡ Err fault
+only-not_ranged s caps count first len input fault answer refused (not_decoded g answered) = only-not_taken s caps count input fault (Err g) refused answered
+only-not_ranged s caps count first len input fault answer refused (outside samples read past) = let sound = read.taken in absurd (cc)
+only-not_ranged s caps count first len input fault answer refused (cut_out samples read within) = let sound = read.taken in absurd (cc)
+
+pub ranging-front : (s : Settings) (caps : Caps) (count : Option ℕ) (first len : ℕ) (front rest : List ℕ) → caps.bytes < length front
+    → IsJudgedByFront (IsRanged s caps count first len) front rest
+ranging-front s caps count first len front rest past =
+    judged_by_intake (IsRanged s caps count first len) caps.bytes front rest past (λ input fault answer refused. (
+      λ answered. only-not_ranged s caps count first len input fault answer refused answered,
+      λ is. subst (IsRanged s caps count first len input) (sym is) (not_decoded fault (not_taken fault refused)),
+    ))
 
 -- ---- what a source gave
 
@@ -193,3 +210,7 @@ coding-whole s caps allowed = judged_whole (IsEncoded s caps) (bytes_within s ca
 
 pub decoding-whole : (s : Settings) (caps : Caps) (count : Option ℕ) → IsJudgedWhole (IsDecoded s caps count) caps.bytes
 decoding-whole s caps count = judged_whole (IsDecoded s caps count) caps.bytes (λ front rest past. decoding-front s caps count front rest past)
+
+pub ranging-whole : (s : Settings) (caps : Caps) (count : Option ℕ) (first len : ℕ) → IsJudgedWhole (IsRanged s caps count first len) caps.bytes
+ranging-whole s caps count first len =
+    judged_whole (IsRanged s caps count first len) caps.bytes (λ front rest past. ranging-front s caps count first len front rest past)

@@ -14,10 +14,11 @@ use Rattle.aec_params.specs.Params.{IsHeld}
 use Rattle.aec_params.specs.Codewords.{bits_of_bytes}
 use Rattle.aec_params.specs.Reading.{counted_samples, IsReading}
 use Rattle.aec_interval.specs.Reached.{count_refusal, no_memory, faulty, RefusesDecoding, above_limit, unread}
-use Rattle.aec_cli.specs.Devices as devices
-use Rattle.aec_cli.specs.Devices.{Input, Taking, Gave, IsTakenWhole, RefusesIntake, source_failed, too_many_bytes, GivesAnswer, given, lacks_memory, Leaves, written, refused, no_answer, not_written}
+use Rattle.aec_cli.specs.Transfers as transfers
+use Rattle.aec_cli.specs.Transfers.{Input, Taking, Gave, IsTakenWhole, RefusesIntake, source_failed, too_many_bytes, GivesAnswer, given, lacks_memory, Leaves, written, refused, no_answer, not_written}
+use Rattle.aec_cli.specs.Transfers.{Putting, WroteNothing, answer_of, Settles, settled, not_begun, stopped}
 use Rattle.aec_cli.specs.Output as output
-use Rattle.aec_cli.specs.Output.{IsDecoded, intake_refusal, all_stored, not_taken, not_counted, decoded}
+use Rattle.aec_cli.specs.Output.{IsRead, GaveSamples, IsDecoded, intake_refusal, all_stored, not_taken, not_counted, decoded}
 
 all-take : (P : ℤ → Type 0) (n : ℕ) (xs : List ℤ) → AllByRecursion P xs → AllByRecursion P (take n xs)
 all-take P zero xs all = tt
@@ -53,7 +54,7 @@ none_refused limit bytes within = ap (λ b. if b then Some (StreamTooLong limit)
 
 pub refused_intake : (s : Settings) (caps : Caps) (count : Option ℕ) (before after : Option (List ℕ)) (failures : ℕ) (fault : Fault) → RefusesIntake before after failures caps.bytes fault
     → GivesAnswer (IsDecoded s caps count) (record { before = before; after = after; failures = failures }) caps.bytes (Err fault)
-refused_intake s caps count before after failures fault devices.no_memory = lacks_memory
+refused_intake s caps count before after failures fault transfers.no_memory = lacks_memory
 refused_intake s caps count before after failures fault (source_failed bytes fails) =
     given (failed_input bytes) (Err Read) (record { taken = fails.taken; failed = λ e. fails.failed; sound = λ e. absurd (cc); whole = λ within e. absurd (cc) })
     (not_taken Read (ap (λ b. if b then Some (StreamTooLong caps.bytes) else Some Read) (le-ltb caps.bytes (length bytes) fails.within)))
@@ -69,11 +70,15 @@ refused_decoding s caps count before after failures bytes fault taken (unread f 
 refused_decoding s caps count before after failures bytes fault taken (unread f within (faulty g is)) =
     given (sound_input bytes) (Err g) (gave_whole before after failures caps.bytes bytes taken) (output.faulty g (none_refused caps.bytes bytes taken.within) within is)
 
-pub given_samples : (s : Settings) (caps : Caps) (count : Option ℕ) (before after : Option (List ℕ)) (failures : ℕ) (bytes : List ℕ) (samples : List ℤ) → IsTakenWhole before after failures caps.bytes bytes
-    → count_refusal caps.samples count ≡ None → IsReading s count caps.samples (bits_of_bytes bytes) samples
-    → GivesAnswer (IsDecoded s caps count) (record { before = before; after = after; failures = failures }) caps.bytes (Ok (all_stored s samples))
-given_samples s caps count before after failures bytes samples taken within reading =
-    given (sound_input bytes) (Ok (all_stored s samples)) (gave_whole before after failures caps.bytes bytes taken) (decoded samples (none_refused caps.bytes bytes taken.within) within reading)
+pub read_samples : (s : Settings) (caps : Caps) (count : Option ℕ) (before after : Option (List ℕ)) (failures : ℕ) (bytes : List ℕ) (samples : List ℤ)
+    → IsTakenWhole before after failures caps.bytes bytes → count_refusal caps.samples count ≡ None
+    → IsReading s count caps.samples (bits_of_bytes bytes) samples
+    → GaveSamples s caps count (record { before = before; after = after; failures = failures }) samples
+read_samples s caps count before after failures bytes samples taken within reading = record {
+  input = sound_input bytes;
+  gave = gave_whole before after failures caps.bytes bytes taken;
+  read = record { taken = none_refused caps.bytes bytes taken.within; within = within; reading = reading };
+}
 
 -- ---- in the form in which the code has the facts
 
@@ -95,24 +100,44 @@ pub answers_memory : {X : Type 0} (r : Result X Fault) (fault f : Fault) (answer
     → IfErr r (λ e. GivesAnswer answers source limit (Err e))
 answers_memory r fault f answers source limit is same memory = answers_err r fault Memory answers source limit is (same ∙ memory) lacks_memory
 
-pub answers_decoding : {X : Type 0} (r : Result X Fault) (fault f : Fault) (s : Settings) (caps : Caps) (count : Option ℕ) (before after : Option (List ℕ)) (failures limit most : ℕ) (bytes : List ℕ) (bits : List Bool)
-    → r ≡ Err fault → fault ≡ f → limit ≡ caps.bytes → most ≡ caps.samples → bits ≡ bits_of_bytes bytes → IsTakenWhole before after failures limit bytes
-    → RefusesDecoding s count most bits f → IfErr r (λ e. GivesAnswer (IsDecoded s caps count) (taking before after failures) caps.bytes (Err e))
-answers_decoding r fault f s caps count before after failures limit most bytes bits is same limited counted spelled taken refuses =
-    answers_err r fault f (IsDecoded s caps count) (taking before after failures) caps.bytes is same
-    (refused_decoding s caps count before after failures bytes f (subst (λ limit. IsTakenWhole before after failures limit bytes) limited taken)
-    (subst (λ bits. RefusesDecoding s count caps.samples bits f) spelled (subst (λ most. RefusesDecoding s count most bits f) counted refuses)))
+pub answers_decoding : {X : Type 0} (r : Result X Fault) (s : Settings) (caps : Caps) (count : Option ℕ) (before after : Option (List ℕ))
+    (failures limit most : ℕ) (bytes : List ℕ) (bits : List Bool) → limit ≡ caps.bytes → most ≡ caps.samples → bits ≡ bits_of_bytes bytes
+    → IsTakenWhole before after failures limit bytes → IfErr r (λ f. RefusesDecoding s count most bits f)
+    → IfErr r (λ f. GivesAnswer (IsDecoded s caps count) (taking before after failures) caps.bytes (Err f))
+answers_decoding r s caps count before after failures limit most bytes bits limited counted spelled taken refuses =
+    IfErr-weaker r (λ f. RefusesDecoding s count most bits f) (λ f. GivesAnswer (IsDecoded s caps count) (taking before after failures) caps.bytes (Err f))
+    (λ f refused. refused_decoding s caps count before after failures bytes f (subst (λ limit. IsTakenWhole before after failures limit bytes) limited taken)
+    (subst (λ bits. RefusesDecoding s count caps.samples bits f) spelled (subst (λ most. RefusesDecoding s count most bits f) counted refused))) refuses
 
-pub answers_samples : {X : Type 0} (view : X → List ℕ) (r : Result X Fault) (s : Settings) (caps : Caps) (count : Option ℕ) (before after : Option (List ℕ)) (failures limit most : ℕ) (bytes : List ℕ) (bits : List Bool) (samples stored : List ℤ)
-    → limit ≡ caps.bytes → most ≡ caps.samples → bits ≡ bits_of_bytes bytes → stored ≡ samples → IsTakenWhole before after failures limit bytes
-    → count_refusal most count ≡ None → IsReading s count most bits samples → IfOk r (λ x. view x ≡ all_stored s stored)
-    → IfOk r (λ x. GivesAnswer (IsDecoded s caps count) (taking before after failures) caps.bytes (Ok (view x)))
-answers_samples view r s caps count before after failures limit most bytes bits samples stored limited counted spelled same taken within reading ok =
-    IfOk-weaker r (λ x. view x ≡ all_stored s stored) (λ x. GivesAnswer (IsDecoded s caps count) (taking before after failures) caps.bytes (Ok (view x)))
-    (λ x e. subst (λ items. GivesAnswer (IsDecoded s caps count) (taking before after failures) caps.bytes (Ok items)) (sym (e ∙ ap (all_stored s) same))
-    (given_samples s caps count before after failures bytes samples (subst (λ limit. IsTakenWhole before after failures limit bytes) limited taken)
-    (subst (λ most. count_refusal most count ≡ None) counted within)
-    (subst (λ bits. IsReading s count caps.samples bits samples) spelled (subst (λ most. IsReading s count most bits samples) counted reading)))) ok
+pub gave_samples : {X : Type 0} (view : X → List ℤ) (r : Result X Fault) (s : Settings) (caps : Caps) (count : Option ℕ) (before after : Option (List ℕ))
+    (failures limit most : ℕ) (bytes : List ℕ) (bits : List Bool) → limit ≡ caps.bytes → most ≡ caps.samples → bits ≡ bits_of_bytes bytes
+    → IsTakenWhole before after failures limit bytes → IfOk r (λ x. (count_refusal most count ≡ None) × IsReading s count most bits (view x))
+    → IfOk r (λ x. GaveSamples s caps count (taking before after failures) (view x))
+gave_samples view r s caps count before after failures limit most bytes bits limited counted spelled taken ok =
+    IfOk-weaker r (λ x. (count_refusal most count ≡ None) × IsReading s count most bits (view x)) (λ x. GaveSamples s caps count (taking before after failures) (view x))
+    (λ x read. read_samples s caps count before after failures bytes (view x) (subst (λ limit. IsTakenWhole before after failures limit bytes) limited taken)
+    (subst (λ most. count_refusal most count ≡ None) counted read.0)
+    (subst (λ bits. IsReading s count caps.samples bits (view x)) spelled (subst (λ most. IsReading s count most bits (view x)) counted read.1))) ok
+
+pub held_samples : {X : Type 0} (view : X → List ℤ) (r : Result X Fault) (s : Settings) (count : Option ℕ) (most : ℕ) (bits : List Bool)
+    → IfOk r (λ x. (count_refusal most count ≡ None) × IsReading s count most bits (view x)) → IfOk r (λ x. AllByRecursion (IsHeld s) (view x))
+held_samples view r s count most bits ok =
+    IfOk-weaker r (λ x. (count_refusal most count ≡ None) × IsReading s count most bits (view x)) (λ x. AllByRecursion (IsHeld s) (view x))
+    (λ x read. held-reading s count most bits (view x) read.1) ok
+
+pub decoded_refused : {X : Type 0} (view : X → List ℕ) (r : Result X Fault) (fault f : Fault) (answers : Input → Result (List ℕ) Fault → Type 0)
+    (source : Taking) (limit : ℕ) → r ≡ Err fault → fault ≡ f → GivesAnswer answers source limit (Err f) → GivesAnswer answers source limit (answer_of view r)
+decoded_refused {X} view r fault f answers source limit is same gives =
+    subst (λ r. GivesAnswer answers source limit (answer_of view r)) (sym (is ∙ ap Err same)) gives
+
+pub decoded_stored : {X : Type 0} (view : X → List ℕ) (r : Result X Fault) (s : Settings) (caps : Caps) (count : Option ℕ) (source : Taking)
+    (samples all : List ℤ) → all ≡ samples → GaveSamples s caps count source samples → IfOk r (λ x. view x ≡ all_stored s all)
+    → IfErr r (λ e. e ≡ Memory) → GivesAnswer (IsDecoded s caps count) source caps.bytes (answer_of view r)
+decoded_stored view (Ok x) s caps count source samples all same gave ok memory =
+    subst (λ bytes. GivesAnswer (IsDecoded s caps count) source caps.bytes (Ok bytes)) (sym (ok ∙ ap (all_stored s) same))
+    (given gave.input (Ok (all_stored s samples)) gave.gave (decoded samples gave.read))
+decoded_stored view (Err e) s caps count source samples all same gave ok memory =
+    subst (λ e. GivesAnswer (IsDecoded s caps count) source caps.bytes (Err e)) (sym memory) lacks_memory
 
 pub answers_storing : {X : Type 0} (r : Result X Fault) (answers : Input → Result (List ℕ) Fault → Type 0) (source : Taking) (limit : ℕ) → IfErr r (λ e. e ≡ Memory) → IfErr r (λ e. GivesAnswer answers source limit (Err e))
 answers_storing r answers source limit memory =
@@ -157,3 +182,50 @@ pub leaves_delivered : (r : Result (Unit {0}) Fault) (answers : Input → Result
 leaves_delivered r answers source limit before after begun begun_after failures bytes written_bytes same gives ok front counts fault =
     leaves_ok r answers source limit before after begun begun_after failures (Ok written_bytes) written_bytes refl
     (subst (λ bytes. GivesAnswer answers source limit (Ok bytes)) (sym same) gives) ok front counts fault
+
+-- ---- an answer that is written
+
+answered_ok : (answers : Input → Result (List ℕ) Fault → Type 0) (source : Taking) (limit : ℕ) (answer : Result (List ℕ) Fault) (bytes : List ℕ)
+    → answer ≡ Ok bytes → GivesAnswer answers source limit answer → (input : Input) × Gave source limit input × answers input (Ok bytes)
+answered_ok answers source limit answer bytes is (given input a gave answered) = (input, gave, subst (answers input) is answered)
+answered_ok answers source limit answer bytes is lacks_memory = absurd (cc)
+
+leaves_nothing : (answers : Input → Result (List ℕ) Fault → Type 0) (source : Taking) (limit : ℕ) (sink : Putting) (answer : Result (List ℕ) Fault)
+    (fault : Fault) → answer ≡ Err fault → GivesAnswer answers source limit answer → WroteNothing sink → Leaves answers source limit sink (Err fault)
+leaves_nothing answers source limit sink answer fault is (given input a gave answered) nothing =
+    refused input fault gave (subst (answers input) is answered) nothing
+leaves_nothing answers source limit sink answer fault is lacks_memory nothing =
+    let memory : Memory ≡ fault = cc in subst (λ fault. Leaves answers source limit sink (Err fault)) memory (no_answer nothing)
+
+pub leaves_settled : (answers : Input → Result (List ℕ) Fault → Type 0) (source : Taking) (limit : ℕ) (sink : Putting)
+    (answer : Result (List ℕ) Fault) (r : Result (Unit {0}) Fault) → GivesAnswer answers source limit answer → Settles sink answer r
+    → Leaves answers source limit sink r
+leaves_settled answers source limit sink answer r gives (settled bytes appends begun) =
+    let answered = answered_ok answers source limit answer bytes refl gives in
+    written answered.0 bytes answered.1 answered.2 appends begun
+leaves_settled answers source limit sink answer r gives (not_begun fault nothing) =
+    leaves_nothing answers source limit sink answer fault refl gives nothing
+leaves_settled answers source limit sink answer r gives (stopped bytes front begun failed) =
+    let answered = answered_ok answers source limit answer bytes refl gives in
+    not_written answered.0 bytes answered.1 answered.2 front begun failed
+
+pub settles_refused : {X : Type 0} (view : X → List ℕ) (answer : Result X Fault) (r : Result (Unit {0}) Fault) (fault f : Fault) (before : Option (List ℕ))
+    (begun failures : ℕ) → answer ≡ Err f → r ≡ Err fault → fault ≡ f
+    → Settles (record { before = before; after = before; begun_before = begun; begun_after = begun; failures = failures }) (answer_of view answer) r
+settles_refused {X} view answer r fault f before begun failures was is same =
+    let sink : Putting = record { before = before; after = before; begun_before = begun; begun_after = begun; failures = failures } in
+    let refusal : Settles sink (Err f) (Err f) = not_begun f (record { kept = Keeps-same before; begun = refl }) in
+    subst (λ r. Settles sink (answer_of view answer) r) (sym (is ∙ ap Err same))
+    (subst (λ answer. Settles sink (answer_of view answer) (Err f)) (sym was) refusal)
+
+pub settles_delivered : {X : Type 0} (view : X → List ℕ) (answer : Result X Fault) (r : Result (Unit {0}) Fault) (x : X) (written_bytes : List ℕ)
+    (sink : Putting) → answer ≡ Ok x → written_bytes ≡ view x → OnOk r (Appends sink.before sink.after written_bytes)
+    → OnErr r (AppendsFront sink.before sink.after written_bytes) → sink.begun_after ≡ counted sink.begun_before
+    → IfErr r (λ e. (e ≡ Write) × (sink.failures ≡ 1)) → Settles sink (answer_of view answer) r
+settles_delivered {X} view answer r x written_bytes sink was same ok front begun fault =
+    subst (λ answer. Settles sink (answer_of view answer) r) (sym was) (subst (λ bytes. Settles sink (Ok bytes) r) same (by_result r ok front fault))
+  where
+    by_result : (r : Result (Unit {0}) Fault) → OnOk r (Appends sink.before sink.after written_bytes)
+        → OnErr r (AppendsFront sink.before sink.after written_bytes) → IfErr r (λ e. (e ≡ Write) × (sink.failures ≡ 1)) → Settles sink (Ok written_bytes) r
+    by_result (Ok done) ok front fault = settled written_bytes ok begun
+    by_result (Err e) ok front fault = subst (λ e. Settles sink (Ok written_bytes) (Err e)) (sym fault.0) (stopped written_bytes front begun fault.1)

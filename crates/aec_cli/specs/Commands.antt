@@ -1,6 +1,6 @@
 -- The command `aec` as a parse sees it: its options and operands, one after the other.
 use Rattle.std.specs.Prelude.{ℕ, List, [], ◌∷◌, Some, pos, true, codes, slice_index}
-use Rattle.clap.specs.Simple.{App, new_app, new_rule, with_rule}
+use Rattle.clap.specs.Simple.{App, new_app, new_rule, on_top, with_rule}
 use Rattle.clap.specs.Walk.{Rule, Text}
 use Rattle.clap.specs.declared.builder.action.ArgAction.TheVariants.{SetTrue}
 use Rattle.clap.specs.declared.builder.value_parser.ValueParser.{ValueParser}
@@ -29,6 +29,18 @@ word_parser = parser.Signed (pos 0) (pos 4294967295)
 abbrev pub long_parser : ValueParser
 long_parser = parser.Unsigned 0 18446744073709551615
 
+-- an option with a long name that takes one value, which the parser judges
+abbrev pub long_number_rule : ValueParser → Text → Rule
+long_number_rule judge id = record (new_rule id) {
+  long = Some id;
+  value_names = 1;
+  parser = Some judge;
+}
+
+-- an option with a long name that takes one text
+abbrev pub long_text_rule : Text → Rule
+long_text_rule id = record (new_rule id) { long = Some id; value_names = 1 }
+
 -- the name of a file, which has to be given
 abbrev pub file_rule : Text → Rule
 file_rule id = record (new_rule id) { required = true }
@@ -46,7 +58,7 @@ number_rules = number_rule word_parser (codes "bits") (letter (codes "n"))
 
 -- how samples are coded
 unfoldable pub coding_rules : List Rule
-coding_rules = flag_rule (codes "plain") (letter (codes "N")) ∷ flag_rule (codes "pad") (letter (codes "p"))
+coding_rules = flag_rule (codes "no-preprocessing") (letter (codes "N")) ∷ flag_rule (codes "pad") (letter (codes "p"))
     ∷ flag_rule (codes "restricted") (letter (codes "t")) ∷ []
 
 -- how samples are stored
@@ -56,12 +68,17 @@ storage_rules = flag_rule (codes "signed") (letter (codes "s")) ∷ flag_rule (c
 
 -- what is done
 unfoldable pub work_rules : List Rule
-work_rules = flag_rule (codes "decode") (letter (codes "d")) ∷ number_rule long_parser (codes "buffer") (letter (codes "b")) ∷ []
+work_rules = flag_rule (codes "decode") (letter (codes "d")) ∷ long_text_rule (codes "range")
+    ∷ long_number_rule long_parser (codes "count") ∷ number_rule long_parser (codes "buffer") (letter (codes "b")) ∷ []
 
 -- the two files, in this order
 unfoldable pub file_rules : List Rule
 file_rules = file_rule (codes "SOURCE") ∷ file_rule (codes "DEST") ∷ []
 
+-- a command of this name that says its version when it is asked for
+abbrev pub versioned_app : Text → App
+versioned_app name = on_top (λ shape. record shape { has_version = true }) (new_app name)
+
 unfoldable pub aec_app : App
-aec_app = with_rules (with_rules (with_rules (with_rules (with_rules (new_app (codes "aec")) number_rules) coding_rules)
+aec_app = with_rules (with_rules (with_rules (with_rules (with_rules (versioned_app (codes "aec")) number_rules) coding_rules)
     storage_rules) work_rules) file_rules

@@ -1,20 +1,20 @@
 -- The job that the words of a command ask for: a function of what a parse found.
-use Rattle.std.specs.Prelude.{ℕ, ◌^◌, Bool, false, not, ◌&&◌, nat_lt, if◌then◌else◌, [], Option, Some, None, unwrap_or, option_and_then, Result, Ok, Err, codes}
-use Rattle.std.specs.Option.{option_map_or}
+use Rattle.std.specs.Prelude.{ℕ, Bool, false, not, ◌&&◌, ◌==◌, nat_lt, if◌then◌else◌, List, [], ◌∷◌, count_by}
+use Rattle.std.specs.Prelude.{Option, Some, None, is_some, unwrap_or, option_map, option_and_then, Result, Ok, Err, codes}
+use Rattle.std.specs.Option.{option_map_or, option_or}
 use Rattle.std.specs.Str.{bytes_eq}
-use Rattle.std.specs.Str.Parse.{digits_value, without_leading_plus}
 use Rattle.std.specs.String.{string_bytes}
 use Rattle.clap.specs.Matches.{first_value, one_text}
-use Rattle.clap.specs.ValueTests.{is_numeral}
 use Rattle.clap.specs.Walk.{Text}
 use Rattle.clap.specs.declared.parser.matches.Found.{Found}
 use Rattle.aec_params.specs.Params.{settings_fault}
 use Rattle.aec_params.specs.declared.settings.Settings.{Settings}
 use Rattle.aec_cli.specs.declared.usage.Usage.{Usage}
-use Rattle.aec_cli.specs.declared.usage.Usage.TheVariants.{Setting}
+use Rattle.aec_cli.specs.declared.usage.Usage.TheVariants.{Jobs, Count, Range, Setting}
 use Rattle.aec_cli.specs.declared.job.Action.{Action}
-use Rattle.aec_cli.specs.declared.job.Action.TheVariants.{Encode, Decode}
+use Rattle.aec_cli.specs.declared.job.Action.TheVariants as action
 use Rattle.aec_cli.specs.declared.job.Job.{Job}
+use Rattle.aec_cli.specs.Numerals.{number_in, range_in}
 
 -- one job: the settings, what is done, and the names of the two files
 pub record Task : Type 0 where
@@ -30,15 +30,13 @@ task_of j = record { settings = j.params; action = j.action; source = string_byt
 unfoldable pub is_given : Text → Found → Bool
 is_given id f = option_map_or (λ text. bytes_eq text (codes "true")) (first_value f id) false
 
--- the whole number of 32 bits that a text writes in decimal digits, where it is one; a plus may stand first
-abbrev pub word_in : Text → Option ℕ
-word_in text =
-    let digits = without_leading_plus text in
-    if is_numeral digits && nat_lt (digits_value 10 digits) (2 ^ 32) then Some (digits_value 10 digits) else None
-
 -- the number of an option, and the default where it has none
 unfoldable pub word_of : ℕ → Text → Found → ℕ
-word_of default id f = unwrap_or (option_and_then word_in (one_text f id)) default
+word_of default id f = unwrap_or (option_and_then (number_in 32) (one_text f id)) default
+
+-- the sample count, where one is given
+unfoldable pub count_of : Found → Option ℕ
+count_of f = option_and_then (number_in 64) (one_text f (codes "count"))
 
 -- the name of a file; with none, the empty name
 unfoldable pub file_of : Text → Found → Text
@@ -53,13 +51,39 @@ settings_of f = record {
   signed = is_given (codes "signed") f;
   msb_first = is_given (codes "msb-first") f;
   three_byte = is_given (codes "three-byte") f;
-  preprocess = not (is_given (codes "plain") f);
+  preprocess = not (is_given (codes "no-preprocessing") f);
   pad = is_given (codes "pad") f;
   restricted = is_given (codes "restricted") f;
 }
 
+-- ---- what is done
+
+-- how many of `-d` and `--range` are given
+unfoldable pub actions_given : Found → ℕ
+actions_given f = count_by (λ given. given) (is_given (codes "decode") f ∷ is_some (first_value f (codes "range")) ∷ [])
+
+-- the range, where its text is one
+unfoldable pub range_of : Found → Option (ℕ × ℕ)
+range_of f = option_and_then range_in (first_value f (codes "range"))
+
+-- a refusal that stands where a test holds
+abbrev pub refused_where : Bool → Usage → Option Usage
+refused_where holds usage = if holds then Some usage else None
+
+-- Why no action is asked for, the first that holds: more than one; a sample count and none that reads coded data; a range
+-- whose text is none.
+unfoldable pub action_refusal : Found → Option Usage
+action_refusal f =
+    option_or (refused_where (nat_lt 1 (actions_given f)) Jobs)
+    (option_or (refused_where (is_some (count_of f) && actions_given f == 0) Count)
+    (refused_where (is_some (first_value f (codes "range")) && not (is_some (range_of f))) Range))
+
+-- what is asked for where nothing is refused: a range, all samples, or coding
 unfoldable pub action_of : Found → Action
-action_of f = if is_given (codes "decode") f then Decode None else Encode
+action_of f = option_map_or (λ range. action.Range range.0 range.1 (count_of f)) (range_of f)
+    (if is_given (codes "decode") f then action.Decode (count_of f) else action.Encode)
+
+-- ---- the job
 
 abbrev pub asked_task : Found → Task
 asked_task f = record {
@@ -69,6 +93,10 @@ asked_task f = record {
   dest = file_of (codes "DEST") f;
 }
 
--- the job, or the first rule of the format that its settings break
+-- why there is no job: the refusal of its action, and else the first rule of the format that its settings break
+abbrev pub job_refusal : Found → Option Usage
+job_refusal f = option_or (action_refusal f) (option_map (λ fault. Setting fault) (settings_fault (settings_of f)))
+
+-- the job, or its refusal
 abbrev pub job_of : Found → Result Task Usage
-job_of f = option_map_or (λ fault. Err (Setting fault)) (settings_fault (settings_of f)) (Ok (asked_task f))
+job_of f = option_map_or Err (job_refusal f) (Ok (asked_task f))

@@ -4,8 +4,8 @@ use Rattle.aec_params.specs.declared.settings.Settings.{Settings}
 use Rattle.aec_params.specs.declared.fault.Fault.{Fault}
 use Rattle.aec_params.specs.Limits.{Caps}
 use Rattle.aec_params.specs.Params.{IsAllowed}
-use Rattle.aec_cli.specs.Devices.{Input, Taking, Gave}
-use Rattle.aec_cli.specs.Output.{IsEncoded, bytes_within, IsDecoded}
+use Rattle.aec_cli.specs.Transfers.{Input, input_of, Taking, Gave}
+use Rattle.aec_cli.specs.Output.{IsEncoded, bytes_within, IsDecoded, IsRanged}
 
 -- ---- bytes or one refusal
 
@@ -15,15 +15,14 @@ pub record HasOneAnswer (answers : Input → Result (List ℕ) Fault → Type 0)
   pub is_answer : answers input answer
   pub only : (other : Result (List ℕ) Fault) → answers input other → other ≡ answer
 
--- each input is coded into bytes or has one refusal, and is decoded into bytes or has one refusal
+-- each input is coded into bytes or has one refusal; so it is decoded, and so is each range of it
 pub record EachInputHasOneAnswer : Type 0 where
   pub coding : (s : Settings) (caps : Caps) (input : Input) → HasOneAnswer (IsEncoded s caps) input
   pub decoding : (s : Settings) (caps : Caps) (count : Option ℕ) (input : Input) → IsAllowed s → HasOneAnswer (IsDecoded s caps count) input
+  pub ranging : (s : Settings) (caps : Caps) (count : Option ℕ) (first len : ℕ) (input : Input) → IsAllowed s
+      → HasOneAnswer (IsRanged s caps count first len) input
 
 -- ---- inputs past a limit
-
-abbrev pub input_of : List ℕ → Bool → Input
-input_of bytes failed = record { bytes = bytes; failed = failed }
 
 -- the front of an input is enough: both have one answer, the same refusal, whether or not their source failed
 pub record IsJudgedByFront (answers : Input → Result (List ℕ) Fault → Type 0) (front rest : List ℕ) : Type 0 where
@@ -37,6 +36,8 @@ pub record FrontsPastALimitAreEnough : Type 0 where
       → IsJudgedByFront (IsEncoded s caps) front rest
   pub decoding : (s : Settings) (caps : Caps) (count : Option ℕ) (front rest : List ℕ) → caps.bytes < length front
       → IsJudgedByFront (IsDecoded s caps count) front rest
+  pub ranging : (s : Settings) (caps : Caps) (count : Option ℕ) (first len : ℕ) (front rest : List ℕ) → caps.bytes < length front
+      → IsJudgedByFront (IsRanged s caps count first len) front rest
 
 -- what a source gave is judged as all bytes that it had left, where it did not fail
 abbrev pub IsJudgedWhole : (Input → Result (List ℕ) Fault → Type 0) → ℕ → Type 0
@@ -46,3 +47,4 @@ IsJudgedWhole answers limit = (source : Taking) (input : Input) (bytes : List �
 pub record WhatIsTakenIsEnough : Type 0 where
   pub coding : (s : Settings) (caps : Caps) → IsAllowed s → IsJudgedWhole (IsEncoded s caps) (bytes_within s caps.samples)
   pub decoding : (s : Settings) (caps : Caps) (count : Option ℕ) → IsJudgedWhole (IsDecoded s caps count) caps.bytes
+  pub ranging : (s : Settings) (caps : Caps) (count : Option ℕ) (first len : ℕ) → IsJudgedWhole (IsRanged s caps count first len) caps.bytes

@@ -1,9 +1,15 @@
 pub mod CommandExamples
 pub mod Commands
+pub mod Numerals
+pub mod Scripts
+pub mod ScriptExamples
+pub mod ScriptLines
 pub mod Jobs
 pub mod Openings
 pub mod Statuses
-pub mod Devices
+pub mod Transfers
 pub mod Output
 pub mod OutputExamples
+pub mod Actions
+pub mod InMemory
 pub mod Laws

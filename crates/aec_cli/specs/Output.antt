@@ -1,10 +1,10 @@
 -- What a run writes: a function of its inputs, or one refusal.
-use Rattle.std.specs.Prelude.{◌≡◌, ℕ, ◌+◌, ◌-◌, ◌*◌, nat_lt, if◌then◌else◌, Option, Some, None, Result, Ok, Err, ℤ, List, length}
+use Rattle.std.specs.Prelude.{◌≡◌, ℕ, ◌+◌, ◌-◌, ◌*◌, ◌<◌, ◌≤◌, nat_lt, if◌then◌else◌, Option, Some, None, Result, Ok, Err, ℤ, List, length, take, drop}
 use Rattle.std.specs.List.{flat_map}
 use Rattle.std.specs.Option.{option_or}
 use Rattle.aec_params.specs.declared.settings.Settings.{Settings}
 use Rattle.aec_params.specs.declared.fault.Fault.{Fault}
-use Rattle.aec_params.specs.declared.fault.Fault.TheVariants.{SampleRange, TooManySamples, Read, StreamTooLong}
+use Rattle.aec_params.specs.declared.fault.Fault.TheVariants.{SampleRange, TooManySamples, OutOfRange, Read, StreamTooLong}
 use Rattle.aec_params.specs.Limits.{Caps}
 use Rattle.aec_params.specs.Params.{storage_len}
 use Rattle.aec_params.specs.Stored.{stored_bytes, samples_of_bytes}
@@ -13,7 +13,7 @@ use Rattle.aec_params.specs.Streams.{stream_of}
 use Rattle.aec_params.specs.Reading.{IsReading}
 use Rattle.aec_params.specs.Faults.{IsFault}
 use Rattle.aec_interval.specs.Reached.{count_refusal}
-use Rattle.aec_cli.specs.Devices.{Input}
+use Rattle.aec_cli.specs.Transfers.{Input, Taking, Gave}
 
 -- ---- coding
 
@@ -48,14 +48,41 @@ all_stored s samples = flat_map (stored_bytes s) samples
 abbrev pub intake_refusal : ℕ → Input → Option Fault
 intake_refusal limit input = if nat_lt limit (length input.bytes) then Some (StreamTooLong limit) else (if input.failed then Some Read else None)
 
+-- the samples that an input is read as: it is taken whole, no count is above the limit, and its bits have this reading
+pub record IsRead (s : Settings) (caps : Caps) (count : Option ℕ) (input : Input) (samples : List ℤ) : Type 0 where
+  pub taken : intake_refusal caps.bytes input ≡ None
+  pub within : count_refusal caps.samples count ≡ None
+  pub reading : IsReading s count caps.samples (bits_of_bytes input.bytes) samples
+
+-- a source gave an input that is read as these samples
+pub record GaveSamples (s : Settings) (caps : Caps) (count : Option ℕ) (source : Taking) (samples : List ℤ) : Type 0 where
+  pub input : Input
+  pub gave : Gave source caps.bytes input
+  pub read : IsRead s caps count input samples
+
 -- what decoding answers
 pub data IsDecoded (s : Settings) (caps : Caps) (count : Option ℕ) (input : Input) : Result (List ℕ) Fault → Type 0 where
   -- the input is refused before it is read as coded data
   not_taken : (fault : Fault) → intake_refusal caps.bytes input ≡ Some fault → IsDecoded s caps count input (Err fault)
   not_counted : (fault : Fault) → intake_refusal caps.bytes input ≡ None → count_refusal caps.samples count ≡ Some fault
       → IsDecoded s caps count input (Err fault)
-  -- the samples that the bits are read as, or their fault
-  decoded : (samples : List ℤ) → intake_refusal caps.bytes input ≡ None → count_refusal caps.samples count ≡ None
-      → IsReading s count caps.samples (bits_of_bytes input.bytes) samples → IsDecoded s caps count input (Ok (all_stored s samples))
+  -- the samples that it is read as, or the fault of its bits
+  decoded : (samples : List ℤ) → IsRead s caps count input samples → IsDecoded s caps count input (Ok (all_stored s samples))
   faulty : (fault : Fault) → intake_refusal caps.bytes input ≡ None → count_refusal caps.samples count ≡ None
       → IsFault s count caps.samples (bits_of_bytes input.bytes) 0 0 fault → IsDecoded s caps count input (Err fault)
+
+-- ---- ranges
+
+-- `len` samples from place `first` on, places being counted from 0
+abbrev pub samples_from : ℕ → ℕ → List ℤ → List ℤ
+samples_from first len samples = take len (drop first samples)
+
+-- what cutting out a range answers
+pub data IsRanged (s : Settings) (caps : Caps) (count : Option ℕ) (first len : ℕ) (input : Input) : Result (List ℕ) Fault → Type 0 where
+  -- the refusals of decoding: the whole input has to be sound
+  not_decoded : (fault : Fault) → IsDecoded s caps count input (Err fault) → IsRanged s caps count first len input (Err fault)
+  -- a place outside the samples that it is read as
+  outside : (samples : List ℤ) → IsRead s caps count input samples → length samples < first + len
+      → IsRanged s caps count first len input (Err (OutOfRange (length samples)))
+  cut_out : (samples : List ℤ) → IsRead s caps count input samples → first + len ≤ length samples
+      → IsRanged s caps count first len input (Ok (all_stored s (samples_from first len samples)))

@@ -4,7 +4,7 @@ use Rattle.aec_params.specs.declared.fault.Fault.TheVariants.{SampleRange, TooMa
 use Rattle.aec_params.specs.Limits.{Caps}
 use Rattle.aec_params.specs.Stored.{samples_of_bytes}
 use Rattle.aec_params.proofs.WorkedSettings.{usual, twelve_bits, five_signed}
-use Rattle.aec_cli.specs.Devices.{Input}
+use Rattle.aec_cli.specs.Transfers.{Input}
 use Rattle.aec_cli.specs.Output.{IsEncoded, bytes_within, samples_refusal, encoded, not_coded}
 
 -- so many samples; coding has no limit of bytes

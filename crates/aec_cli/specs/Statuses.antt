@@ -4,12 +4,15 @@ use Rattle.clap.specs.Kinds.{Kinds}
 use Rattle.clap.specs.declared.error.kind.ErrorKind.{ErrorKind}
 use Rattle.clap.specs.declared.error.kind.ErrorKind.TheVariants as kind
 use Rattle.aec_cli.specs.declared.usage.Usage.{Usage}
-use Rattle.aec_cli.specs.declared.usage.Usage.TheVariants.{Setting, Memory}
+use Rattle.aec_cli.specs.declared.usage.Usage.TheVariants.{Jobs, Count, Range, Setting, Memory}
 use Rattle.aec_cli.specs.declared.failure.Failure.{Failure}
 use Rattle.aec_cli.specs.declared.failure.Failure.TheVariants as failure
 
 -- words that make no job: 2; but want of memory is no fault of the words
 abbrev pub usage_status : Usage → ℕ
+usage_status Jobs = 2
+usage_status Count = 2
+usage_status Range = 2
 usage_status (Setting fault) = 2
 usage_status Memory = 1
 

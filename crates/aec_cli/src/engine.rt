@@ -4,6 +4,8 @@ mod coding;
 mod decoding;
 mod intake;
 mod outlet;
+mod ranging;
 
 pub use coding::encode;
 pub use decoding::decode;
+pub use ranging::range;

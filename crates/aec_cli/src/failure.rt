@@ -24,7 +24,7 @@ pub fn status(failure: &Failure) -> u8
     ensures { result ≡ status_of failure.now }
 {
     match failure {
-        Failure::Usage(Usage::Setting(_)) => 2,
+        Failure::Usage(Usage::Jobs | Usage::Count | Usage::Range | Usage::Setting(_)) => 2,
         Failure::Usage(Usage::Memory) | Failure::Fault(_) => 1,
     }
 }

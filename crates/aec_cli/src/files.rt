@@ -1,14 +1,16 @@
 //! Files as devices: a source that is opened by its first call, and a sink that is created by `begin`.
 
-ghost use Rattle.std.specs.Prelude.{◌≡◌, ◌≤◌, ◌<◌, false, None, IfOk, IsErr, length};
+ghost use Rattle.std.specs.Prelude.{◌≡◌, ◌≤◌, ◌<◌, false, IfOk, IfErr, IsErr, length};
 ghost use Rattle.std.specs.Io.KnownBytes.{WriteAppends};
 ghost use Rattle.aec_params.specs.declared.fault.Fault.TheVariants.{Write as WriteFault};
 ghost use Rattle.aec_bits.specs.Devices.{FailsOnce};
-ghost use Rattle.aec_cli.specs.Openings.{is_open};
+ghost use Rattle.aec_cli.specs.Openings.{is_open, IsTried};
 
 use aec_bits::{ReadSource, Sink, Source, WriteSink};
 use aec_params::Fault;
 use std::fs;
+use std::fs::OpenFile;
+use std::io::ErrorKind;
 use std::rt::Files;
 
 // What has become of the file of a device.
@@ -17,6 +19,39 @@ enum Opening<T: Drop> {
     Unopened,
     Open(T),
     Failed,
+}
+
+// What a file that is opened has become: it is open and has not failed, or it can't be opened.
+fn opened<F: Files>(rt: &F, path: &str) -> Opening<ReadSource<F::File>>
+    ensures { IsTried ⟦<ReadSource<F::File> as Source>⟧.failed result }
+{
+    match fs::open(rt, path) {
+        Ok(file) => Opening::Open(ReadSource::new(file)),
+        Err(_) => Opening::Failed,
+    }
+}
+
+// The same of a file that is created, or emptied where it is there.
+fn created<F: Files>(rt: &F, path: &str) -> Opening<WriteSink<F::File>>
+    ensures { IsTried ⟦<WriteSink<F::File> as Sink>⟧.failed result }
+{
+    match fs::create(rt, path) {
+        Ok(file) => Opening::Open(WriteSink::new(file)),
+        Err(_) => Opening::Failed,
+    }
+}
+
+// What an open file was given reaches the device below it, where it has one.
+fn synced<T: OpenFile>(file: &T) -> Result<(), Fault>
+    ensures { IfErr result (λ e. e ≡ WriteFault) }
+{
+    match file.sync_all() {
+        Ok(()) => Ok(()),
+        Err(error) => match error.kind() {
+            ErrorKind::InvalidInput | ErrorKind::Unsupported => Ok(()),
+            _ => Err(Fault::Write),
+        },
+    }
 }
 
 /// The bytes of a file. The first `take` opens it. A file that can't be opened, and any error of a read, is a failure.
@@ -42,28 +77,19 @@ impl<'a, F: Files> FileSource<'a, F> {
 }
 
 impl<'a, F: Files> Source for FileSource<'a, F> {
-    ghost use Rattle.aec_cli.specs.Openings.{failures_of};
+    ghost use Rattle.aec_cli.specs.Openings.{bytes_known, failures_of};
 
-    ghost left = { λ _. None };
+    ghost left = { λ s. bytes_known ⟦<ReadSource<F::File> as Source>⟧.left s.file };
 
     ghost failed = { λ s. failures_of ⟦<ReadSource<F::File> as Source>⟧.failed s.file };
 
     fn take(&mut self, buf: &mut [u8]) -> Result<usize, Fault> {
+        if let Opening::Unopened = &self.file {
+            self.file = opened(self.rt, self.path.as_str());
+        }
         match &mut self.file {
             Opening::Open(file) => file.take(buf),
-            Opening::Failed => Err(Fault::Read),
-            Opening::Unopened => match fs::open(self.rt, self.path.as_str()) {
-                Ok(file) => {
-                    let mut source = ReadSource::new(file);
-                    let answer = source.take(buf);
-                    self.file = Opening::Open(source);
-                    answer
-                }
-                Err(_) => {
-                    self.file = Opening::Failed;
-                    Err(Fault::Read)
-                }
-            },
+            _ => Err(Fault::Read),
         }
     }
 
@@ -101,12 +127,27 @@ impl<'a, F: Files> DestSink<'a, F> {
             begins: 0,
         }
     }
+
+    /// Has the system write out what the file was given, and ends the sink. `Write` where that fails, and where the
+    /// sink has failed. A file that can't be synced, as a pipe or a terminal, is done as it is, and so is a sink that
+    /// was not begun.
+    pub fn finish(self) -> Result<(), Fault>
+        ensures failed { ⟦<DestSink<'a, F> as Sink>⟧.failed self.entry ≡ 1 → IsErr result }
+        ensures fault { IfErr result (λ e. e ≡ WriteFault) }
+    {
+        let DestSink { file, .. } = self;
+        match file {
+            Opening::Unopened => Ok(()),
+            Opening::Open(file) if file.failures() == 0 => synced(&file.into_inner()),
+            _ => Err(Fault::Write),
+        }
+    }
 }
 
 impl<'a, F: Files> Sink for DestSink<'a, F> {
-    ghost use Rattle.aec_cli.specs.Openings.{failures_of};
+    ghost use Rattle.aec_cli.specs.Openings.{bytes_known, failures_of};
 
-    ghost taken = { λ _. None };
+    ghost taken = { λ s. bytes_known ⟦<WriteSink<F::File> as Sink>⟧.taken s.file };
 
     ghost failed = { λ s. failures_of ⟦<WriteSink<F::File> as Sink>⟧.failed s.file };
 
@@ -114,34 +155,30 @@ impl<'a, F: Files> Sink for DestSink<'a, F> {
 
     fn begin(&mut self) -> Result<(), Fault> {
         self.begins = self.begins.saturating_add(1);
-        if self.failures() > 0 {
-            return Err(Fault::Write);
+        if let Opening::Unopened = &self.file {
+            self.file = created(self.rt, self.path.as_str());
         }
-        match fs::create(self.rt, self.path.as_str()) {
-            Ok(file) => {
-                self.file = Opening::Open(WriteSink::new(file));
-                Ok(())
-            }
-            Err(_) => {
-                self.file = Opening::Failed;
-                Err(Fault::Write)
-            }
+        match &mut self.file {
+            Opening::Open(file) => file.begin(),
+            _ => Err(Fault::Write),
         }
     }
 
     fn put(&mut self, piece: &[u8]) -> Result<usize, Fault>
         ensures bound { IfOk result (λ k. k ≤ length piece.now) }
         ensures progress { IfOk result (λ k. 0 < length piece.now → 0 < k) }
-        ensures bytes { WriteAppends None None result piece.now }
+        ensures bytes { WriteAppends (⟦<DestSink<'a, F> as Sink>⟧.taken self.old) (⟦<DestSink<'a, F> as Sink>⟧.taken self.new) result piece.now }
         ensures count { ⟦<DestSink<'a, F> as Sink>⟧.begun self.new ≡ ⟦<DestSink<'a, F> as Sink>⟧.begun self.old }
         ensures failure { FailsOnce WriteFault (⟦<DestSink<'a, F> as Sink>⟧.failed self.old) (⟦<DestSink<'a, F> as Sink>⟧.failed self.new) result }
         ensures unbegun { ⟦<DestSink<'a, F> as Sink>⟧.begun self.old ≡ 0 → IsErr result }
     {
-        if let Opening::Open(file) = &mut self.file {
-            return file.put(piece);
+        match &mut self.file {
+            Opening::Open(file) => file.put(piece),
+            _ => {
+                self.file = Opening::Failed;
+                Err(Fault::Write)
+            }
         }
-        self.file = Opening::Failed;
-        Err(Fault::Write)
     }
 
     fn failures(&self) -> u64 {

@@ -1,10 +1,13 @@
 //! What a run of the program is asked to do.
 
 ghost use Rattle.std.specs.Prelude.{◌≡◌, IfOk, IfErr, IsOk};
+ghost use Rattle.std.specs.Result.{result_err};
 ghost use Rattle.std.specs.String.{string_bytes};
 ghost use Rattle.clap.specs.Matches.{found_of};
-ghost use Rattle.aec_cli.specs.Jobs.{job_of, task_of, settings_of, action_of, is_given, word_of, file_of};
+ghost use Rattle.aec_cli.specs.Jobs.{job_of, task_of, settings_of, is_given, word_of, count_of, file_of};
+ghost use Rattle.aec_cli.specs.Jobs.{action_of, action_refusal};
 
+use crate::numerals::range_in;
 use crate::usage::Usage;
 use aec_params::{Params, Settings};
 use clap::ArgMatches;
@@ -16,7 +19,15 @@ pub enum Action {
     /// Its samples are coded.
     Encode,
     /// It is decoded: the first `count` samples, and without a count all to its end.
-    Decode { count: Option<u64> },
+    Decode {
+        count: Option<u64>,
+    },
+    /// It is decoded, and `len` of these samples from place `first` on are kept.
+    Range {
+        first: u64,
+        len: u64,
+        count: Option<u64>,
+    },
 }
 
 /// One run: the parameters, what is done, and the names of the file that is read and of the file that is written.
@@ -28,19 +39,20 @@ pub struct Job {
     pub dest: String,
 }
 
-/// The job that the matches of a parse ask for. The settings are judged first; `Memory` comes only where no other
-/// refusal does.
+/// The job that the matches of a parse ask for. The refusals in their order: `Jobs`, `Count` and `Range`, which concern
+/// the action; `Setting`; and `Memory` only where no other comes.
 pub fn settings(alloc: Global, matches: &ArgMatches<'_>) -> Result<Job, Usage>
     ensures ok { IfOk result (λ job. job_of (found_of matches.now) ≡ Ok (task_of job)) }
     ensures refuses { IfErr (job_of (found_of matches.now)) (λ usage. result ≡ Err usage) }
     ensures memory { IfErr result (λ usage. IsOk (job_of (found_of matches.now)) → usage ≡ Usage.Memory) }
 {
+    let action = asked_action(matches)?;
     let params = Params::new(asked_settings(matches)).map_err(Usage::Setting)?;
     let source = file_name(alloc, matches, "SOURCE")?;
     let dest = file_name(alloc, matches, "DEST")?;
     Ok(Job {
         params,
-        action: asked_action(matches),
+        action,
         source,
         dest,
     })
@@ -58,20 +70,28 @@ fn asked_settings(matches: &ArgMatches<'_>) -> Settings
         signed: has_flag(matches, "signed"),
         msb_first: has_flag(matches, "msb-first"),
         three_byte: has_flag(matches, "three-byte"),
-        preprocess: !has_flag(matches, "plain"),
+        preprocess: !has_flag(matches, "no-preprocessing"),
         pad: has_flag(matches, "pad"),
         restricted: has_flag(matches, "restricted"),
     }
 }
 
-#[tactic(auto, unfolding(crate::specs::Jobs::action_of))]
-fn asked_action(matches: &ArgMatches<'_>) -> Action
-    ensures { result ≡ action_of (found_of matches.now) }
+// What is done, or the first rule of actions that is broken.
+#[tactic(auto, unfolding(crate::specs::Jobs::action_of, crate::specs::Jobs::action_refusal, crate::specs::Jobs::actions_given, crate::specs::Jobs::range_of))]
+fn asked_action(matches: &ArgMatches<'_>) -> Result<Action, Usage>
+    ensures ok { IfOk result (λ action. action ≡ action_of (found_of matches.now)) }
+    ensures refuses { result_err result ≡ action_refusal (found_of matches.now) }
 {
-    if has_flag(matches, "decode") {
-        Action::Decode { count: None }
-    } else {
-        Action::Encode
+    let count = sample_count(matches);
+    match (has_flag(matches, "decode"), matches.get_str("range")) {
+        (true, Some(_)) => Err(Usage::Jobs),
+        (true, None) => Ok(Action::Decode { count }),
+        (false, Some(text)) => {
+            let (first, len) = range_in(text).ok_or(Usage::Range)?;
+            Ok(Action::Range { first, len, count })
+        }
+        (false, None) if count.is_some() => Err(Usage::Count),
+        (false, None) => Ok(Action::Encode),
     }
 }
 
@@ -89,6 +109,12 @@ fn number(matches: &ArgMatches<'_>, id: &str, default: u32) -> u32
     ensures { result ≡ word_of default id.now (found_of matches.now) }
 {
     matches.get_one::<u32>(id).unwrap_or(default)
+}
+
+fn sample_count(matches: &ArgMatches<'_>) -> Option<u64>
+    ensures { result ≡ count_of (found_of matches.now) }
+{
+    matches.get_one::<u64>("count")
 }
 
 #[tactic(auto, unfolding(crate::specs::Jobs::file_of))]

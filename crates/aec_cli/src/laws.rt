@@ -2,7 +2,7 @@
 
 ghost use Rattle.aec_cli.specs.Laws.{EachInputHasOneAnswer, FrontsPastALimitAreEnough, WhatIsTakenIsEnough};
 
-/// Each input is coded into bytes or has one refusal, and so it is decoded.
+/// Each input is coded into bytes or has one refusal; so it is decoded, and so is each range of it.
 pub fn each_input_has_one_answer()
     ensures { EachInputHasOneAnswer }
 {}

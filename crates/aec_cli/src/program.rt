@@ -1,19 +1,22 @@
 //! One whole run of the program.
 
-ghost use Rattle.std.specs.Prelude.{◌≡◌, ◌^◌, ◌≤◌, map};
+ghost use Rattle.std.specs.Prelude.{◌≡◌, ◌≤◌, ℕ, map};
 ghost use Rattle.std.specs.String.{string_bytes};
 ghost use Rattle.clap.specs.Faults.{fault_of};
 ghost use Rattle.clap.specs.Values.{kind_of};
+ghost use Rattle.aec_cli.specs.Actions.{IsAnswerOf, bytes_allowed, program_caps};
 ghost use Rattle.aec_cli.specs.Commands.{aec_app};
 ghost use Rattle.aec_cli.specs.Statuses.{EndsByMistake, parse_status, status_of};
+ghost use Rattle.aec_cli.specs.Transfers.{Taking, taking_of, Putting, putting_of, Leaves};
 
-use crate::engine::{decode, encode};
+use crate::engine::{decode, encode, range};
 use crate::failure::{Failure, status};
 use crate::files::{DestSink, FileSource};
 use crate::job::{Action, Job, settings};
 use crate::usage::Usage;
 use crate::words::parse;
-use aec_params::Limits;
+use aec_bits::{Sink, Source};
+use aec_params::{Fault, Limits, Params};
 use clap::error::ErrorKind;
 use std::alloc::Global;
 use std::io::Write;
@@ -37,7 +40,7 @@ pub fn perform<F: Files, O: Write, E: Write>(
         Err(error) => return answer(&error, out, err),
     };
     let done = match settings(alloc, &matches) {
-        Ok(job) => run(rt, alloc, job),
+        Ok(job) => run(rt, alloc, job).map_err(Failure::Fault),
         Err(usage) => Err(Failure::Usage(usage)),
     };
     match done {
@@ -48,7 +51,7 @@ pub fn perform<F: Files, O: Write, E: Write>(
 
 // The limits of the program: 2^32 samples, and 2^35 bytes of coded data.
 fn limits() -> Limits
-    ensures { result ≡ record { samples = 2 ^ 32; bytes = 2 ^ 35 } }
+    ensures { result ≡ program_caps }
 {
     match Limits::new(1 << 32, 1 << 35) {
         Some(limits) => limits,
@@ -56,8 +59,30 @@ fn limits() -> Limits
     }
 }
 
-// Does the job: codes or decodes.
-fn run<F: Files>(rt: &F, alloc: Global, job: Job) -> Result<(), Failure> {
+// Does with a source what is asked for, within the limits of the program, and leaves its answer in a sink.
+fn act<R: Source, W: Sink>(
+    alloc: Global,
+    params: &Params,
+    action: Action,
+    source: &mut R,
+    sink: &mut W,
+) -> Result<(), Fault>
+    ensures { let took : Taking = taking_of R.left R.failed source.old source.new in
+        let put : Putting = putting_of W.taken W.begun W.failed sink.old sink.new in
+        let most : ℕ = bytes_allowed action params.now program_caps in
+        Leaves (IsAnswerOf action params.now program_caps) took most put result }
+{
+    match action {
+        Action::Encode => encode(alloc, params, limits(), source, sink),
+        Action::Decode { count } => decode(alloc, params, limits(), count, source, sink),
+        Action::Range { first, len, count } => {
+            range(alloc, params, limits(), count, first, len, source, sink)
+        }
+    }
+}
+
+// Does a job with its files.
+fn run<F: Files>(rt: &F, alloc: Global, job: Job) -> Result<(), Fault> {
     let Job {
         params,
         action,
@@ -66,11 +91,8 @@ fn run<F: Files>(rt: &F, alloc: Global, job: Job) -> Result<(), Failure> {
     } = job;
     let mut source = FileSource::new(rt, source);
     let mut sink = DestSink::new(rt, dest);
-    let done = match action {
-        Action::Encode => encode(alloc, &params, limits(), &mut source, &mut sink),
-        Action::Decode { count } => decode(alloc, &params, limits(), count, &mut source, &mut sink),
-    };
-    done.map_err(Failure::Fault)
+    act(alloc, &params, action, &mut source, &mut sink)?;
+    sink.finish()
 }
 
 // Prints the line of a failure, and answers its status.

@@ -7,7 +7,7 @@ ghost use Rattle.clap.specs.Kinds.{FailsBy};
 ghost use Rattle.clap.specs.Matches.{found_of};
 ghost use Rattle.clap.specs.Simple.{app_of, matches_of};
 ghost use Rattle.clap.specs.Walk.{rows_of, rule_of};
-ghost use Rattle.aec_cli.specs.Commands.{aec_app, with_rules, flag_rule, number_rule, file_rule};
+ghost use Rattle.aec_cli.specs.Commands.{aec_app, with_rules, flag_rule, number_rule, long_number_rule, long_text_rule, file_rule};
 ghost use Rattle.aec_cli.specs.Commands.{number_rules, coding_rules, storage_rules, work_rules, file_rules};
 
 use crate::usage::Usage;
@@ -15,12 +15,17 @@ use clap::builder::ValueParser;
 use clap::{Arg, ArgAction, ArgMatches, Command, Error};
 use std::alloc::{AllocError, Global};
 
+/// What `--version` prints after the name.
+const VERSION: &str = "0.1.0";
+
 /// The command `aec`, which has no rules between its arguments. `Memory` is the only refusal.
 pub fn command<'a>(alloc: Global) -> Result<Command<'a>, Usage>
     ensures app { IfOk result (λ c. app_of c ≡ aec_app) }
     ensures refuses { IfErr result (λ u. u ≡ Usage.Memory) }
 {
-    let command = Command::new(alloc, "aec").about("Codes samples without loss, or decodes them.");
+    let command = Command::new(alloc, "aec")
+        .about("Codes samples without loss, or decodes them.")
+        .version(VERSION);
     let command = with_numbers(alloc, command)?;
     let command = with_coding(alloc, command)?;
     let command = with_storage(alloc, command)?;
@@ -64,7 +69,7 @@ fn with_numbers<'a>(alloc: Global, command: Command<'a>) -> Result<Command<'a>, 
         "interval",
         'r',
         clap::value_parser!(u32),
-        "blocks per reference sample interval, 1 to 4096 (default 2)",
+        "blocks per reference sample interval, 1 to 4096{n}(default 2)",
     );
     command.arg(bits)?.arg(block_size)?.arg(interval)
 }
@@ -73,9 +78,9 @@ fn with_numbers<'a>(alloc: Global, command: Command<'a>) -> Result<Command<'a>, 
 fn with_coding<'a>(alloc: Global, command: Command<'a>) -> Result<Command<'a>, AllocError>
     ensures { IfOk result (λ c. app_of c ≡ with_rules (app_of command.entry) coding_rules) }
 {
-    let plain = flag(
+    let no_preprocessing = flag(
         alloc,
-        "plain",
+        "no-preprocessing",
         'N',
         "no preprocessing: samples are coded as they are",
     );
@@ -83,15 +88,17 @@ fn with_coding<'a>(alloc: Global, command: Command<'a>) -> Result<Command<'a>, A
         alloc,
         "pad",
         'p',
-        "each interval padded to a byte boundary; this project's own rule, violates the standard, for data that needs it",
+        "each interval is filled up to a byte boundary;{n}\
+         the rule is this project's own and violates the{n}\
+         standard: write such streams only for this program",
     );
     let restricted = flag(
         alloc,
         "restricted",
         't',
-        "restricted set of code options, for 4 bits per sample or fewer",
+        "restricted set of code options, for 4 bits per{n}sample or fewer",
     );
-    command.arg(plain)?.arg(pad)?.arg(restricted)
+    command.arg(no_preprocessing)?.arg(pad)?.arg(restricted)
 }
 
 // How samples are stored.
@@ -119,6 +126,19 @@ fn with_work<'a>(alloc: Global, command: Command<'a>) -> Result<Command<'a>, All
     ensures { IfOk result (λ c. app_of c ≡ with_rules (app_of command.entry) work_rules) }
 {
     let decode = flag(alloc, "decode", 'd', "decode SOURCE in place of coding it");
+    let range = long_text(
+        alloc,
+        "range",
+        "FIRST:LEN",
+        "decode LEN samples from FIRST on, counted from 0",
+    );
+    let count = long_number(
+        alloc,
+        "count",
+        clap::value_parser!(u64),
+        "sample count of a coded SOURCE; without it the{n}\
+         filler of the last block is decoded too",
+    );
     let buffer = number(
         alloc,
         "buffer",
@@ -126,7 +146,7 @@ fn with_work<'a>(alloc: Global, command: Command<'a>) -> Result<Command<'a>, All
         clap::value_parser!(u64),
         "size of a buffer; read, without effect",
     );
-    command.arg(decode)?.arg(buffer)
+    command.arg(decode)?.arg(range)?.arg(count)?.arg(buffer)
 }
 
 // The two files.
@@ -164,6 +184,29 @@ fn number<'a>(
         .short(letter)
         .value_name("N")
         .value_parser(parser)
+        .help(help)
+}
+
+// An option with a long name that takes a number, which the parser judges.
+fn long_number<'a>(alloc: Global, name: &'a str, parser: ValueParser<'a>, help: &'a str) -> Arg<'a>
+    ensures rule { rule_of result ≡ long_number_rule parser.entry name.entry.now }
+    ensures local { result.global ≡ false }
+{
+    Arg::new(alloc, name)
+        .long(name)
+        .value_name("N")
+        .value_parser(parser)
+        .help(help)
+}
+
+// An option with a long name that takes a text.
+fn long_text<'a>(alloc: Global, name: &'a str, value: &'a str, help: &'a str) -> Arg<'a>
+    ensures rule { rule_of result ≡ long_text_rule name.entry.now }
+    ensures local { result.global ≡ false }
+{
+    Arg::new(alloc, name)
+        .long(name)
+        .value_name(value)
         .help(help)
 }
 

@@ -13,7 +13,7 @@ use Rattle.aec_params.specs.Mapping.{mapped_value}
 use Rattle.aec_params.specs.Blocks.{filled_samples, with_reference}
 use Rattle.aec_params.specs.CodedDataSets.{cds_bits}
 use Rattle.aec_params.specs.Runs.{groups_of}
-use Rattle.aec_params.specs.Intervals.{group_sets, block_sets, plain_bits}
+use Rattle.aec_params.specs.Intervals.{group_sets, block_sets, unpadded_bits}
 use Rattle.aec_interval.specs.Chunks.{values_after, reference_after, block_after, blocks_after}
 use Rattle.aec_interval.specs.Pending.{segment_bits}
 use Rattle.aec_interval.proofs.CuttingLemmas.{IsPieceBefore, pieces_of-nil, pieces_of-cons, length-pieces_of, div_ceil-one, div_ceil-positive, div_ceil-bounds, div_ceil-times}
@@ -229,5 +229,5 @@ bits_after-segment s o front rest h piece =
     (pieces_of-cons 64 (blocks_after s o front) (blocks_after s (last_or o front) rest) (segment_before s o front rest h piece))
     ∙ flat_map-append (cds_bits s) (group_sets s (groups_of (blocks_after s o front))) (block_sets s (blocks_after s (last_or o front) rest))
 
-pub bits_after-interval : (s : Settings) (v : List ℤ) → bits_after s None v ≡ plain_bits s v
+pub bits_after-interval : (s : Settings) (v : List ℤ) → bits_after s None v ≡ unpadded_bits s v
 bits_after-interval s v = refl

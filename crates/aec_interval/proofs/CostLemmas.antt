@@ -8,8 +8,8 @@ use Rattle.std.proofs.lemmas.Bool.Decides.{nat_tests}
 use Rattle.aec_params.specs.declared.settings.Settings.{Settings}
 use Rattle.aec_params.specs.Params.{IsAllowed, id_len}
 use Rattle.aec_params.specs.Blocks.{Block, is_zero_block}
-use Rattle.aec_params.specs.CodedDataSets.{Body, plain_values, value_pairs, split_values, zero_blocks, CodedDataSet, reference_bits, cds_bits}
-use Rattle.aec_params.specs.Places.{is_reference_block, zero_block, placed_values, placed_members, body_blocks, segment_left, run_len, IsLawful, blocks_in}
+use Rattle.aec_params.specs.CodedDataSets.{Body, uncompressed_values, value_pairs, split_values, zero_blocks, CodedDataSet, reference_bits, cds_bits}
+use Rattle.aec_params.specs.Places.{is_reference_block, zero_block, placed_values, placed_members, body_blocks, segment_left, run_len, IsLawfulAt, blocks_in}
 use Rattle.aec_params.specs.Spellings.{shortest_spelling}
 use Rattle.aec_params.specs.Runs.{Group, zero_run, single_block, with_zero_block, groups_of, run_code}
 use Rattle.aec_params.specs.Intervals.{group_sets, is_empty, block_sets}
@@ -17,7 +17,7 @@ use Rattle.aec_interval.proofs.BlockLemmas.{AreBlocksFrom}
 use Rattle.aec_interval.proofs.GroupLemmas.{AreGroupsFrom, AreGroupsFrom-groups_of}
 use Rattle.aec_interval.proofs.IntervalLemmas.{AreBlocksFrom_right}
 use Rattle.aec_interval.proofs.PlaceLemmas.{block_count-positive}
-use Rattle.aec_interval.proofs.ShortestLemmas.{run_code-joined, run_code-last, shortest-plain_values, shortest-split_values, shortest-value_pairs, length-run, block_size-least, plain-longer, split-longer, pairs-longer}
+use Rattle.aec_interval.proofs.ShortestLemmas.{run_code-joined, run_code-last, shortest-uncompressed_values, shortest-split_values, shortest-value_pairs, length-run, block_size-least, plain-longer, split-longer, pairs-longer}
 
 -- the bits that groups are written with, and those of blocks from the start of a segment on
 abbrev pub group_cost : Settings → List Group → ℕ
@@ -144,14 +144,14 @@ run_step s p q reference m x some ends g =
         ))
 
 pub body_step : (s : Settings) (p : ℕ) (reference : Option ℕ) (body : Body) (x : List Block) → IsAllowed s → p < s.interval
-    → IsLawful s p (record { reference = reference; body = body })
+    → IsLawfulAt s p (record { reference = reference; body = body })
     → (x ≡ []) ⊎ (body_blocks s p body < segment_left s p) → AreBlocksFrom s p (blocks_in s p reference body ++ x)
     → group_cost s (groups_of (blocks_in s p reference body ++ x)) ≤ length (cds_bits s (record { reference = reference; body = body })) + group_cost s
     (groups_of x)
-body_step s p reference (plain_values values) x a h l ends due =
+body_step s p reference (uncompressed_values values) x a h l ends due =
     single_step s (suc p) (record { reference = reference; values = placed_values reference values })
-    (record { reference = reference; body = plain_values values }) x
-    (shortest-plain_values s reference values) (plain-longer s (is_reference_block s p) reference values a l.shape.body.0)
+    (record { reference = reference; body = uncompressed_values values }) x
+    (shortest-uncompressed_values s reference values) (plain-longer s (is_reference_block s p) reference values a l.shape.body.0)
     (AreGroupsFrom-groups_of s (suc p) x due.1)
 body_step s p reference (value_pairs members) x a h l ends due =
     let two : 2 ≤ length members = omega (arith, block_size-least s a, l.shape.body) in

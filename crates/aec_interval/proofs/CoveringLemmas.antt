@@ -1,5 +1,5 @@
 -- An interval's coded data sets cover its blocks: each group is one of them, and only the very last may go past the blocks.
-use Rattle.std.proofs.Common.{◌≡◌, ℕ, ◌+◌, ◌-◌, ◌<◌, ◌≤◌, Bool, true, false, Option, None, List, [], ◌∷◌, ◌++◌, length, take, replicate, refl, sym, ap, ◌∙◌, subst, arith, inl, inr, ◌⊎◌, ⊎_elim}
+use Rattle.std.proofs.Common.{◌≡◌, ℕ, ◌+◌, ◌-◌, ◌<◌, ◌≤◌, Bool, true, false, Option, Some, None, unwrap_or, List, [], ◌∷◌, ◌++◌, length, take, replicate, refl, sym, ap, ◌∙◌, subst, arith, inl, inr, ◌⊎◌, ⊎_elim}
 use Rattle.std.specs.Prelude.{nat_le, nat_lt, ◌==◌, if◌then◌else◌}
 use Rattle.std.specs.List.{flat_map}
 use Rattle.std.proofs.lemmas.List.{length-append, length-replicate, append_assoc, append-nil, take-replicate}
@@ -8,7 +8,7 @@ use Rattle.std.proofs.lemmas.Bool.{cond_both, le-leb, leb-true, leb-false, cond-
 use Rattle.aec_params.specs.declared.settings.Settings.{Settings}
 use Rattle.aec_params.specs.Blocks.{Block}
 use Rattle.aec_params.specs.CodedDataSets.{zero_blocks, CodedDataSet, HasReference}
-use Rattle.aec_params.specs.Places.{is_reference_block, zero_block, block_count, segment_left, run_len, IsLawful, cds_blocks}
+use Rattle.aec_params.specs.Places.{is_reference_block, zero_block, block_count, segment_left, run_len, IsLawfulAt, cds_blocks}
 use Rattle.aec_params.specs.Spellings.{shortest_spelling}
 use Rattle.aec_params.specs.Runs.{Group, zero_run, single_block, run_code}
 use Rattle.aec_params.specs.Intervals.{group_set, group_sets, is_empty}
@@ -27,7 +27,7 @@ pub IsCovering-nil : (s : Settings) (n p : ℕ) → p ≡ n → IsCovering s n p
 IsCovering-nil s n p e = record { reach = omega arith; covers = le-leb n p (omega arith); stand_for = refl }
 
 -- a coded data set that stands for just the blocks in front
-pub IsCovering-cons : (s : Settings) (n p : ℕ) (c : CodedDataSet) (sets : List CodedDataSet) (front behind : List Block) → IsLawful s p c
+pub IsCovering-cons : (s : Settings) (n p : ℕ) (c : CodedDataSet) (sets : List CodedDataSet) (front behind : List Block) → IsLawfulAt s p c
     → cds_blocks s p c ≡ front → length front ≡ block_count s p c → 0 < block_count s p c
     → IsCovering s n (p + block_count s p c) sets behind → IsCovering s n p (c ∷ sets) (front ++ behind)
 IsCovering-cons s n p c sets front behind l e len some h = record {
@@ -40,7 +40,7 @@ IsCovering-cons s n p c sets front behind l e len some h = record {
 }
 
 -- the last coded data set, which may go past the blocks
-pub IsCovering-last : (s : Settings) (n p : ℕ) (c : CodedDataSet) (blocks : List Block) → IsLawful s p c → p + length blocks ≡ n → 0 < length blocks
+pub IsCovering-last : (s : Settings) (n p : ℕ) (c : CodedDataSet) (blocks : List Block) → IsLawfulAt s p c → p + length blocks ≡ n → 0 < length blocks
     → length blocks ≤ block_count s p c → take (length blocks) (cds_blocks s p c) ≡ blocks → IsCovering s n p (c ∷ []) blocks
 IsCovering-last s n p c blocks l e some most t = record {
   reach = e;
@@ -52,12 +52,12 @@ IsCovering-last s n p c blocks l e some most t = record {
 
 -- what is written for a group that is not cut short by the end of the blocks
 pub record IsWrittenFor (s : Settings) (p : ℕ) (g : Group) (c : CodedDataSet) : Type 0 where
-  pub lawful : IsLawful s p c
+  pub lawful : IsLawfulAt s p c
   pub blocks : cds_blocks s p c ≡ group_blocks s g
   pub count : block_count s p c ≡ group_len g
 
 run_lawful : (s : Settings) (p : ℕ) (reference : Option ℕ) (m : ℕ) → HasReference s (is_reference_block s p) reference → run_len s p m ≤ segment_left s p
-    → IsLawful s p (record { reference = reference; body = zero_blocks m })
+    → IsLawfulAt s p (record { reference = reference; body = zero_blocks m })
 run_lawful s p reference m h k = record { shape = record { reference = h; body = tt }; small = refl; within = le-leb (run_len s p m) (segment_left s p) k }
 
 -- the number that is written for a run spells its length, or where it ends its segment all that the segment has left
@@ -67,12 +67,14 @@ SpellsRun s p z is_last m = (run_len s p m ≡ z) ⊎ ((is_last ≡ true) × (ru
 SpellsRun-long : (s : Settings) (p z : ℕ) (is_last : Bool) → 4 < z → SpellsRun s p z is_last (if is_last then 4 else z)
 SpellsRun-long s p z true l = inr (refl, refl)
 SpellsRun-long s p z false l =
-    inl (cond-false (nat_lt z 4) (z + 1) (if z == 4 then segment_left s p else z) (le-ltb z 4 (omega arith))
-    ∙ cond-false (z == 4) (segment_left s p) z (ne_eqb z 4 (λ e. omega arith)))
+    inl (ap (λ told. unwrap_or told (segment_left s p))
+    (cond-false (nat_lt z 4) (Some (z + 1)) (if z == 4 then None else Some z) (le-ltb z 4 (omega arith))
+    ∙ cond-false (z == 4) None (Some z) (ne_eqb z 4 (λ e. omega arith))))
 
 SpellsRun-short : (s : Settings) (p z : ℕ) (is_last : Bool) → 0 < z → z ≤ 4 → SpellsRun s p z is_last (z - 1)
 SpellsRun-short s p z is_last h l =
-    inl (cond-true (nat_lt (z - 1) 4) (z - 1 + 1) (if z - 1 == 4 then segment_left s p else z - 1) (lt-ltb (z - 1) 4 (omega arith)) ∙ omega arith)
+    inl (ap (λ told. unwrap_or told (segment_left s p))
+    (cond-true (nat_lt (z - 1) 4) (Some (z - 1 + 1)) (if z - 1 == 4 then None else Some (z - 1)) (lt-ltb (z - 1) 4 (omega arith))) ∙ omega arith)
 
 SpellsRun-run_code : (s : Settings) (p z : ℕ) (is_last : Bool) → 0 < z → SpellsRun s p z is_last (run_code z is_last)
 SpellsRun-run_code s p z is_last h =

@@ -1,38 +1,35 @@
 -- What a coded data set that was read gives a reading: the blocks that come next, or its fault.
-use Rattle.std.proofs.Common.{◌≡◌, ℕ, suc, ◌+◌, ◌-◌, ◌%◌, ◌<◌, ◌≤◌, ◌==◌, min, Bool, true, false, if◌then◌else◌, nat_lt, Option, Some, None, ℤ, List, [], ◌∷◌, length, replicate, refl, sym, ap, ◌∙◌, arith, ⊎_elim}
+use Rattle.std.proofs.Common.{◌≡◌, ℕ, suc, ◌+◌, ◌-◌, ◌%◌, ◌<◌, ◌≤◌, min, Bool, true, false, unwrap_or, Option, Some, None, ℤ, List, [], ◌∷◌, length, replicate, refl, sym, ap, ◌∙◌, arith, ⊎_elim}
 use Rattle.std.proofs.lemmas.Bool.{cases_lt, ltb-true}
-use Rattle.std.proofs.lemmas.List.{take_all, length-replicate}
+use Rattle.std.proofs.lemmas.List.{take_all, length-take, length-replicate}
 use Rattle.std.specs.Int.{div_ceil}
 use Rattle.aec_params.specs.declared.settings.Settings.{Settings}
 use Rattle.aec_params.specs.declared.fault.Fault.{Fault}
 use Rattle.aec_params.specs.declared.fault.Fault.TheVariants.{RunTooLong, TooManySamples}
 use Rattle.aec_params.specs.Params.{IsAllowed}
 use Rattle.aec_params.specs.Blocks.{Block}
-use Rattle.aec_params.specs.CodedDataSets.{Body, plain_values, value_pairs, split_values, zero_blocks, CodedDataSet, HasShape, has_small_values}
-use Rattle.aec_params.specs.Places.{run_len, body_blocks, stays_in_segment, is_reference_block, zero_block, blocks_in, IsLawful}
+use Rattle.aec_params.specs.CodedDataSets.{Body, uncompressed_values, value_pairs, split_values, zero_blocks, CodedDataSet, HasShape, has_small_values}
+use Rattle.aec_params.specs.Places.{segment_left, told_blocks, run_len, body_blocks, stays_in_segment, is_reference_block, zero_block, blocks_in, IsLawfulAt}
 use Rattle.aec_params.specs.Reading.{next_block, is_wanted, keeps_limit, kept_blocks}
-use Rattle.aec_params.specs.Faults.{IsWrongAt, cut_short, too_large, too_long, too_many}
-use Rattle.aec_block.specs.declared.cds.RunLen.TheVariants.{Blocks, Rest}
-use Rattle.aec_block.specs.ReadCds as read
-use Rattle.aec_block.specs.ReadCds.{run_len_of, answer_of, cds_of, IsSetAt, IsReadAs, IsNotRead}
+use Rattle.aec_params.specs.Faults.{IsSetAt, IsNotRead, IsWrongAt, not_read, too_long, too_many}
+use Rattle.aec_block.specs.ReadCds.{as_run_len, run_len_of, answer_of}
 use Rattle.aec_interval.specs.NextBlock.{run_blocks}
 use Rattle.aec_interval.specs.NextSet.{run_count, cds_count, kept_count, IsNextCds, cds_front}
 use Rattle.aec_interval.specs.Reached.{AreFilled, IsReached, RefusesReading, faulty}
 use Rattle.aec_interval.proofs.NextSetLemmas.{single_next, run_front}
 
-if_ap : {A B : Type 0} (f : A → B) (b : Bool) (x y : A) → f (if b then x else y) ≡ (if b then f x else f y)
-if_ap f true x y = refl
-if_ap f false x y = refl
-
 -- ---- how many blocks
 
+run_count-as_run_len : (s : Settings) (p : ℕ) (told : Option ℕ) → run_count s p (as_run_len told) ≡ unwrap_or told (segment_left s p)
+run_count-as_run_len s p None = refl
+run_count-as_run_len s p (Some z) = refl
+
+-- the number of a run's code stands for what its place makes of it
 pub run_count-run_len_of : (s : Settings) (p m : ℕ) → run_count s p (run_len_of m) ≡ run_len s p m
-run_count-run_len_of s p m =
-    if_ap (run_count s p) (nat_lt m 4) (Blocks (m + 1)) (if m == 4 then Rest else Blocks m)
-    ∙ ap (λ z. if nat_lt m 4 then m + 1 else z) (if_ap (run_count s p) (m == 4) Rest (Blocks m))
+run_count-run_len_of s p m = run_count-as_run_len s p (told_blocks m)
 
 pub cds_count-answer_of : (s : Settings) (p : ℕ) (reference : Option ℕ) (body : Body) → cds_count s p (answer_of reference body) ≡ body_blocks s p body
-cds_count-answer_of s p reference (plain_values values) = refl
+cds_count-answer_of s p reference (uncompressed_values values) = refl
 cds_count-answer_of s p reference (value_pairs members) = refl
 cds_count-answer_of s p reference (split_values k values) = refl
 cds_count-answer_of s p reference (zero_blocks m) = run_count-run_len_of s p m
@@ -42,10 +39,15 @@ cds_count-answer_of s p reference (zero_blocks m) = run_count-run_len_of s p m
 pub next-answer_of : (s : Settings) (i : ℕ) (samples : List ℤ) (kept : ℕ) (reference : Option ℕ) (body : Body) → IsAllowed s → AreFilled s i samples
     → HasShape s (is_reference_block s (i % s.interval)) (record { reference = reference; body = body }) → has_small_values s (record { reference = reference; body = body }) ≡ true
     → 1 ≤ kept → i % s.interval + kept ≤ s.interval → IsNextCds s i samples kept (answer_of reference body)
-next-answer_of s i samples kept reference (plain_values values) allowed filled shape small some within = single_next s i samples reference (plain_values values) allowed filled shape small tt
-next-answer_of s i samples kept reference (value_pairs members) allowed filled shape small some within = single_next s i samples reference (value_pairs members) allowed filled shape small tt
-next-answer_of s i samples kept reference (split_values k values) allowed filled shape small some within = single_next s i samples reference (split_values k values) allowed filled shape small tt
+next-answer_of s i samples kept reference (uncompressed_values values) allowed filled shape small some within = single_next s i samples reference (uncompressed_values values) _ allowed filled shape small refl refl
+next-answer_of s i samples kept reference (value_pairs members) allowed filled shape small some within = single_next s i samples reference (value_pairs members) _ allowed filled shape small refl refl
+next-answer_of s i samples kept reference (split_values k values) allowed filled shape small some within = single_next s i samples reference (split_values k values) _ allowed filled shape small refl refl
 next-answer_of s i samples kept reference (zero_blocks m) allowed filled shape small some within = (some, (within, shape.reference))
+
+-- the number of blocks that are kept
+pub length-kept_blocks : (s : Settings) (count : Option ℕ) (i : ℕ) (blocks : List Block) → length (kept_blocks s count i blocks) ≡ kept_count s count i (length blocks)
+length-kept_blocks s None i blocks = refl
+length-kept_blocks s (Some count) i blocks = omega (arith, length-take (div_ceil count s.block_size - i) blocks)
 
 -- of one block or more, those that are kept
 kept_one : (s : Settings) (count : Option ℕ) (bits : List Bool) (i b : ℕ) (block : Block) → is_wanted s count bits i b ≡ true → block ∷ [] ≡ kept_blocks s count i (block ∷ [])
@@ -87,7 +89,7 @@ kept_run s (Some count) bits i b reference z some wanted = ⊎_elim fewer all (c
 pub front-answer_of : (s : Settings) (count : Option ℕ) (bits : List Bool) (i b : ℕ) (reference : Option ℕ) (body : Body) → 1 ≤ body_blocks s (i % s.interval) body
     → is_wanted s count bits i b ≡ true
     → cds_front s (kept_count s count i (body_blocks s (i % s.interval) body)) (answer_of reference body) ≡ kept_blocks s count i (blocks_in s (i % s.interval) reference body)
-front-answer_of s count bits i b reference (plain_values values) some wanted = kept_one s count bits i b _ wanted
+front-answer_of s count bits i b reference (uncompressed_values values) some wanted = kept_one s count bits i b _ wanted
 front-answer_of s count bits i b reference (value_pairs members) some wanted = kept_one s count bits i b _ wanted
 front-answer_of s count bits i b reference (split_values k values) some wanted = kept_one s count bits i b _ wanted
 front-answer_of s count bits i b reference (zero_blocks m) some wanted = kept_run s count bits i b reference (run_len s (i % s.interval) m) some wanted
@@ -99,13 +101,12 @@ module _ (s : Settings) (count : Option ℕ) (limit : ℕ) (bits : List Bool) (s
   wrong_here fault wrong = faulty fault (record { sets = reached.sets; block = i; bit = b; leads = reached.leads; wanted = wanted; wrong = wrong })
 
   pub refuses_unread : (fault : Fault) → IsNotRead s (is_reference_block s (i % s.interval)) bits b fault → RefusesReading s count limit bits start fault
-  refuses_unread fault (read.cut_short none) = wrong_here _ (cut_short (λ c at. none c (record { shape = at.shape; stands = at.stands })))
-  refuses_unread fault (read.too_large c at large) = wrong_here _ (too_large c (record { shape = at.shape; stands = at.stands }) large)
+  refuses_unread fault none = wrong_here fault (not_read fault none)
 
   pub refuses_long : (c : CodedDataSet) → IsSetAt s (is_reference_block s (i % s.interval)) bits b c → has_small_values s c ≡ true → stays_in_segment s (i % s.interval) c ≡ false
       → RefusesReading s count limit bits start (RunTooLong b)
-  refuses_long c at small long = wrong_here _ (too_long c (record { shape = at.shape; stands = at.stands }) small long)
+  refuses_long c at small long = wrong_here _ (too_long c at small long)
 
-  pub refuses_many : (c : CodedDataSet) → IsSetAt s (is_reference_block s (i % s.interval)) bits b c → IsLawful s (i % s.interval) c → keeps_limit s count limit (next_block s i c) ≡ false
+  pub refuses_many : (c : CodedDataSet) → IsSetAt s (is_reference_block s (i % s.interval)) bits b c → IsLawfulAt s (i % s.interval) c → keeps_limit s count limit (next_block s i c) ≡ false
       → RefusesReading s count limit bits start (TooManySamples limit)
-  refuses_many c at lawful many = wrong_here _ (too_many c (record { shape = at.shape; stands = at.stands }) lawful many)
+  refuses_many c at lawful many = wrong_here _ (too_many c at lawful many)

@@ -10,12 +10,12 @@ use Rattle.aec_params.specs.Params.{IsAllowed, IsHeld, interval_len}
 use Rattle.aec_params.specs.Blocks.{Block, blocks_of}
 use Rattle.aec_params.specs.CodedDataSets.{CodedDataSet, cds_bits}
 use Rattle.aec_params.specs.Places.{block_count, is_reference_block}
-use Rattle.aec_params.specs.Intervals.{plain_bits, interval_bits}
+use Rattle.aec_params.specs.Intervals.{unpadded_bits, interval_bits}
 use Rattle.aec_params.specs.Reading.{Covers, covered_blocks, ReadsBlocks}
 use Rattle.aec_params.proofs.SampleLaws.{blocks_of-one_to_one}
 use Rattle.aec_block.proofs.SetLemmas.{no_set_is_a_prefix}
 use Rattle.aec_interval.proofs.BlockLemmas.{length-blocks_of}
-use Rattle.aec_interval.proofs.IntervalLemmas.{ReadsBlocks-plain_bits}
+use Rattle.aec_interval.proofs.IntervalLemmas.{ReadsBlocks-unpadded_bits}
 use Rattle.aec_interval.proofs.StreamLemmas.{padding_of, interval_bits-padded}
 
 -- coded data sets that cover as many blocks are told by their bits
@@ -48,9 +48,9 @@ pub equal_lengths : (s : Settings) (v w : List ℤ) (x y : List Bool) → IsAllo
 equal_lengths s v w x y a h k some few len e =
     let blocks : length (blocks_of s v) ≡ length (blocks_of s w) = length-blocks_of s v a ∙ ap (λ n. div_ceil n s.block_size) len
     ∙ sym (length-blocks_of s w a) in
-    let plain = same_readings s (plain_bits s v) (plain_bits s w) (padding_of s v ++ x) (padding_of s w ++ y) (blocks_of s v) (blocks_of s w) a blocks
-    (ReadsBlocks-plain_bits s v a h some few) (ReadsBlocks-plain_bits s w a k (omega arith) (omega arith))
-    (sym (append_assoc (plain_bits s v) (padding_of s v) x) ∙ ap (λ z. z ++ x) (sym (interval_bits-padded s v)) ∙ e
-    ∙ ap (λ z. z ++ y) (interval_bits-padded s w) ∙ append_assoc (plain_bits s w) (padding_of s w) y) in
+    let plain = same_readings s (unpadded_bits s v) (unpadded_bits s w) (padding_of s v ++ x) (padding_of s w ++ y) (blocks_of s v) (blocks_of s w) a blocks
+    (ReadsBlocks-unpadded_bits s v a h some few) (ReadsBlocks-unpadded_bits s w a k (omega arith) (omega arith))
+    (sym (append_assoc (unpadded_bits s v) (padding_of s v) x) ∙ ap (λ z. z ++ x) (sym (interval_bits-padded s v)) ∙ e
+    ∙ ap (λ z. z ++ y) (interval_bits-padded s w) ∙ append_assoc (unpadded_bits s w) (padding_of s w) y) in
     let same = blocks_of-one_to_one s v w a h k len plain.0 in
     (same, append_cancel_left (interval_bits s v) x y (e ∙ ap (λ u. interval_bits s u ++ y) (sym same)))

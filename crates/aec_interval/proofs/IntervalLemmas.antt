@@ -10,7 +10,7 @@ use Rattle.aec_params.specs.Params.{IsAllowed, IsHeld, interval_len}
 use Rattle.aec_params.specs.Blocks.{Block, blocks_of}
 use Rattle.aec_params.specs.Places.{segment_left}
 use Rattle.aec_params.specs.Runs.{groups_of}
-use Rattle.aec_params.specs.Intervals.{group_sets, block_sets, plain_bits}
+use Rattle.aec_params.specs.Intervals.{group_sets, block_sets, unpadded_bits}
 use Rattle.aec_params.specs.Reading.{ReadsBlocks}
 use Rattle.aec_interval.proofs.CuttingLemmas.{IsPieceBefore, by_pieces, pieces_of-nil, pieces_of-cons, div_ceil-bounds}
 use Rattle.aec_interval.proofs.BlockLemmas.{AreBlocksFrom, AreBlocksFrom-blocks_of, length-blocks_of, block_size-positive}
@@ -91,9 +91,9 @@ blocks-few s v a h =
     omega arith
 
 -- the code of an interval's samples is read as their blocks
-pub ReadsBlocks-plain_bits : (s : Settings) (v : List ℤ) → IsAllowed s → AllByRecursion (IsHeld s) v → 0 < length v → length v ≤ interval_len s
-    → ReadsBlocks s (plain_bits s v) (blocks_of s v)
-ReadsBlocks-plain_bits s [] a h some few = absurd (omega arith)
-ReadsBlocks-plain_bits s (x ∷ v) a h some few =
+pub ReadsBlocks-unpadded_bits : (s : Settings) (v : List ℤ) → IsAllowed s → AllByRecursion (IsHeld s) v → 0 < length v → length v ≤ interval_len s
+    → ReadsBlocks s (unpadded_bits s v) (blocks_of s v)
+ReadsBlocks-unpadded_bits s [] a h some few = absurd (omega arith)
+ReadsBlocks-unpadded_bits s (x ∷ v) a h some few =
     let c = IsCovering-block_sets s (blocks_of s (x ∷ v)) (AreBlocksFrom-blocks_of s x v a h) (blocks-few s (x ∷ v) a few) in
     record { sets = block_sets s (blocks_of s (x ∷ v)); covers = c.covers; stand_for = c.stand_for; spelled = refl }

@@ -9,7 +9,7 @@ use Rattle.aec_params.specs.declared.fault.Fault.{Fault}
 use Rattle.aec_params.specs.declared.fault.Fault.TheVariants.{Memory}
 use Rattle.aec_params.specs.Params.{IsAllowed}
 use Rattle.aec_params.specs.Blocks.{blocks_of, all_blocks_of, filled_samples}
-use Rattle.aec_params.specs.Intervals.{plain_bits, interval_bits}
+use Rattle.aec_params.specs.Intervals.{unpadded_bits, interval_bits}
 use Rattle.aec_params.specs.Reading.{begin_of, IsBlockReading, FillBlocks}
 use Rattle.aec_params.proofs.ReadingLaws.{FillBlocks-one_to_one}
 use Rattle.aec_bits.specs.Codec.{BeginsAt}
@@ -33,7 +33,7 @@ IsBlockReading-behind s limit pre rest bits start v a h starts spelled =
     record {
       sets = part.sets;
       end_block = 0 * s.interval + end_of s 0 part.sets;
-      end_bit = begin_of s bits (0 * s.interval + end_of s 0 part.sets) (length pre + length (plain_bits s v));
+      end_bit = begin_of s bits (0 * s.interval + end_of s 0 part.sets) (length pre + length (unpadded_bits s v));
       leads = part.leads;
       done = le-ltb (0 * s.interval + end_of s 0 part.sets) (div_ceil (length v) s.block_size) (omega (arith, part.reaches));
       kept = sym (ap₂ take (omega arith) part.covered ∙ part.stand_for);

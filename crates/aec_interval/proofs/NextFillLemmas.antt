@@ -1,6 +1,5 @@
 -- Samples taken back from the values of a block fill that block behind the blocks before.
 use Rattle.std.proofs.Common.{◌≡◌, ℕ, zero, suc, ◌%◌, ◌<◌, ◌^◌, ◌==◌, ◌&&◌, if◌then◌else◌, Bool, true, false, Option, Some, None, ℤ, pos, List, [], ◌∷◌, ◌++◌, length, take, drop, unwrap_or, refl, sym, ap, ap₂, ◌∙◌, subst, append_assoc, arith, ◌-◌, neg_ℤ, int_le}
-use Rattle.std.proofs.lemmas.Bool.Decides.{nat_tests}
 use Rattle.std.proofs.lemmas.Bool.{le-leb}
 use Rattle.std.proofs.lemmas.Result.{IfOk-weaker}
 use Rattle.std.proofs.Common.{Result, IfOk}
@@ -11,16 +10,12 @@ use Rattle.aec_params.specs.Params.{IsAllowed, IsHeld, interval_len, sample_patt
 use Rattle.aec_params.specs.Mapping.{mapped_value, mapped_after, mapped_values}
 use Rattle.aec_params.specs.Blocks.{Block, reference_of}
 use Rattle.aec_params.specs.CodedDataSets.{HasReference}
+use Rattle.aec_params.specs.BlockShapes.{HasReferencePlace}
 use Rattle.aec_params.specs.Reading.{FillBlocks}
-use Rattle.aec_interval.specs.NextBlock.{last_sample, next_block_at, Unmaps, Placed, IsNextBlock, FillsNext}
+use Rattle.aec_params.proofs.SettingLaws.{block_size-positive, interval-positive}
+use Rattle.aec_interval.specs.NextBlock.{last_sample, next_block_at, Unmaps, IsNextBlock, FillsNext}
 use Rattle.aec_interval.proofs.NextBlockLemmas.{length-mapped_after}
 use Rattle.aec_interval.proofs.ReadingSteps.{FillBlocks-push}
-
-pub block_size-some : (s : Settings) → IsAllowed s → 0 < s.block_size
-block_size-some s allowed = let b = allowed.block_size in grind arith
-
-pub interval-some : (s : Settings) → IsAllowed s → 0 < s.interval
-interval-some s allowed = let b = allowed.interval in grind (arith, nat_tests)
 
 zero_within : (low high : ℕ) → (int_le (neg_ℤ (pos low)) (pos 0) && int_le (pos 0) (pos high)) ≡ true
 zero_within zero high = le-leb 0 high (omega arith)
@@ -59,20 +54,13 @@ reference_of-plain s (x ∷ xs) plain = ap (λ b. if b then Some (sample_pattern
 abbrev block_of : Option ℕ → List ℕ → Block
 block_of reference values = record { reference = reference; values = values }
 
-abbrev plain_block : List ℕ → Block
-plain_block values = block_of None values
-
-placed_again : (values : List ℕ) → take 1 values ≡ 0 ∷ [] → 0 ∷ drop 1 values ≡ values
-placed_again [] placed = absurd (cc)
-placed_again (v ∷ values) placed = ap (λ first. first ++ values) (sym placed)
-
 -- a block with no reference
 next_plain : (s : Settings) (at_start : Bool) (p : ℤ) (more : List ℤ) (values : List ℕ) → HasReference s (s.preprocess && at_start) None → mapped_after s p more ≡ values
-    → next_block_at s at_start p more ≡ plain_block values
-next_plain s false p more values none mapped = ap plain_block mapped
+    → next_block_at s at_start p more ≡ block_of None values
+next_plain s false p more values none mapped = ap (block_of None) mapped
 next_plain s true p more values none mapped = by_preprocess s.preprocess refl none
   where
-    by_preprocess : (preprocess : Bool) → s.preprocess ≡ preprocess → HasReference s (preprocess && true) None → next_block_at s true p more ≡ plain_block values
+    by_preprocess : (preprocess : Bool) → s.preprocess ≡ preprocess → HasReference s (preprocess && true) None → next_block_at s true p more ≡ block_of None values
     by_preprocess true is none = absurd none
     by_preprocess false is none = ap₂ block_of (reference_of-plain s more is) (mapped_values-plain s p more is ∙ mapped)
 
@@ -80,13 +68,13 @@ pub fills_plain : (s : Settings) (old new : List ℤ) (values : List ℕ) → Is
     → Unmaps s (last_sample old) values old new → FillsNext s old new ((record { reference = None; values = values }) ∷ [])
 fills_plain s old new values allowed next unmaps blocks filled =
     subst (λ samples. FillBlocks s samples (blocks ++ (record { reference = None; values = values }) ∷ [])) (sym unmaps.appended)
-    (FillBlocks-push s old unmaps.more blocks (record { reference = None; values = values }) (block_size-some s allowed) (interval-some s allowed) filled unmaps.held
-    (sym (length-mapped_after s (last_sample old) unmaps.more) ∙ (ap length unmaps.mapped ∙ next.whole))
+    (FillBlocks-push s old unmaps.more blocks (record { reference = None; values = values }) (block_size-positive s allowed) (interval-positive s allowed) filled unmaps.held
+    (sym (length-mapped_after s (last_sample old) unmaps.more) ∙ (ap length unmaps.mapped ∙ next.count))
     (next_plain s (length old % interval_len s == 0) (last_sample old) unmaps.more values next.reference unmaps.mapped))
 
 -- a block that begins with a reference sample
 next_reference : (s : Settings) (at_start : Bool) (r : ℕ) (x : ℤ) (more : List ℤ) (values : List ℕ) (p : ℤ) → HasReference s (s.preprocess && at_start) (Some r)
-    → Placed (Some r) values → sample_pattern s x ≡ r → mapped_after s x more ≡ drop 1 values → next_block_at s at_start p (x ∷ more) ≡ block_of (Some r) values
+    → HasReferencePlace (Some r) values → sample_pattern s x ≡ r → mapped_after s x more ≡ drop 1 values → next_block_at s at_start p (x ∷ more) ≡ block_of (Some r) values
 next_reference s at_start r x more values p has placed pattern mapped = by_tests s.preprocess at_start refl has
   where
     by_tests : (preprocess at_start : Bool) → s.preprocess ≡ preprocess → HasReference s (preprocess && at_start) (Some r) → next_block_at s at_start p (x ∷ more) ≡ block_of (Some r) values
@@ -94,19 +82,19 @@ next_reference s at_start r x more values p has placed pattern mapped = by_tests
     by_tests true false is has = absurd has
     by_tests true true is has =
         ap₂ block_of (ap (λ b. if b then Some (sample_pattern s x) else None) is ∙ ap Some pattern)
-        (ap₂ (λ b later. (if b then 0 else sample_pattern s x) ∷ later) is mapped ∙ placed_again values placed)
+        (ap₂ (λ b later. (if b then 0 else sample_pattern s x) ∷ later) is mapped ∙ sym placed)
 
 pub fills_reference : (s : Settings) (old new : List ℤ) (r : ℕ) (values : List ℕ) (x : ℤ) → IsAllowed s → IsNextBlock s old (record { reference = Some r; values = values })
     → IsHeld s x → sample_pattern s x ≡ r → Unmaps s x (drop 1 values) (old ++ x ∷ []) new → FillsNext s old new ((record { reference = Some r; values = values }) ∷ [])
 fills_reference s old new r values x allowed next held pattern unmaps blocks filled =
     subst (λ samples. FillBlocks s samples (blocks ++ (record { reference = Some r; values = values }) ∷ [])) (sym (unmaps.appended ∙ append_assoc old (x ∷ []) unmaps.more))
-    (FillBlocks-push s old (x ∷ unmaps.more) blocks (record { reference = Some r; values = values }) (block_size-some s allowed) (interval-some s allowed) filled (held, unmaps.held) (ap suc (sym (length-mapped_after s x unmaps.more) ∙ ap length unmaps.mapped) ∙ (ap length (placed_again values next.placed) ∙ next.whole))
-    (next_reference s (length old % interval_len s == 0) r x unmaps.more values (last_sample old) next.reference next.placed pattern unmaps.mapped))
+    (FillBlocks-push s old (x ∷ unmaps.more) blocks (record { reference = Some r; values = values }) (block_size-positive s allowed) (interval-positive s allowed) filled (held, unmaps.held) (ap suc (sym (length-mapped_after s x unmaps.more) ∙ ap length unmaps.mapped) ∙ (ap length (sym next.place) ∙ next.count))
+    (next_reference s (length old % interval_len s == 0) r x unmaps.more values (last_sample old) next.reference next.place pattern unmaps.mapped))
 
 -- ---- in the form in which the code has the facts
 
 pub values-below : (s : Settings) (b : Block) (old : List ℤ) (values : List ℕ) → IsNextBlock s old b → values ≡ b.values → AllByRecursion (λ v. v < 2 ^ s.bits) values
-values-below s b old values next e = subst (λ values. AllByRecursion (λ v. v < 2 ^ s.bits) values) (sym e) next.small
+values-below s b old values next e = subst (λ values. AllByRecursion (λ v. v < 2 ^ s.bits) values) (sym e) next.below
 
 pub all-tail : {X : Type 0} (P : X → Type 0) (xs : List X) → AllByRecursion P xs → AllByRecursion P (drop 1 xs)
 all-tail P [] all = tt

@@ -9,10 +9,10 @@ use Rattle.std.proofs.lemmas.List.Concat.{flat_map-append}
 use Rattle.aec_params.specs.declared.settings.Settings.{Settings}
 use Rattle.aec_params.specs.Params.{IsAllowed, IsHeld, interval_len}
 use Rattle.aec_params.specs.Blocks.{Block, intervals_of, blocks_of}
-use Rattle.aec_params.specs.CodedDataSets.{Body, plain_values, value_pairs, split_values, zero_blocks, CodedDataSet, cds_bits}
-use Rattle.aec_params.specs.Places.{zero_block, block_count, body_blocks, segment_left, run_len, IsLawful, cds_blocks, blocks_in}
+use Rattle.aec_params.specs.CodedDataSets.{Body, uncompressed_values, value_pairs, split_values, zero_blocks, CodedDataSet, cds_bits}
+use Rattle.aec_params.specs.Places.{zero_block, block_count, body_blocks, segment_left, run_len, IsLawfulAt, cds_blocks, blocks_in}
 use Rattle.aec_params.specs.Runs.{zero_run, groups_of, run_code}
-use Rattle.aec_params.specs.Intervals.{group_sets, block_sets, plain_bits, interval_bits}
+use Rattle.aec_params.specs.Intervals.{group_sets, block_sets, unpadded_bits, interval_bits}
 use Rattle.aec_params.specs.Codewords.{padded_to_byte}
 use Rattle.aec_params.specs.Streams.{stream_of}
 use Rattle.aec_params.specs.Reading.{Covers, covered_blocks, ReadsBlocks}
@@ -59,7 +59,7 @@ cost_from-segment s p (b ∷ blocks) h =
     ∙ ap (λ sets. length (flat_map (cds_bits s) sets)) (sym cut) ∙ ap (block_cost s) (take-append-drop 64 whole)
 
 -- one coded data set that stands for just the blocks in front of the others
-set_step : (s : Settings) (p : ℕ) (c : CodedDataSet) (rest : List Block) → IsAllowed s → p < s.interval → IsLawful s p c
+set_step : (s : Settings) (p : ℕ) (c : CodedDataSet) (rest : List Block) → IsAllowed s → p < s.interval → IsLawfulAt s p c
     → p + block_count s p c + length rest ≤ s.interval
     → AreBlocksFrom s p (cds_blocks s p c ++ rest)
     → cost_from s p (cds_blocks s p c ++ rest) ≤ length (cds_bits s c) + cost_from s (p + block_count s p c) rest
@@ -108,10 +108,10 @@ set_step s p c rest a h l fits due = ⊎_elim inside (λ e. at_end (omega (arith
 -- ---- the last coded data set, which goes past the blocks
 
 overhang : (s : Settings) (p : ℕ) (reference : Option ℕ) (body : Body) (blocks : List Block) → p < s.interval
-    → IsLawful s p (record { reference = reference; body = body })
+    → IsLawfulAt s p (record { reference = reference; body = body })
     → 0 < length blocks → length blocks < body_blocks s p body → take (length blocks) (blocks_in s p reference body) ≡ blocks
     → cost_from s p blocks ≤ length (cds_bits s (record { reference = reference; body = body }))
-overhang s p reference (plain_values values) blocks h l some more e = absurd (omega arith)
+overhang s p reference (uncompressed_values values) blocks h l some more e = absurd (omega arith)
 overhang s p reference (value_pairs members) blocks h l some more e = absurd (omega arith)
 overhang s p reference (split_values k values) blocks h l some more e = absurd (omega arith)
 overhang s p reference (zero_blocks m) blocks h l some more e =
@@ -141,7 +141,7 @@ overhang s p reference (zero_blocks m) blocks h l some more e =
 
 -- a coded data set that ends within the blocks, if what is behind it costs no more than the others have
 exact_step : (s : Settings) (n p : ℕ) (c : CodedDataSet) (sets : List CodedDataSet) (blocks : List Block) → IsAllowed s → p < s.interval → n ≤ s.interval
-    → IsLawful s p c
+    → IsLawfulAt s p c
     → AreBlocksFrom s p blocks → p + length blocks ≡ n → take (length blocks) (covered_blocks s p (c ∷ sets)) ≡ blocks → block_count s p c ≤ length blocks
     → ((rest : List Block) → AreBlocksFrom s (p + block_count s p c) rest → p + block_count s p c + length rest ≡ n
     → take (length rest) (covered_blocks s (p + block_count s p c) sets) ≡ rest
@@ -213,19 +213,19 @@ optimal_from s n p (c ∷ sets) (b ∷ blocks) a few h due reach e =
 
 -- ---- an interval, and all samples
 
-pub plain_bits-optimal : (s : Settings) (samples : List ℤ) (bits : List Bool) → IsAllowed s → AllByRecursion (IsHeld s) samples → 0 < length samples
+pub unpadded_bits-optimal : (s : Settings) (samples : List ℤ) (bits : List Bool) → IsAllowed s → AllByRecursion (IsHeld s) samples → 0 < length samples
     → length samples ≤ interval_len s
-    → ReadsBlocks s bits (blocks_of s samples) → length (plain_bits s samples) ≤ length bits
-plain_bits-optimal s [] bits a held some fits r = absurd (omega arith)
-plain_bits-optimal s (x ∷ v) bits a held some fits r =
+    → ReadsBlocks s bits (blocks_of s samples) → length (unpadded_bits s samples) ≤ length bits
+unpadded_bits-optimal s [] bits a held some fits r = absurd (omega arith)
+unpadded_bits-optimal s (x ∷ v) bits a held some fits r =
     let blocks = blocks_of s (x ∷ v) in
     let due = AreBlocksFrom-blocks_of s x v a held in
     let least = optimal_from s (length blocks) 0 r.sets blocks a (blocks-few s (x ∷ v) a fits) r.covers due (omega arith) r.stand_for in
     omega (arith, cost_from-segment s 0 blocks refl, ap length r.spelled)
 
 -- without padding the code of an interval has no more bits than its coded data sets
-unpadded : (s : Settings) (v : List ℤ) → s.pad ≡ false → length (interval_bits s v) ≡ length (plain_bits s v)
-unpadded s v e = ap length (cond-false s.pad (padded_to_byte (plain_bits s v)) (plain_bits s v) e)
+unpadded : (s : Settings) (v : List ℤ) → s.pad ≡ false → length (interval_bits s v) ≡ length (unpadded_bits s v)
+unpadded s v e = ap length (cond-false s.pad (padded_to_byte (unpadded_bits s v)) (unpadded_bits s v) e)
 
 abbrev IsShortest : Settings → List ℤ → Type 0
 IsShortest s xs = AllByRecursion (IsHeld s) xs → (codes : List (List Bool)) → ReadsEach s codes (intervals_of s xs)
@@ -236,7 +236,7 @@ shortest_on : (s : Settings) → IsAllowed s → s.pad ≡ false → (front rest
 shortest_on s a e front rest piece ih held [] each = absurd (subst (ReadsEach s []) (pieces_of-cons (interval_len s) front rest piece) each)
 shortest_on s a e front rest piece ih held (code ∷ codes) each =
     let parts = subst (ReadsEach s (code ∷ codes)) (pieces_of-cons (interval_len s) front rest piece) each in
-    let first = plain_bits-optimal s front code a (all_left (IsHeld s) front rest held) piece.some piece.fits parts.0 in
+    let first = unpadded_bits-optimal s front code a (all_left (IsHeld s) front rest held) piece.some piece.fits parts.0 in
     let later = ih (all_right (IsHeld s) front rest held) codes parts.1 in
     omega (
       arith,
@@ -248,7 +248,7 @@ shortest_on s a e front rest piece ih held (code ∷ codes) each =
 
 pub codes_are_shortest : (s : Settings) (samples : List ℤ) → IsAllowed s → CodesAreShortest s samples
 codes_are_shortest s samples a = record {
-  interval = λ v bits r. plain_bits-optimal s samples bits a v.held v.some v.fits r;
+  interval = λ v bits r. unpadded_bits-optimal s samples bits a v.held v.some v.fits r;
   stream = λ held e codes each. by_pieces (IsShortest s) (interval_len s) (interval_len-positive s a)
       (λ _ codes _. omega (arith, ap length (stream_of-nil s a))) (shortest_on s a e) samples held codes each;
 }

@@ -9,10 +9,10 @@ use Rattle.aec_params.specs.declared.fault.Fault.{Fault}
 use Rattle.aec_params.specs.declared.fault.Fault.TheVariants.{Truncated, ValueTooLarge, RunTooLong, TooManySamples}
 use Rattle.aec_params.specs.Params.{IsAllowed, id_len}
 use Rattle.aec_params.specs.Blocks.{Block}
-use Rattle.aec_params.specs.CodedDataSets.{Body, plain_values, value_pairs, split_values, zero_blocks, CodedDataSet, cds_bits, identifier, reference_bits, body_bits, has_small_values}
-use Rattle.aec_params.specs.Places.{stays_in_segment, is_reference_block, IsLawful}
+use Rattle.aec_params.specs.CodedDataSets.{Body, uncompressed_values, value_pairs, split_values, zero_blocks, CodedDataSet, cds_bits, identifier, reference_bits, body_bits, has_small_values}
+use Rattle.aec_params.specs.Places.{stays_in_segment, is_reference_block, IsLawfulAt}
 use Rattle.aec_params.specs.Reading.{StandsAt, begin_of, next_block, next_begin, is_wanted, keeps_limit, stream_blocks, kept_blocks, IsBlockReading}
-use Rattle.aec_params.specs.Faults.{HasSetAt, IsWrongAt, cut_short, too_large, too_long, too_many, IsFault}
+use Rattle.aec_params.specs.Faults.{IsSetAt, IsWrongAt, not_read, cut_short, too_large, too_long, too_many, IsFault}
 use Rattle.aec_params.proofs.CodewordLaws.{length-binary}
 use Rattle.aec_block.specs.ReadAt.{nothing, taken, cds_at}
 use Rattle.aec_block.proofs.CodewordLemmas.{cases_taken}
@@ -21,7 +21,7 @@ use Rattle.aec_block.proofs.SetLemmas.{id_len-positive, what_is_read_is_spelled,
 -- ---- a coded data set has bits, so that the walk gets ahead
 
 identifier-positive : (s : Settings) (body : Body) → 0 < length (identifier s body)
-identifier-positive s (plain_values values) = omega (arith, length-binary (id_len s) (2 ^ id_len s - 1), id_len-positive s)
+identifier-positive s (uncompressed_values values) = omega (arith, length-binary (id_len s) (2 ^ id_len s - 1), id_len-positive s)
 identifier-positive s (value_pairs values) = omega (arith, length-binary (id_len s + 1) 1)
 identifier-positive s (split_values k values) = omega (arith, length-binary (id_len s) (k + 1), id_len-positive s)
 identifier-positive s (zero_blocks m) = omega (arith, length-binary (id_len s + 1) 0)
@@ -59,20 +59,20 @@ next_begin-ahead s bits i b c h =
 
 -- ---- whether a coded data set begins at a place
 
-pub set_or_none : (s : Settings) (bits : List Bool) (p b : ℕ) → IsAllowed s
-    → ((c : CodedDataSet) × HasSetAt s bits p b c) ⊎ ((c : CodedDataSet) → HasSetAt s bits p b c → ⊥)
-set_or_none s bits p b a = ⊎_elim none (λ t. some t.0 t.1.0 t.1.1) (cases_taken (cds_at s (is_reference_block s p) (drop b bits)))
+pub set_or_none : (s : Settings) (t : Bool) (bits : List Bool) (b : ℕ) → IsAllowed s
+    → ((c : CodedDataSet) × IsSetAt s t bits b c) ⊎ ((c : CodedDataSet) → IsSetAt s t bits b c → ⊥)
+set_or_none s t bits b a = ⊎_elim none (λ r. some r.0 r.1.0 r.1.1) (cases_taken (cds_at s t (drop b bits)))
   where
     Answer : Type 0
-    Answer = ((c : CodedDataSet) × HasSetAt s bits p b c) ⊎ ((c : CodedDataSet) → HasSetAt s bits p b c → ⊥)
+    Answer = ((c : CodedDataSet) × IsSetAt s t bits b c) ⊎ ((c : CodedDataSet) → IsSetAt s t bits b c → ⊥)
 
-    none : cds_at s (is_reference_block s p) (drop b bits) ≡ nothing → Answer
-    none e = inr (λ c h. (nothing_is_read_where_none_begins s a (is_reference_block s p) (drop b bits)).0 e c
+    none : cds_at s t (drop b bits) ≡ nothing → Answer
+    none e = inr (λ c h. (nothing_is_read_where_none_begins s a t (drop b bits)).0 e c
         (drop (b + length (cds_bits s c)) bits) h.shape h.stands)
 
-    some : (c : CodedDataSet) (rest : List Bool) → cds_at s (is_reference_block s p) (drop b bits) ≡ taken c rest → Answer
+    some : (c : CodedDataSet) (rest : List Bool) → cds_at s t (drop b bits) ≡ taken c rest → Answer
     some c rest e =
-        let h = what_is_read_is_spelled s a (is_reference_block s p) (drop b bits) c rest e in
+        let h = what_is_read_is_spelled s a t (drop b bits) c rest e in
         let behind : drop (b + length (cds_bits s c)) bits ≡ rest =
         sym (drop-drop (length (cds_bits s c)) b bits) ∙ ap (drop (length (cds_bits s c))) h.1 ∙ drop_at (cds_bits s c) rest (length (cds_bits s c)) refl in
         inl (c, record { shape = h.0; stands = h.1 ∙ ap (◌++◌ (cds_bits s c)) (sym behind) })
@@ -91,7 +91,7 @@ module _ (s : Settings) (a : IsAllowed s) (count : Option ℕ) (limit : ℕ) (bi
   failed i b fault e w = inr (fault, record { sets = []; block = i; bit = b; leads = (refl, refl); wanted = e; wrong = w })
 
   -- one coded data set before what is behind it
-  before : (i b : ℕ) (c : CodedDataSet) → is_wanted s count bits i b ≡ true → StandsAt s bits b c → IsLawful s (i % s.interval) c
+  before : (i b : ℕ) (c : CodedDataSet) → is_wanted s count bits i b ≡ true → StandsAt s bits b c → IsLawfulAt s (i % s.interval) c
       → keeps_limit s count limit (next_block s i c) ≡ true → Outcome (next_block s i c) (next_begin s bits i b c) → Outcome i b
   before i b c e x l k (inl r) =
       let h = r.1 in
@@ -104,7 +104,7 @@ module _ (s : Settings) (a : IsAllowed s) (count : Option ℕ) (limit : ℕ) (bi
       inr (r.0, record { sets = c ∷ h.sets; block = h.block; bit = h.bit; leads = (e, x, l, k, h.leads); wanted = h.wanted; wrong = h.wrong })
 
   -- what a coded data set that stands there leads to
-  judged : (i b : ℕ) (c : CodedDataSet) → is_wanted s count bits i b ≡ true → HasSetAt s bits (i % s.interval) b c
+  judged : (i b : ℕ) (c : CodedDataSet) → is_wanted s count bits i b ≡ true → IsSetAt s (is_reference_block s (i % s.interval)) bits b c
       → Outcome (next_block s i c) (next_begin s bits i b c) → Outcome i b
   judged i b c e h later =
       ⊎_elim (λ small. ⊎_elim (λ within. ⊎_elim
@@ -113,16 +113,16 @@ module _ (s : Settings) (a : IsAllowed s) (count : Option ℕ) (limit : ℕ) (bi
       (cases_Bool (keeps_limit s count limit (next_block s i c))))
       (λ long. failed i b (RunTooLong b) e (too_long c h small long))
       (cases_Bool (stays_in_segment s (i % s.interval) c)))
-      (λ large. failed i b (ValueTooLarge b) e (too_large c h large))
+      (λ large. failed i b (ValueTooLarge b) e (not_read _ (too_large c h large)))
       (cases_Bool (has_small_values s c))
 
   -- the outcome at a place, from the outcomes behind what stands there
-  step : (i b : ℕ) → ((c : CodedDataSet) → HasSetAt s bits (i % s.interval) b c → Outcome (next_block s i c) (next_begin s bits i b c)) → Outcome i b
+  step : (i b : ℕ) → ((c : CodedDataSet) → IsSetAt s (is_reference_block s (i % s.interval)) bits b c → Outcome (next_block s i c) (next_begin s bits i b c)) → Outcome i b
   step i b later = ⊎_elim wanted (finished i b) (cases_Bool (is_wanted s count bits i b))
     where
       wanted : is_wanted s count bits i b ≡ true → Outcome i b
-      wanted e = ⊎_elim (λ h. judged i b h.0 e h.1 (later h.0 h.1)) (λ none. failed i b (Truncated b) e (cut_short none))
-          (set_or_none s bits (i % s.interval) b a)
+      wanted e = ⊎_elim (λ h. judged i b h.0 e h.1 (later h.0 h.1)) (λ none. failed i b (Truncated b) e (not_read _ (cut_short none)))
+          (set_or_none s (is_reference_block s (i % s.interval)) bits b a)
 
   outcome_within : (fuel i b : ℕ) → length bits < b + fuel → Outcome i b
   outcome_within zero i b h = step i b (λ c at. absurd (omega (arith, next_begin-ahead s bits i b c at.stands)))

@@ -8,30 +8,25 @@ use Rattle.std.proofs.Math.Seq.{drop-append_seam, drop-append-add}
 use Rattle.std.proofs.lemmas.Nat.{mod-mul-add}
 use Rattle.std.proofs.lemmas.Bool.{cond_both, cond-false, leb-true, lt-ltb, ltb-false, and_right, ne_eqb}
 use Rattle.aec_params.specs.declared.settings.Settings.{Settings}
-use Rattle.aec_params.specs.CodedDataSets.{Body, plain_values, value_pairs, split_values, zero_blocks, CodedDataSet, cds_bits}
-use Rattle.aec_params.specs.Places.{block_count, body_blocks, run_len, segment_left, IsLawful, cds_blocks}
+use Rattle.aec_params.specs.CodedDataSets.{Body, uncompressed_values, value_pairs, split_values, zero_blocks, CodedDataSet, cds_bits}
+use Rattle.aec_params.specs.Places.{block_count, body_blocks, run_len, segment_left, IsLawfulAt, cds_blocks}
 use Rattle.aec_params.specs.Reading.{Covers, covered_blocks, StandsAt, begin_of, next_block, next_begin, LeadsTo, stream_blocks}
-pub use Rattle.aec_params.proofs.StreamLaws.{length-cds_blocks}
+pub use Rattle.aec_params.proofs.StreamLaws.{length-cds_blocks, run_len-some}
 
 -- ---- how far coded data sets reach
 
 -- a coded data set stands for at least one block
-pub run_len-positive : (s : Settings) (p m : ℕ) → p < s.interval → 0 < run_len s p m
-run_len-positive s p m h =
-    cond_both (nat_lt m 4) (m + 1) (if m == 4 then segment_left s p else m) (λ k. 0 < k) (λ _. omega arith)
-    (λ t. cond_both (m == 4) (segment_left s p) m (λ k. 0 < k) (λ _. omega arith) (λ _. omega (arith, ltb-false m 4 t)))
-
 body_blocks-positive : (s : Settings) (p : ℕ) (body : Body) → p < s.interval → 0 < body_blocks s p body
-body_blocks-positive s p (plain_values values) h = omega arith
+body_blocks-positive s p (uncompressed_values values) h = omega arith
 body_blocks-positive s p (value_pairs values) h = omega arith
 body_blocks-positive s p (split_values k values) h = omega arith
-body_blocks-positive s p (zero_blocks m) h = run_len-positive s p m h
+body_blocks-positive s p (zero_blocks m) h = run_len-some s p m h
 
 pub block_count-positive : (s : Settings) (p : ℕ) (c : CodedDataSet) → p < s.interval → 0 < block_count s p c
 block_count-positive s p c h = body_blocks-positive s p c.body h
 
 -- a lawful one ends within its interval
-pub lawful-within : (s : Settings) (p : ℕ) (c : CodedDataSet) → IsLawful s p c → p < s.interval → p + block_count s p c ≤ s.interval
+pub lawful-within : (s : Settings) (p : ℕ) (c : CodedDataSet) → IsLawfulAt s p c → p < s.interval → p + block_count s p c ≤ s.interval
 lawful-within s p c l h = let w = leb-true (block_count s p c) (segment_left s p) l.within in omega arith
 
 -- the block behind coded data sets
@@ -102,20 +97,20 @@ begin_of-inside s bits i b h =
 record IsFirstAt (s : Settings) (count p k i b : ℕ) (pre : List Bool) (c : CodedDataSet) (bits : List Bool) : Type 0 where
   wanted : nat_lt i (div_ceil count s.block_size) ≡ true
   stands : StandsAt s bits b c
-  lawful : IsLawful s (i % s.interval) c
+  lawful : IsLawfulAt s (i % s.interval) c
   next : next_block s i c ≡ k * s.interval + (p + block_count s p c)
   end : b + length (cds_bits s c) ≡ length (pre ++ cds_bits s c)
 
 first_at : (s : Settings) (count p k i b : ℕ) (pre : List Bool) (c : CodedDataSet) (rest bits : List Bool) → p < s.interval
     → i < div_ceil count s.block_size
-    → IsLawful s p c → i ≡ k * s.interval + p → b ≡ length pre → bits ≡ pre ++ (cds_bits s c ++ rest) → IsFirstAt s count p k i b pre c bits
+    → IsLawfulAt s p c → i ≡ k * s.interval + p → b ≡ length pre → bits ≡ pre ++ (cds_bits s c ++ rest) → IsFirstAt s count p k i b pre c bits
 first_at s count p k i b pre c rest bits inside need lawful e f spelled =
     let place : i % s.interval ≡ p = ap (λ q. q % s.interval) e ∙ place-in k s.interval p inside in
     record {
       wanted = lt-ltb i (div_ceil count s.block_size) need;
       stands = subst (λ x. StandsAt s x b c) (sym spelled) (subst (λ x. StandsAt s (pre ++ (cds_bits s c ++ rest)) x c) (sym f)
           (StandsAt-front s pre c rest));
-      lawful = subst (λ q. IsLawful s q c) (sym place) lawful;
+      lawful = subst (λ q. IsLawfulAt s q c) (sym place) lawful;
       next = omega (arith, ap (λ q. block_count s q c) place);
       end = omega (arith, length-append pre (cds_bits s c));
     }

@@ -8,12 +8,13 @@ use Rattle.aec_params.specs.declared.settings.Settings.{Settings}
 use Rattle.aec_params.specs.Params.{IsAllowed}
 use Rattle.aec_params.specs.Blocks.{Block}
 use Rattle.aec_params.specs.CodedDataSets.{CodedDataSet}
-use Rattle.aec_params.specs.Places.{block_count, cds_blocks, IsLawful}
+use Rattle.aec_params.specs.Places.{block_count, cds_blocks, IsLawfulAt}
 use Rattle.aec_params.specs.Reading.{StandsAt, next_block, next_begin, is_wanted, keeps_limit, LeadsTo, stream_blocks, kept_blocks, FillBlocks}
 use Rattle.aec_interval.specs.NextBlock.{FillsNext}
 use Rattle.aec_interval.specs.Reached.{AreFilled, IsReached}
-use Rattle.aec_interval.proofs.NextFillLemmas.{interval-some, block_size-some}
-use Rattle.aec_interval.proofs.ReadingSteps.{LeadsTo-push, stream_blocks-push, length-cds_blocks, FillBlocks-nil}
+use Rattle.aec_params.proofs.SettingLaws.{block_size-positive, interval-positive}
+use Rattle.aec_interval.proofs.ReadingSteps.{LeadsTo-push, stream_blocks-push, FillBlocks-nil}
+use Rattle.aec_params.proofs.StreamLaws.{length-cds_blocks}
 
 -- as many blocks as the coded data sets lead through
 pub length-stream_blocks : (s : Settings) (count : Option ℕ) (limit : ℕ) (bits : List Bool) (i b : ℕ) (sets : List CodedDataSet) (j e : ℕ) → 0 < s.interval
@@ -50,7 +51,7 @@ pub IsReached-start : (s : Settings) (count : Option ℕ) (limit : ℕ) (bits : 
 IsReached-start s count limit bits start allowed = record {
   sets = [];
   leads = (refl, refl);
-  filled = subst (λ blocks. FillBlocks s [] blocks) (sym (nothing_kept count)) (FillBlocks-nil s (mul-pos (block_size-some s allowed) (interval-some s allowed)));
+  filled = subst (λ blocks. FillBlocks s [] blocks) (sym (nothing_kept count)) (FillBlocks-nil s (mul-pos (block_size-positive s allowed) (interval-positive s allowed)));
 }
   where
     nothing_kept : (count : Option ℕ) → kept_blocks s count 0 [] ≡ []
@@ -61,16 +62,16 @@ IsReached-start s count limit bits start allowed = record {
 pub AreFilled-reached : (s : Settings) (count : Option ℕ) (limit : ℕ) (bits : List Bool) (start i b : ℕ) (samples : List ℤ) → IsAllowed s → IsReached s count limit bits start i b samples
     → is_wanted s count bits i b ≡ true → AreFilled s i samples
 AreFilled-reached s count limit bits start i b samples allowed reached wanted =
-    let len : length (stream_blocks s 0 reached.sets) ≡ i = omega (arith, length-stream_blocks s count limit bits 0 start reached.sets i b (interval-some s allowed) reached.leads) in
+    let len : length (stream_blocks s 0 reached.sets) ≡ i = omega (arith, length-stream_blocks s count limit bits 0 start reached.sets i b (interval-positive s allowed) reached.leads) in
     record { blocks = stream_blocks s 0 reached.sets; filled = subst (FillBlocks s samples) (kept_blocks-wanted s count bits i b (stream_blocks s 0 reached.sets) len wanted) reached.filled; count_is = len }
 
 pub IsReached-more : (s : Settings) (count : Option ℕ) (limit : ℕ) (bits : List Bool) (start i b : ℕ) (old new : List ℤ) (c : CodedDataSet) → IsAllowed s
-    → IsReached s count limit bits start i b old → is_wanted s count bits i b ≡ true → StandsAt s bits b c → IsLawful s (i % s.interval) c → keeps_limit s count limit (next_block s i c) ≡ true
+    → IsReached s count limit bits start i b old → is_wanted s count bits i b ≡ true → StandsAt s bits b c → IsLawfulAt s (i % s.interval) c → keeps_limit s count limit (next_block s i c) ≡ true
     → FillsNext s old new (kept_blocks s count i (cds_blocks s (i % s.interval) c))
     → IsReached s count limit bits start (next_block s i c) (next_begin s bits i b c) new
 IsReached-more s count limit bits start i b old new c allowed reached wanted stands lawful within fills =
     let blocks : List Block = stream_blocks s 0 reached.sets in
-    let len : length blocks ≡ i = omega (arith, length-stream_blocks s count limit bits 0 start reached.sets i b (interval-some s allowed) reached.leads) in
+    let len : length blocks ≡ i = omega (arith, length-stream_blocks s count limit bits 0 start reached.sets i b (interval-positive s allowed) reached.leads) in
     record {
       sets = reached.sets ++ c ∷ [];
       leads = LeadsTo-push s count limit bits 0 start reached.sets i b c reached.leads wanted stands lawful within;

@@ -16,18 +16,20 @@ use Rattle.aec_params.specs.declared.fault.Fault.TheVariants.{RunTooLong, TooMan
 use Rattle.aec_params.specs.Params.{IsAllowed}
 use Rattle.std.proofs.Common.{lit≤, nat_lt, if◌then◌else◌}
 use Rattle.std.proofs.lemmas.Bool.{lt-leb}
-use Rattle.aec_params.specs.CodedDataSets.{Body, plain_values, value_pairs, split_values, zero_blocks, CodedDataSet, cds_bits}
-use Rattle.aec_params.specs.Places.{segment_left, body_blocks, block_count, stays_in_segment, is_reference_block, cds_blocks, IsLawful}
+use Rattle.aec_params.specs.CodedDataSets.{Body, uncompressed_values, value_pairs, split_values, zero_blocks, CodedDataSet, cds_bits}
+use Rattle.aec_params.specs.Places.{segment_left, body_blocks, block_count, stays_in_segment, is_reference_block, cds_blocks, IsLawfulAt}
 use Rattle.aec_params.specs.Reading.{next_block, next_begin, begin_of, is_wanted, keeps_limit, kept_blocks, stream_blocks, counted_samples, IsReading}
 use Rattle.aec_bits.specs.BitReader.{Cursor}
 use Rattle.aec_block.specs.declared.cds.Cds.{Cds}
-use Rattle.aec_block.specs.ReadCds.{IsReadAs, IsNotRead}
+use Rattle.aec_params.specs.Faults.{IsNotRead}
+use Rattle.aec_block.specs.ReadCds.{IsReadAs}
 use Rattle.aec_interval.specs.NextBlock.{FillsNext}
 use Rattle.aec_interval.specs.NextSet.{cds_count, kept_count, IsNextCds, cds_front}
 use Rattle.aec_interval.specs.Reached.{IsReached, IsReadFrom, LeadsBehindOne, RefusesReading, no_memory, count_refusal, RefusesDecoding, above_limit, unread}
-use Rattle.aec_interval.proofs.NextFillLemmas.{interval-some, block_size-some}
+use Rattle.aec_params.proofs.SettingLaws.{block_size-positive, interval-positive}
 use Rattle.std.proofs.Common.{◌*◌, ◌^◌}
-use Rattle.aec_interval.proofs.ReadingSteps.{run_len-some, LeadsTo-push}
+use Rattle.aec_params.proofs.StreamLaws.{run_len-some}
+use Rattle.aec_interval.proofs.ReadingSteps.{LeadsTo-push}
 use Rattle.aec_interval.proofs.ReachedLemmas.{AreFilled-reached, IsReached-more}
 use Rattle.aec_interval.proofs.DecodeLemmas.{cds_count-answer_of, next-answer_of, front-answer_of, refuses_unread, refuses_long, refuses_many}
 
@@ -43,7 +45,7 @@ pub count-some : (s : Settings) (p : ℕ) (c : CodedDataSet) → p < s.interval 
 count-some s p c within = of_body c.body
   where
     of_body : (body : Body) → 1 ≤ body_blocks s p body
-    of_body (plain_values values) = lit≤ tt
+    of_body (uncompressed_values values) = lit≤ tt
     of_body (value_pairs members) = lit≤ tt
     of_body (split_values k values) = lit≤ tt
     of_body (zero_blocks m) = run_len-some s p m within
@@ -92,7 +94,7 @@ module _ (s : Settings) (count : Option ℕ) (limit : ℕ) (start : ℕ) (old ne
       stays : blocks ≤ left → stays_in_segment s (i % s.interval) c ≡ true
       stays within = le-leb (block_count s (i % s.interval) c) (segment_left s (i % s.interval)) (omega (arith, blocks-is, left_is, within))
 
-      lawful : blocks ≤ left → IsLawful s (i % s.interval) c
+      lawful : blocks ≤ left → IsLawfulAt s (i % s.interval) c
       lawful within = record { shape = read.set.shape; small = read.small; within = stays within }
 
       pub many-refuses : blocks ≤ left → keeps_limit s count limit (i + blocks) ≡ false → RefusesReading s count limit old.list start (TooManySamples limit)
@@ -116,7 +118,7 @@ module _ (s : Settings) (count : Option ℕ) (limit : ℕ) (start : ℕ) (old ne
           subst P (sym (is ∙ ap Err (same ∙ memory))) (no_memory (behind-one within keeps))
 
       blocks-some : 1 ≤ blocks
-      blocks-some = omega (arith, blocks-is, count-some s (i % s.interval) c (mod-lt i (interval-some s allowed)))
+      blocks-some = omega (arith, blocks-is, count-some s (i % s.interval) c (mod-lt i (interval-positive s allowed)))
 
       kept-bounds : (kept : ℕ) → kept ≡ kept_count s count i blocks → (1 ≤ kept) × (kept ≤ blocks)
       kept-bounds kept is = by_count count wanted is
@@ -166,7 +168,7 @@ module _ (s : Settings) (count : Option ℕ) (limit : ℕ) (start : ℕ) (old ne
       few-next within keeps low counted = by_count count wanted keeps counted
         where
           positive : 0 < s.block_size
-          positive = block_size-some s allowed
+          positive = block_size-positive s allowed
 
           by_count : (count : Option ℕ) → is_wanted s count old.list i old.pos ≡ true → keeps_limit s count limit (i + blocks) ≡ true
               → IfSome count (λ n. n ≤ 2 ^ 32) → i + blocks < 2 ^ 34

@@ -7,8 +7,8 @@ use Rattle.std.specs.List.{AllByRecursion}
 use Rattle.aec_params.specs.declared.settings.Settings.{Settings}
 use Rattle.aec_params.specs.Params.{IsHeld, interval_len}
 use Rattle.aec_params.specs.Blocks.{Block}
-use Rattle.aec_params.specs.CodedDataSets.{Body, plain_values, value_pairs, split_values, zero_blocks, CodedDataSet}
-use Rattle.aec_params.specs.Places.{segment_left, run_len, body_blocks, block_count, zero_block, blocks_in, cds_blocks, IsLawful}
+use Rattle.aec_params.specs.CodedDataSets.{Body, uncompressed_values, value_pairs, split_values, zero_blocks, CodedDataSet}
+use Rattle.aec_params.specs.Places.{segment_left, run_len, body_blocks, block_count, zero_block, blocks_in, cds_blocks, IsLawfulAt}
 use Rattle.aec_params.specs.Reading.{StandsAt, next_block, next_begin, is_wanted, keeps_limit, LeadsTo, stream_blocks, FillBlocks}
 use Rattle.aec_interval.specs.NextBlock.{next_block_of}
 use Rattle.aec_interval.proofs.NextBlockLemmas.{all_blocks_of-push, all_blocks_of-nil}
@@ -33,11 +33,11 @@ FillBlocks-push s samples more blocks b block interval filled held len is_next =
 -- ---- coded data sets that lead on
 
 pub LeadsTo-push : (s : Settings) (count : Option ℕ) (limit : ℕ) (bits : List Bool) (i b : ℕ) (sets : List CodedDataSet) (j e : ℕ) (c : CodedDataSet)
-    → LeadsTo s count limit bits i b sets j e → is_wanted s count bits j e ≡ true → StandsAt s bits e c → IsLawful s (j % s.interval) c
+    → LeadsTo s count limit bits i b sets j e → is_wanted s count bits j e ≡ true → StandsAt s bits e c → IsLawfulAt s (j % s.interval) c
     → keeps_limit s count limit (next_block s j c) ≡ true
     → LeadsTo s count limit bits i b (sets ++ c ∷ []) (next_block s j c) (next_begin s bits j e c)
 LeadsTo-push s count limit bits i b [] j e c leads wanted stands lawful within =
-    let P : ℕ → ℕ → Type 0 = λ i b. (is_wanted s count bits i b ≡ true) × StandsAt s bits b c × IsLawful s (i % s.interval) c × (keeps_limit s count limit (next_block s i c) ≡ true)
+    let P : ℕ → ℕ → Type 0 = λ i b. (is_wanted s count bits i b ≡ true) × StandsAt s bits b c × IsLawfulAt s (i % s.interval) c × (keeps_limit s count limit (next_block s i c) ≡ true)
     × ((next_block s j c ≡ next_block s i c) × (next_begin s bits j e c ≡ next_begin s bits i b c)) in
     let here : P j e = (wanted, stands, lawful, within, (refl, refl)) in
     subst (λ i. P i b) leads.0 (subst (λ b. P j b) leads.1 here)
@@ -50,20 +50,3 @@ stream_blocks-push s count limit bits i b [] j e c leads = append-nil (cds_block
 stream_blocks-push s count limit bits i b (d ∷ sets) j e c leads =
     ap (λ blocks. cds_blocks s (i % s.interval) d ++ blocks) (stream_blocks-push s count limit bits (next_block s i d) (next_begin s bits i b d) sets j e c leads.4)
     ∙ sym (append_assoc (cds_blocks s (i % s.interval) d) (stream_blocks s (next_block s i d) sets) (cds_blocks s (j % s.interval) c))
-
--- ---- how many blocks
-
-left_some : (s : Settings) (p : ℕ) → p < s.interval → 0 < segment_left s p
-left_some s p within = omega arith
-
-pub run_len-some : (s : Settings) (p m : ℕ) → p < s.interval → 0 < run_len s p m
-run_len-some s p m within = let left : 0 < segment_left s p = left_some s p within in grind (arith, nat_tests)
-
-pub length-cds_blocks : (s : Settings) (p : ℕ) (c : CodedDataSet) → p < s.interval → length (cds_blocks s p c) ≡ block_count s p c
-length-cds_blocks s p c within = of_body c.reference c.body
-  where
-    of_body : (reference : Option ℕ) (body : Body) → length (blocks_in s p reference body) ≡ body_blocks s p body
-    of_body reference (plain_values values) = refl
-    of_body reference (value_pairs values) = refl
-    of_body reference (split_values k values) = refl
-    of_body reference (zero_blocks m) = omega (arith, length-replicate {A = Block} (run_len s p m - 1) (zero_block s None), run_len-some s p m within)

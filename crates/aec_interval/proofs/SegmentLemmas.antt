@@ -8,8 +8,8 @@ use Rattle.std.proofs.lemmas.Bool.{cases_lt}
 use Rattle.aec_params.specs.declared.settings.Settings.{Settings}
 use Rattle.aec_params.specs.Params.{IsHeld}
 use Rattle.aec_params.specs.Blocks.{Block}
-use Rattle.aec_params.specs.Intervals.{plain_bits}
-use Rattle.aec_interval.specs.declared.runs.Run.{Run}
+use Rattle.aec_params.specs.Intervals.{unpadded_bits}
+use Rattle.aec_interval.specs.declared.writing_runs.Run.{Run}
 use Rattle.aec_interval.specs.Chunks.{block_after, blocks_after, HoldsPrevious, AreSamplesAfter}
 use Rattle.aec_interval.specs.Pending.{pending_bits, segment_bits, bits_of_run, IsRun, IsKept}
 use Rattle.aec_interval.proofs.CuttingLemmas.{IsPieceBefore}
@@ -140,7 +140,7 @@ pub record IntervalSoFar (s : Settings) (old new whole : List Bool) (o : Option 
   pub bits : new ++ bits_after s o rest ≡ old ++ whole
   pub kept : IsKept old new
 
-pub interval-begun : (s : Settings) (old : List Bool) (v : List ℤ) → AllByRecursion (IsHeld s) v → IntervalSoFar s old old (plain_bits s v) None v
+pub interval-begun : (s : Settings) (old : List Bool) (v : List ℤ) → AllByRecursion (IsHeld s) v → IntervalSoFar s old old (unpadded_bits s v) None v
 interval-begun s old v h = record { previous_held = tt; held = h; bits = refl; kept = kept-self old }
 
 pub segment_samples : (s : Settings) (old new whole : List Bool) (o : Option ℤ) (rest front later : List ℤ) → IntervalSoFar s old new whole o rest → rest ≡ front ++ later

@@ -10,7 +10,7 @@ use Rattle.aec_params.specs.declared.settings.Settings.{Settings}
 use Rattle.aec_params.specs.Params.{IsAllowed, id_len, split_count}
 use Rattle.aec_params.specs.Codewords.{fs, binary}
 use Rattle.aec_params.specs.Blocks.{Block}
-use Rattle.aec_params.specs.CodedDataSets.{plain_values, value_pairs, split_values, zero_blocks, pair_number, pair_bits, reference_bits, cds_bits, written_count}
+use Rattle.aec_params.specs.CodedDataSets.{uncompressed_values, value_pairs, split_values, zero_blocks, pair_number, pair_bits, reference_bits, cds_bits, written_count}
 use Rattle.aec_params.specs.Places.{placed_values, placed_members}
 use Rattle.aec_params.specs.Spellings.{after_reference, uncompressed, split, compressed_spellings, shortest_spelling}
 use Rattle.aec_params.specs.Runs.{run_code}
@@ -80,12 +80,12 @@ written_again : (reference : Option ℕ) (values : List ℕ) → after_reference
 written_again None values = refl
 written_again (Some r) values = refl
 
-pub shortest-plain_values : (s : Settings) (reference : Option ℕ) (values : List ℕ)
+pub shortest-uncompressed_values : (s : Settings) (reference : Option ℕ) (values : List ℕ)
     → length (cds_bits s (shortest_spelling s (record { reference = reference; values = placed_values reference values })))
-    ≤ length (cds_bits s (record { reference = reference; body = plain_values values }))
-shortest-plain_values s reference values =
+    ≤ length (cds_bits s (record { reference = reference; body = uncompressed_values values }))
+shortest-uncompressed_values s reference values =
     let b : Block = record { reference = reference; values = placed_values reference values } in
-    subst (λ v. length (cds_bits s (shortest_spelling s b)) ≤ length (cds_bits s (record { reference = reference; body = plain_values v })))
+    subst (λ v. length (cds_bits s (shortest_spelling s b)) ≤ length (cds_bits s (record { reference = reference; body = uncompressed_values v })))
     (written_again reference values) (least_of s b).first
 
 pub shortest-split_values : (s : Settings) (reference : Option ℕ) (k : ℕ) (values : List ℕ) → k < split_count s
@@ -142,7 +142,7 @@ written_count-least s t a =
 
 -- a single block is longer than a run of one
 pub plain-longer : (s : Settings) (t : Bool) (reference : Option ℕ) (values : List ℕ) → IsAllowed s → length values ≡ written_count s t
-    → id_len s + length (reference_bits s reference) + 2 ≤ length (cds_bits s (record { reference = reference; body = plain_values values }))
+    → id_len s + length (reference_bits s reference) + 2 ≤ length (cds_bits s (record { reference = reference; body = uncompressed_values values }))
 plain-longer s t reference values a h =
     let head = binary (id_len s) (2 ^ id_len s - 1) in
     let r = reference_bits s reference in

@@ -12,12 +12,12 @@ use Rattle.aec_params.specs.Params.{IsAllowed, IsHeld, interval_len}
 use Rattle.aec_params.specs.Cutting.{up_to_multiple}
 use Rattle.aec_params.specs.Blocks.{blocks_of, all_blocks_of}
 use Rattle.aec_params.specs.CodedDataSets.{CodedDataSet, cds_bits}
-use Rattle.aec_params.specs.Intervals.{plain_bits, interval_bits}
+use Rattle.aec_params.specs.Intervals.{unpadded_bits, interval_bits}
 use Rattle.aec_params.specs.Streams.{stream_of}
 use Rattle.aec_params.specs.Reading.{covered_blocks, begin_of, LeadsTo, stream_blocks}
 use Rattle.aec_interval.proofs.CuttingLemmas.{IsPieceBefore, by_pieces, pieces_of-nil, pieces_of-cons, pieces_of-one, div_ceil-zero, div_ceil-positive, div_ceil-times}
 use Rattle.aec_interval.proofs.BlockLemmas.{all_left, all_right, length-blocks_of, block_size-positive}
-use Rattle.aec_interval.proofs.IntervalLemmas.{ReadsBlocks-plain_bits, blocks-few}
+use Rattle.aec_interval.proofs.IntervalLemmas.{ReadsBlocks-unpadded_bits, blocks-few}
 use Rattle.aec_interval.proofs.PlaceLemmas.{end_of, end_of-reaches, end_of-within, length-covered_blocks, stream_blocks-covered, LeadsTo-append, stream_blocks-append, LeadsTo-interval}
 pub use Rattle.aec_params.proofs.SettingLaws.{interval-positive}
 pub use Rattle.aec_params.proofs.SampleLaws.{interval_len-positive, all_blocks_of-nil}
@@ -46,22 +46,22 @@ all_blocks_of-cons s front rest h = ap (flat_map (blocks_of s)) (pieces_of-cons 
 -- ---- what padding adds
 
 abbrev pub padding_of : Settings → List ℤ → List Bool
-padding_of s v = if s.pad then replicate (up_to_multiple 8 (length (plain_bits s v))) false else []
+padding_of s v = if s.pad then replicate (up_to_multiple 8 (length (unpadded_bits s v))) false else []
 
-pub interval_bits-padded : (s : Settings) (v : List ℤ) → interval_bits s v ≡ plain_bits s v ++ padding_of s v
-interval_bits-padded s v = padded s.pad (plain_bits s v) (replicate (up_to_multiple 8 (length (plain_bits s v))) false)
+pub interval_bits-padded : (s : Settings) (v : List ℤ) → interval_bits s v ≡ unpadded_bits s v ++ padding_of s v
+interval_bits-padded s v = padded s.pad (unpadded_bits s v) (replicate (up_to_multiple 8 (length (unpadded_bits s v))) false)
   where
     padded : (t : Bool) (x z : List Bool) → (if t then x ++ z else x) ≡ x ++ (if t then z else [])
     padded true x z = refl
     padded false x z = sym (append-nil x)
 
-pub length-padding_of : (s : Settings) (v : List ℤ) → s.pad ≡ true → length (padding_of s v) ≡ up_to_multiple 8 (length (plain_bits s v))
+pub length-padding_of : (s : Settings) (v : List ℤ) → s.pad ≡ true → length (padding_of s v) ≡ up_to_multiple 8 (length (unpadded_bits s v))
 length-padding_of s v t =
-    ap length (cond-true s.pad (replicate (up_to_multiple 8 (length (plain_bits s v))) false) [] t)
-    ∙ length-replicate (up_to_multiple 8 (length (plain_bits s v))) false
+    ap length (cond-true s.pad (replicate (up_to_multiple 8 (length (unpadded_bits s v))) false) [] t)
+    ∙ length-replicate (up_to_multiple 8 (length (unpadded_bits s v))) false
 
 pub no_padding : (s : Settings) (v : List ℤ) → s.pad ≡ false → length (padding_of s v) ≡ 0
-no_padding s v t = ap length (cond-false s.pad (replicate (up_to_multiple 8 (length (plain_bits s v))) false) [] t)
+no_padding s v t = ap length (cond-false s.pad (replicate (up_to_multiple 8 (length (unpadded_bits s v))) false) [] t)
 
 -- bits that begin an interval: with padding whole bytes stand before them
 abbrev pub IsAligned : Settings → List Bool → Type 0
@@ -69,7 +69,7 @@ IsAligned s pre = s.pad ≡ true → length pre % 8 ≡ 0
 
 -- behind a full interval the next one begins behind the padding
 pub begin_of-interval : (s : Settings) (v : List ℤ) (pre rest : List Bool) (k : ℕ) → IsAligned s pre
-    → begin_of s (pre ++ (interval_bits s v ++ rest)) (k * s.interval) (length pre + length (plain_bits s v)) ≡ length (pre ++ interval_bits s v)
+    → begin_of s (pre ++ (interval_bits s v ++ rest)) (k * s.interval) (length pre + length (unpadded_bits s v)) ≡ length (pre ++ interval_bits s v)
 begin_of-interval s v pre rest k aligned = ⊎_elim padded plain (cases_Bool s.pad)
   where
     bits : List Bool
@@ -79,11 +79,11 @@ begin_of-interval s v pre rest k aligned = ⊎_elim padded plain (cases_Bool s.p
     i = k * s.interval
 
     b : ℕ
-    b = length pre + length (plain_bits s v)
+    b = length pre + length (unpadded_bits s v)
 
     len : length (pre ++ interval_bits s v) ≡ b + length (padding_of s v)
     len = length-append pre (interval_bits s v)
-        ∙ ap (λ x. length pre + x) (ap length (interval_bits-padded s v) ∙ length-append (plain_bits s v) (padding_of s v)) ∙ omega arith
+        ∙ ap (λ x. length pre + x) (ap length (interval_bits-padded s v) ∙ length-append (unpadded_bits s v) (padding_of s v)) ∙ omega arith
 
     enough : length (pre ++ interval_bits s v) ≤ length bits
     enough = omega (arith, length-append pre (interval_bits s v), length-append pre (interval_bits s v ++ rest), length-append (interval_bits s v) rest)
@@ -104,7 +104,7 @@ IsAligned-interval s v pre aligned t =
       arith,
       length-append pre (interval_bits s v),
       ap length (interval_bits-padded s v),
-      length-append (plain_bits s v) (padding_of s v),
+      length-append (unpadded_bits s v) (padding_of s v),
       length-padding_of s v t,
       aligned t,
     )
@@ -137,7 +137,7 @@ no_walk s count limit tail a k i b pre bits held aligned e f spelled need =
     }
 
 -- an interval's code before a rest, as its coded data sets
-interval-spelled : (s : Settings) (v : List ℤ) (sets : List CodedDataSet) (pre after rest bits : List Bool) → plain_bits s v ≡ flat_map (cds_bits s) sets
+interval-spelled : (s : Settings) (v : List ℤ) (sets : List CodedDataSet) (pre after rest bits : List Bool) → unpadded_bits s v ≡ flat_map (cds_bits s) sets
     → bits ≡ pre ++ after → after ≡ interval_bits s v ++ rest → bits ≡ pre ++ (flat_map (cds_bits s) sets ++ (padding_of s v ++ rest))
 interval-spelled s v sets pre after rest bits e spelled one =
     spelled ∙ ap (◌++◌ pre) (one ∙ ap (λ x. x ++ rest) (interval_bits-padded s v ∙ ap (λ x. x ++ padding_of s v) e)
@@ -147,7 +147,7 @@ interval-spelled s v sets pre after rest bits e spelled one =
 pub record IsPart (s : Settings) (count limit k i b : ℕ) (pre bits : List Bool) (v : List ℤ) : Type 0 where
   pub sets : List CodedDataSet
   pub leads : LeadsTo s (Some count) limit bits i b sets (k * s.interval + end_of s 0 sets)
-      (begin_of s bits (k * s.interval + end_of s 0 sets) (length pre + length (plain_bits s v)))
+      (begin_of s bits (k * s.interval + end_of s 0 sets) (length pre + length (unpadded_bits s v)))
   pub reaches : length (blocks_of s v) ≤ end_of s 0 sets
   pub within : end_of s 0 sets ≤ s.interval
   pub len : length (covered_blocks s 0 sets) ≡ end_of s 0 sets
@@ -160,7 +160,7 @@ pub part_of : (s : Settings) (count limit k i b : ℕ) (pre after rest bits : Li
     → i + div_ceil (length v) s.block_size ≤ div_ceil count s.block_size
     → IsPart s count limit k i b pre bits v
 part_of s count limit k i b pre after rest bits v a some few held e f spelled one need =
-    let r = ReadsBlocks-plain_bits s v a held some few in
+    let r = ReadsBlocks-unpadded_bits s v a held some few in
     let n = length (blocks_of s v) in
     let len : n ≡ div_ceil (length v) s.block_size = length-blocks_of s v a in
     let within : n ≤ s.interval = blocks-few s v a few in
@@ -189,7 +189,7 @@ last_walk s count limit tail a v some few k i b pre bits held aligned e f spelle
     record {
       sets = part.sets;
       end_block = k * s.interval + end_of s 0 part.sets;
-      end_bit = begin_of s bits (k * s.interval + end_of s 0 part.sets) (length pre + length (plain_bits s v));
+      end_bit = begin_of s bits (k * s.interval + end_of s 0 part.sets) (length pre + length (unpadded_bits s v));
       leads = part.leads;
       enough = omega (arith, part.reaches);
       blocks = ap₂ take needed part.covered ∙ part.stand_for
@@ -235,7 +235,7 @@ walk_on s count limit tail a front rest piece more ih k i b pre bits held aligne
     j = k * s.interval + end_of s 0 part.sets
 
     g : ℕ
-    g = begin_of s bits j (length pre + length (plain_bits s front))
+    g = begin_of s bits j (length pre + length (unpadded_bits s front))
 
     next : j ≡ (k + 1) * s.interval
     next = omega (arith, part.reaches, part.within, n)
@@ -244,7 +244,7 @@ walk_on s count limit tail a front rest piece more ih k i b pre bits held aligne
     behind = spelled ∙ ap (◌++◌ pre) cut
 
     start : g ≡ length (pre ++ interval_bits s front)
-    start = ap₂ (λ x q. begin_of s x q (length pre + length (plain_bits s front))) behind next
+    start = ap₂ (λ x q. begin_of s x q (length pre + length (unpadded_bits s front))) behind next
         ∙ begin_of-interval s front pre (stream_of s rest ++ tail) (k + 1) aligned
 
     later : IsWalk s count limit bits j g rest

@@ -6,9 +6,9 @@ use Rattle.aec_params.specs.declared.fault.Fault.{Fault}
 use Rattle.aec_params.specs.Params.{IsAllowed}
 use Rattle.aec_params.specs.Blocks.{Block}
 use Rattle.aec_params.specs.CodedDataSets.{CodedDataSet, cds_bits, HasShape, has_small_values}
-use Rattle.aec_params.specs.Places.{stays_in_segment, is_reference_block, IsLawful}
+use Rattle.aec_params.specs.Places.{stays_in_segment, is_reference_block, IsLawfulAt}
 use Rattle.aec_params.specs.Reading.{StandsAt, next_block, next_begin, is_wanted, keeps_limit, LeadsTo, stream_blocks, kept_blocks, IsBlockReading}
-use Rattle.aec_params.specs.Faults.{HasSetAt, IsWrongAt, cut_short, too_large, too_long, too_many, IsFault}
+use Rattle.aec_params.specs.Faults.{IsSetAt, IsNotRead, IsWrongAt, not_read, cut_short, too_large, too_long, too_many, IsFault}
 use Rattle.aec_block.proofs.SetLemmas.{no_set_is_a_prefix}
 
 -- one coded data set at most stands at a place
@@ -52,14 +52,17 @@ module _ (s : Settings) (a : IsAllowed s) (count : Option ℕ) (limit : ℕ) (bi
       let r = same_walk i b x.sets y.sets x.end_block x.end_bit y.end_block y.end_bit x.leads y.leads x.done y.done in
       x.kept ∙ ap (λ sets. kept_blocks s count i (stream_blocks s i sets)) r.sets ∙ sym y.kept
 
+  -- where a coded data set of small values stands, one is read
+  pub read_there : (t : Bool) (b : ℕ) (c : CodedDataSet) (fault : Fault) → IsSetAt s t bits b c → has_small_values s c ≡ true → IsNotRead s t bits b fault → ⊥
+  read_there t b c fault at small (cut_short none) = none c at
+  read_there t b c fault at small (too_large d other large) =
+      both_ways (has_small_values s d) large (ap (has_small_values s) (same_set s bits b t d c a other.shape at.shape other.stands at.stands) ∙ small)
+
   -- where a lawful coded data set stands, within the limit, nothing is wrong
-  pub not_wrong : (i b : ℕ) (c : CodedDataSet) (fault : Fault) → StandsAt s bits b c → IsLawful s (i % s.interval) c
+  pub not_wrong : (i b : ℕ) (c : CodedDataSet) (fault : Fault) → StandsAt s bits b c → IsLawfulAt s (i % s.interval) c
       → keeps_limit s count limit (next_block s i c) ≡ true
       → IsWrongAt s count limit bits i b fault → ⊥
-  not_wrong i b c fault x l within (cut_short none) = none c (record { shape = l.shape; stands = x })
-  not_wrong i b c fault x l within (too_large d at large) =
-      both_ways (has_small_values s d) large
-      (ap (has_small_values s) (same_set s bits b (is_reference_block s (i % s.interval)) d c a at.shape l.shape at.stands x) ∙ l.small)
+  not_wrong i b c fault x l within (not_read _ none) = read_there (is_reference_block s (i % s.interval)) b c fault (record { shape = l.shape; stands = x }) l.small none
   not_wrong i b c fault x l within (too_long d at small long) =
       both_ways (stays_in_segment s (i % s.interval) d) long
       (ap (stays_in_segment s (i % s.interval)) (same_set s bits b (is_reference_block s (i % s.interval)) d c a at.shape l.shape at.stands x) ∙ l.within)
@@ -85,14 +88,14 @@ module _ (s : Settings) (a : IsAllowed s) (count : Option ℕ) (limit : ℕ) (bi
 
   -- ---- two faults
 
-  -- one coded data set can't be judged in two ways
-  different_small : (i b : ℕ) (c d : CodedDataSet) → HasSetAt s bits (i % s.interval) b c → HasSetAt s bits (i % s.interval) b d
-      → has_small_values s c ≡ false → has_small_values s d ≡ true → ⊥
-  different_small i b c d x y large small =
-      both_ways (has_small_values s c) large (ap (has_small_values s)
-      (same_set s bits b (is_reference_block s (i % s.interval)) c d a x.shape y.shape x.stands y.stands) ∙ small)
+  same_unread : (t : Bool) (b : ℕ) (fault other : Fault) → IsNotRead s t bits b fault → IsNotRead s t bits b other → fault ≡ other
+  same_unread t b fault other (cut_short none) (cut_short n) = refl
+  same_unread t b fault other (cut_short none) (too_large d at large) = absurd (none d at)
+  same_unread t b fault other (too_large c at large) (cut_short none) = absurd (none c at)
+  same_unread t b fault other (too_large c at large) (too_large d at' large') = refl
 
-  different_long : (i b : ℕ) (c d : CodedDataSet) → HasSetAt s bits (i % s.interval) b c → HasSetAt s bits (i % s.interval) b d
+  -- one coded data set can't be judged in two ways
+  different_long : (i b : ℕ) (c d : CodedDataSet) → IsSetAt s (is_reference_block s (i % s.interval)) bits b c → IsSetAt s (is_reference_block s (i % s.interval)) bits b d
       → stays_in_segment s (i % s.interval) c ≡ false → stays_in_segment s (i % s.interval) d ≡ true → ⊥
   different_long i b c d x y long within =
       both_ways (stays_in_segment s (i % s.interval) c) long
@@ -100,20 +103,13 @@ module _ (s : Settings) (a : IsAllowed s) (count : Option ℕ) (limit : ℕ) (bi
       ∙ within)
 
   pub same_wrong : (i b : ℕ) (fault other : Fault) → IsWrongAt s count limit bits i b fault → IsWrongAt s count limit bits i b other → fault ≡ other
-  same_wrong i b fault other (cut_short none) (cut_short n) = refl
-  same_wrong i b fault other (cut_short none) (too_large d at large) = absurd (none d at)
-  same_wrong i b fault other (cut_short none) (too_long d at small long) = absurd (none d at)
-  same_wrong i b fault other (cut_short none) (too_many d at lawful past) = absurd (none d at)
-  same_wrong i b fault other (too_large c at large) (cut_short none) = absurd (none c at)
-  same_wrong i b fault other (too_large c at large) (too_large d at' large') = refl
-  same_wrong i b fault other (too_large c at large) (too_long d at' small long) = absurd (different_small i b c d at at' large small)
-  same_wrong i b fault other (too_large c at large) (too_many d at' lawful past) = absurd (different_small i b c d at at' large lawful.small)
-  same_wrong i b fault other (too_long c at small long) (cut_short none) = absurd (none c at)
-  same_wrong i b fault other (too_long c at small long) (too_large d at' large) = absurd (different_small i b d c at' at large small)
+  same_wrong i b fault other (not_read _ none) (not_read _ n) = same_unread (is_reference_block s (i % s.interval)) b fault other none n
+  same_wrong i b fault other (not_read _ none) (too_long d at small long) = absurd (read_there (is_reference_block s (i % s.interval)) b d fault at small none)
+  same_wrong i b fault other (not_read _ none) (too_many d at lawful past) = absurd (read_there (is_reference_block s (i % s.interval)) b d fault at lawful.small none)
+  same_wrong i b fault other (too_long c at small long) (not_read _ none) = absurd (read_there (is_reference_block s (i % s.interval)) b c other at small none)
   same_wrong i b fault other (too_long c at small long) (too_long d at' small' long') = refl
   same_wrong i b fault other (too_long c at small long) (too_many d at' lawful past) = absurd (different_long i b c d at at' long lawful.within)
-  same_wrong i b fault other (too_many c at lawful past) (cut_short none) = absurd (none c at)
-  same_wrong i b fault other (too_many c at lawful past) (too_large d at' large) = absurd (different_small i b d c at' at large lawful.small)
+  same_wrong i b fault other (too_many c at lawful past) (not_read _ none) = absurd (read_there (is_reference_block s (i % s.interval)) b c other at lawful.small none)
   same_wrong i b fault other (too_many c at lawful past) (too_long d at' small long) = absurd (different_long i b d c at' at long lawful.within)
   same_wrong i b fault other (too_many c at lawful past) (too_many d at' lawful' past') = refl
 

@@ -10,10 +10,12 @@ use Rattle.aec_params.specs.Params.{IsAllowed, interval_len}
 use Rattle.aec_params.specs.Blocks.{Block}
 use Rattle.aec_params.specs.CodedDataSets.{HasReference}
 use Rattle.aec_params.specs.Places.{zero_block, is_reference_block}
+use Rattle.aec_params.specs.BlockShapes.{IsBlockAt}
 use Rattle.aec_params.specs.Reading.{FillBlocks}
-use Rattle.aec_interval.specs.NextBlock.{Placed, IsNextBlock, FillsNext, run_blocks}
+use Rattle.aec_params.proofs.StreamLaws.{zero_block_at}
+use Rattle.aec_interval.specs.NextBlock.{IsNextBlock, FillsNext, run_blocks}
 use Rattle.aec_interval.specs.Reached.{AreFilled}
-use Rattle.aec_interval.proofs.NextFillLemmas.{block_size-some, interval-some}
+use Rattle.aec_params.proofs.SettingLaws.{block_size-positive, interval-positive}
 
 -- whole blocks of samples end an interval exactly where their number does
 starts_alike : (j r i : ℕ) → 0 < j → 0 < r → (i * j % (j * r) == 0) ≡ (i % r == 0)
@@ -34,25 +36,21 @@ pub HasReference-next : (s : Settings) (i : ℕ) (samples : List ℤ) (reference
     → HasReference s (s.preprocess && (length samples % interval_len s == 0)) reference
 HasReference-next s i samples reference allowed filled due =
     subst (λ b. HasReference s (s.preprocess && b) reference)
-    (sym (ap (λ n. n % interval_len s == 0) (filled.filled.whole ∙ ap (λ k. k * s.block_size) filled.count_is) ∙ starts_alike s.block_size s.interval i (block_size-some s allowed) (interval-some s allowed))) due
+    (sym (ap (λ n. n % interval_len s == 0) (filled.filled.whole ∙ ap (λ k. k * s.block_size) filled.count_is) ∙ starts_alike s.block_size s.interval i (block_size-positive s allowed) (interval-positive s allowed))) due
+
+-- a block that can stand there comes next
+pub next_in_place : (s : Settings) (i : ℕ) (samples : List ℤ) (b : Block) → IsAllowed s → AreFilled s i samples → IsBlockAt s (i % s.interval) b → IsNextBlock s samples b
+next_in_place s i samples b allowed filled at = record {
+  reference = HasReference-next s i samples b.reference allowed filled at.reference;
+  count = at.count;
+  below = at.below;
+  place = at.place;
+}
 
 pub zero_block-next : (s : Settings) (i : ℕ) (samples : List ℤ) (reference : Option ℕ) → IsAllowed s → AreFilled s i samples → HasReference s (is_reference_block s (i % s.interval)) reference
     → IsNextBlock s samples (zero_block s reference)
-zero_block-next s i samples reference allowed filled due = record {
-  whole = length-replicate s.block_size 0;
-  small = all_small s.block_size;
-  reference = HasReference-next s i samples reference allowed filled due;
-  placed = in_place reference s.block_size (block_size-some s allowed);
-}
-  where
-    all_small : (n : ℕ) → AllByRecursion (λ v. v < 2 ^ s.bits) (replicate n 0)
-    all_small zero = tt
-    all_small (suc n) = (pow_pos s.bits, all_small n)
-
-    in_place : (reference : Option ℕ) (n : ℕ) → 0 < n → Placed reference (replicate n 0)
-    in_place None n some = tt
-    in_place (Some r) zero some = absurd (omega arith)
-    in_place (Some r) (suc n) some = refl
+zero_block-next s i samples reference allowed filled due =
+    next_in_place s i samples (zero_block s reference) allowed filled (zero_block_at s (i % s.interval) reference allowed due)
 
 pub length-run_blocks : (s : Settings) (reference : Option ℕ) (z : ℕ) → length (run_blocks s reference z) ≡ z
 length-run_blocks s reference zero = refl

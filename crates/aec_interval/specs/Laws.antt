@@ -5,7 +5,7 @@ use Rattle.aec_params.specs.declared.settings.Settings.{Settings}
 use Rattle.aec_params.specs.declared.fault.Fault.{Fault}
 use Rattle.aec_params.specs.Params.{IsAllowed, IsHeld, interval_len}
 use Rattle.aec_params.specs.Blocks.{intervals_of, blocks_of}
-use Rattle.aec_params.specs.Intervals.{plain_bits, interval_bits}
+use Rattle.aec_params.specs.Intervals.{unpadded_bits, interval_bits}
 use Rattle.aec_params.specs.Streams.{stream_of}
 use Rattle.aec_params.specs.Reading.{ReadsBlocks, IsReading}
 use Rattle.aec_params.specs.Faults.{IsFault}
@@ -18,7 +18,7 @@ pub record AreOfInterval (s : Settings) (samples : List ℤ) : Type 0 where
 
 -- the code of an interval is lawful coded data sets for its blocks
 abbrev pub IntervalsAreRead : Type 0
-IntervalsAreRead = (s : Settings) (samples : List ℤ) → IsAllowed s → AreOfInterval s samples → ReadsBlocks s (plain_bits s samples) (blocks_of s samples)
+IntervalsAreRead = (s : Settings) (samples : List ℤ) → IsAllowed s → AreOfInterval s samples → ReadsBlocks s (unpadded_bits s samples) (blocks_of s samples)
 
 -- intervals of equal length are told by their codes, whatever follows them
 abbrev pub IntervalsAreTold : Type 0
@@ -62,7 +62,7 @@ ReadsEach s codes intervals = ⊥
 -- no coded data sets for the blocks of an interval have fewer bits than its code, and none for those of all intervals than the
 -- code of all samples, where nothing is padded
 pub record CodesAreShortest (s : Settings) (samples : List ℤ) : Type 0 where
-  pub interval : AreOfInterval s samples → (bits : List Bool) → ReadsBlocks s bits (blocks_of s samples) → length (plain_bits s samples) ≤ length bits
+  pub interval : AreOfInterval s samples → (bits : List Bool) → ReadsBlocks s bits (blocks_of s samples) → length (unpadded_bits s samples) ≤ length bits
   pub stream : AllByRecursion (IsHeld s) samples → s.pad ≡ false → (codes : List (List Bool)) → ReadsEach s codes (intervals_of s samples)
       → length (stream_of s samples) ≤ length (flat_map (λ code. code) codes)
 

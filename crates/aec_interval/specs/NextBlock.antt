@@ -1,9 +1,9 @@
--- One block more behind whole blocks of samples.
+-- What the private functions of `filling` and `reading_runs` compute: one block more behind whole blocks of samples.
 use Rattle.std.specs.Prelude.{◌≡◌, ℕ, zero, suc, ◌%◌, ◌^◌, ◌<◌, ◌==◌, ◌&&◌, Bool, true, false, Option, None, Some, ℤ, pos, List, [], ◌∷◌, ◌++◌, length, take, replicate, unwrap_or, ⊤}
 use Rattle.std.specs.List.{last_or, AllByRecursion}
 use Rattle.aec_params.specs.declared.settings.Settings.{Settings}
 use Rattle.aec_params.specs.Params.{interval_len, IsHeld}
-use Rattle.aec_params.specs.CodedDataSets.{HasReference}
+use Rattle.aec_params.specs.BlockShapes.{IsBlockOf}
 use Rattle.aec_params.specs.Places.{zero_block}
 use Rattle.aec_params.specs.Reading.{FillBlocks}
 use Rattle.aec_params.specs.Mapping.{mapped_after, mapped_values}
@@ -29,20 +29,9 @@ pub record Unmaps (s : Settings) (p : ℤ) (values : List ℕ) (old new : List �
   pub held : AllByRecursion (IsHeld s) more
   pub mapped : mapped_after s p more ≡ values
 
--- where there is a reference, 0 stands in its place
-abbrev pub Placed : Option ℕ → List ℕ → Type 0
-Placed None values = ⊤
-Placed (Some r) values = take 1 values ≡ 0 ∷ []
-
-abbrev pub StartsPlaced : Block → Type 0
-StartsPlaced b = Placed b.reference b.values
-
--- a block that can come behind these samples: whole, of small values, with a reference where an interval begins
-pub record IsNextBlock (s : Settings) (samples : List ℤ) (b : Block) : Type 0 where
-  pub whole : length b.values ≡ s.block_size
-  pub small : AllByRecursion (λ v. v < 2 ^ s.bits) b.values
-  pub reference : HasReference s (s.preprocess && (length samples % interval_len s == 0)) b.reference
-  pub placed : StartsPlaced b
+-- a block that can come behind these samples
+abbrev pub IsNextBlock : Settings → List ℤ → Block → Type 0
+IsNextBlock s samples b = IsBlockOf s (s.preprocess && (length samples % interval_len s == 0)) b
 
 -- new samples fill the blocks that the old ones fill, and some more
 abbrev pub FillsNext : Settings → List ℤ → List ℤ → List Block → Type 0

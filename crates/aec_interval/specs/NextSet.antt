@@ -1,4 +1,4 @@
--- What a coded data set that was read stands for behind so many blocks.
+-- What the private functions of `reading` compute: what a coded data set that was read stands for behind so many blocks.
 use Rattle.std.specs.Prelude.{ℕ, ◌+◌, ◌-◌, ◌%◌, ◌≤◌, min, Option, Some, None, ℤ, List, [], ◌∷◌}
 use Rattle.std.specs.Int.{div_ceil}
 use Rattle.aec_params.specs.declared.settings.Settings.{Settings}
@@ -20,7 +20,7 @@ abbrev pub cds_count : Settings → ℕ → Cds → ℕ
 cds_count s p (Single b) = 1
 cds_count s p (Zeros reference len) = run_count s p len
 
--- how many of so many blocks are kept behind i: with a count those that are needed, without one all
+-- how many of z blocks are kept from block i on, as a number: it agrees with `kept_blocks` by `length-kept_blocks`
 abbrev pub kept_count : Settings → Option ℕ → ℕ → ℕ → ℕ
 kept_count s None i z = z
 kept_count s (Some count) i z = min z (div_ceil count s.block_size - i)

@@ -4,6 +4,7 @@ ghost use Rattle.std.specs.Prelude.{◌≡◌, ◌+◌, ◌-◌, ◌<◌, ◌≤
 ghost use Rattle.std.specs.List.{AllByRecursion, last_or};
 ghost use Rattle.aec_params.specs.Params.{IsAllowed, IsHeld};
 ghost use Rattle.aec_params.specs.Mapping.{mapped_after, mapped_value};
+ghost use Rattle.aec_block.specs.BlockShape.{most_values};
 ghost use Rattle.aec_block.specs.Choices.{IsFull};
 ghost use Rattle.aec_interval.specs.Chunks.{values_after, reference_after, block_after, HoldsPrevious, AreSamplesAfter};
 
@@ -38,7 +39,7 @@ fn begun_block(alloc: Global, params: &Params, previous: Option<i64>, first: i64
 fn push_mapped(params: &Params, previous: i64, samples: &[i64], block: &mut Block) -> i64
     requires previous { IsHeld params.now previous }
     requires held { AllByRecursion (IsHeld params.now) samples.now }
-    requires room { length block.old.values + length samples.now ≤ 64 }
+    requires room { length block.old.values + length samples.now ≤ most_values }
     ensures values { block.new ≡ record block.old { values = block.old.values ++ mapped_after params.now previous samples.now } }
     ensures last { Some result ≡ last_or (Some previous) samples.now }
     ensures held { IsHeld params.now result }

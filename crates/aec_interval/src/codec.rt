@@ -6,7 +6,7 @@ ghost use Rattle.aec_bits.specs.Codec.{IsLawful};
 ghost use Rattle.aec_interval.specs.IntervalFormat.{interval_format};
 
 use crate::interval::write_interval;
-use crate::reading::{Wanted, read_samples};
+use crate::reading::{Wanted, decode_from};
 use aec_bits::{BitBuf, Codec};
 use aec_params::{Fault, Params};
 use std::alloc::Global;
@@ -65,7 +65,7 @@ impl Codec for AecCodec {
     ghost use Rattle.std.specs.Prelude.{◌≡◌, ◌+◌, ◌-◌, ◌^◌, ◌≤◌, ◌⊎◌, ◌↔◌, ◌++◌, ℤ, List, length, Err, OnOk, OnErr, IfErr};
     ghost use Rattle.aec_params.specs.declared.fault.Fault.TheVariants.{Spent, Memory};
     ghost use Rattle.aec_params.specs.Intervals.{interval_bits};
-    ghost use Rattle.aec_bits.specs.Devices.{counted as counted_up};
+    ghost use Rattle.aec_bits.specs.Devices.{counted};
     ghost use Rattle.aec_bits.specs.Codec.{IsInterval, BeginsAt};
 
     ghost format = { λ c. interval_format c.params };
@@ -132,7 +132,7 @@ impl Codec for AecCodec {
             → OnOk result (out.new.items ≡ out.old.items ++ s) }
         ensures fault { IfErr result (λ e. e ≡ Memory) }
         ensures err { OnErr result (out.new.items ≡ out.old.items) }
-        ensures counts { self.new.reads ≡ counted_up self.old.reads }
+        ensures counts { self.new.reads ≡ counted self.old.reads }
         ensures same_calls { self.new.calls ≡ self.old.calls }
         ensures same_params { self.new.params ≡ self.old.params }
     {
@@ -142,7 +142,7 @@ impl Codec for AecCodec {
             count: Some(count),
             limit: count,
         };
-        let samples = read_samples(self.alloc, &self.params, stream, wanted)?;
+        let samples = decode_from(self.alloc, &self.params, stream, wanted)?;
         out.extend_from_slice(&samples)?;
         Ok(())
     }

@@ -2,19 +2,20 @@
 
 ghost use Rattle.std.specs.Prelude.{◌≡◌, ◌+◌, ◌*◌, ◌<◌, ◌≤◌, ◌++◌, None, length, OnOk, IfErr};
 ghost use Rattle.aec_params.specs.declared.fault.Fault.TheVariants.{Memory};
-ghost use Rattle.aec_params.specs.Intervals.{plain_bits, interval_bits};
+ghost use Rattle.aec_params.specs.Runs.{segment_len};
+ghost use Rattle.aec_params.specs.Intervals.{unpadded_bits, interval_bits};
 ghost use Rattle.aec_interval.specs.Laws.{AreOfInterval};
 ghost use Rattle.aec_interval.specs.Chunks.{blocks_after, AreSamplesAfter};
 ghost use Rattle.aec_interval.specs.Pending.{segment_bits, IsKept};
 
 use crate::chunks::block_of;
-use crate::runs::{NO_RUN, write_next};
+use crate::writing_runs::{NO_RUN, write_next};
 use aec_bits::BitBuf;
 use aec_params::{Fault, Params};
 use std::alloc::Global;
 
-/// The most blocks of a segment.
-const SEGMENT_BLOCKS: usize = 64;
+/// The blocks of a segment; the last of an interval may have fewer.
+pub(crate) const SEGMENT_BLOCKS: u32 = 64;
 
 /// Appends the code of a segment, whose samples stand behind `previous` or at an interval's start. `Memory` where a
 /// growth was refused; the bits from before are then still in front.
@@ -25,7 +26,7 @@ fn write_segment(
     samples: &[i64],
     out: &mut BitBuf,
 ) -> Result<(), Fault>
-    requires { AreSamplesAfter params.now previous 64 samples.now }
+    requires { AreSamplesAfter params.now previous segment_len samples.now }
     ensures ok { OnOk result (out.new.list ≡ out.old.list ++ segment_bits params.now (blocks_after params.now previous samples.now)) }
     ensures kept { IsKept out.old.list out.new.list }
     ensures room { out.old.room + length out.old.list ≤ out.new.room + length out.new.list }
@@ -49,13 +50,13 @@ fn write_segments(
     out: &mut BitBuf,
 ) -> Result<(), Fault>
     requires { AreOfInterval params.now samples.now }
-    ensures ok { OnOk result (out.new.list ≡ out.old.list ++ plain_bits params.now samples.now) }
+    ensures ok { OnOk result (out.new.list ≡ out.old.list ++ unpadded_bits params.now samples.now) }
     ensures kept { IsKept out.old.list out.new.list }
     ensures room { out.old.room + length out.old.list ≤ out.new.room + length out.new.list }
     ensures fault { IfErr result (λ e. e ≡ Memory) }
 {
     let mut preceding = None;
-    for segment in samples.chunks(SEGMENT_BLOCKS * params.block_size() as usize) {
+    for segment in samples.chunks((SEGMENT_BLOCKS * params.block_size()) as usize) {
         write_segment(alloc, params, preceding, segment, out)?;
         preceding = segment.last().copied();
     }

@@ -7,12 +7,12 @@ mod filling;
 mod interval;
 pub mod laws;
 mod reading;
-mod runs;
+mod reading_runs;
 #[cfg(test)]
 mod tests;
 mod whole;
 mod whole_reading;
-mod zero_runs;
+mod writing_runs;
 
 pub use codec::AecCodec;
 pub use whole::encode_all;

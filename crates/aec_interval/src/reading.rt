@@ -4,14 +4,15 @@ ghost use Rattle.std.specs.Prelude.{◌≡◌, ◌≤◌, ◌<◌, ◌+◌, ◌*
 ghost use Rattle.std.specs.Int.{div_ceil};
 ghost use Rattle.aec_params.specs.declared.fault.Fault.TheVariants.{Memory};
 ghost use Rattle.aec_params.specs.Params.{IsAllowed};
-ghost use Rattle.aec_params.specs.Places.{segment_left as left_in_segment, is_reference_block};
-ghost use Rattle.aec_params.specs.Reading.{is_wanted as wants, keeps_limit as keeps, begin_of};
+ghost use Rattle.aec_params.specs.Places.{segment_left, is_reference_block};
+ghost use Rattle.aec_params.specs.Reading.{is_wanted, keeps_limit, begin_of};
 ghost use Rattle.aec_interval.specs.NextBlock.{FillsNext};
-ghost use Rattle.aec_interval.specs.NextSet.{cds_count, kept_count as count_of_kept, IsNextCds, cds_front};
+ghost use Rattle.aec_interval.specs.NextSet.{cds_count, kept_count, IsNextCds, cds_front};
 ghost use Rattle.aec_interval.specs.Reached.{AreFilled, IsReached, IsReadFrom, RefusesReading};
 
 use crate::filling::push_block;
-use crate::zero_runs::push_zero_run;
+use crate::interval::SEGMENT_BLOCKS;
+use crate::reading_runs::push_zero_run;
 use aec_bits::{BitBuf, BitReader};
 use aec_block::{Cds, RunLen, read_cds};
 use aec_params::{Fault, Params};
@@ -27,8 +28,8 @@ pub(crate) struct Wanted {
 
 /// Whether a coded data set is wanted at this block: with a count while blocks are needed, without one while the rest is
 /// not all zeros.
-fn is_wanted(params: &Params, wanted: Wanted, reader: &BitReader, block: u64) -> bool
-    ensures { result ≡ wants params.now wanted.count reader.now.list block reader.now.pos }
+fn wants_more(params: &Params, wanted: Wanted, reader: &BitReader, block: u64) -> bool
+    ensures { result ≡ is_wanted params.now wanted.count reader.now.list block reader.now.pos }
 {
     match wanted.count {
         Some(count) => block < count.div_ceil(u64::from(params.block_size())),
@@ -37,13 +38,14 @@ fn is_wanted(params: &Params, wanted: Wanted, reader: &BitReader, block: u64) ->
 }
 
 /// How many blocks the segment of this block of an interval has left.
-fn segment_left(params: &Params, place: u64) -> u64
+fn blocks_left(params: &Params, place: u64) -> u64
     requires { place < params.now.interval }
-    ensures value { result ≡ left_in_segment params.now place }
+    ensures value { result ≡ segment_left params.now place }
     ensures some { 0 < result }
     ensures within { place + result ≤ params.now.interval }
 {
-    (64 - place % 64).min(u64::from(params.interval()) - place)
+    let segment = u64::from(SEGMENT_BLOCKS);
+    (segment - place % segment).min(u64::from(params.interval()) - place)
 }
 
 /// Whether this block of an interval has a reference sample.
@@ -54,9 +56,9 @@ fn has_reference(params: &Params, place: u64) -> bool
 }
 
 /// Whether so many blocks keep the limit of samples; with a count that was judged beforehand.
-fn keeps_limit(params: &Params, wanted: Wanted, blocks: u64) -> bool
+fn within_limit(params: &Params, wanted: Wanted, blocks: u64) -> bool
     requires { blocks < 2 ^ 40 }
-    ensures { result ≡ keeps params.now wanted.count wanted.limit blocks }
+    ensures { result ≡ keeps_limit params.now wanted.count wanted.limit blocks }
 {
     wanted.count.is_some() || blocks * u64::from(params.block_size()) <= wanted.limit
 }
@@ -85,14 +87,14 @@ fn block_count(params: &Params, place: u64, cds: &Cds) -> u64
         Cds::Zeros {
             len: RunLen::Rest,
             ..
-        } => segment_left(params, place),
+        } => blocks_left(params, place),
     }
 }
 
 /// How many of so many blocks that come next are kept: with a count those that are still needed.
-fn kept_count(params: &Params, wanted: Wanted, block: u64, blocks: u64) -> u64
+fn blocks_kept(params: &Params, wanted: Wanted, block: u64, blocks: u64) -> u64
     requires { IfSome wanted.count (λ count. block ≤ div_ceil count params.now.block_size) }
-    ensures { result ≡ count_of_kept params.now wanted.count block blocks }
+    ensures { result ≡ kept_count params.now wanted.count block blocks }
 {
     match wanted.count {
         None => blocks,
@@ -133,7 +135,7 @@ fn read_next(
     samples: &mut Vec<i64>,
 ) -> Result<u64, Fault>
     requires reached { IsReached params.now wanted.count wanted.limit reader.old.list wanted.start block reader.old.pos samples.old.items }
-    requires wanted { wants params.now wanted.count reader.old.list block reader.old.pos ≡ true }
+    requires wanted { is_wanted params.now wanted.count reader.old.list block reader.old.pos ≡ true }
     requires few { block < 2 ^ 34 }
     requires limit { wanted.limit ≤ 2 ^ 32 }
     requires counted { IfSome wanted.count (λ count. count ≤ 2 ^ 32) }
@@ -147,16 +149,16 @@ fn read_next(
     let bit = reader.pos();
     let cds = read_cds(alloc, params, reader, has_reference(params, place))?;
     let blocks = block_count(params, place, &cds);
-    if blocks > segment_left(params, place) {
+    if blocks > blocks_left(params, place) {
         return Err(Fault::RunTooLong { bit });
     }
     let next = block + blocks;
-    if !keeps_limit(params, wanted, next) {
+    if !within_limit(params, wanted, next) {
         return Err(Fault::TooManySamples {
             limit: wanted.limit,
         });
     }
-    let kept = kept_count(params, wanted, block, blocks);
+    let kept = blocks_kept(params, wanted, block, blocks);
     push_cds(alloc, params, &cds, kept, block, samples)?;
     skip_padding(params, reader, next);
     Ok(next)
@@ -164,7 +166,7 @@ fn read_next(
 
 /// The samples that the bits from `wanted.start` on stand for: with a count the first `count`, and without one all
 /// samples of all blocks.
-pub(crate) fn read_samples(
+pub(crate) fn decode_from(
     alloc: Global,
     params: &Params,
     bits: &BitBuf,
@@ -180,7 +182,7 @@ pub(crate) fn read_samples(
     reader.seek(wanted.start);
     let mut samples = Vec::new(alloc);
     let mut block = 0;
-    while is_wanted(params, wanted, &reader, block) {
+    while wants_more(params, wanted, &reader, block) {
         block = read_next(alloc, params, wanted, &mut reader, block, &mut samples)?;
     }
     if let Some(count) = wanted.count {

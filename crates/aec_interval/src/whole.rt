@@ -6,7 +6,7 @@ ghost use Rattle.std.specs.Result.{result_err};
 ghost use Rattle.aec_params.specs.declared.fault.Fault.TheVariants.{SampleRange, Memory};
 ghost use Rattle.aec_params.specs.Params.{is_held, IsHeld};
 ghost use Rattle.aec_params.specs.Streams.{stream_of};
-ghost use Rattle.aec_bits.specs.Refusals.{first_unheld as first_unheld_of};
+ghost use Rattle.aec_bits.specs.Refusals.{first_unheld};
 
 use crate::interval::write_interval;
 use aec_bits::BitBuf;
@@ -14,8 +14,8 @@ use aec_params::{Fault, Params};
 use std::alloc::Global;
 
 /// The index of the first number that is no sample of the parameters.
-pub(crate) fn first_unheld(params: &Params, samples: &[i64]) -> Option<u64>
-    ensures { result ≡ first_unheld_of (is_held params.now) 0 samples.now }
+pub(crate) fn unheld_index(params: &Params, samples: &[i64]) -> Option<u64>
+    ensures { result ≡ first_unheld (is_held params.now) 0 samples.now }
 {
     for (index, x) in samples.iter().enumerate() {
         if !params.holds(*x) {
@@ -26,7 +26,7 @@ pub(crate) fn first_unheld(params: &Params, samples: &[i64]) -> Option<u64>
 }
 
 /// The code of samples, interval by interval; `Memory` where a growth was refused.
-fn encode_held(alloc: Global, params: &Params, samples: &[i64]) -> Result<BitBuf, Fault>
+fn code_intervals(alloc: Global, params: &Params, samples: &[i64]) -> Result<BitBuf, Fault>
     requires { AllByRecursion (IsHeld params.now) samples.now }
     ensures ok { IfOk result (λ b. b.list ≡ stream_of params.now samples.now) }
     ensures fault { IfErr result (λ e. e ≡ Memory) }
@@ -42,11 +42,11 @@ fn encode_held(alloc: Global, params: &Params, samples: &[i64]) -> Result<BitBuf
 /// is no sample of the parameters, judged before any memory is taken; then `Memory` where a growth was refused.
 pub fn encode_all(alloc: Global, params: &Params, samples: &[i64]) -> Result<BitBuf, Fault>
     ensures ok { IfOk result (λ b. b.list ≡ stream_of params.now samples.now) }
-    ensures refuses { MatchOption (first_unheld_of (is_held params.now) 0 samples.now)
+    ensures refuses { MatchOption (first_unheld (is_held params.now) 0 samples.now)
         (IfErr result (λ e. e ≡ Memory)) (λ index. result_err result ≡ Some (SampleRange index)) }
 {
-    match first_unheld(params, samples) {
+    match unheld_index(params, samples) {
         Some(index) => Err(Fault::SampleRange { index }),
-        None => encode_held(alloc, params, samples),
+        None => code_intervals(alloc, params, samples),
     }
 }

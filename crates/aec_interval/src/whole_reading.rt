@@ -5,7 +5,7 @@ ghost use Rattle.std.specs.Result.{result_err};
 ghost use Rattle.aec_params.specs.Reading.{IsReading};
 ghost use Rattle.aec_interval.specs.Reached.{count_refusal, RefusesDecoding};
 
-use crate::reading::{Wanted, read_samples};
+use crate::reading::{Wanted, decode_from};
 use aec_bits::BitBuf;
 use aec_params::{Fault, Params};
 use std::alloc::Global;
@@ -39,7 +39,7 @@ pub fn decode_all(
     ensures refuses { IfErr result (λ fault. RefusesDecoding params.now count limit bits.now.list fault) }
 {
     judge_count(count, limit)?;
-    read_samples(
+    decode_from(
         alloc,
         params,
         bits,

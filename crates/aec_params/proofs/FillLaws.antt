@@ -98,7 +98,7 @@ later_counts s [] all = tt
 later_counts s (b ∷ blocks) all = (all.0.count, later_counts s blocks all.1)
 
 place_in_front : (r : Option ℕ) (values later : List ℕ) → HasReferencePlace r values → HasReferencePlace r (values ++ later)
-place_in_front None values later h = tt
+place_in_front None values later h = refl
 place_in_front (Some r) [] later h = absurd (cc)
 place_in_front (Some r) (v ∷ values) later h = ap (λ (t : ℕ). t ∷ (values ++ later)) (same_head h)
 

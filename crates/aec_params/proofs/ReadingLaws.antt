@@ -7,7 +7,7 @@ use Rattle.aec_params.specs.declared.settings.Settings.{Settings}
 use Rattle.aec_params.specs.Params.{IsAllowed}
 use Rattle.aec_params.specs.Blocks.{Block}
 use Rattle.aec_params.specs.CodedDataSets.{CodedDataSet}
-use Rattle.aec_params.specs.Places.{IsLawful, block_count, cds_blocks}
+use Rattle.aec_params.specs.Places.{IsLawfulAt, block_count, cds_blocks}
 use Rattle.aec_params.specs.Reading.{Covers, covered_blocks, stream_blocks, kept_blocks, IsBlockReading, FillBlocks, IsReading, counted_samples}
 use Rattle.aec_params.specs.BlockShapes.{AreBlocksFrom}
 use Rattle.aec_params.proofs.BlockShapeLaws.{AreBlocksFrom-append, AreBlocksFrom-front}
@@ -49,7 +49,7 @@ covered_blocks-shape s n p [] a l h = tt
 covered_blocks-shape s n p (c ∷ sets) a l h =
     let e : p % s.interval ≡ p = mod-eq_of_lt (omega arith) in
     let first : AreBlocksFrom s p (cds_blocks s p c) =
-    subst (λ (t : ℕ). AreBlocksFrom s p (cds_blocks s t c)) e (cds_blocks-shape s p c a (subst (λ (t : ℕ). IsLawful s t c) (sym e) h.1)) in
+    subst (λ (t : ℕ). AreBlocksFrom s p (cds_blocks s t c)) e (cds_blocks-shape s p c a (subst (λ (t : ℕ). IsLawfulAt s t c) (sym e) h.1)) in
     let next : p + block_count s p c ≡ p + length (cds_blocks s p c) = ap (λ (t : ℕ). p + t) (sym (length-cds_blocks s p c (omega arith))) in
     AreBlocksFrom-append s p (cds_blocks s p c) (covered_blocks s (p + block_count s p c) sets) first
     (subst (λ (t : ℕ). AreBlocksFrom s t (covered_blocks s (p + block_count s p c) sets)) next

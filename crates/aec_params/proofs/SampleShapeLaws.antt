@@ -73,7 +73,7 @@ filled_samples-whole s xs a =
 -- a group of values in another place than the first
 later_group : (s : Settings) (i : ℕ) (g : List ℕ) → 0 < i → length g ≡ s.block_size → AllByRecursion (IsBelow s) g
     → IsBlockAt s i (record { reference = None; values = g })
-later_group s i g l c b = record { reference = rw (not_first s i l) tt; count = c; below = b; place = tt }
+later_group s i g l c b = record { reference = rw (not_first s i l) tt; count = c; below = b; place = refl }
 
 -- groups of values behind the first block
 later_groups : (s : Settings) (i : ℕ) (groups : List (List ℕ)) → 0 < i → i + length groups ≤ s.interval
@@ -109,7 +109,7 @@ reference-shape s false u h = tt
 first_taken : (b : Bool) (j u v : ℕ) (rest : List ℕ) → 0 < j → HasReferencePlace (cond b (Some u) None) (take j (cond b 0 v ∷ rest))
 first_taken b zero u v rest h = absurd (omega arith)
 first_taken true (suc j) u v rest h = refl
-first_taken false (suc j) u v rest h = tt
+first_taken false (suc j) u v rest h = refl
 
 first_place : (s : Settings) (x : ℤ) (xs : List ℤ) → IsAllowed s
     → FirstPlace (reference_of s (x ∷ xs)) (pieces_of s.block_size (mapped_values s (filled_samples s (x ∷ xs))))

@@ -8,8 +8,8 @@ use Rattle.std.proofs.lemmas.Nat.{pow_pos}
 use Rattle.std.proofs.Math.Nat.{mod-eq_of_lt, mod-lt, mul-add-mod_self_left}
 use Rattle.aec_params.specs.declared.settings.Settings.{Settings}
 use Rattle.aec_params.specs.Params.{IsAllowed}
-use Rattle.aec_params.specs.CodedDataSets.{Body, plain_values, value_pairs, split_values, zero_blocks, CodedDataSet, HasReference, HasBody, judged_in, written_count}
-use Rattle.aec_params.specs.Places.{segment_left, run_len, body_blocks, block_count, is_reference_block, IsLawful, placed_values, placed_members, zero_block, blocks_in, cds_blocks}
+use Rattle.aec_params.specs.CodedDataSets.{Body, uncompressed_values, value_pairs, split_values, zero_blocks, CodedDataSet, HasReference, HasBody, judged_in, written_count}
+use Rattle.aec_params.specs.Places.{segment_left, run_len, body_blocks, block_count, is_reference_block, IsLawfulAt, placed_values, placed_members, zero_block, blocks_in, cds_blocks}
 use Rattle.aec_params.specs.Reading.{LeadsTo, stream_blocks, next_block, next_begin}
 use Rattle.aec_params.specs.BlockShapes.{IsBlockAt, AreBlocksFrom, HasReferencePlace}
 use Rattle.aec_params.proofs.ListLaws.{both_true, all-replicate}
@@ -36,7 +36,7 @@ placed_block s p (Some r) values a true e h c b = record {
 }
 placed_block s p (Some r) values a false e h c b = absurd h
 placed_block s p None values a true e h c b = absurd h
-placed_block s p None values a false e h c b = record { reference = rw e h; count = c; below = b; place = tt }
+placed_block s p None values a false e h c b = record { reference = rw e h; count = c; below = b; place = refl }
 
 -- members of pairs, of which the first is no value in a reference block
 member_block : (s : Settings) (p : ℕ) (r : Option ℕ) (members : List ℕ) → IsAllowed s → (is_first : Bool) → is_reference_block s p ≡ is_first
@@ -47,14 +47,14 @@ member_block s p (Some r) [] a true e h c b = absurd (let j = block_size-positiv
 member_block s p (Some r) (m ∷ members) a true e h c b = record { reference = rw e h; count = c; below = (pow_pos s.bits, b); place = refl }
 member_block s p (Some r) members a false e h c b = absurd h
 member_block s p None members a true e h c b = absurd h
-member_block s p None members a false e h c b = record { reference = rw e h; count = c; below = b; place = tt }
+member_block s p None members a false e h c b = record { reference = rw e h; count = c; below = b; place = refl }
 
 zeros_first : (n : ℕ) → 0 < n → replicate {A = ℕ} n 0 ≡ 0 ∷ drop 1 (replicate n 0)
 zeros_first zero h = absurd (omega arith)
 zeros_first (suc n) h = refl
 
 -- a zero block
-zero_block_at : (s : Settings) (p : ℕ) (r : Option ℕ) → IsAllowed s → HasReference s (is_reference_block s p) r → IsBlockAt s p (zero_block s r)
+pub zero_block_at : (s : Settings) (p : ℕ) (r : Option ℕ) → IsAllowed s → HasReference s (is_reference_block s p) r → IsBlockAt s p (zero_block s r)
 zero_block_at s p r a h = record {
   reference = h;
   count = length-replicate s.block_size 0;
@@ -63,7 +63,7 @@ zero_block_at s p r a h = record {
 }
   where
     place : (s : Settings) (r : Option ℕ) → IsAllowed s → HasReferencePlace r (replicate s.block_size 0)
-    place s None a = tt
+    place s None a = refl
     place s (Some r) a = zeros_first s.block_size (block_size-positive s a)
 
 -- ---- one coded data set
@@ -86,10 +86,10 @@ zeros_from s d q (suc k) a l h =
 segment_left-in_interval : (s : Settings) (p : ℕ) → segment_left s p ≤ s.interval - p
 segment_left-in_interval s p = omega arith
 
-segment_left-some : (s : Settings) (p : ℕ) → p < s.interval → 0 < segment_left s p
+pub segment_left-some : (s : Settings) (p : ℕ) → p < s.interval → 0 < segment_left s p
 segment_left-some s p l = omega arith
 
-run_len-some : (s : Settings) (p m : ℕ) → p < s.interval → 0 < run_len s p m
+pub run_len-some : (s : Settings) (p m : ℕ) → p < s.interval → 0 < run_len s p m
 run_len-some s p m l = grind (arith, nat_tests, segment_left-some s p l)
 
 pub blocks_in-shape : (s : Settings) (i : ℕ) (r : Option ℕ) (body : Body) → IsAllowed s → HasReference s (is_reference_block s (i % s.interval)) r
@@ -97,7 +97,7 @@ pub blocks_in-shape : (s : Settings) (i : ℕ) (r : Option ℕ) (body : Body) �
     → list_all (λ (v : ℕ). ltb v (2 ^ s.bits)) (judged_in r body) ≡ true
     → leb (body_blocks s (i % s.interval) body) (segment_left s (i % s.interval)) ≡ true
     → AreBlocksFrom s i (blocks_in s (i % s.interval) r body)
-blocks_in-shape s i r (plain_values values) a h k e w =
+blocks_in-shape s i r (uncompressed_values values) a h k e w =
     (placed_block s (i % s.interval) r values a (is_reference_block s (i % s.interval)) refl h k.0 (below_all s values e), tt)
 blocks_in-shape s i r (value_pairs members) a h k e w =
     (member_block s (i % s.interval) r members a (is_reference_block s (i % s.interval)) refl h k (below_all s (judged_in r (value_pairs members)) e), tt)
@@ -115,7 +115,7 @@ blocks_in-shape s i r (zero_blocks m) a h k e w =
     )
 
 length-blocks_in : (s : Settings) (p : ℕ) (r : Option ℕ) (body : Body) → p < s.interval → length (blocks_in s p r body) ≡ body_blocks s p body
-length-blocks_in s p r (plain_values values) l = refl
+length-blocks_in s p r (uncompressed_values values) l = refl
 length-blocks_in s p r (value_pairs values) l = refl
 length-blocks_in s p r (split_values k values) l = refl
 length-blocks_in s p r (zero_blocks m) l =
@@ -126,7 +126,7 @@ length-cds_blocks s p c l = length-blocks_in s p c.reference c.body l
 
 -- the blocks of a lawful coded data set can stand where it stands
 pub cds_blocks-shape : (s : Settings) (i : ℕ) (c : CodedDataSet)
-    → IsAllowed s → IsLawful s (i % s.interval) c → AreBlocksFrom s i (cds_blocks s (i % s.interval) c)
+    → IsAllowed s → IsLawfulAt s (i % s.interval) c → AreBlocksFrom s i (cds_blocks s (i % s.interval) c)
 cds_blocks-shape s i c a h = blocks_in-shape s i c.reference c.body a h.shape.reference h.shape.body h.small h.within
 
 -- ---- coded data sets one after the other

@@ -6,7 +6,7 @@ use Rattle.aec_params.specs.Params.{settings_fault, id_len, k_max}
 use Rattle.aec_params.specs.Stored.{samples_of_bytes, stored_bytes}
 use Rattle.aec_params.specs.Mapping.{mapped_value}
 use Rattle.aec_params.specs.Blocks.{Block, blocks_of}
-use Rattle.aec_params.specs.CodedDataSets.{plain_values, value_pairs, split_values, cds_bits, pair_number}
+use Rattle.aec_params.specs.CodedDataSets.{uncompressed_values, value_pairs, split_values, cds_bits, pair_number}
 use Rattle.aec_params.specs.Spellings.{spellings, shortest_spelling}
 use Rattle.aec_params.proofs.WorkedSettings.{usual, restricted_two, twelve_bits, five_signed, twenty_bits}
 
@@ -121,7 +121,7 @@ tied_blocks = refl
 pub tied_lengths : lengths restricted_two tied_block ≡ 17 ∷ 17 ∷ []
 tied_lengths = refl
 
-pub tied_choice : shortest_spelling restricted_two tied_block ≡ record { reference = Some 0; body = plain_values (replicate 6 0 ++ (3 ∷ [])) }
+pub tied_choice : shortest_spelling restricted_two tied_block ≡ record { reference = Some 0; body = uncompressed_values (replicate 6 0 ++ (3 ∷ [])) }
 tied_choice = refl
 
 abbrev spike_block : Block

@@ -2,10 +2,10 @@
 use Rattle.std.proofs.Common.{rules, lit<, ℕ, ℤ, pos, ◌≡◌, Bool, Some, None, List, [], ◌∷◌, ◌++◌, map, replicate, refl, ◌∙◌, append_assoc}
 use Rattle.aec_params.specs.declared.fault.Fault.TheVariants.{Truncated}
 use Rattle.aec_params.specs.Codewords.{bits_of_bytes}
-use Rattle.aec_params.specs.CodedDataSets.{CodedDataSet, plain_values, value_pairs, split_values, zero_blocks, Body, identifier}
+use Rattle.aec_params.specs.CodedDataSets.{CodedDataSet, uncompressed_values, value_pairs, split_values, zero_blocks, Body, identifier}
 use Rattle.aec_params.specs.Places.{zero_block}
 use Rattle.aec_params.specs.Reading.{IsReading}
-use Rattle.aec_params.specs.Faults.{IsFault, cut_short}
+use Rattle.aec_params.specs.Faults.{IsFault, not_read, cut_short}
 use Rattle.aec_params.proofs.WorkedSettings.{usual, padded}
 
 -- no samples are wanted: no bit is read
@@ -106,7 +106,7 @@ ramp_by_the_greater_split = record {
 -- ---- no bits where a block is needed
 
 identified : (body : Body) → (rest : List Bool) → ([] ≡ identifier usual body ++ rest) → ⊥
-identified (plain_values values) rest e = absurd (cc)
+identified (uncompressed_values values) rest e = absurd (cc)
 identified (value_pairs members) rest e = absurd (cc)
 identified (split_values k values) rest e = absurd (cc)
 identified (zero_blocks m) rest e = absurd (cc)
@@ -118,5 +118,5 @@ no_bits = record {
   bit = 0;
   leads = (refl, refl);
   wanted = refl;
-  wrong = cut_short (λ c has. identified c.body _ (has.stands ∙ append_assoc (identifier usual c.body) _ _));
+  wrong = not_read _ (cut_short (λ c has. identified c.body _ (has.stands ∙ append_assoc (identifier usual c.body) _ _)));
 }

@@ -3,13 +3,13 @@ use Rattle.std.proofs.Common.{rules, lit<, ℕ, zero, suc, ℤ, pos, Some, None,
 use Rattle.aec_params.specs.declared.settings.Settings.{Settings}
 use Rattle.aec_params.specs.declared.fault.Fault.TheVariants.{ValueTooLarge, RunTooLong, TooManySamples}
 use Rattle.aec_params.specs.Codewords.{bits_of_bytes}
-use Rattle.aec_params.specs.CodedDataSets.{CodedDataSet, plain_values, split_values, zero_blocks}
+use Rattle.aec_params.specs.CodedDataSets.{CodedDataSet, uncompressed_values, split_values, zero_blocks}
 use Rattle.aec_params.specs.Blocks.{Block}
 use Rattle.aec_params.specs.Places.{zero_block}
 use Rattle.std.specs.List.{AllByRecursion}
 use Rattle.aec_params.specs.Params.{IsHeld}
 use Rattle.aec_params.specs.Reading.{IsReading}
-use Rattle.aec_params.specs.Faults.{IsFault, too_large, too_long, too_many}
+use Rattle.aec_params.specs.Faults.{IsFault, not_read, too_large, too_long, too_many}
 use Rattle.aec_params.proofs.WorkedSettings.{usual, with_interval, unprocessed}
 
 -- ---- the remainder code: all blocks that the segment has left, of which a count takes what it needs
@@ -69,7 +69,7 @@ pub uncompressed_block :
 uncompressed_block = record {
   blocks = (record { reference = None; values = eight_values }) ∷ [];
   read = record {
-    sets = (record { reference = None; body = plain_values eight_values }) ∷ [];
+    sets = (record { reference = None; body = uncompressed_values eight_values }) ∷ [];
     end_block = 1;
     end_bit = 67;
     leads = (refl, refl, record { shape = record { reference = tt; body = (refl, search rules) }; small = refl; within = refl }, refl, (refl, refl));
@@ -94,8 +94,8 @@ two_in_one_bit = record {
   bit = 0;
   leads = (refl, refl);
   wanted = refl;
-  wrong = too_large (record { reference = None; body = split_values 0 (2 ∷ replicate 7 0) })
-      (record { shape = record { reference = tt; body = (lit< tt, refl) }; stands = refl }) refl;
+  wrong = not_read _ (too_large (record { reference = None; body = split_values 0 (2 ∷ replicate 7 0) })
+      (record { shape = record { reference = tt; body = (lit< tt, refl) }; stands = refl }) refl);
 }
 
 -- a run of three blocks in an interval of two

@@ -1,10 +1,11 @@
 -- The settings of the worked examples.
 use Rattle.std.proofs.Common.{ℕ, true, false}
 use Rattle.aec_params.specs.declared.settings.Settings.{Settings}
+use Rattle.aec_params.specs.Params.{usual_settings}
 
 -- 8 bits, blocks of 8, intervals of 2 blocks, unsigned, with preprocessing
 abbrev pub usual : Settings
-usual = record { bits = 8; block_size = 8; interval = 2; signed = false; msb_first = false; three_byte = false; preprocess = true; pad = false; restricted = false }
+usual = usual_settings
 
 abbrev pub with_interval : ℕ → Settings
 with_interval r = record usual { interval = r }

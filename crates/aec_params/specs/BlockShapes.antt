@@ -1,22 +1,25 @@
 -- The shape of the blocks that samples can have.
-use Rattle.std.specs.Prelude.{◌≡◌, ℕ, ◌+◌, ◌%◌, ◌^◌, ◌<◌, Option, Some, None, List, [], ◌∷◌, length, drop, ⊤}
+use Rattle.std.specs.Prelude.{◌≡◌, ℕ, ◌+◌, ◌%◌, ◌^◌, ◌<◌, Bool, Option, List, [], ◌∷◌, length, ⊤}
 use Rattle.std.specs.List.{AllByRecursion}
 use Rattle.aec_params.specs.declared.settings.Settings.{Settings}
 use Rattle.aec_params.specs.Blocks.{Block}
 use Rattle.aec_params.specs.CodedDataSets.{HasReference}
-use Rattle.aec_params.specs.Places.{is_reference_block}
+use Rattle.aec_params.specs.Places.{is_reference_block, placed_members}
 
 -- 0 stands in the reference place, where there is one
 abbrev pub HasReferencePlace : Option ℕ → List ℕ → Type 0
-HasReferencePlace None values = ⊤
-HasReferencePlace (Some r) values = values ≡ 0 ∷ drop 1 values
+HasReferencePlace reference values = values ≡ placed_members reference values
 
--- a block that can stand at block p of an interval
-pub record IsBlockAt (s : Settings) (p : ℕ) (b : Block) : Type 0 where
-  pub reference : HasReference s (is_reference_block s p) b.reference
+-- a block of samples, with a reference or without
+pub record IsBlockOf (s : Settings) (is_reference : Bool) (b : Block) : Type 0 where
+  pub reference : HasReference s is_reference b.reference
   pub count : length b.values ≡ s.block_size
   pub below : AllByRecursion (λ v. v < 2 ^ s.bits) b.values
   pub place : HasReferencePlace b.reference b.values
+
+-- a block that can stand at block p of an interval
+abbrev pub IsBlockAt : Settings → ℕ → Block → Type 0
+IsBlockAt s p b = IsBlockOf s (is_reference_block s p) b
 
 -- blocks that can stand from block i of the stream on, one after the other
 abbrev pub AreBlocksFrom : Settings → ℕ → List Block → Type 0

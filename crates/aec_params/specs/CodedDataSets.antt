@@ -8,7 +8,7 @@ use Rattle.aec_params.specs.Codewords.{fs, binary}
 -- what stands after the identifier and the reference sample
 pub data Body : Type 0 where
   -- no compression: the values
-  plain_values : List ℕ → Body
+  uncompressed_values : List ℕ → Body
   -- second extension: the members of its pairs, also the one in the reference place
   value_pairs : List ℕ → Body
   -- sample splitting: k, and the values
@@ -33,7 +33,7 @@ pair_bits (a ∷ (b ∷ values)) = fs (pair_number a b) ++ pair_bits values
 
 -- the identifier: that of the zero block and of the second extension has one bit more
 abbrev pub identifier : Settings → Body → List Bool
-identifier s (plain_values values) = binary (id_len s) (2 ^ id_len s - 1)
+identifier s (uncompressed_values values) = binary (id_len s) (2 ^ id_len s - 1)
 identifier s (value_pairs values) = binary (id_len s + 1) 1
 identifier s (split_values k values) = binary (id_len s) (k + 1)
 identifier s (zero_blocks m) = binary (id_len s + 1) 0
@@ -43,7 +43,7 @@ reference_bits s None = []
 reference_bits s (Some r) = binary s.bits r
 
 abbrev pub body_bits : Settings → Body → List Bool
-body_bits s (plain_values values) = flat_map (binary s.bits) values
+body_bits s (uncompressed_values values) = flat_map (binary s.bits) values
 body_bits s (value_pairs values) = pair_bits values
 body_bits s (split_values k values) = flat_map (λ v. fs (v / 2 ^ k)) values ++ flat_map (λ v. binary k (v % 2 ^ k)) values
 body_bits s (zero_blocks m) = fs m
@@ -64,7 +64,7 @@ abbrev pub written_count : Settings → Bool → ℕ
 written_count s is_reference = if is_reference then s.block_size - 1 else s.block_size
 
 abbrev pub HasBody : Settings → Bool → Body → Type 0
-HasBody s is_reference (plain_values values) = (length values ≡ written_count s is_reference) × AllByRecursion (λ v. v < 2 ^ s.bits) values
+HasBody s is_reference (uncompressed_values values) = (length values ≡ written_count s is_reference) × AllByRecursion (λ v. v < 2 ^ s.bits) values
 HasBody s is_reference (value_pairs values) = length values ≡ s.block_size
 HasBody s is_reference (split_values k values) = (k < split_count s) × (length values ≡ written_count s is_reference)
 HasBody s is_reference (zero_blocks m) = ⊤
@@ -76,7 +76,7 @@ pub record HasShape (s : Settings) (is_reference : Bool) (c : CodedDataSet) : Ty
 
 -- the numbers that are values: not the first member of the first pair in a reference block
 abbrev pub judged_in : Option ℕ → Body → List ℕ
-judged_in reference (plain_values values) = values
+judged_in reference (uncompressed_values values) = values
 judged_in None (value_pairs values) = values
 judged_in (Some r) (value_pairs values) = drop 1 values
 judged_in reference (split_values k values) = values

@@ -27,8 +27,8 @@ abbrev pub block_sets : Settings → List Block → List CodedDataSet
 block_sets s blocks = flat_map (λ segment. group_sets s (groups_of segment)) (segments_of blocks)
 
 -- the code of an interval's samples, without padding and with it
-abbrev pub plain_bits : Settings → List ℤ → List Bool
-plain_bits s v = flat_map (cds_bits s) (block_sets s (blocks_of s v))
+abbrev pub unpadded_bits : Settings → List ℤ → List Bool
+unpadded_bits s v = flat_map (cds_bits s) (block_sets s (blocks_of s v))
 
 abbrev pub interval_bits : Settings → List ℤ → List Bool
-interval_bits s v = if s.pad then padded_to_byte (plain_bits s v) else plain_bits s v
+interval_bits s v = if s.pad then padded_to_byte (unpadded_bits s v) else unpadded_bits s v

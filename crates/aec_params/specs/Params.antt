@@ -1,5 +1,5 @@
 -- The parameters of a stream: which the format has, and the numbers that follow from them.
-use Rattle.std.specs.Prelude.{ℕ, ◌+◌, ◌-◌, ◌*◌, ◌^◌, Bool, ◌&&◌, ◌||◌, not, nat_le, nat_lt, ◌==◌, if◌then◌else◌, Option, Some, None, ℤ, pos, negsuc, neg_ℤ, ◌-ℤ◌, int_le, IsTrue}
+use Rattle.std.specs.Prelude.{ℕ, ◌+◌, ◌-◌, ◌*◌, ◌^◌, Bool, true, false, ◌&&◌, ◌||◌, not, nat_le, nat_lt, ◌==◌, if◌then◌else◌, Option, Some, None, ℤ, pos, negsuc, neg_ℤ, ◌-ℤ◌, int_le, IsTrue}
 use Rattle.aec_params.specs.declared.settings.Settings.{Settings}
 use Rattle.aec_params.specs.declared.fault.Fault.{Fault}
 use Rattle.aec_params.specs.declared.fault.Fault.TheVariants.{BitsPerSample, BlockSize, Interval, RestrictedWidth}
@@ -19,6 +19,20 @@ settings_fault s =
     else (if not (is_block_size s.block_size) then Some BlockSize
     else (if not (is_between 1 4096 s.interval) then Some Interval
     else (if s.restricted && nat_lt 4 s.bits then Some RestrictedWidth else None)))
+
+-- the settings where no option says otherwise
+abbrev pub usual_settings : Settings
+usual_settings = record {
+  bits = 8;
+  block_size = 8;
+  interval = 2;
+  signed = false;
+  msb_first = false;
+  three_byte = false;
+  preprocess = true;
+  pad = false;
+  restricted = false;
+}
 
 -- settings that break no rule
 pub record IsAllowed (s : Settings) : Type 0 where

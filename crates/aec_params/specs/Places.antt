@@ -1,20 +1,26 @@
 -- Coded data sets at their place in an interval: which blocks they stand for, and when they are lawful there.
-use Rattle.std.specs.Prelude.{◌≡◌, ℕ, ◌+◌, ◌-◌, ◌%◌, min, Bool, true, ◌&&◌, ◌==◌, nat_lt, nat_le, if◌then◌else◌, Option, Some, None, List, [], ◌∷◌, drop, replicate}
+use Rattle.std.specs.Prelude.{◌≡◌, ℕ, ◌+◌, ◌-◌, ◌%◌, min, Bool, true, ◌&&◌, ◌==◌, nat_lt, nat_le, if◌then◌else◌, Option, Some, None, List, [], ◌∷◌, replicate, unwrap_or}
 use Rattle.aec_params.specs.declared.settings.Settings.{Settings}
 use Rattle.aec_params.specs.Blocks.{Block}
-use Rattle.aec_params.specs.CodedDataSets.{Body, plain_values, value_pairs, split_values, zero_blocks, CodedDataSet, HasShape, has_small_values}
+use Rattle.aec_params.specs.Runs.{segment_len}
+use Rattle.aec_params.specs.Spellings.{after_reference}
+use Rattle.aec_params.specs.CodedDataSets.{Body, uncompressed_values, value_pairs, split_values, zero_blocks, CodedDataSet, HasShape, has_small_values}
 
--- how many blocks the segment of block p of an interval has left: a segment is 64 blocks, the last one what is left of r
+-- how many blocks the segment of block p of an interval has left; the last one is what is left of r
 abbrev pub segment_left : Settings → ℕ → ℕ
-segment_left s p = min (64 - p % 64) (s.interval - p)
+segment_left s p = min (segment_len - p % segment_len) (s.interval - p)
 
--- how many blocks the number of a run's code stands for at block p
+-- how many blocks the number of a run's code tells; none by 4, which stands for all that the segment has left
+abbrev pub told_blocks : ℕ → Option ℕ
+told_blocks m = if nat_lt m 4 then Some (m + 1) else (if m == 4 then None else Some m)
+
+-- how many blocks it stands for at block p
 abbrev pub run_len : Settings → ℕ → ℕ → ℕ
-run_len s p m = if nat_lt m 4 then m + 1 else (if m == 4 then segment_left s p else m)
+run_len s p m = unwrap_or (told_blocks m) (segment_left s p)
 
 -- how many blocks a coded data set stands for at block p
 abbrev pub body_blocks : Settings → ℕ → Body → ℕ
-body_blocks s p (plain_values values) = 1
+body_blocks s p (uncompressed_values values) = 1
 body_blocks s p (value_pairs values) = 1
 body_blocks s p (split_values k values) = 1
 body_blocks s p (zero_blocks m) = run_len s p m
@@ -31,7 +37,7 @@ abbrev pub is_reference_block : Settings → ℕ → Bool
 is_reference_block s p = s.preprocess && (p == 0)
 
 -- a coded data set that the format has at block p of an interval
-pub record IsLawful (s : Settings) (p : ℕ) (c : CodedDataSet) : Type 0 where
+pub record IsLawfulAt (s : Settings) (p : ℕ) (c : CodedDataSet) : Type 0 where
   pub shape : HasShape s (is_reference_block s p) c
   pub small : has_small_values s c ≡ true
   pub within : stays_in_segment s p c ≡ true
@@ -41,10 +47,16 @@ abbrev pub placed_values : Option ℕ → List ℕ → List ℕ
 placed_values None values = values
 placed_values (Some r) values = 0 ∷ values
 
--- the members of pairs with 0 in the reference place, where there is one
+-- the members of pairs, of which the one in the reference place gives way to 0, where there is one
 abbrev pub placed_members : Option ℕ → List ℕ → List ℕ
-placed_members None members = members
-placed_members (Some r) members = 0 ∷ drop 1 members
+placed_members reference members = placed_values reference (after_reference reference members)
+
+-- the block of values that are written one by one, and that of the members of pairs
+abbrev pub block_of_values : Option ℕ → List ℕ → Block
+block_of_values reference values = record { reference = reference; values = placed_values reference values }
+
+abbrev pub block_of_members : Option ℕ → List ℕ → Block
+block_of_members reference members = record { reference = reference; values = placed_members reference members }
 
 -- a block of zeros
 abbrev pub zero_block : Settings → Option ℕ → Block
@@ -52,9 +64,9 @@ zero_block s reference = record { reference = reference; values = replicate s.bl
 
 -- the blocks that a coded data set stands for at block p
 abbrev pub blocks_in : Settings → ℕ → Option ℕ → Body → List Block
-blocks_in s p reference (plain_values values) = record { reference = reference; values = placed_values reference values } ∷ []
-blocks_in s p reference (value_pairs members) = record { reference = reference; values = placed_members reference members } ∷ []
-blocks_in s p reference (split_values k values) = record { reference = reference; values = placed_values reference values } ∷ []
+blocks_in s p reference (uncompressed_values values) = block_of_values reference values ∷ []
+blocks_in s p reference (value_pairs members) = block_of_members reference members ∷ []
+blocks_in s p reference (split_values k values) = block_of_values reference values ∷ []
 blocks_in s p reference (zero_blocks m) = zero_block s reference ∷ replicate (run_len s p m - 1) (zero_block s None)
 
 abbrev pub cds_blocks : Settings → ℕ → CodedDataSet → List Block

@@ -6,14 +6,14 @@ use Rattle.aec_params.specs.declared.settings.Settings.{Settings}
 use Rattle.aec_params.specs.Params.{IsHeld}
 use Rattle.aec_params.specs.Blocks.{Block, all_blocks_of}
 use Rattle.aec_params.specs.CodedDataSets.{CodedDataSet, cds_bits}
-use Rattle.aec_params.specs.Places.{block_count, IsLawful, cds_blocks}
+use Rattle.aec_params.specs.Places.{block_count, IsLawfulAt, cds_blocks}
 
 -- ---- one interval
 
 -- lawful coded data sets from block p of an interval on that reach block n; the last may go past it in its segment
 abbrev pub Covers : Settings → ℕ → ℕ → List CodedDataSet → Type 0
 Covers s n p [] = IsTrue (nat_le n p)
-Covers s n p (c ∷ sets) = (p < n) × IsLawful s p c × Covers s n (p + block_count s p c) sets
+Covers s n p (c ∷ sets) = (p < n) × IsLawfulAt s p c × Covers s n (p + block_count s p c) sets
 
 -- the blocks that coded data sets from block p of an interval on stand for
 abbrev pub covered_blocks : Settings → ℕ → List CodedDataSet → List Block
@@ -59,7 +59,7 @@ keeps_limit s None limit i = nat_le (i * s.block_size) limit
 abbrev pub LeadsTo : Settings → Option ℕ → ℕ → List Bool → ℕ → ℕ → List CodedDataSet → ℕ → ℕ → Type 0
 LeadsTo s count limit bits i b [] j e = (j ≡ i) × (e ≡ b)
 LeadsTo s count limit bits i b (c ∷ sets) j e =
-    (is_wanted s count bits i b ≡ true) × StandsAt s bits b c × IsLawful s (i % s.interval) c
+    (is_wanted s count bits i b ≡ true) × StandsAt s bits b c × IsLawfulAt s (i % s.interval) c
     × (keeps_limit s count limit (next_block s i c) ≡ true)
     × LeadsTo s count limit bits (next_block s i c) (next_begin s bits i b c) sets j e
 

@@ -8,9 +8,13 @@ pub data Group : Type 0 where
   zero_run : Option ℕ → ℕ → Group
   single_block : Block → Group
 
--- blocks in consecutive segments of 64
+-- how many blocks a segment has
+abbrev pub segment_len : ℕ
+segment_len = 64
+
+-- blocks in consecutive segments
 abbrev pub segments_of : List Block → List (List Block)
-segments_of blocks = pieces_of 64 blocks
+segments_of blocks = pieces_of segment_len blocks
 
 -- a zero block with the reference it has before groups: it joins a run that comes first
 abbrev pub with_zero_block : Option ℕ → List Group → List Group

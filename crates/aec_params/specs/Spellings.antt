@@ -4,7 +4,7 @@ use Rattle.std.specs.List.{range_with_len, best_of}
 use Rattle.aec_params.specs.declared.settings.Settings.{Settings}
 use Rattle.aec_params.specs.Params.{split_count}
 use Rattle.aec_params.specs.Blocks.{Block}
-use Rattle.aec_params.specs.CodedDataSets.{CodedDataSet, plain_values, value_pairs, split_values, cds_bits}
+use Rattle.aec_params.specs.CodedDataSets.{CodedDataSet, uncompressed_values, value_pairs, split_values, cds_bits}
 
 -- the values that are written one by one: those behind the reference place, where there is one
 abbrev pub after_reference : Option ℕ → List ℕ → List ℕ
@@ -16,7 +16,7 @@ written_values b = after_reference b.reference b.values
 
 -- the block by each option: no compression; second extension, whose pairs have the reference place too; splitting with k
 abbrev pub uncompressed : Block → CodedDataSet
-uncompressed b = record { reference = b.reference; body = plain_values (written_values b) }
+uncompressed b = record { reference = b.reference; body = uncompressed_values (written_values b) }
 
 abbrev pub paired : Block → CodedDataSet
 paired b = record { reference = b.reference; body = value_pairs b.values }

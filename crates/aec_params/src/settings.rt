@@ -22,3 +22,31 @@ pub struct Settings {
     /// Whether the restricted set of code options is used.
     pub restricted: bool,
 }
+
+impl Settings {
+    /// What the command takes where no option says otherwise: 8 bits, unsigned, in blocks of 8 and intervals of 2 blocks,
+    /// preprocessed.
+    pub const USUAL: Settings = Settings {
+        bits: 8,
+        block_size: 8,
+        interval: 2,
+        signed: false,
+        msb_first: false,
+        three_byte: false,
+        preprocess: true,
+        pad: false,
+        restricted: false,
+    };
+}
+
+impl Default for Settings {
+    ghost use Rattle.std.specs.Prelude.{◌≡◌};
+    ghost use Rattle.aec_params.specs.Params.{usual_settings};
+
+    /// The usual settings.
+    fn default() -> Settings
+        ensures { result ≡ usual_settings }
+    {
+        Settings::USUAL
+    }
+}

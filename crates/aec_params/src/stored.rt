@@ -25,8 +25,8 @@ pub fn read_samples(alloc: Global, params: &Params, bytes: &[u8]) -> Result<Vec<
     collect_samples(alloc, params, bytes)
 }
 
-/// The samples of bytes that hold no bad one; `Memory` where a growth is refused.
-fn collect_samples(alloc: Global, params: &Params, bytes: &[u8]) -> Result<Vec<i64>, Fault>
+/// The samples of bytes that hold no bad one, as `first_bad` tells; `Memory` where a growth is refused.
+pub fn collect_samples(alloc: Global, params: &Params, bytes: &[u8]) -> Result<Vec<i64>, Fault>
     requires { result_err (samples_of_bytes params.now bytes.now) ≡ None }
     ensures ok { IfOk result (λ v. samples_of_bytes params.now bytes.now ≡ Ok v.items) }
     ensures err { IfErr result (λ e. e ≡ Memory) }
@@ -39,8 +39,8 @@ fn collect_samples(alloc: Global, params: &Params, bytes: &[u8]) -> Result<Vec<i
     Ok(samples)
 }
 
-/// The index of the first sample whose unused bits are not what its width allows.
-fn first_bad(params: &Params, bytes: &[u8]) -> Option<u64>
+/// The index of the first sample whose unused bits are not what its width allows. Takes no memory.
+pub fn first_bad(params: &Params, bytes: &[u8]) -> Option<u64>
     ensures { result ≡ result_err (samples_of_bytes params.now bytes.now) }
 {
     for (index, group) in bytes.chunks_exact(params.storage()).enumerate() {

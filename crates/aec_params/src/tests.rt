@@ -8,23 +8,11 @@ use crate::samples::Samples;
 use crate::settings::Settings;
 use std::test::Fail;
 
-const PLAIN: Settings = Settings {
-    bits: 8,
-    block_size: 8,
-    interval: 2,
-    signed: false,
-    msb_first: false,
-    three_byte: false,
-    preprocess: true,
-    pad: false,
-    restricted: false,
-};
-
 const fn width(bits: u32, signed: bool) -> Settings {
     Settings {
         bits,
         signed,
-        ..PLAIN
+        ..Settings::USUAL
     }
 }
 
@@ -32,7 +20,7 @@ const fn restricted(bits: u32) -> Settings {
     Settings {
         bits,
         restricted: true,
-        ..PLAIN
+        ..Settings::USUAL
     }
 }
 

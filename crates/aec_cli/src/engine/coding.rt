@@ -1,19 +1,19 @@
 //! Stored samples to coded data.
 
-ghost use Rattle.std.specs.Prelude.{◌≡◌, Ok, Err, Some, None, IfOk, IfErr, MatchOption};
+ghost use Rattle.std.specs.Prelude.{◌≡◌, ℕ, Ok, Err, Some, None, IfOk, IfErr, MatchOption};
 ghost use Rattle.std.specs.Result.{result_err};
 ghost use Rattle.aec_params.specs.declared.fault.Fault.TheVariants.{Memory};
 ghost use Rattle.aec_params.specs.Codewords.{bytes_of};
 ghost use Rattle.aec_params.specs.Params.{IsAllowed};
 ghost use Rattle.aec_params.specs.Stored.{samples_of_bytes};
-ghost use Rattle.aec_cli.specs.Devices.{Input, Taking, Putting, GivesAnswer, Leaves};
+ghost use Rattle.aec_cli.specs.Transfers.{input_of, Taking, taking_of, Putting, putting_of, GivesAnswer, Leaves};
 ghost use Rattle.aec_cli.specs.Output.{IsEncoded, bytes_within, coding_refusal};
 
 use crate::engine::intake::read_past;
 use crate::engine::outlet::deliver_bits;
 use aec_bits::{BitBuf, Sink, Source};
 use aec_interval::encode_all;
-use aec_params::{Fault, Limits, Params, read_samples};
+use aec_params::{Fault, Limits, Params, collect_samples, first_bad};
 use std::alloc::Global;
 
 /// The most bytes that hold no more whole samples than the limits.
@@ -24,8 +24,24 @@ fn most_bytes(params: &Params, limits: Limits) -> u64
     (limits.samples() + 1) * params.storage() as u64 - 1
 }
 
-/// The samples that bytes hold, which a source gave and then `failed`, or not. The first refusal in their order:
-/// `TooManySamples` at the sample behind the limit, before that `SampleRange`; then `Read`; then `Memory`.
+/// The first refusal of the samples that bytes hold, which a source gave and then `failed`, or not: `TooManySamples` at
+/// the sample behind the limit, before that `SampleRange`; then `Read`. Takes no memory.
+#[tactic(auto, using(crate::proofs::JudgingLemmas::judging))]
+fn refusal(params: &Params, limit: u64, bytes: &[u8], failed: bool) -> Option<Fault>
+    ensures { result ≡ coding_refusal params.now limit (input_of bytes.now failed) }
+{
+    let whole = (bytes.len() / params.storage()) as u64;
+    match first_bad(params, bytes) {
+        Some(index) if index < limit => Some(Fault::SampleRange { index }),
+        Some(_) => Some(Fault::TooManySamples { limit }),
+        None if whole > limit => Some(Fault::TooManySamples { limit }),
+        None if failed => Some(Fault::Read),
+        None => None,
+    }
+}
+
+/// The samples that bytes hold, or their refusal; where there is none, `Memory`.
+#[tactic(auto, using(crate::proofs::JudgingLemmas::judging))]
 fn judged(
     alloc: Global,
     params: &Params,
@@ -34,27 +50,28 @@ fn judged(
     failed: bool,
 ) -> Result<Vec<i64>, Fault>
     ensures ok { IfOk result (λ v. samples_of_bytes params.now bytes.now ≡ Ok v.items) }
-    ensures sound { IfOk result (λ _. coding_refusal params.now limit (record { bytes = bytes.now; failed = failed }) ≡ None) }
-    ensures refuses { MatchOption (coding_refusal params.now limit (record { bytes = bytes.now; failed = failed })) (IfErr result (λ e. e ≡ Memory)) (λ fault. result_err result ≡ Some fault) }
+    ensures sound { IfOk result (λ _. coding_refusal params.now limit (input_of bytes.now failed) ≡ None) }
+    ensures refuses { MatchOption (coding_refusal params.now limit (input_of bytes.now failed)) (IfErr result (λ e. e ≡ Memory)) (λ fault. result_err result ≡ Some fault) }
 {
-    let whole = (bytes.len() / params.storage()) as u64;
-    match read_samples(alloc, params, bytes) {
-        Err(Fault::SampleRange { index }) if index < limit => Err(Fault::SampleRange { index }),
-        _ if whole > limit => Err(Fault::TooManySamples { limit }),
-        _ if failed => Err(Fault::Read),
-        answer => answer,
+    match refusal(params, limit, bytes, failed) {
+        Some(fault) => Err(fault),
+        None => collect_samples(alloc, params, bytes),
     }
 }
 
 /// What coding a source answers: the code of its samples.
-fn encoded<R: Source>(
+fn encode_source<R: Source>(
     alloc: Global,
     params: &Params,
     limits: Limits,
     source: &mut R,
 ) -> Result<BitBuf, Fault>
-    ensures ok { IfOk result (λ bits. GivesAnswer (IsEncoded params.now limits) (record { before = R.left source.old; after = R.left source.new; failures = R.failed source.new }) (bytes_within params.now limits.samples) (Ok (bytes_of bits.list))) }
-    ensures refuses { IfErr result (λ fault. GivesAnswer (IsEncoded params.now limits) (record { before = R.left source.old; after = R.left source.new; failures = R.failed source.new }) (bytes_within params.now limits.samples) (Err fault)) }
+    ensures ok { let took : Taking = taking_of R.left R.failed source.old source.new in
+        let most : ℕ = bytes_within params.now limits.samples in
+        IfOk result (λ bits. GivesAnswer (IsEncoded params.now limits) took most (Ok (bytes_of bits.list))) }
+    ensures refuses { let took : Taking = taking_of R.left R.failed source.old source.new in
+        let most : ℕ = bytes_within params.now limits.samples in
+        IfErr result (λ fault. GivesAnswer (IsEncoded params.now limits) took most (Err fault)) }
 {
     let (bytes, failed) = read_past(alloc, source, most_bytes(params, limits))?;
     let samples = judged(alloc, params, limits.samples(), &bytes, failed)?;
@@ -72,8 +89,11 @@ pub fn encode<R: Source, W: Sink>(
     source: &mut R,
     sink: &mut W,
 ) -> Result<(), Fault>
-    ensures { Leaves (IsEncoded params.now limits) (record { before = R.left source.old; after = R.left source.new; failures = R.failed source.new }) (bytes_within params.now limits.samples) (record { before = W.taken sink.old; after = W.taken sink.new; begun_before = W.begun sink.old; begun_after = W.begun sink.new; failures = W.failed sink.new }) result }
+    ensures { let took : Taking = taking_of R.left R.failed source.old source.new in
+        let put : Putting = putting_of W.taken W.begun W.failed sink.old sink.new in
+        let most : ℕ = bytes_within params.now limits.samples in
+        Leaves (IsEncoded params.now limits) took most put result }
 {
-    let bits = encoded(alloc, params, limits, source)?;
+    let bits = encode_source(alloc, params, limits, source)?;
     deliver_bits(&bits, sink)
 }

@@ -1,33 +1,53 @@
 //! Coded data back to stored samples.
 
-ghost use Rattle.std.specs.Prelude.{Ok, Err, IfOk, IfErr};
-ghost use Rattle.aec_cli.specs.Devices.{Taking, Putting, GivesAnswer, Leaves};
-ghost use Rattle.aec_cli.specs.Output.{IsDecoded};
+ghost use Rattle.std.specs.Prelude.{Err, IfOk, IfErr};
+ghost use Rattle.std.specs.List.{AllByRecursion};
+ghost use Rattle.aec_params.specs.Params.{IsHeld};
+ghost use Rattle.aec_cli.specs.Transfers.{Taking, taking_of, Putting, putting_of, answer_of, GivesAnswer, Leaves};
+ghost use Rattle.aec_cli.specs.Output.{GaveSamples, IsDecoded};
 
 use crate::engine::intake::read_whole;
-use crate::engine::outlet::{deliver, stored};
+use crate::engine::outlet::{settle, stored};
 use aec_bits::{BitBuf, Sink, Source};
 use aec_interval::decode_all;
 use aec_params::{Fault, Limits, Params};
 use std::alloc::Global;
 
+/// The samples that a source is read as, or the refusal of decoding.
+pub(crate) fn read_source<R: Source>(
+    alloc: Global,
+    params: &Params,
+    limits: Limits,
+    count: Option<u64>,
+    source: &mut R,
+) -> Result<Vec<i64>, Fault>
+    ensures ok { let took : Taking = taking_of R.left R.failed source.old source.new in
+        IfOk result (λ samples. GaveSamples params.now limits count took samples.items) }
+    ensures held { IfOk result (λ samples. AllByRecursion (IsHeld params.now) samples.items) }
+    ensures refuses { let took : Taking = taking_of R.left R.failed source.old source.new in
+        IfErr result (λ fault. GivesAnswer (IsDecoded params.now limits count) took limits.bytes (Err fault)) }
+{
+    let coded = read_whole(alloc, source, limits.bytes())?;
+    let bits = BitBuf::from_bytes(alloc, &coded)?;
+    decode_all(alloc, params, &bits, count, limits.samples())
+}
+
 /// What decoding a source answers: the bytes of its samples.
-fn decoded<R: Source>(
+fn decode_source<R: Source>(
     alloc: Global,
     params: &Params,
     limits: Limits,
     count: Option<u64>,
     source: &mut R,
 ) -> Result<Vec<u8>, Fault>
-    ensures ok { IfOk result (λ bytes. GivesAnswer (IsDecoded params.now limits count) (record { before = R.left source.old; after = R.left source.new; failures = R.failed source.new }) limits.bytes (Ok bytes.items)) }
-    ensures refuses { IfErr result (λ fault. GivesAnswer (IsDecoded params.now limits count) (record { before = R.left source.old; after = R.left source.new; failures = R.failed source.new }) limits.bytes (Err fault)) }
+    ensures { let took : Taking = taking_of R.left R.failed source.old source.new in
+        GivesAnswer (IsDecoded params.now limits count) took limits.bytes (answer_of (λ bytes. bytes.items) result) }
 {
-    let coded = read_whole(alloc, source, limits.bytes())?;
-    let bits = BitBuf::from_bytes(alloc, &coded)?;
-    let samples = decode_all(alloc, params, &bits, count, limits.samples())?;
+    let samples = read_source(alloc, params, limits, count, source)?;
     stored(alloc, params, &samples)
 }
 
+#[tactic(auto, using(crate::proofs::OutputLemmas::leaves_settled))]
 /// Reads the source whole, and writes the bytes of the samples that it codes: with a count the first `count`, without one
 /// all. The refusals in their order: `Read`, `StreamTooLong` and `Memory` as they are met while the source is read; then
 /// those of `decode_all`. Nothing has been written then and `begin` was not called. After `begin` only `Write` can come,
@@ -40,8 +60,10 @@ pub fn decode<R: Source, W: Sink>(
     source: &mut R,
     sink: &mut W,
 ) -> Result<(), Fault>
-    ensures { Leaves (IsDecoded params.now limits count) (record { before = R.left source.old; after = R.left source.new; failures = R.failed source.new }) limits.bytes (record { before = W.taken sink.old; after = W.taken sink.new; begun_before = W.begun sink.old; begun_after = W.begun sink.new; failures = W.failed sink.new }) result }
+    ensures { let took : Taking = taking_of R.left R.failed source.old source.new in
+        let put : Putting = putting_of W.taken W.begun W.failed sink.old sink.new in
+        Leaves (IsDecoded params.now limits count) took limits.bytes put result }
 {
-    let bytes = decoded(alloc, params, limits, count, source)?;
-    deliver(&bytes, sink)
+    let answer = decode_source(alloc, params, limits, count, source);
+    settle(answer, sink)
 }

@@ -2,7 +2,7 @@
 
 ghost use Rattle.std.specs.Prelude.{◌≡◌, ◌≤◌, IfErr, IfOk, length, true};
 ghost use Rattle.aec_params.specs.declared.fault.Fault.TheVariants.{Memory};
-ghost use Rattle.aec_cli.specs.Devices.{Gave, Input, IsTakenWhole, RefusesIntake, Taking};
+ghost use Rattle.aec_cli.specs.Transfers.{Gave, input_of, IsTakenWhole, RefusesIntake, Taking, taking_of};
 
 use aec_bits::Source;
 use aec_params::Fault;
@@ -18,7 +18,8 @@ pub(crate) fn read_past<R: Source>(
     source: &mut R,
     limit: u64,
 ) -> Result<(Vec<u8>, bool), Fault>
-    ensures ok { IfOk result (λ given. Gave (record { before = R.left source.old; after = R.left source.new; failures = R.failed source.new }) limit (record { bytes = given.0.items; failed = given.1 })) }
+    ensures ok { let took : Taking = taking_of R.left R.failed source.old source.new in
+        IfOk result (λ given. Gave took limit (input_of given.0.items given.1)) }
     ensures within { IfOk result (λ given. given.1 ≡ true → length given.0.items ≤ limit) }
     ensures fault { IfErr result (λ e. e ≡ Memory) }
 {

@@ -8,6 +8,7 @@ ghost use Rattle.aec_params.specs.Codewords.{bytes_of};
 ghost use Rattle.aec_params.specs.Params.{IsHeld};
 ghost use Rattle.aec_bits.specs.Devices.{counted, AppendsFront};
 ghost use Rattle.aec_cli.specs.Output.{all_stored};
+ghost use Rattle.aec_cli.specs.Transfers.{Putting, putting_of, answer_of, Settles};
 
 use aec_bits::{BitBuf, Sink, put_all};
 use aec_params::{Fault, Params, put_sample};
@@ -48,4 +49,13 @@ pub(crate) fn deliver_bits<W: Sink>(bits: &BitBuf, sink: &mut W) -> Result<(), F
 {
     sink.begin()?;
     bits.write_to(sink)
+}
+
+/// Begins, and writes an answer that is ready; or answers its refusal.
+pub(crate) fn settle<W: Sink>(answer: Result<Vec<u8>, Fault>, sink: &mut W) -> Result<(), Fault>
+    ensures { let put : Putting = putting_of W.taken W.begun W.failed sink.old sink.new in
+        Settles put (answer_of (λ bytes. bytes.items) answer) result }
+{
+    let bytes = answer?;
+    deliver(&bytes, sink)
 }

@@ -4,9 +4,9 @@ ghost use Rattle.std.specs.Prelude.{◌≡◌, ◌++◌, true, OnOk};
 ghost use Rattle.aec_bits.specs.Codec.{IsInterval};
 ghost use Rattle.aec_interval.specs.IntervalFormat.{interval_format};
 
-use super::streams::{expect_bits, padded, settings};
+use super::streams::{expect_bits, padded};
 use crate::AecCodec;
-use crate::whole::first_unheld;
+use crate::whole::unheld_index;
 use aec_bits::{BitBuf, Codec};
 use aec_params::{Fault, Params, Settings};
 use std::alloc::Global;
@@ -21,7 +21,7 @@ fn is_interval(codec: &AecCodec, samples: &[i64]) -> bool
     if samples.is_empty() || samples.len() as u64 > codec.interval_len() {
         return false;
     }
-    match first_unheld(&codec.params(), samples) {
+    match unheld_index(&codec.params(), samples) {
         None => true,
         Some(_) => false,
     }
@@ -91,11 +91,11 @@ fn expect_interval(
 fn codes_intervals_behind_other_bits(rt: HostRuntime) -> Result<(), Fail> {
     let ramp = [0, 1, 2, 3, 4, 5, 6, 7];
     let bytes = [0xA4, 0x01, 0x24, 0x92, 0x40];
-    expect_interval(&rt, rt.alloc(), settings(), &ramp, 34, &bytes)?;
+    expect_interval(&rt, rt.alloc(), Settings::USUAL, &ramp, 34, &bytes)?;
     // An interval is padded by its own length, wherever it begins.
     expect_interval(&rt, rt.alloc(), padded(), &[0; 8], 19, &[0xA0, 0x01, 0x00])?;
     expect_interval(&rt, rt.alloc(), padded(), &[7; 5], 19, &[0xA0, 0x0F, 0x00])?;
-    expect_interval(&rt, rt.alloc(), settings(), &[7; 5], 16, &[0xA0, 0x0F])
+    expect_interval(&rt, rt.alloc(), Settings::USUAL, &[7; 5], 16, &[0xA0, 0x0F])
 }
 
 #[test]
@@ -119,7 +119,7 @@ fn decodes_one_interval_of_many(rt: HostRuntime) -> Result<(), Fail> {
 
 #[test]
 fn tells_its_intervals(rt: HostRuntime) -> Result<(), Fail> {
-    let codec = AecCodec::new(rt.alloc(), Params::new(settings())?);
+    let codec = AecCodec::new(rt.alloc(), Params::new(Settings::USUAL)?);
     assert_eq!(rt; codec.interval_len(), 16);
     assert_eq!(rt;
         [
@@ -136,7 +136,7 @@ fn tells_its_intervals(rt: HostRuntime) -> Result<(), Fail> {
 
 #[test]
 fn spends_its_calls(rt: HostRuntime) -> Result<(), Fail> {
-    let params = Params::new(settings())?;
+    let params = Params::new(Settings::USUAL)?;
     let mut codec = AecCodec::with_calls(rt.alloc(), params, u64::MAX - 1);
     assert_eq!(rt; codec.calls(), u64::MAX - 1);
     let mut buf = BitBuf::new(rt.alloc());
@@ -151,7 +151,7 @@ fn spends_its_calls(rt: HostRuntime) -> Result<(), Fail> {
 
 #[test]
 fn codes_nothing_where_no_call_is_left(rt: HostRuntime) -> Result<(), Fail> {
-    let params = Params::new(settings())?;
+    let params = Params::new(Settings::USUAL)?;
     let mut codec = AecCodec::with_calls(rt.alloc(), params, u64::MAX);
     let mut buf = BitBuf::new(rt.alloc());
     assert_eq!(rt; code(&rt, &mut codec, &[7], &mut buf), Err(Fault::Spent));

@@ -1,6 +1,6 @@
 //! Samples coded, and read back.
 
-use super::streams::{expect_code, settings};
+use super::streams::expect_code;
 use crate::encode_all;
 use aec_params::{Fault, Params, Settings};
 use std::alloc::Global;
@@ -9,7 +9,7 @@ use std::test::Fail;
 
 #[test]
 fn codes_one_interval(rt: HostRuntime) -> Result<(), Fail> {
-    let s = settings();
+    let s = Settings::USUAL;
     expect_code(&rt, rt.alloc(), s, &[], 0, &[])?;
     expect_code(&rt, rt.alloc(), s, &[0; 8], 13, &[0x00, 0x08])?;
     let ramp = [0, 1, 2, 3, 4, 5, 6, 7];
@@ -42,7 +42,7 @@ fn codes_one_interval(rt: HostRuntime) -> Result<(), Fail> {
 
 #[test]
 fn codes_intervals_by_themselves(rt: HostRuntime) -> Result<(), Fail> {
-    let s = settings();
+    let s = Settings::USUAL;
     expect_code(&rt, rt.alloc(), s, &[0; 17], 27, &[0x00, 0x04, 0x00, 0x20])?;
     let padded = Settings { pad: true, ..s };
     expect_code(
@@ -67,21 +67,21 @@ fn codes_other_widths(rt: HostRuntime) -> Result<(), Fail> {
         bits: 2,
         interval: 1,
         restricted: true,
-        ..settings()
+        ..Settings::USUAL
     };
     // No compression has the length of the second extension.
     let spike = [0, 0, 0, 0, 0, 0, 0, 3];
     expect_code(&rt, rt.alloc(), narrow, &spike, 17, &[0x80, 0x01, 0x80])?;
     let twelve = Settings {
         bits: 12,
-        ..settings()
+        ..Settings::USUAL
     };
     expect_code(&rt, rt.alloc(), twelve, &[1], 18, &[0x00, 0x00, 0xC0])?;
     expect_code(&rt, rt.alloc(), twelve, &[256], 18, &[0x00, 0x80, 0x40])?;
     let wide = Settings {
         bits: 32,
         signed: true,
-        ..settings()
+        ..Settings::USUAL
     };
     let low = -2147483648;
     let high = 2147483647;
@@ -113,7 +113,7 @@ fn expect_zeros(
     }
     let s = Settings {
         interval: 4096,
-        ..settings()
+        ..Settings::USUAL
     };
     expect_code(rt, alloc, s, &samples, len, bytes)
 }
@@ -161,7 +161,7 @@ fn ends_runs_before_other_blocks(rt: HostRuntime) -> Result<(), Fail> {
 
 #[test]
 fn codes_long_and_short_runs(rt: HostRuntime) -> Result<(), Fail> {
-    let s = settings();
+    let s = Settings::USUAL;
     let long = Settings { interval: 64, ..s };
     expect_code(&rt, rt.alloc(), long, &[0; 40], 17, &[0x00, 0x00, 0x80])?;
     let longer = Settings { interval: 128, ..s };
@@ -179,7 +179,7 @@ fn codes_long_and_short_runs(rt: HostRuntime) -> Result<(), Fail> {
 
 #[test]
 fn refuses_the_first_that_is_no_sample(rt: HostRuntime) -> Result<(), Fail> {
-    let params = Params::new(settings())?;
+    let params = Params::new(Settings::USUAL)?;
     for (samples, index) in [([256, 0, 0], 0), ([0, -1, 256], 1), ([0, 0, 1 << 40], 2)] {
         match encode_all(rt.alloc(), &params, &samples) {
             Ok(_) => assert!(rt; false, "no sample at {index}"),

@@ -1,11 +1,12 @@
 //! Bytes read as samples.
 
-use super::streams::{expect_read, expect_zeros, padded, settings, unprocessed, with_interval};
+use super::streams::{expect_read, expect_zeros, padded, unprocessed, with_interval};
+use aec_params::Settings;
 use std::test::Fail;
 
 #[test]
 fn reads_what_the_count_asks_for(rt: HostRuntime) -> Result<(), Fail> {
-    let s = settings();
+    let s = Settings::USUAL;
     expect_read(&rt, rt.alloc(), s, &[0x00, 0x78], Some(5), &[7; 5])?;
     expect_read(&rt, rt.alloc(), s, &[0x00, 0x78], None, &[7; 8])?;
     // What stands behind the last coded data set that is needed is not read.
@@ -19,7 +20,7 @@ fn reads_what_the_count_asks_for(rt: HostRuntime) -> Result<(), Fail> {
 
 #[test]
 fn ends_at_a_rest_of_zeros(rt: HostRuntime) -> Result<(), Fail> {
-    let s = settings();
+    let s = Settings::USUAL;
     expect_read(&rt, rt.alloc(), s, &[], None, &[])?;
     expect_read(&rt, rt.alloc(), s, &[0x00], None, &[])?;
     expect_read(&rt, rt.alloc(), s, &[0x00; 20], None, &[])?;
@@ -29,7 +30,14 @@ fn ends_at_a_rest_of_zeros(rt: HostRuntime) -> Result<(), Fail> {
 #[test]
 fn reads_runs_to_the_end_of_their_segment(rt: HostRuntime) -> Result<(), Fail> {
     // The remainder code, where fewer than five blocks are left.
-    expect_zeros(&rt, rt.alloc(), settings(), &[0x00, 0x00, 0x80], None, 16)?;
+    expect_zeros(
+        &rt,
+        rt.alloc(),
+        Settings::USUAL,
+        &[0x00, 0x00, 0x80],
+        None,
+        16,
+    )?;
     // At the end of an interval inside a segment.
     let eight = unprocessed(8);
     expect_zeros(&rt, rt.alloc(), eight, &[0x00, 0x80, 0x40], None, 128)?;
@@ -45,7 +53,7 @@ fn reads_other_spellings(rt: HostRuntime) -> Result<(), Fail> {
     expect_read(
         &rt,
         rt.alloc(),
-        settings(),
+        Settings::USUAL,
         &[0x40, 0x15, 0x55, 0x80],
         None,
         &ramp,

@@ -1,12 +1,12 @@
 //! Bytes that are refused, and the bit at which.
 
-use super::streams::{MOST, expect_refusal, expect_zeros, settings, unprocessed, with_interval};
+use super::streams::{MOST, expect_refusal, expect_zeros, unprocessed, with_interval};
 use aec_params::{Fault, Settings};
 use std::test::Fail;
 
 #[test]
 fn refuses_cut_streams(rt: HostRuntime) -> Result<(), Fail> {
-    let s = settings();
+    let s = Settings::USUAL;
     let at_start = Fault::Truncated { bit: 0 };
     let ramp = [0x20, 0x09, 0x24];
     expect_refusal(&rt, rt.alloc(), s, &ramp, None, MOST, at_start)?;
@@ -54,7 +54,15 @@ fn refuses_large_values(rt: HostRuntime) -> Result<(), Fail> {
 fn refuses_long_runs(rt: HostRuntime) -> Result<(), Fail> {
     let past = Fault::RunTooLong { bit: 0 };
     // Three blocks in an interval of two.
-    expect_refusal(&rt, rt.alloc(), settings(), &[0x00, 0x02], None, MOST, past)?;
+    expect_refusal(
+        &rt,
+        rt.alloc(),
+        Settings::USUAL,
+        &[0x00, 0x02],
+        None,
+        MOST,
+        past,
+    )?;
     // 63 blocks in an interval of 62, and in one of 63.
     let long = [0, 0, 0, 0, 0, 0, 0, 0, 0, 0x10];
     expect_refusal(
@@ -84,12 +92,20 @@ fn keeps_limits(rt: HostRuntime) -> Result<(), Fail> {
     expect_refusal(
         &rt,
         rt.alloc(),
-        settings(),
+        Settings::USUAL,
         &[0x00],
         Some(MOST + 1),
         MOST,
         most,
     )?;
     let cut = Fault::Truncated { bit: 0 };
-    expect_refusal(&rt, rt.alloc(), settings(), &[0x00], Some(MOST), MOST, cut)
+    expect_refusal(
+        &rt,
+        rt.alloc(),
+        Settings::USUAL,
+        &[0x00],
+        Some(MOST),
+        MOST,
+        cut,
+    )
 }

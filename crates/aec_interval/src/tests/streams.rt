@@ -12,26 +12,11 @@ use std::test::Fail;
 /// The most samples that may be asked for.
 pub const MOST: u64 = 1 << 32;
 
-/// Settings of 8 bits, blocks of 8 samples and intervals of two blocks, unsigned and with preprocessing.
-pub fn settings() -> Settings {
-    Settings {
-        bits: 8,
-        block_size: 8,
-        interval: 2,
-        signed: false,
-        msb_first: false,
-        three_byte: false,
-        preprocess: true,
-        pad: false,
-        restricted: false,
-    }
-}
-
 /// These settings with intervals of so many blocks.
 pub fn with_interval(interval: u32) -> Settings {
     Settings {
         interval,
-        ..settings()
+        ..Settings::USUAL
     }
 }
 
@@ -40,7 +25,7 @@ pub fn unprocessed(interval: u32) -> Settings {
     Settings {
         interval,
         preprocess: false,
-        ..settings()
+        ..Settings::USUAL
     }
 }
 
@@ -48,7 +33,7 @@ pub fn unprocessed(interval: u32) -> Settings {
 pub fn padded() -> Settings {
     Settings {
         pad: true,
-        ..settings()
+        ..Settings::USUAL
     }
 }
 

@@ -1,4 +1,4 @@
-use super::{PLAIN, restricted, width};
+use super::{restricted, width};
 use crate::fault::Fault;
 use crate::params::Params;
 use crate::settings::Settings;
@@ -9,7 +9,7 @@ const fn shape(bits: u32, block_size: u32, interval: u32) -> Settings {
         bits,
         block_size,
         interval,
-        ..PLAIN
+        ..Settings::USUAL
     }
 }
 
@@ -81,7 +81,8 @@ fn readers_give_the_settings(rt: HostRuntime) -> Result<(), Fail> {
     let params = Params::new(settings)?;
     let copy = params;
     assert_eq!(rt; copy, params);
-    assert!(rt; params != Params::new(PLAIN)?);
+    assert!(rt; params != Params::new(Settings::USUAL)?);
+    assert_eq!(rt; Settings::default(), Settings::USUAL);
     assert_eq!(rt;
         (params.bits(), params.block_size(), params.interval()),
         (20, 64, 4096)

@@ -1,4 +1,4 @@
-use super::{PLAIN, width};
+use super::width;
 use crate::fault::Fault;
 use crate::params::Params;
 use crate::settings::Settings;
@@ -44,7 +44,7 @@ fn reads_whole_samples(rt: HostRuntime) -> Result<(), Fail> {
             &[0x00, 0x00, 0x00, 0x80, 0xff],
             &[2147483648],
         ),
-        (PLAIN, &[], &[]),
+        (Settings::USUAL, &[], &[]),
     ];
     for (settings, bytes, wanted) in cases {
         let samples = read_samples(rt.alloc(), &Params::new(settings)?, bytes)?;

@@ -1,4 +1,4 @@
-use Rattle.aec_bits.specs.RefusalLaws.{overwrite_fits, append_fits, truncate_fits}
+use Rattle.aec_bits.proofs.RefusalLaws.{overwrite_fits, append_fits, truncate_fits}
 use Rattle.aec_bits.proofs.laws.allows_what_fits.Goals as goal
 
 pub returns : goal.returns

@@ -1,4 +1,4 @@
-use Rattle.aec_bits.specs.CodeLaws.{code_of_interval}
+use Rattle.aec_bits.proofs.CodeLaws.{code_of_interval}
 use Rattle.aec_bits.proofs.laws.codes_intervals.Goals as goal
 
 pub returns : goal.returns

@@ -1,4 +1,4 @@
-use Rattle.aec_bits.specs.CodeLaws.{same_samples_follow}
+use Rattle.aec_bits.proofs.CodeLaws.{same_samples_follow}
 use Rattle.aec_bits.proofs.laws.has_one_list.Goals as goal
 
 pub returns : goal.returns

@@ -1,4 +1,4 @@
-use Rattle.aec_bits.specs.RefusalLaws.{overwrite_past, truncate_past}
+use Rattle.aec_bits.proofs.RefusalLaws.{overwrite_past, truncate_past}
 use Rattle.aec_bits.proofs.laws.judges_places_first.Goals as goal
 
 pub returns : goal.returns

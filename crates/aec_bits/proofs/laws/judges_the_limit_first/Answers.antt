@@ -1,4 +1,4 @@
-use Rattle.aec_bits.specs.RefusalLaws.{append_past}
+use Rattle.aec_bits.proofs.RefusalLaws.{append_past}
 use Rattle.aec_bits.proofs.laws.judges_the_limit_first.Goals as goal
 
 pub returns : goal.returns

@@ -1,5 +1,5 @@
 use Rattle.std.proofs.Common.{pos}
-use Rattle.aec_bits.specs.RefusalLaws.{append_first_value, overwrite_first_value}
+use Rattle.aec_bits.proofs.RefusalLaws.{append_first_value, overwrite_first_value}
 use Rattle.aec_bits.proofs.laws.names_the_first_value.Goals as goal
 
 pub returns : goal.returns

@@ -1,4 +1,4 @@
-use Rattle.aec_bits.specs.CodeLaws.{code_of_around}
+use Rattle.aec_bits.proofs.CodeLaws.{code_of_around}
 use Rattle.aec_bits.proofs.laws.stands_between.Goals as goal
 
 pub returns : goal.returns

@@ -1,6 +1,6 @@
 use Rattle.std.proofs.Common.{◌≡◌, ◌+◌, ◌*◌, ◌≤◌, length}
 use Rattle.std.specs.Slice.Iter.{chunks_rest, chunks_size}
-use Rattle.aec_params.specs.Intervals.{plain_bits}
+use Rattle.aec_params.specs.Intervals.{unpadded_bits}
 use Rattle.aec_interval.proofs.SegmentLemmas.{IntervalSoFar}
 use Rattle.aec_interval.proofs.interval.write_segments.Given as goal
 
@@ -10,5 +10,5 @@ invariant-loop-segment l = record {
   is_finite : (goal.iterator-loop-segment).is_finite l.segment-iterator;
   room : l.initial.out.room + length l.initial.out.list ≤ l.out.room + length l.out.list;
   size : chunks_size l.segment-iterator ≡ l.params.block_size * 64;
-  so_far : IntervalSoFar l.params l.initial.out.list l.out.list (plain_bits l.params l.fn.samples) l.preceding (chunks_rest l.segment-iterator);
+  so_far : IntervalSoFar l.params l.initial.out.list l.out.list (unpadded_bits l.params l.fn.samples) l.preceding (chunks_rest l.segment-iterator);
 }

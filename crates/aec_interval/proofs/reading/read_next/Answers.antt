@@ -10,22 +10,22 @@ returns-in_err-cds-clause-refuses c =
     unread-refuses _ _ _ _ c.args.reader.now c.args.reader.now _ _ c.interval.ensures.allowed c.requires.reached c.requires.wanted
     _ _ _ refl (c.from.ensures ∙ c.interval.ensures.value) c.has_reference.ensures _ _ _ exit.1 exit.2 c.in_err-cds.ensures.refuses
 
-pub returns-then-blocks-segment_left-clause-refuses : goal.returns-then-blocks-segment_left-clause-refuses
-returns-then-blocks-segment_left-clause-refuses c =
+pub returns-then-blocks-blocks_left-clause-refuses : goal.returns-then-blocks-blocks_left-clause-refuses
+returns-then-blocks-blocks_left-clause-refuses c =
     long-refuses _ _ _ _ c.args.reader.now c.read_cds.new.reader _ _ c.interval.ensures.allowed c.requires.reached c.requires.wanted
     _ _ _ refl (c.from.ensures ∙ c.interval.ensures.value) c.has_reference.ensures
-    _ _ _ c.in_ok-cds.ensures.ok c.block_count-blocks.ensures c.segment_left.ensures.value
-    _ c.pos-bit.ensures.value c.if-blocks-segment_left.true
+    _ _ _ c.in_ok-cds.ensures.ok c.block_count-blocks.ensures c.blocks_left.ensures.value
+    _ c.pos-bit.ensures.value c.if-blocks-blocks_left.true
 
-pub returns-then-not-keeps_limit-clause-refuses : goal.returns-then-not-keeps_limit-clause-refuses
-returns-then-not-keeps_limit-clause-refuses c =
+pub returns-then-not-within_limit-clause-refuses : goal.returns-then-not-within_limit-clause-refuses
+returns-then-not-within_limit-clause-refuses c =
     many-refuses _ _ _ _ c.args.reader.now c.read_cds.new.reader _ _ c.interval.ensures.allowed c.requires.reached c.requires.wanted
     _ _ _ refl (c.from.ensures ∙ c.interval.ensures.value) c.has_reference.ensures
-    _ _ _ c.in_ok-cds.ensures.ok c.block_count-blocks.ensures c.segment_left.ensures.value
-    c.if-blocks-segment_left.false (sym c.keeps_limit.ensures ∙ c.if-not-keeps_limit.true)
+    _ _ _ c.in_ok-cds.ensures.ok c.block_count-blocks.ensures c.blocks_left.ensures.value
+    c.if-blocks-blocks_left.false (sym c.within_limit.ensures ∙ c.if-not-within_limit.true)
 
-pub kept_count-kept-requires : goal.kept_count-kept-requires
-kept_count-kept-requires c =
+pub blocks_kept-kept-requires : goal.blocks_kept-kept-requires
+blocks_kept-kept-requires c =
     few-wanted c.args.params.now c.args.wanted.count c.args.reader.now.list c.args.block c.args.reader.now.pos c.requires.wanted
 
 pub push_cds-requires-clause-filled : goal.push_cds-requires-clause-filled
@@ -35,35 +35,35 @@ pub push_cds-requires-clause-next : goal.push_cds-requires-clause-next
 push_cds-requires-clause-next c =
     next-cds _ _ _ _ c.args.reader.now c.read_cds.new.reader _ _ c.interval.ensures.allowed c.requires.reached c.requires.wanted
     _ _ _ refl (c.from.ensures ∙ c.interval.ensures.value) c.has_reference.ensures
-    _ _ _ c.in_ok-cds.ensures.ok c.block_count-blocks.ensures c.segment_left.ensures.value
-    _ c.if-blocks-segment_left.false c.kept_count-kept.ensures
+    _ _ _ c.in_ok-cds.ensures.ok c.block_count-blocks.ensures c.blocks_left.ensures.value
+    _ c.if-blocks-blocks_left.false c.blocks_kept-kept.ensures
 
 pub returns-in_err-push_cds-clause-refuses : goal.returns-in_err-push_cds-clause-refuses
 returns-in_err-push_cds-clause-refuses c =
     let exit = err_from_is_err_and c.from_residual-in_err-push_cds.result c.from_residual-in_err-push_cds.ensures.1 in
     memory-refuses _ _ _ _ c.args.reader.now c.read_cds.new.reader _ _ c.interval.ensures.allowed c.requires.reached c.requires.wanted
     _ _ _ refl (c.from.ensures ∙ c.interval.ensures.value) c.has_reference.ensures
-    _ _ _ c.in_ok-cds.ensures.ok c.block_count-blocks.ensures c.segment_left.ensures.value
-    _ _ _ c.if-blocks-segment_left.false (sym c.keeps_limit.ensures ∙ c.if-not-keeps_limit.false)
+    _ _ _ c.in_ok-cds.ensures.ok c.block_count-blocks.ensures c.blocks_left.ensures.value
+    _ _ _ c.if-blocks-blocks_left.false (sym c.within_limit.ensures ∙ c.if-not-within_limit.false)
     exit.1 exit.2 c.in_err-push_cds.ensures.fault
 
 pub returns-clause-ok : goal.returns-clause-ok
 returns-clause-ok c =
     reached-next _ _ _ _ c.args.reader.now c.read_cds.new.reader _ _ c.interval.ensures.allowed c.requires.reached c.requires.wanted
     _ _ _ refl (c.from.ensures ∙ c.interval.ensures.value) c.has_reference.ensures
-    _ _ _ c.in_ok-cds.ensures.ok c.block_count-blocks.ensures c.segment_left.ensures.value
-    _ _ _ _ c.if-blocks-segment_left.false c.kept_count-kept.ensures (sym c.keeps_limit.ensures ∙ c.if-not-keeps_limit.false)
+    _ _ _ c.in_ok-cds.ensures.ok c.block_count-blocks.ensures c.blocks_left.ensures.value
+    _ _ _ _ c.if-blocks-blocks_left.false c.blocks_kept-kept.ensures (sym c.within_limit.ensures ∙ c.if-not-within_limit.false)
     c.in_ok-push_cds.ensures.ok c.skip_padding.ensures.list c.skip_padding.ensures.pos
 
 pub returns-clause-forward : goal.returns-clause-forward
 returns-clause-forward c =
     forward-next _ _ _ _ c.args.reader.now c.read_cds.new.reader _ _ c.interval.ensures.allowed c.requires.reached c.requires.wanted
     _ _ _ refl (c.from.ensures ∙ c.interval.ensures.value) c.has_reference.ensures
-    _ _ _ c.in_ok-cds.ensures.ok c.block_count-blocks.ensures c.segment_left.ensures.value
+    _ _ _ c.in_ok-cds.ensures.ok c.block_count-blocks.ensures c.blocks_left.ensures.value
 
 pub returns-clause-few : goal.returns-clause-few
 returns-clause-few c =
     few-next _ _ _ _ c.args.reader.now c.read_cds.new.reader _ _ c.interval.ensures.allowed c.requires.reached c.requires.wanted
     _ _ _ refl (c.from.ensures ∙ c.interval.ensures.value) c.has_reference.ensures
-    _ _ _ c.in_ok-cds.ensures.ok c.block_count-blocks.ensures c.segment_left.ensures.value
-    c.if-blocks-segment_left.false (sym c.keeps_limit.ensures ∙ c.if-not-keeps_limit.false) c.requires.limit c.requires.counted
+    _ _ _ c.in_ok-cds.ensures.ok c.block_count-blocks.ensures c.blocks_left.ensures.value
+    c.if-blocks-blocks_left.false (sym c.within_limit.ensures ∙ c.if-not-within_limit.false) c.requires.limit c.requires.counted

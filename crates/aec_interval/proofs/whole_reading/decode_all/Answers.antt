@@ -10,5 +10,5 @@ returns-in_err-judge_count-clause-refuses c =
 
 pub returns-clause-refuses : goal.returns-clause-refuses
 returns-clause-refuses c =
-    decoding-refuses c.read_samples.result c.args.params.now c.args.count c.args.limit c.args.bits.now.list
-    c.in_ok-judge_count.ensures c.read_samples.ensures.refuses
+    decoding-refuses c.decode_from.result c.args.params.now c.args.count c.args.limit c.args.bits.now.list
+    c.in_ok-judge_count.ensures c.decode_from.ensures.refuses

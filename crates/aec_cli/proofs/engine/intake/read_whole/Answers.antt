@@ -1,6 +1,6 @@
 use Rattle.std.proofs.Common.{arith}
 use Rattle.std.proofs.lemmas.Result.{err_from_is_err_and}
-use Rattle.aec_cli.specs.Devices.{source_failed, too_many_bytes}
+use Rattle.aec_cli.specs.Transfers.{source_failed, too_many_bytes}
 use Rattle.aec_cli.proofs.DeviceLemmas.{refused_by_memory}
 use Rattle.aec_cli.proofs.engine.intake.read_whole.Goals as goal
 

@@ -1,0 +1,30 @@
+use Rattle.std.proofs.Common.{◌≡◌, ◌+◌, ◌∷◌, [], ℕ, None, arith, subst, sym}
+use Rattle.aec_params.specs.Blocks.{Block}
+use Rattle.aec_interval.specs.NextBlock.{IsNextBlock, FillsNext, run_blocks}
+use Rattle.aec_interval.specs.Reached.{AreFilled}
+use Rattle.aec_interval.proofs.ZeroRunLemmas.{zero_block-next, AreFilled-next, length-run_blocks, no_reference-later, FillsNext-push}
+use Rattle.aec_interval.proofs.reading_runs.push_zero_run.Goals as goal
+
+pub push_block-requires-clause-next : goal.push_block-requires-clause-next
+push_block-requires-clause-next c =
+    subst (λ (b : Block). IsNextBlock c.args.params.now c.args.samples.now.items b) (sym c.block_of_zeros.ensures)
+    (zero_block-next c.args.params.now c.args.block c.args.samples.now.items c.args.reference c.requires.allowed c.requires.filled c.requires.due)
+
+pub push_block-requires-in-loop-clause-next : goal.push_block-requires-in-loop-clause-next
+push_block-requires-in-loop-clause-next c =
+    let filled : AreFilled c.args.params.now (c.args.block + c.loop.counter) c.loop.samples.items =
+    AreFilled-next c.args.params.now c.args.block c.loop.counter c.args.samples.now.items c.loop.samples.items (run_blocks c.args.params.now c.args.reference c.loop.counter)
+    c.requires.filled c.loop.invariant (length-run_blocks c.args.params.now c.args.reference c.loop.counter) in
+    subst (λ (b : Block). IsNextBlock c.args.params.now c.loop.samples.items b) (sym c.block_of_zeros-later.ensures)
+    (zero_block-next c.args.params.now (c.args.block + c.loop.counter) c.loop.samples.items None c.requires.allowed filled
+    (no_reference-later c.args.params.now c.args.block c.loop.counter c.loop.auto.counter (omega (arith, c.requires.within, c.loop-test.true))))
+
+pub loop-preserved : goal.loop-preserved
+loop-preserved c =
+    FillsNext-push c.args.params.now c.args.samples.now.items c.loop.samples.items c.push_block-in-loop.new.samples.items c.args.reference c.loop.counter c.loop.auto.counter c.loop.invariant
+    (subst (λ (b : Block). FillsNext c.args.params.now c.loop.samples.items c.push_block-in-loop.new.samples.items (b ∷ [])) c.block_of_zeros-later.ensures c.in_ok-push_block-2.ensures.ok)
+
+pub returns-clause-ok : goal.returns-clause-ok
+returns-clause-ok c =
+    let last : c.loop.counter ≡ c.args.blocks = omega (arith, c.loop.auto.counter-end c.requires.some, c.loop-test.false) in
+    subst (λ (z : ℕ). FillsNext c.args.params.now c.args.samples.now.items c.loop.samples.items (run_blocks c.args.params.now c.args.reference z)) last c.loop.invariant

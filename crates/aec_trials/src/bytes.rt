@@ -1,0 +1,54 @@
+//! Bytes in memory.
+
+use crate::shared::DEFAULTS;
+use aec_cli::{decode_bytes, encode_bytes};
+use aec_params::{Fault, Limits, Params, Settings};
+use std::test::Fail;
+
+const RAMP: [u8; 8] = [0, 1, 2, 3, 4, 5, 6, 7];
+
+// The code of the ramp, from the examples of FORMAT.md.
+const RAMP_CODED: [u8; 4] = [0x20, 0x09, 0x24, 0x92];
+
+#[test]
+fn bytes_are_coded_and_decoded(rt: HostRuntime) -> Result<(), Fail> {
+    let params = Params::new(DEFAULTS)?;
+    let limits = Limits::new(8, 8).ok_or("limits")?;
+    let coded = encode_bytes(rt.alloc(), &params, limits, &RAMP)?;
+    assert_eq!(rt; coded.as_slice(), RAMP_CODED.as_slice());
+    for (count, expected) in [(None, 8), (Some(8), 8), (Some(3), 3), (Some(0), 0)] {
+        assert!(rt; expected <= 8);
+        let bytes = decode_bytes(rt.alloc(), &params, limits, count, &coded)?;
+        assert_eq!(rt; bytes.as_slice(), &RAMP[..expected], "with {count:?}");
+    }
+    Ok(())
+}
+
+#[test]
+fn bytes_are_refused(rt: HostRuntime) -> Result<(), Fail> {
+    let five_bits = Params::new(Settings {
+        bits: 5,
+        ..DEFAULTS
+    })?;
+    let params = Params::new(DEFAULTS)?;
+    let limits = Limits::new(2, 3).ok_or("limits")?;
+    let coding = [
+        ([31, 32].as_slice(), Fault::SampleRange { index: 1 }),
+        ([31, 31, 32].as_slice(), Fault::TooManySamples { limit: 2 }),
+        ([32, 0, 0].as_slice(), Fault::SampleRange { index: 0 }),
+    ];
+    for (bytes, fault) in coding {
+        let refusal = encode_bytes(rt.alloc(), &five_bits, limits, bytes).err();
+        assert_eq!(rt; refusal, Some(fault), "of {bytes:?}");
+    }
+    let decoding = [
+        (RAMP_CODED.as_slice(), None, Fault::StreamTooLong { limit: 3 }),
+        (b"".as_slice(), Some(3), Fault::TooManySamples { limit: 2 }),
+        (b"\x20".as_slice(), Some(1), Fault::Truncated { bit: 0 }),
+    ];
+    for (coded, count, fault) in decoding {
+        let refusal = decode_bytes(rt.alloc(), &params, limits, count, coded).err();
+        assert_eq!(rt; refusal, Some(fault), "of {coded:?}");
+    }
+    Ok(())
+}

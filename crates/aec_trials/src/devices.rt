@@ -1,0 +1,169 @@
+//! Sources and sinks that give, take and fail as a test says.
+
+use aec_bits::{Sink, Source};
+use aec_params::Fault;
+use std::alloc::Global;
+
+/// Gives bytes, at most `step` a call. Behind them it ends, or fails.
+#[derive(Drop)]
+pub(crate) struct Pieces<'a> {
+    rest: &'a [u8],
+    step: usize,
+    fails: bool,
+    failed: bool,
+}
+
+impl<'a> Pieces<'a> {
+    /// Ends behind the bytes.
+    pub(crate) fn whole(bytes: &'a [u8], step: usize) -> Pieces<'a> {
+        Pieces {
+            rest: bytes,
+            step,
+            fails: false,
+            failed: false,
+        }
+    }
+
+    /// Fails behind the bytes.
+    pub(crate) fn torn(bytes: &'a [u8], step: usize) -> Pieces<'a> {
+        Pieces {
+            rest: bytes,
+            step,
+            fails: true,
+            failed: false,
+        }
+    }
+}
+
+impl<'a> Source for Pieces<'a> {
+    ghost use Rattle.std.specs.Prelude.{None, if◌then◌else◌};
+
+    ghost left = { λ _. None };
+
+    ghost failed = { λ s. if s.failed then 1 else 0 };
+
+    fn take(&mut self, buf: &mut [u8]) -> Result<usize, Fault> {
+        if self.failed {
+            return Err(Fault::Read);
+        }
+        if self.fails && self.rest.is_empty() {
+            self.failed = true;
+            return Err(Fault::Read);
+        }
+        let count = self.step.min(self.rest.len()).min(buf.len());
+        let (front, rest) = self.rest.split_at(count);
+        buf[..count].copy_from_slice(front);
+        self.rest = rest;
+        Ok(count)
+    }
+
+    fn failures(&self) -> u64 {
+        u64::from(self.failed)
+    }
+}
+
+/// Gives the same byte for ever.
+#[derive(Drop)]
+pub(crate) struct Endless {
+    pub(crate) byte: u8,
+}
+
+impl Source for Endless {
+    ghost use Rattle.std.specs.Prelude.{None};
+
+    ghost left = { λ _. None };
+
+    ghost failed = { λ _. 0 };
+
+    fn take(&mut self, buf: &mut [u8]) -> Result<usize, Fault> {
+        buf.fill(self.byte);
+        Ok(buf.len())
+    }
+
+    fn failures(&self) -> u64 {
+        0
+    }
+}
+
+/// Keeps what it takes: at most `step` bytes a call, and `room` in all; then it fails. One that is shut fails at `begin`.
+#[derive(Drop)]
+pub(crate) struct Basin {
+    pub(crate) bytes: Vec<u8>,
+    step: usize,
+    room: usize,
+    shut: bool,
+    failed: bool,
+    begins: u64,
+}
+
+impl Basin {
+    /// Takes all that comes.
+    pub(crate) fn deep(alloc: Global) -> Basin {
+        Basin::of(alloc, 64, 1 << 20)
+    }
+
+    /// Takes at most `step` bytes a call, and `room` in all.
+    pub(crate) fn of(alloc: Global, step: usize, room: usize) -> Basin {
+        Basin {
+            bytes: Vec::new(alloc),
+            step,
+            room,
+            shut: false,
+            failed: false,
+            begins: 0,
+        }
+    }
+
+    /// Fails at `begin`.
+    pub(crate) fn shut(alloc: Global) -> Basin {
+        Basin {
+            bytes: Vec::new(alloc),
+            step: 64,
+            room: 64,
+            shut: true,
+            failed: false,
+            begins: 0,
+        }
+    }
+}
+
+impl Sink for Basin {
+    ghost use Rattle.std.specs.Prelude.{None, if◌then◌else◌};
+
+    ghost taken = { λ _. None };
+
+    ghost failed = { λ s. if s.failed then 1 else 0 };
+
+    ghost begun = { λ s. s.begins };
+
+    fn begin(&mut self) -> Result<(), Fault> {
+        self.begins = self.begins.saturating_add(1);
+        if self.failed || self.shut {
+            self.failed = true;
+            return Err(Fault::Write);
+        }
+        Ok(())
+    }
+
+    fn put(&mut self, piece: &[u8]) -> Result<usize, Fault> {
+        if self.failed {
+            return Err(Fault::Write);
+        }
+        let count = self.step.min(self.room).min(piece.len());
+        let refused = count == 0 && !piece.is_empty();
+        if refused || self.bytes.extend_from_slice(&piece[..count]).is_err() {
+            self.failed = true;
+            return Err(Fault::Write);
+        }
+        self.room -= count;
+        Ok(count)
+    }
+
+    fn failures(&self) -> u64 {
+        u64::from(self.failed)
+    }
+
+    fn begins(&self) -> u64 {
+        self.begins
+    }
+}

@@ -1,0 +1,32 @@
+//! Tests alone: what no clause of `aec_cli` says, and values from outside for it and the crates below. They stand here
+//! because a crate with tests is proved twice, and the must-fail edits of `aec_cli` wait for its proof.
+#![tactic(auto)]
+
+#[cfg(test)]
+mod bytes;
+#[cfg(test)]
+mod coded_files;
+#[cfg(test)]
+mod cut_streams;
+#[cfg(test)]
+mod devices;
+#[cfg(test)]
+mod engines;
+#[cfg(test)]
+mod files;
+#[cfg(test)]
+mod limits;
+#[cfg(test)]
+mod ranges;
+#[cfg(test)]
+mod refused_files;
+#[cfg(test)]
+mod scripts;
+#[cfg(test)]
+mod shared;
+#[cfg(test)]
+mod unsynced_files;
+#[cfg(test)]
+mod widths;
+#[cfg(test)]
+mod words;

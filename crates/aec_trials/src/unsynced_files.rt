@@ -1,0 +1,136 @@
+//! A DEST that takes all bytes and then can't be synced.
+
+use crate::shared::run_of;
+use std::alloc::Allocator;
+use std::fs;
+use std::fs::{Files, Metadata, OpenFile, OpenOptions};
+use std::io;
+use std::io::{ErrorKind, Read, Seek, SeekFrom, Write};
+use std::test::Fail;
+
+// The files of another runtime, whose syncs all fail so.
+#[derive(Drop)]
+struct Unsynced<'a, F: Files> {
+    rt: &'a F,
+    kind: ErrorKind,
+}
+
+#[derive(Drop)]
+struct UnsyncedFile<T: Drop> {
+    file: T,
+    kind: ErrorKind,
+}
+
+impl<T: Read + Drop> Read for UnsyncedFile<T> {
+    fn read(&mut self, buf: &mut [u8]) -> io::Result<usize> {
+        self.file.read(buf)
+    }
+}
+
+impl<T: Write + Drop> Write for UnsyncedFile<T> {
+    fn write(&mut self, buf: &[u8]) -> io::Result<usize> {
+        self.file.write(buf)
+    }
+
+    fn flush(&mut self) -> io::Result<()> {
+        self.file.flush()
+    }
+}
+
+impl<T: Seek + Drop> Seek for UnsyncedFile<T> {
+    fn seek(&mut self, to: SeekFrom) -> io::Result<u64> {
+        self.file.seek(to)
+    }
+}
+
+impl<T: OpenFile + Drop> OpenFile for UnsyncedFile<T> {
+    fn metadata(&self) -> io::Result<Metadata> {
+        self.file.metadata()
+    }
+
+    fn set_len(&self, size: u64) -> io::Result<()> {
+        self.file.set_len(size)
+    }
+
+    fn sync_all(&self) -> io::Result<()> {
+        Err(io::Error::from(self.kind))
+    }
+
+    fn sync_data(&self) -> io::Result<()> {
+        Err(io::Error::from(self.kind))
+    }
+}
+
+impl<'a, F: Files> Files for Unsynced<'a, F> {
+    type File = UnsyncedFile<F::File>;
+
+    type Dir = F::Dir;
+
+    fn open_file(&self, how: &OpenOptions, path: &str) -> io::Result<UnsyncedFile<F::File>> {
+        let file = self.rt.open_file(how, path)?;
+        Ok(UnsyncedFile {
+            file,
+            kind: self.kind,
+        })
+    }
+
+    fn open_dir(&self, path: &str) -> io::Result<F::Dir> {
+        self.rt.open_dir(path)
+    }
+
+    fn metadata(&self, path: &str) -> io::Result<Metadata> {
+        self.rt.metadata(path)
+    }
+
+    fn symlink_metadata(&self, path: &str) -> io::Result<Metadata> {
+        self.rt.symlink_metadata(path)
+    }
+
+    fn copy(&self, from: &str, to: &str) -> io::Result<u64> {
+        self.rt.copy(from, to)
+    }
+
+    fn rename(&self, from: &str, to: &str) -> io::Result<()> {
+        self.rt.rename(from, to)
+    }
+
+    fn remove_file(&self, path: &str) -> io::Result<()> {
+        self.rt.remove_file(path)
+    }
+
+    fn create_dir(&self, path: &str) -> io::Result<()> {
+        self.rt.create_dir(path)
+    }
+
+    fn remove_dir(&self, path: &str) -> io::Result<()> {
+        self.rt.remove_dir(path)
+    }
+
+    fn remove_dir_all<B: Allocator>(&self, alloc: B, path: &str) -> io::Result<()> {
+        self.rt.remove_dir_all(alloc, path)
+    }
+}
+
+#[test]
+fn a_dest_that_is_not_synced_is_a_failure(rt: HostRuntime) -> Result<(), Fail> {
+    // The errors of a full disk, of a quota and of a broken one; the last two are of files that have nothing to sync.
+    let cases = [
+        (ErrorKind::StorageFull, 1, "aec: write failed\n"),
+        (ErrorKind::QuotaExceeded, 1, "aec: write failed\n"),
+        (ErrorKind::Other, 1, "aec: write failed\n"),
+        (ErrorKind::InvalidInput, 0, ""),
+        (ErrorKind::Unsupported, 0, ""),
+    ];
+    fs::write(&rt, "unsynced.in", b"\x00\x01\x02\x03\x04\x05\x06\x07".as_slice())?;
+    for (kind, expected, text) in cases {
+        let unsynced = Unsynced { rt: &rt, kind };
+        let words = ["aec", "unsynced.in", "unsynced.out"];
+        let (status, _out, err) = run_of(&unsynced, rt.alloc(), words.as_slice())?;
+        assert_eq!(rt; status, expected, "at {kind:?}");
+        assert_eq!(rt; str::from_utf8(err.as_slice())?, text, "at {kind:?}");
+        assert_eq!(rt; fs::read(&rt, "unsynced.out")?.as_slice(), b"\x20\x09\x24\x92".as_slice());
+    }
+    fs::remove_file(&rt, "unsynced.in")?;
+    fs::remove_file(&rt, "unsynced.out")?;
+    Ok(())
+}
