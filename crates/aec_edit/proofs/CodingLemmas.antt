@@ -4,7 +4,7 @@ use Rattle.std.specs.Int.{div_ceil}
 use Rattle.std.proofs.lemmas.List.{take_min, drop_min, length-drop}
 use Rattle.aec_params.proofs.CuttingLaws.{div_ceil-step}
 use Rattle.aec_bits.specs.Codec.{Format, AreHeld, IsLawful, code_of}
-use Rattle.aec_bits.specs.CodeLaws.{code_of_first}
+use Rattle.aec_bits.proofs.CodeLaws.{code_of_first}
 use Rattle.aec_edit.specs.Index.{starts_of}
 use Rattle.aec_edit.proofs.HeldLemmas.{held-drop}
 use Rattle.aec_edit.proofs.StartLemmas.{starts_of_first}

@@ -1,7 +1,7 @@
 -- What is known of the samples that a workspace keeps.
 use Rattle.std.proofs.Common.{◌≡◌, ℕ, ◌-◌, ◌*◌, ◌<◌, ◌≤◌, min, Bool, List, [], length, take, drop, get_or, ℤ, refl, sym, ap, ◌∙◌, subst, arith}
 use Rattle.aec_bits.specs.Codec.{Format, AreHeld, IsLawful, BeginsAt, code_of}
-use Rattle.aec_bits.specs.CodeLaws.{code_of-nil, code_of_first, same_samples}
+use Rattle.aec_bits.proofs.CodeLaws.{code_of-nil, code_of_first, same_samples}
 use Rattle.std.proofs.lemmas.List.{length-take, length-drop, take_all}
 use Rattle.aec_edit.specs.Workspace.{Contents, interval_count, start_of}
 use Rattle.aec_edit.specs.Index.{IsKept, KeptSamples, kept_samples, starts_of}

@@ -3,7 +3,7 @@ use Rattle.std.proofs.Common.{◌≡◌, ℕ, ◌+◌, ◌-◌, ◌*◌, ◌<◌
 use Rattle.std.specs.Result.{OnOk, OnErr}
 use Rattle.std.proofs.lemmas.List.{append-nil, length-take, length-drop, drop_all}
 use Rattle.aec_bits.specs.Codec.{Format, IsLawful, code_of}
-use Rattle.aec_bits.specs.CodeLaws.{code_of-nil, code_of-append}
+use Rattle.aec_bits.proofs.CodeLaws.{code_of-nil, code_of-append}
 use Rattle.aec_edit.specs.Workspace.{interval_count, start_of}
 use Rattle.aec_edit.specs.Index.{IsKept, starts_of}
 use Rattle.aec_edit.specs.Changes.{IsRecoding, recoded}

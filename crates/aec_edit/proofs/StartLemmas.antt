@@ -8,7 +8,7 @@ use Rattle.std.proofs.lemmas.List.{append-nil, nil_from_length, length-take, len
 use Rattle.aec_params.specs.Cutting.{pieces_of}
 use Rattle.aec_params.proofs.CuttingLaws.{length-pieces_of, div_ceil-zero, div_ceil-step}
 use Rattle.aec_bits.specs.Codec.{Format, code_of}
-use Rattle.aec_bits.specs.CodeLaws.{pieces_of_first, pieces_of-nil, pieces_of-append, code_of-nil, code_of-append, code_of_split}
+use Rattle.aec_bits.proofs.CodeLaws.{pieces_of_first, pieces_of-nil, pieces_of-append, code_of-nil, code_of-append, code_of_split}
 use Rattle.aec_edit.specs.Workspace.{interval_count, start_of}
 use Rattle.aec_edit.proofs.CountLemmas.{before_end}
 use Rattle.aec_edit.specs.Index.{piece_starts, starts_of}

@@ -5,7 +5,7 @@ use Rattle.std.proofs.Common.{sym, ◌∙◌}
 use Rattle.std.proofs.Props.{props}
 use mathlib.Core.HLevel.{Σ_prop_path}
 use Rattle.aec_bits.specs.Codec.{Format, AreHeld, IsLawful, code_of}
-use Rattle.aec_bits.specs.CodeLaws.{same_samples}
+use Rattle.aec_bits.proofs.CodeLaws.{same_samples}
 
 -- where pieces begin that are coded one after the other from a place on
 abbrev pub piece_starts : (List ℤ → List Bool) → ℕ → List (List ℤ) → List ℕ
