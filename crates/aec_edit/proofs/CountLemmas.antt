@@ -21,7 +21,7 @@ ceil_bounds m n h =
     ]
 
 -- one product is a whole n below the other
-row_below : (i k n : ℕ) → i < k → i * n + n ≤ k * n
+pub row_below : (i k n : ℕ) → i < k → i * n + n ≤ k * n
 row_below i k n h = omega (arith, mul-le-mul_right {m = i + 1} {n = k} n (omega arith))
 
 pub ceil_unique : (m n k : ℕ) → m ≤ k * n → k * n < m + n → div_ceil m n ≡ k

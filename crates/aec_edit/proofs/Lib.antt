@@ -1,3 +1,5 @@
+pub mod RunLemmas
+pub mod RunLaws
 pub mod CountLemmas
 pub mod HeldLemmas
 pub mod StartLemmas
@@ -5,5 +7,9 @@ pub mod CodingLemmas
 pub mod KeptLemmas
 pub mod IndexLemmas
 pub mod RecodingLemmas
-pub mod RunLemmas
-pub mod RunLaws
+pub mod ExchangeLemmas
+pub mod OpenLemmas
+pub mod CallLemmas
+pub mod AnswerLemmas
+pub mod OverwriteLemmas
+pub mod RangeLemmas

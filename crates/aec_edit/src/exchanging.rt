@@ -3,6 +3,7 @@
 use crate::workspace::Workspace;
 use aec_bits::Codec;
 use aec_params::Fault;
+use std::alloc::Global;
 
 impl<C: Codec> Workspace<C> {
     ghost use Rattle.std.specs.Prelude.{◌≡◌, ◌<◌, ◌≤◌, ◌++◌, true, length, IfOk, OnOk, OnErr, IfErr, MatchResult};
@@ -55,12 +56,7 @@ impl<C: Codec> Workspace<C> {
         let head = (first % most) as usize;
         let tail = (self.count().min(stop.div_ceil(most) * most) - stop) as usize;
         let ends = self.end_intervals(first, stop)?;
-        let mut fresh = Vec::new(self.alloc());
-        fresh.reserve(head + values.len() + tail)?;
-        fresh.extend_from_slice(&ends[..head])?;
-        fresh.extend_from_slice(values)?;
-        fresh.extend_from_slice(&ends[ends.len() - tail..])?;
-        Ok(fresh)
+        join(self.alloc(), &ends, head, values, tail)
     }
 
     /// The first and the last interval that an exchange touches, where they keep a sample.
@@ -130,4 +126,21 @@ impl<C: Codec> Workspace<C> {
         }
         Ok(())
     }
+}
+
+ghost use Rattle.std.specs.Prelude.{◌≡◌, ◌+◌, ◌-◌, ◌<◌, ◌≤◌, ◌++◌, length, take, drop, IfOk, IfErr};
+ghost use Rattle.aec_params.specs.declared.fault.Fault.TheVariants.{Memory};
+
+/// Values between the front and the end of a list. `Memory` where a growth was refused.
+fn join(alloc: Global, ends: &[i64], head: usize, values: &[i64], tail: usize) -> Result<Vec<i64>, Fault>
+    requires head { head ≤ length ends.now }
+    requires tail { tail ≤ length ends.now }
+    ensures ok { IfOk result (λ v. v.items ≡ take head ends.now ++ (values.now ++ drop (length ends.now - tail) ends.now)) }
+    ensures fault { IfErr result (λ e. (e ≡ Memory) × (0 < head + (length values.now + tail))) }
+{
+    let mut joined = Vec::new(alloc);
+    joined.extend_from_slice(&ends[..head])?;
+    joined.extend_from_slice(values)?;
+    joined.extend_from_slice(&ends[ends.len() - tail..])?;
+    Ok(joined)
 }

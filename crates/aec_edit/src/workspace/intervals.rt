@@ -34,6 +34,7 @@ impl<C: Codec> Workspace<C> {
         ensures some { 1 ≤ (C.format self.now.codec).most }
         ensures few { (C.format self.now.codec).most ≤ 262144 }
         ensures limit { self.now.limit ≤ 2 ^ 32 }
+        ensures held { AreHeld (C.format self.now.codec) self.now.samples }
     {
         let _ = &self.coded;
         self.codec.interval_len()
