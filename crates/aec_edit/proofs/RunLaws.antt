@@ -74,7 +74,7 @@ refusal_no_want f limit s (Truncate count) = chosen_no_want (ltb (length s) coun
 due_no_want : (f : Format) (limit : ℕ) (s : List ℤ) (calls : ℕ) (e : Edit) → IsNoWant (due_refusal f limit s calls e)
 due_no_want f limit s calls e =
     or_no_want (refusal_of f limit s e) (want_of_calls calls (needed_calls f.most (length s) e)) (refusal_no_want f limit s e)
-    (chosen_no_want (ltb (2 ^ 64 - 1) (calls + needed_calls f.most (length s) e)) (Some Spent) None (λ e. cc) tt)
+    (chosen_no_want (ltb (2 ^ 64 - 1 - calls) (needed_calls f.most (length s) e)) (Some Spent) None (λ e. cc) tt)
 
 -- where nothing is due there are calls enough
 calls_left : (x : Option Fault) (b : Bool) → option_or x (cond b (Some Spent) None) ≡ None → b ≡ false
@@ -94,7 +94,7 @@ answer_by : (f : Format) (limit : ℕ) (s : List ℤ) (calls : ℕ) (e : Edit) (
     → IsAnswered f limit s calls e
 answer_by f limit s calls e None h is no_want =
     let needed : ℕ = needed_calls f.most (length s) e in
-    let left = ltb-false (2 ^ 64 - 1) (calls + needed) (calls_left (refusal_of f limit s e) (ltb (2 ^ 64 - 1) (calls + needed)) is) in
+    let left = ltb-false (2 ^ 64 - 1 - calls) needed (calls_left (refusal_of f limit s e) (ltb (2 ^ 64 - 1 - calls) needed) is) in
     record {
       outcome = Done needed;
       after = calls + needed;

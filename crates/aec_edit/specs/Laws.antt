@@ -37,7 +37,7 @@ pub record CodesNothing (n old : ℕ) : Type 0 where
 -- an edit that codes nothing and fits is made, whatever memory there is
 abbrev pub IsAlwaysMade : Type 0
 IsAlwaysMade = (f : Format) (limit : ℕ) (s : List ℤ) (calls : ℕ) (e : Edit) (outcome : Outcome) (after : ℕ)
-    → calls < 2 ^ 64 → refusal_of f limit s e ≡ None → needed_calls f.most (length s) e ≡ 0
+    → refusal_of f limit s e ≡ None → needed_calls f.most (length s) e ≡ 0
     → Answers f limit s calls e outcome after → (outcome ≡ Done 0) × (after ≡ calls)
 
 pub record EditsThatCodeNothingAreMade : Type 0 where
