@@ -8,7 +8,7 @@ use Rattle.std.proofs.lemmas.List.{append-nil, nil_from_length, length-take, len
 use Rattle.aec_params.specs.Cutting.{pieces_of}
 use Rattle.aec_params.proofs.CuttingLaws.{length-pieces_of, div_ceil-zero, div_ceil-step}
 use Rattle.aec_bits.specs.Codec.{Format, code_of}
-use Rattle.aec_bits.proofs.CodeLaws.{pieces_of_first, pieces_of-nil, pieces_of-append, code_of-nil, code_of-append, code_of_split}
+use Rattle.aec_bits.proofs.CodeLaws.{pieces_of-step, pieces_of-nil, pieces_of-append, code_of-nil, code_of-append, code_of_split}
 use Rattle.aec_edit.specs.Workspace.{interval_count, start_of}
 use Rattle.aec_edit.proofs.CountLemmas.{before_end}
 use Rattle.aec_edit.specs.Index.{piece_starts, starts_of}
@@ -78,10 +78,10 @@ take-pieces_of {X} n (suc i) (x ∷ xs) h =
     let some : 0 < length (take (suc i * n) all) = omega (arith, length-take (suc i * n) all) in
     let front : take n (take (suc i * n) all) ≡ take n all = take-take n (suc i * n) all (omega arith) in
     let rest : drop n (take (suc i * n) all) ≡ take (i * n) (drop n all) = ap (λ k. drop n (take k all)) grown ∙ drop-take n (i * n) all in
-    ap (take (suc i)) (pieces_of_first n all h (omega arith))
+    ap (take (suc i)) (pieces_of-step n all h (omega arith))
     ∙ ap (λ l. take n all ∷ l) (take-pieces_of n i (drop n all) h ∙ ap (pieces_of n) (sym rest))
     ∙ ap (λ p. p ∷ pieces_of n (drop n (take (suc i * n) all))) (sym front)
-    ∙ sym (pieces_of_first n (take (suc i * n) all) h some)
+    ∙ sym (pieces_of-step n (take (suc i * n) all) h some)
 
 -- ---- the starts of samples
 
@@ -107,7 +107,7 @@ starts_of-append f place k a b h whole =
 -- the first interval, and the others
 pub starts_of_first : (f : Format) (place : ℕ) (s : List ℤ) → 1 ≤ f.most → 0 < length s
     → starts_of f place s ≡ place ∷ starts_of f (place + length (f.bits_of (take f.most s))) (drop f.most s)
-starts_of_first f place s h some = ap (piece_starts f.bits_of place) (pieces_of_first f.most s h some)
+starts_of_first f place s h some = ap (piece_starts f.bits_of place) (pieces_of-step f.most s h some)
 
 pub starts_of-add : (f : Format) (base : ℕ) (s : List ℤ) → map (λ x. base + x) (starts_of f 0 s) ≡ starts_of f base s
 starts_of-add f base s =
