@@ -51,15 +51,18 @@ module _ (n first stop : ℕ) (s : List ℤ) (some : 0 < n) (order : first ≤ s
             let is = ap (λ l. l ++ last_samples n first stop s) (first_there (opens_first-head n (length s) first stop keeps)) in
             let len : length opened ≡ min n (length s - first / n * n) = omega (arith, length-take n (drop (first / n * n) s), length-drop (first / n * n) s) in
             let in_front : first % n ≤ length opened = omega (arith, begins.1, begins.2) in
-            let sum : first / n * n + first % n ≡ first = begins.2 in
-            (omega (arith, ap length is, length-append opened (last_samples n first stop s)),
-            ap (take (first % n)) is ∙ take-append-le (first % n) opened (last_samples n first stop s) in_front
-            ∙ take-take (first % n) n (drop (first / n * n) s) (omega (arith, begins.1, begins.2))
-            ∙ sym (drop-take (first / n * n) (first % n) s) ∙ ap (λ m. drop (first / n * n) (take m s)) sum)
+            let sum : first / n * n + first % n ≡ first = begins.2 in (
+              omega (arith, ap length is, length-append opened (last_samples n first stop s)),
+              ap (take (first % n)) is ∙ take-append-le (first % n) opened (last_samples n first stop s) in_front
+                  ∙ take-take (first % n) n (drop (first / n * n) s) (omega (arith, begins.1, begins.2))
+                  ∙ sym (drop-take (first / n * n) (first % n) s) ∙ ap (λ m. drop (first / n * n) (take m s)) sum,
+            )
         | inr whole ↦
-            let none : first % n ≡ 0 = omega (arith, begins.2) in
-            (omega arith, ap (λ m. take m (end_samples n first stop s)) none
-            ∙ sym (drop_all (first / n * n) (take first s) (omega (arith, length-take first s))))
+            let none : first % n ≡ 0 = omega (arith, begins.2) in (
+              omega arith,
+              ap (λ m. take m (end_samples n first stop s)) none
+                  ∙ sym (drop_all (first / n * n) (take first s) (omega (arith, length-take first s))),
+            )
       ]
 
   -- the tail stands at the end
@@ -71,9 +74,11 @@ module _ (n first stop : ℕ) (s : List ℤ) (some : 0 < n) (order : first ≤ s
       let after = ends_after n first stop some order in
       elim (cases_lt stop (min (length s) (div_ceil stop n * n))) [
         | inr none ↦
-            let zero_tail : min (length s) (div_ceil stop n * n) - stop ≡ 0 = omega arith in
-            (omega arith, drop_all (length (end_samples n first stop s) - (min (length s) (div_ceil stop n * n) - stop)) (end_samples n first stop s) (omega arith)
-            ∙ sym (drop_all stop (take (div_ceil stop n * n) s) (omega (arith, length-take (div_ceil stop n * n) s))))
+            let zero_tail : min (length s) (div_ceil stop n * n) - stop ≡ 0 = omega arith in (
+              omega arith,
+              drop_all (length (end_samples n first stop s) - (min (length s) (div_ceil stop n * n) - stop)) (end_samples n first stop s) (omega arith)
+                  ∙ sym (drop_all stop (take (div_ceil stop n * n) s) (omega (arith, length-take (div_ceil stop n * n) s))),
+            )
         | inl keeps ↦
             elim (cases_lt (first / n + 1) (div_ceil stop n)) [
               | inl more ↦ last_tail keeps more
@@ -105,10 +110,11 @@ module _ (n first stop : ℕ) (s : List ℤ) (some : 0 < n) (order : first ≤ s
           let part : opened ≡ drop from (take to s) = sym (drop-take from n s) ∙ ap (λ m. drop from (take m s)) sum in
           let len : length opened ≡ min n (length s - from) = omega (arith, length-take n (drop from s), length-drop from s) in
           let past : length (end_samples n first stop s) - (min (length s) to - stop) ≡ stop - from = omega (arith, ap length is, begins.0) in
-          let whole : from + (stop - from) ≡ stop = omega (arith, begins.0) in
-          (omega (arith, ap length is, begins.0),
-          ap (λ m. drop m (end_samples n first stop s)) past ∙ ap (drop (stop - from)) (is ∙ part) ∙ drop-drop (stop - from) from (take to s)
-          ∙ ap (λ m. drop m (take to s)) whole)
+          let whole : from + (stop - from) ≡ stop = omega (arith, begins.0) in (
+            omega (arith, ap length is, begins.0),
+            ap (λ m. drop m (end_samples n first stop s)) past ∙ ap (drop (stop - from)) (is ∙ part) ∙ drop-drop (stop - from) from (take to s)
+                ∙ ap (λ m. drop m (take to s)) whole,
+          )
 
       last_tail : stop < min (length s) to → first / n + 1 < div_ceil stop n
           → (min (length s) to - stop ≤ length (end_samples n first stop s))
@@ -125,11 +131,12 @@ module _ (n first stop : ℕ) (s : List ℤ) (some : 0 < n) (order : first ≤ s
           let len : length opened ≡ min n (length s - from) = omega (arith, length-take n (drop from s), length-drop from s) in
           let total : length (end_samples n first stop s) ≡ length front + length opened = ap length is ∙ length-append front opened in
           let past : length (end_samples n first stop s) - (min (length s) to - stop) ≡ length front + (stop - from) = omega (arith, back.1) in
-          let whole : from + (stop - from) ≡ stop = omega (arith, back.1) in
-          (omega (arith, back.1),
-          ap (λ m. drop m (end_samples n first stop s)) past ∙ ap (drop (length front + (stop - from))) is
-          ∙ sym (drop-drop (stop - from) (length front) (front ++ opened)) ∙ ap (drop (stop - from)) (drop_at front opened (length front) refl ∙ part)
-          ∙ drop-drop (stop - from) from (take to s) ∙ ap (λ m. drop m (take to s)) whole)
+          let whole : from + (stop - from) ≡ stop = omega (arith, back.1) in (
+            omega (arith, back.1),
+            ap (λ m. drop m (end_samples n first stop s)) past ∙ ap (drop (length front + (stop - from))) is
+                ∙ sym (drop-drop (stop - from) (length front) (front ++ opened)) ∙ ap (drop (stop - from)) (drop_at front opened (length front) refl ∙ part)
+                ∙ drop-drop (stop - from) from (take to s) ∙ ap (λ m. drop m (take to s)) whole,
+          )
 
   -- how many there are
   pub opened_some : 0 < opened_ends n (length s) first stop → 0 < first % n + (min (length s) (div_ceil stop n * n) - stop)

@@ -136,15 +136,25 @@ overwrite_opens n old first len h some =
           let count : (first + len - 1) / n - first / n + 1 ≡ suc (suc ((first + len - 1) / n - first / n - 1)) = omega arith in
           let end : first / n + suc ((first + len - 1) / n - first / n - 1) ≡ div_ceil (first + len) n - 1 = omega arith in
           let both = filter_ends (keeps_a_sample n old first len) (first / n) ((first + len - 1) / n - first / n - 1) in
-          omega (arith, both, touched, ap (λ k. length (filter (keeps_a_sample n old first len) (range_with_len (first / n) k))) count,
-          ap (λ k. one_if (keeps_a_sample n old first len k)) end)
+          omega (
+            arith,
+            both,
+            touched,
+            ap (λ k. length (filter (keeps_a_sample n old first len) (range_with_len (first / n) k))) count,
+            ap (λ k. one_if (keeps_a_sample n old first len k)) end,
+          )
       | inr one ↦
           let none = one_if_none (opens_last n old first (first + len)) (opens_last-one n old first (first + len) (omega arith)) in
           let count : (first + len - 1) / n - first / n + 1 ≡ suc 0 = omega arith in
           let e : first / n + 0 ≡ first / n = omega arith in
           let alone = filter_last (keeps_a_sample n old first len) (first / n) 0 in
-          omega (arith, alone, touched, ap (λ k. length (filter (keeps_a_sample n old first len) (range_with_len (first / n) k))) count,
-          ap (λ k. one_if (keeps_a_sample n old first len k)) e)
+          omega (
+            arith,
+            alone,
+            touched,
+            ap (λ k. length (filter (keeps_a_sample n old first len) (range_with_len (first / n) k))) count,
+            ap (λ k. one_if (keeps_a_sample n old first len k)) e,
+          )
     ]
 
 -- ---- the answer

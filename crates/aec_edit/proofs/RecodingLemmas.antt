@@ -60,8 +60,13 @@ module _ (f : Format) (limit from to : ℕ) (s fresh : List ℤ) (lawful : IsLaw
       record {
         held = held-append f.holds (take (from * f.most) s) (fresh ++ drop (to * f.most) s) (held-take f.holds (from * f.most) s kept.held)
             (held-append f.holds fresh (drop (to * f.most) s) fits.held (held-drop f.holds (to * f.most) s kept.held));
-        count_is = omega (arith, length-append (take (from * f.most) s) (fresh ++ drop (to * f.most) s), length-append fresh (drop (to * f.most) s),
-        length-drop (to * f.most) s, front_len);
+        count_is = omega (
+          arith,
+          length-append (take (from * f.most) s) (fresh ++ drop (to * f.most) s),
+          length-append fresh (drop (to * f.most) s),
+          length-drop (to * f.most) s,
+          front_len,
+        );
         bits_are =
             bits_is
             ∙ ap (λ l. take start l ++ (fresh_bits ++ drop stop l)) kept.bits_are

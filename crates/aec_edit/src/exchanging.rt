@@ -132,7 +132,13 @@ ghost use Rattle.std.specs.Prelude.{◌≡◌, ◌+◌, ◌-◌, ◌<◌, ◌≤
 ghost use Rattle.aec_params.specs.declared.fault.Fault.TheVariants.{Memory};
 
 /// Values between the front and the end of a list. `Memory` where a growth was refused.
-fn join(alloc: Global, ends: &[i64], head: usize, values: &[i64], tail: usize) -> Result<Vec<i64>, Fault>
+fn join(
+    alloc: Global,
+    ends: &[i64],
+    head: usize,
+    values: &[i64],
+    tail: usize,
+) -> Result<Vec<i64>, Fault>
     requires head { head ≤ length ends.now }
     requires tail { tail ≤ length ends.now }
     ensures ok { IfOk result (λ v. v.items ≡ take head ends.now ++ (values.now ++ drop (length ends.now - tail) ends.now)) }

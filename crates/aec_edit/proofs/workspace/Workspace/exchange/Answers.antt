@@ -19,7 +19,7 @@ code-requires-clause-calls g c =
     let seen = c.args.self.now in
     let f : Format = g.C.Codec.format seen.codec in
     let count = fresh_count f seen.limit c.args.first c.args.stop seen.samples c.args.values.now (g.C.Codec.lawful seen.codec)
-        c.interval_len-most.ensures.held c.requires in
+    c.interval_len-most.ensures.held c.requires in
     let needed = needed_is _ f.most c.args.first (length c.args.values.now) _ c.interval_len-most.ensures.value c.div_ceil.ensures in
     rw (c.in_ok-fresh.ensures.format, c.deref.ensures.value, c.in_ok-fresh.ensures.ok, count) (omega (arith, needed, c.in_ok-fresh.ensures.calls))
 
@@ -30,7 +30,7 @@ returns-in_err-coded-clause-answer g c =
     let f : Format = g.C.Codec.format seen.codec in
     let needed = needed_is _ f.most c.args.first (length c.args.values.now) _ c.interval_len-most.ensures.value c.div_ceil.ensures in
     let count = count_at f _ _ _ (exchange_calls f.most c.args.first (length c.args.values.now)) c.in_ok-fresh.ensures.format (c.deref.ensures.value ∙ c.in_ok-fresh.ensures.ok)
-        (fresh_count f seen.limit c.args.first c.args.stop seen.samples c.args.values.now (g.C.Codec.lawful seen.codec) c.interval_len-most.ensures.held c.requires) in
+    (fresh_count f seen.limit c.args.first c.args.stop seen.samples c.args.values.now (g.C.Codec.lawful seen.codec) c.interval_len-most.ensures.held c.requires) in
     rw p.1
     (lacks_memory (exchange_calls f.most c.args.first (length c.args.values.now)) (g.C.Codec.called seen.codec) (g.C.Codec.called c.code.new.self.codec) p.0 (omega (arith, needed))
     (p.2 ∙ c.in_err-coded.ensures.fault.0)
@@ -57,7 +57,7 @@ returns-in_err-put-clause-answer g c =
     let f : Format = g.C.Codec.format seen.codec in
     let needed = needed_is _ f.most c.args.first (length c.args.values.now) _ c.interval_len-most.ensures.value c.div_ceil.ensures in
     let count = count_at f _ _ _ (exchange_calls f.most c.args.first (length c.args.values.now)) c.in_ok-fresh.ensures.format (c.deref.ensures.value ∙ c.in_ok-fresh.ensures.ok)
-        (fresh_count f seen.limit c.args.first c.args.stop seen.samples c.args.values.now (g.C.Codec.lawful seen.codec) c.interval_len-most.ensures.held c.requires) in
+    (fresh_count f seen.limit c.args.first c.args.stop seen.samples c.args.values.now (g.C.Codec.lawful seen.codec) c.interval_len-most.ensures.held c.requires) in
     let called = ap g.C.Codec.called c.in_err-put.ensures.codec in
     rw p.1
     (lacks_memory (exchange_calls f.most c.args.first (length c.args.values.now)) (g.C.Codec.called seen.codec) (g.C.Codec.called c.put.new.self.codec) p.0 (omega (arith, needed))
@@ -73,7 +73,7 @@ returns-clause-answer g c =
     let f : Format = g.C.Codec.format seen.codec in
     let needed = needed_is _ f.most c.args.first (length c.args.values.now) _ c.interval_len-most.ensures.value c.div_ceil.ensures in
     let count = count_at f _ _ _ (exchange_calls f.most c.args.first (length c.args.values.now)) c.in_ok-fresh.ensures.format (c.deref.ensures.value ∙ c.in_ok-fresh.ensures.ok)
-        (fresh_count f seen.limit c.args.first c.args.stop seen.samples c.args.values.now (g.C.Codec.lawful seen.codec) c.interval_len-most.ensures.held c.requires) in
+    (fresh_count f seen.limit c.args.first c.args.stop seen.samples c.args.values.now (g.C.Codec.lawful seen.codec) c.interval_len-most.ensures.held c.requires) in
     let called = ap g.C.Codec.called c.in_ok-put.ensures.codec in
     record {
       left = calls_left (g.C.Codec.called seen.codec) (exchange_calls f.most c.args.first (length c.args.values.now)) (omega (arith, needed));

@@ -13,7 +13,7 @@ returns-in_err-ends-clause-fault g c =
     let s : List ℤ = c.args.self.now.samples in
     let opened = opened_some f.most c.args.first c.args.stop s (g.C.Codec.lawful c.args.self.now.codec).some c.requires.order c.requires.within c.in_err-ends.ensures.fault.1 in
     let codes = codes_some f c.args.self.now.limit c.args.first c.args.stop s c.args.values.now (g.C.Codec.lawful c.args.self.now.codec) c.count.ensures.held c.requires
-        (omega (arith, opened)) in
+    (omega (arith, opened)) in
     rw (p.1, p.2) (c.in_err-ends.ensures.fault.0, codes)
 
 pub join-requires-clause-head : goal.join-requires-clause-head
@@ -46,7 +46,9 @@ returns-clause-fault g c =
     let s : List ℤ = c.args.self.now.samples in
     let head : c.args.first % c.interval_len-most.result ≡ c.args.first % f.most = ap (λ n. c.args.first % n) c.interval_len-most.ensures.value in
     let end = touched_end _ _ _ f.most _ c.args.stop _ c.count.ensures.value c.interval_len-most.ensures.value c.div_ceil.ensures c.min.ensures in
-    IfErr-weaker c.join.result _ _ (λ fault lacks.
-    (lacks.0, codes_some f c.args.self.now.limit c.args.first c.args.stop s c.args.values.now (g.C.Codec.lawful c.args.self.now.codec) c.count.ensures.held c.requires
-    (omega (arith, lacks.1, head, end))))
+    IfErr-weaker c.join.result _ _ (λ fault lacks. (
+      lacks.0,
+      codes_some f c.args.self.now.limit c.args.first c.args.stop s c.args.values.now (g.C.Codec.lawful c.args.self.now.codec) c.count.ensures.held c.requires
+          (omega (arith, lacks.1, head, end)),
+    ))
     c.join.ensures.fault
