@@ -16,3 +16,4 @@ pub mod ValueLemmas
 pub mod ScriptNumberLemmas
 pub mod ScriptLineLemmas
 pub mod InMemoryLemmas
+pub mod EditedStreamLemmas

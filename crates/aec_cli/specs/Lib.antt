@@ -13,3 +13,4 @@ pub mod OutputExamples
 pub mod Actions
 pub mod InMemory
 pub mod Laws
+pub mod EditedStreams
