@@ -149,3 +149,5 @@ undecoded_in_memory s caps count source sink coded fault f before sound memory o
     by_answer : (f ≡ Memory) ⊎ IsDecoded s caps count (input_of coded false) (Err f) → (f ≡ Memory) ⊎ RefusesCoded s caps count coded f
     by_answer (inl lacks) = inl lacks
     by_answer (inr answered) = inr (refusal_of s caps count coded (Err f) f refl answered)
+
+pub ruleset coded = (coded_in_memory)

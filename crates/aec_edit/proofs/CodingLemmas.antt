@@ -1,0 +1,53 @@
+-- One interval more is coded.
+use Rattle.std.proofs.Common.{◌≡◌, ℕ, suc, ◌+◌, ◌-◌, ◌<◌, min, Bool, List, [], ◌∷◌, ◌++◌, length, take, drop, ℤ, sym, ap, ◌∙◌, arith, append_assoc, length-append}
+use Rattle.std.specs.Int.{div_ceil}
+use Rattle.std.proofs.lemmas.List.{take_min, drop_min, length-drop}
+use Rattle.aec_params.proofs.CuttingLaws.{div_ceil-step}
+use Rattle.aec_bits.specs.Codec.{Format, AreHeld, IsLawful, code_of}
+use Rattle.aec_bits.proofs.CodeLaws.{code_of_first}
+use Rattle.aec_edit.specs.Index.{starts_of}
+use Rattle.aec_edit.proofs.HeldLemmas.{held-drop}
+use Rattle.aec_edit.proofs.StartLemmas.{starts_of_first}
+
+-- samples whose first interval is one list, and whose others another
+pub record SplitsFirst (f : Format) (rest interval later : List ℤ) : Type 0 where
+  pub interval_is : interval ≡ take (min f.most (length rest)) rest
+  pub later_is : later ≡ drop (min f.most (length rest)) rest
+  pub some : 0 < length rest
+
+pub later_held : (f : Format) {rest interval later : List ℤ} → SplitsFirst f rest interval later → AreHeld f rest → AreHeld f later
+later_held f {rest = rest} split held = rw split.later_is (held-drop f.holds (min f.most (length rest)) rest held)
+
+pub one_call_less : (f : Format) {rest interval later : List ℤ} → IsLawful f → SplitsFirst f rest interval later
+    → div_ceil (length rest) f.most ≡ suc (div_ceil (length later) f.most)
+one_call_less f {rest = rest} lawful split =
+    div_ceil-step (length rest) f.most lawful.some split.some
+    ∙ ap (λ m. suc (div_ceil m f.most)) (sym (ap length (split.later_is ∙ drop_min f.most rest) ∙ length-drop f.most rest))
+
+-- the bits so far, and those of the first interval
+pub bits_more : (f : Format) {rest interval later : List ℤ} (bits bits' all : List Bool) → IsLawful f → SplitsFirst f rest interval later
+    → all ≡ bits ++ code_of f rest → bits' ≡ bits ++ f.bits_of interval → all ≡ bits' ++ code_of f later
+bits_more f {rest = rest} {interval = interval} {later = later} bits bits' all lawful split so_far grown =
+    so_far
+    ∙ ap (λ l. bits ++ l)
+    (code_of_first f rest lawful.some split.some
+    ∙ ap (λ l. f.bits_of l ++ code_of f (drop f.most rest)) (sym (split.interval_is ∙ take_min f.most rest))
+    ∙ ap (λ l. f.bits_of interval ++ code_of f l) (sym (split.later_is ∙ drop_min f.most rest)))
+    ∙ sym (append_assoc bits (f.bits_of interval) (code_of f later))
+    ∙ ap (λ l. l ++ code_of f later) (sym grown)
+
+-- the starts so far, and the next one
+pub starts_more : (f : Format) {rest interval later : List ℤ} (bits bits' : List Bool) (starts starts' all : List ℕ) (place : ℕ) → IsLawful f
+    → SplitsFirst f rest interval later → all ≡ starts ++ starts_of f (length bits) rest → place ≡ length bits
+    → starts' ≡ starts ++ place ∷ [] → bits' ≡ bits ++ f.bits_of interval → all ≡ starts' ++ starts_of f (length bits') later
+starts_more f {rest = rest} {interval = interval} {later = later} bits bits' starts starts' all place lawful split so_far here pushed grown =
+    let next : length bits + length (f.bits_of interval) ≡ length bits' = sym (ap length grown ∙ length-append bits (f.bits_of interval)) in
+    so_far
+    ∙ ap (λ l. starts ++ l)
+    (starts_of_first f (length bits) rest lawful.some split.some
+    ∙ ap (λ l. length bits ∷ starts_of f (length bits + length (f.bits_of l)) (drop f.most rest)) (sym (split.interval_is ∙ take_min f.most rest))
+    ∙ ap (λ l. length bits ∷ starts_of f (length bits + length (f.bits_of interval)) l) (sym (split.later_is ∙ drop_min f.most rest))
+    ∙ ap (λ n. length bits ∷ starts_of f n later) next)
+    ∙ sym (append_assoc starts (length bits ∷ []) (starts_of f (length bits') later))
+    ∙ ap (λ n. (starts ++ n ∷ []) ++ starts_of f (length bits') later) (sym here)
+    ∙ ap (λ l. l ++ starts_of f (length bits') later) (sym pushed)

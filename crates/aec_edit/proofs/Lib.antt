@@ -1,0 +1,13 @@
+pub mod CountLemmas
+pub mod HeldLemmas
+pub mod StartLemmas
+pub mod CodingLemmas
+pub mod KeptLemmas
+pub mod IndexLemmas
+pub mod RecodingLemmas
+pub mod ExchangeLemmas
+pub mod OpenLemmas
+pub mod CallLemmas
+pub mod AnswerLemmas
+pub mod OverwriteLemmas
+pub mod RangeLemmas

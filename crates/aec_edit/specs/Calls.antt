@@ -1,0 +1,35 @@
+-- Why an edit or a range is refused where there is memory, and how many intervals are decoded for it.
+use Rattle.std.specs.Prelude.{◌≡◌, ℕ, ◌+◌, ◌-◌, ◌^◌, ◌≤◌, nat_lt, if◌then◌else◌, Option, Some, None, List, ℤ, length, is_some}
+use Rattle.std.specs.Option.{option_or}
+use Rattle.aec_params.specs.declared.fault.Fault.{Fault}
+use Rattle.aec_params.specs.declared.fault.Fault.TheVariants.{Spent, Memory, OutOfRange}
+use Rattle.aec_params.specs.declared.edit.Edit.{Edit}
+use Rattle.aec_params.specs.Edits.{needed_calls, opened_intervals}
+use Rattle.aec_bits.specs.Codec.{Format}
+use Rattle.aec_bits.specs.Refusals.{refusal_of}
+
+-- after so many calls, fewer are left of 2^64 - 1 than are needed
+abbrev pub want_of_calls : ℕ → ℕ → Option Fault
+want_of_calls calls needed = if nat_lt (2 ^ 64 - 1 - calls) needed then Some Spent else None
+
+-- what an edit of the samples s is refused for where there is memory: it does not fit, or too few calls are left
+abbrev pub due_refusal : Format → ℕ → List ℤ → ℕ → Edit → Option Fault
+due_refusal f limit s calls e = option_or (refusal_of f limit s e) (want_of_calls calls (needed_calls f.most (length s) e))
+
+-- how many intervals an edit may decode: none where it is refused for more than want of memory
+abbrev pub opened_at_most : Format → ℕ → List ℤ → ℕ → Edit → ℕ
+opened_at_most f limit s calls e = if is_some (due_refusal f limit s calls e) then 0 else opened_intervals f.most (length s) e
+
+-- a count that rises by at most so many
+pub record RisesAtMost (by old new : ℕ) : Type 0 where
+  pub stays : old ≤ new
+  pub few : new ≤ old + by
+
+-- why the samples from a place on, of so many, are refused
+abbrev pub range_refusal : ℕ → ℕ → ℕ → Option Fault
+range_refusal count first len = if nat_lt count (first + len) then Some (OutOfRange count) else None
+
+-- a refusal that is due, or want of memory where none is
+abbrev pub IsDue : Option Fault → Fault → Type 0
+IsDue (Some due) fault = fault ≡ due
+IsDue None fault = fault ≡ Memory

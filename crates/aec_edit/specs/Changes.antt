@@ -1,0 +1,87 @@
+-- What the private functions do to the samples: places are exchanged for values, and for that intervals for fresh samples.
+use Rattle.std.specs.Prelude.{◌≡◌, ℕ, ◌+◌, ◌-◌, ◌*◌, ◌/◌, ◌≤◌, ◌<◌, ◌⊎◌, min, Bool, ◌||◌, ◌&&◌, nat_lt, ◌==◌, if◌then◌else◌, None, MatchOption, is_some, List, [], ◌++◌, length, take, drop, ℤ}
+use Rattle.std.specs.Int.{div_ceil}
+use Rattle.aec_bits.specs.Codec.{Format, AreHeld}
+use Rattle.aec_params.specs.declared.fault.Fault.{Fault}
+use Rattle.aec_edit.specs.Workspace.{interval_count}
+use Rattle.aec_edit.specs.Calls.{want_of_calls}
+use Rattle.aec_edit.specs.Steps.{LacksMemory}
+
+-- the samples with the places from first up to stop exchanged for values
+abbrev pub exchanged : ℕ → ℕ → List ℤ → List ℤ → List ℤ
+exchanged first stop values s = take first s ++ (values ++ drop stop s)
+
+-- an exchange that a workspace can make: the values take as many places, or reach the end
+pub record IsExchange (f : Format) (limit : ℕ) (s : List ℤ) (first stop : ℕ) (values : List ℤ) : Type 0 where
+  pub order : first ≤ stop
+  pub within : stop ≤ length s
+  pub held : AreHeld f values
+  pub fitting : (stop ≡ length s) ⊎ (stop ≡ first + length values)
+  pub few : first + length values + (length s - stop) ≤ limit
+
+-- how many intervals it codes, of n samples each
+abbrev pub exchange_calls : ℕ → ℕ → ℕ → ℕ
+exchange_calls n first len = div_ceil (first + len) n - first / n
+
+-- the samples with the intervals from number from up to number to exchanged for fresh samples
+abbrev pub recoded : Format → ℕ → ℕ → List ℤ → List ℤ → List ℤ
+recoded f from to fresh s = exchanged (from * f.most) (to * f.most) fresh s
+
+-- intervals that can be exchanged: the fresh samples fill whole intervals, or reach the end
+pub record IsRecoding (f : Format) (limit : ℕ) (s : List ℤ) (from to : ℕ) (fresh : List ℤ) : Type 0 where
+  pub order : from ≤ to
+  pub within : to ≤ interval_count f s
+  pub begins : from * f.most ≤ length s
+  pub held : AreHeld f fresh
+  pub fitting : (length s ≤ to * f.most) ⊎ (length fresh ≡ (to - from) * f.most)
+  pub few : from * f.most + length fresh + (length s - to * f.most) ≤ limit
+
+-- what the interval of a place keeps in front of it
+abbrev pub head_of : ℕ → ℕ → List ℤ → List ℤ
+head_of n first s = drop (first / n * n) (take first s)
+
+-- what is kept from a place on, up to the end of the intervals that the places before it touch
+abbrev pub tail_of : ℕ → ℕ → List ℤ → List ℤ
+tail_of n stop s = drop stop (take (div_ceil stop n * n) s)
+
+-- whether the first touched interval keeps a sample: in front of the places, or behind them where it is the last one too
+abbrev pub opens_first : ℕ → ℕ → ℕ → ℕ → Bool
+opens_first n count first stop =
+    nat_lt (first / n * n) first || (nat_lt stop (min count (div_ceil stop n * n)) && (first / n + 1 == div_ceil stop n))
+
+-- whether the last touched interval is another one, and keeps a sample
+abbrev pub opens_last : ℕ → ℕ → ℕ → ℕ → Bool
+opens_last n count first stop = nat_lt stop (min count (div_ceil stop n * n)) && nat_lt (first / n + 1) (div_ceil stop n)
+
+-- one where a test holds, else none
+abbrev pub one_if : Bool → ℕ
+one_if b = if b then 1 else 0
+
+-- how many intervals an exchange decodes
+abbrev pub opened_ends : ℕ → ℕ → ℕ → ℕ → ℕ
+opened_ends n count first stop = one_if (opens_first n count first stop) + one_if (opens_last n count first stop)
+
+-- the samples of these intervals
+abbrev pub first_samples : ℕ → ℕ → ℕ → List ℤ → List ℤ
+first_samples n first stop s = if opens_first n (length s) first stop then take n (drop (first / n * n) s) else []
+
+abbrev pub last_samples : ℕ → ℕ → ℕ → List ℤ → List ℤ
+last_samples n first stop s = if opens_last n (length s) first stop then take n (drop ((div_ceil stop n - 1) * n) s) else []
+
+abbrev pub end_samples : ℕ → ℕ → ℕ → List ℤ → List ℤ
+end_samples n first stop s = first_samples n first stop s ++ last_samples n first stop s
+
+-- an exchange that was made: calls were left for it, and each interval was coded once
+pub record IsExchanged (needed calls coded after : ℕ) : Type 0 where
+  pub left : want_of_calls calls needed ≡ None
+  pub coded_is : coded ≡ needed
+  pub calls_are : after ≡ calls + needed
+
+-- an exchange that was refused: no calls were left for it, or memory was wanting
+abbrev pub IsNotExchanged : ℕ → ℕ → Fault → ℕ → Type 0
+IsNotExchanged needed calls fault after =
+    MatchOption (want_of_calls calls needed) (LacksMemory needed calls fault after) (λ due. (fault ≡ due) × (after ≡ calls))
+
+-- how many intervals it may decode
+abbrev pub opened_by : ℕ → ℕ → ℕ → ℕ
+opened_by needed calls opened = if is_some (want_of_calls calls needed) then 0 else opened

@@ -1,0 +1,5 @@
+pub mod Workspace
+pub mod Calls
+pub mod Steps
+pub mod Index
+pub mod Changes

@@ -1,0 +1,18 @@
+-- A workspace as its callers see it.
+use Rattle.std.specs.Prelude.{ℕ, ◌*◌, ℤ, List, length, take}
+use Rattle.std.specs.Int.{div_ceil}
+use Rattle.aec_bits.specs.Codec.{Format, code_of}
+
+-- the samples, the most of them that there may be, and the codec with its counts of calls
+pub record Contents (C : Type 0) : Type 0 where
+  pub samples : List ℤ
+  pub limit : ℕ
+  pub codec : C
+
+-- how many intervals samples fill
+abbrev pub interval_count : Format → List ℤ → ℕ
+interval_count f s = div_ceil (length s) f.most
+
+-- where interval i begins in the code of samples: after the code of the samples before it
+abbrev pub start_of : Format → List ℤ → ℕ → ℕ
+start_of f s i = length (code_of f (take (i * f.most) s))

@@ -1,0 +1,152 @@
+//! The one operation behind every edit: places are exchanged for values.
+
+use crate::workspace::Workspace;
+use aec_bits::Codec;
+use aec_params::Fault;
+use std::alloc::Global;
+
+impl<C: Codec> Workspace<C> {
+    ghost use Rattle.std.specs.Prelude.{◌≡◌, ◌<◌, ◌≤◌, ◌++◌, true, length, IfOk, OnOk, OnErr, IfErr, MatchResult};
+    ghost use Rattle.aec_params.specs.declared.fault.Fault.TheVariants.{Memory};
+    ghost use Rattle.aec_edit.specs.Calls.{RisesAtMost};
+    ghost use Rattle.aec_edit.specs.Changes.{IsExchange, IsExchanged, IsNotExchanged, exchanged, exchange_calls, head_of, tail_of, opens_first, opens_last, one_if, first_samples, last_samples, end_samples, opened_ends, opened_by};
+
+    /// Exchanges the samples from place `first` up to place `stop` for values, and answers how many intervals it has coded.
+    pub(crate) fn exchange(&mut self, first: u64, stop: u64, values: &[i64]) -> Result<u64, Fault>
+        requires { IsExchange (C.format self.old.codec) self.old.limit self.old.samples first stop values.now }
+        ensures answer { let needed = exchange_calls (C.format self.old.codec).most first (length values.now) in
+            MatchResult result
+            (λ coded. IsExchanged needed (C.called self.old.codec) coded (C.called self.new.codec))
+            (λ fault. IsNotExchanged needed (C.called self.old.codec) fault (C.called self.new.codec)) }
+        ensures ok { OnOk result (self.new.samples ≡ exchanged first stop values.now self.old.samples) }
+        ensures err { OnErr result (self.new.samples ≡ self.old.samples) }
+        ensures reads { RisesAtMost
+            (opened_by (exchange_calls (C.format self.old.codec).most first (length values.now)) (C.called self.old.codec)
+            (opened_ends (C.format self.old.codec).most (length self.old.samples) first stop))
+            (C.read self.old.codec) (C.read self.new.codec) }
+        ensures limit { self.new.limit ≡ self.old.limit }
+        ensures format { C.format self.new.codec ≡ C.format self.old.codec }
+    {
+        let most = self.interval_len();
+        let from = first / most;
+        let needed = (first + values.len() as u64).div_ceil(most) - from;
+        if needed > u64::MAX - self.calls() {
+            return Err(Fault::Spent);
+        }
+        let fresh = self.fresh_samples(first, stop, values)?;
+        let coded = self.code(&fresh)?;
+        self.put(from, stop.div_ceil(most), &fresh, &coded)?;
+        Ok(needed)
+    }
+
+    /// The samples of the intervals that an exchange touches, as they are after it.
+    fn fresh_samples(&mut self, first: u64, stop: u64, values: &[i64]) -> Result<Vec<i64>, Fault>
+        requires { IsExchange (C.format self.old.codec) self.old.limit self.old.samples first stop values.now }
+        ensures ok { IfOk result (λ fresh. fresh.items ≡ head_of (C.format self.old.codec).most first self.old.samples
+            ++ (values.now ++ tail_of (C.format self.old.codec).most stop self.old.samples)) }
+        ensures fault { IfErr result (λ e. (e ≡ Memory) × (0 < exchange_calls (C.format self.old.codec).most first (length values.now))) }
+        ensures samples { self.new.samples ≡ self.old.samples }
+        ensures limit { self.new.limit ≡ self.old.limit }
+        ensures calls { C.called self.new.codec ≡ C.called self.old.codec }
+        ensures reads { RisesAtMost (opened_ends (C.format self.old.codec).most (length self.old.samples) first stop)
+            (C.read self.old.codec) (C.read self.new.codec) }
+        ensures format { C.format self.new.codec ≡ C.format self.old.codec }
+    {
+        let most = self.interval_len();
+        let head = (first % most) as usize;
+        let tail = (self.count().min(stop.div_ceil(most) * most) - stop) as usize;
+        let ends = self.end_intervals(first, stop)?;
+        join(self.alloc(), &ends, head, values, tail)
+    }
+
+    /// The first and the last interval that an exchange touches, where they keep a sample.
+    fn end_intervals(&mut self, first: u64, stop: u64) -> Result<Vec<i64>, Fault>
+        requires order { first ≤ stop }
+        requires within { stop ≤ length self.old.samples }
+        ensures ok { IfOk result (λ ends. ends.items ≡ end_samples (C.format self.old.codec).most first stop self.old.samples) }
+        ensures fault { IfErr result (λ e. (e ≡ Memory)
+            × (0 < opened_ends (C.format self.old.codec).most (length self.old.samples) first stop)) }
+        ensures samples { self.new.samples ≡ self.old.samples }
+        ensures limit { self.new.limit ≡ self.old.limit }
+        ensures calls { C.called self.new.codec ≡ C.called self.old.codec }
+        ensures reads { RisesAtMost (opened_ends (C.format self.old.codec).most (length self.old.samples) first stop)
+            (C.read self.old.codec) (C.read self.new.codec) }
+        ensures format { C.format self.new.codec ≡ C.format self.old.codec }
+    {
+        let mut ends = Vec::new(self.alloc());
+        self.open_first(first, stop, &mut ends)?;
+        self.open_last(first, stop, &mut ends)?;
+        Ok(ends)
+    }
+
+    /// Decodes the first touched interval where it keeps a sample in front of the places, or is the last one too and keeps one
+    /// behind them.
+    fn open_first(&mut self, first: u64, stop: u64, ends: &mut Vec<i64>) -> Result<(), Fault>
+        requires order { first ≤ stop }
+        requires within { stop ≤ length self.old.samples }
+        ensures ok { OnOk result (ends.new.items ≡ ends.old.items
+            ++ first_samples (C.format self.old.codec).most first stop self.old.samples) }
+        ensures fault { IfErr result (λ e. (e ≡ Memory)
+            × (opens_first (C.format self.old.codec).most (length self.old.samples) first stop ≡ true)) }
+        ensures samples { self.new.samples ≡ self.old.samples }
+        ensures limit { self.new.limit ≡ self.old.limit }
+        ensures calls { C.called self.new.codec ≡ C.called self.old.codec }
+        ensures reads { RisesAtMost (one_if (opens_first (C.format self.old.codec).most (length self.old.samples) first stop))
+            (C.read self.old.codec) (C.read self.new.codec) }
+        ensures format { C.format self.new.codec ≡ C.format self.old.codec }
+    {
+        let most = self.interval_len();
+        let from = first / most;
+        let to = stop.div_ceil(most);
+        if from * most < first || (stop < self.count().min(to * most) && from + 1 == to) {
+            return self.decode_interval(from, ends);
+        }
+        Ok(())
+    }
+
+    /// Decodes the last touched interval where it isn't the first and keeps a sample behind the places.
+    fn open_last(&mut self, first: u64, stop: u64, ends: &mut Vec<i64>) -> Result<(), Fault>
+        requires order { first ≤ stop }
+        requires within { stop ≤ length self.old.samples }
+        ensures ok { OnOk result (ends.new.items ≡ ends.old.items
+            ++ last_samples (C.format self.old.codec).most first stop self.old.samples) }
+        ensures fault { IfErr result (λ e. (e ≡ Memory)
+            × (opens_last (C.format self.old.codec).most (length self.old.samples) first stop ≡ true)) }
+        ensures samples { self.new.samples ≡ self.old.samples }
+        ensures limit { self.new.limit ≡ self.old.limit }
+        ensures calls { C.called self.new.codec ≡ C.called self.old.codec }
+        ensures reads { RisesAtMost (one_if (opens_last (C.format self.old.codec).most (length self.old.samples) first stop))
+            (C.read self.old.codec) (C.read self.new.codec) }
+        ensures format { C.format self.new.codec ≡ C.format self.old.codec }
+    {
+        let most = self.interval_len();
+        let to = stop.div_ceil(most);
+        if stop < self.count().min(to * most) && first / most + 1 < to {
+            return self.decode_interval(to - 1, ends);
+        }
+        Ok(())
+    }
+}
+
+ghost use Rattle.std.specs.Prelude.{◌≡◌, ◌+◌, ◌-◌, ◌<◌, ◌≤◌, ◌++◌, length, take, drop, IfOk, IfErr};
+ghost use Rattle.aec_params.specs.declared.fault.Fault.TheVariants.{Memory};
+
+/// Values between the front and the end of a list. `Memory` where a growth was refused.
+fn join(
+    alloc: Global,
+    ends: &[i64],
+    head: usize,
+    values: &[i64],
+    tail: usize,
+) -> Result<Vec<i64>, Fault>
+    requires head { head ≤ length ends.now }
+    requires tail { tail ≤ length ends.now }
+    ensures ok { IfOk result (λ v. v.items ≡ take head ends.now ++ (values.now ++ drop (length ends.now - tail) ends.now)) }
+    ensures fault { IfErr result (λ e. (e ≡ Memory) × (0 < head + (length values.now + tail))) }
+{
+    let mut joined = Vec::new(alloc);
+    joined.extend_from_slice(&ends[..head])?;
+    joined.extend_from_slice(values)?;
+    joined.extend_from_slice(&ends[ends.len() - tail..])?;
+    Ok(joined)
+}

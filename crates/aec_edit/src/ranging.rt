@@ -1,0 +1,72 @@
+//! Samples read back out of their code.
+
+use crate::workspace::Workspace;
+use aec_bits::Codec;
+use aec_params::Fault;
+use std::alloc::Global;
+
+impl<C: Codec> Workspace<C> {
+    ghost use Rattle.std.specs.Prelude.{◌≡◌, ◌-◌, ◌*◌, ◌≤◌, ◌++◌, None, length, take, drop, IfOk, OnOk, IfErr};
+    ghost use Rattle.aec_params.specs.Edits.{touched_intervals};
+    ghost use Rattle.aec_params.specs.declared.fault.Fault.TheVariants.{Memory};
+    ghost use Rattle.aec_edit.specs.Workspace.{interval_count};
+    ghost use Rattle.aec_edit.specs.Calls.{RisesAtMost, range_refusal, IsDue};
+
+    /// The `len` samples from place `first` on. `OutOfRange` exactly where one of them is past the samples, then `Memory`
+    /// where a growth was refused. Only the intervals that hold one of them are decoded.
+    pub fn range(&mut self, alloc: Global, first: u64, len: u64) -> Result<Vec<i64>, Fault>
+        ensures ok { IfOk result (λ v. v.items ≡ take len (drop first self.old.samples)) }
+        ensures within { OnOk result (range_refusal (length self.old.samples) first len ≡ None) }
+        ensures refuses { IfErr result (λ e. IsDue (range_refusal (length self.old.samples) first len) e) }
+        ensures samples { self.new.samples ≡ self.old.samples }
+        ensures limit { self.new.limit ≡ self.old.limit }
+        ensures calls { C.called self.new.codec ≡ C.called self.old.codec }
+        ensures reads { RisesAtMost (length (touched_intervals (C.format self.old.codec).most first len))
+            (C.read self.old.codec) (C.read self.new.codec) }
+        ensures format { C.format self.new.codec ≡ C.format self.old.codec }
+    {
+        let count = self.count();
+        if len > count || first > count - len {
+            return Err(Fault::OutOfRange { count });
+        }
+        let mut out = Vec::new(alloc);
+        if len == 0 {
+            return Ok(out);
+        }
+        let most = self.interval_len();
+        let from = first / most;
+        self.decode_intervals(from, (first + len).div_ceil(most), &mut out)?;
+        keep_part(&mut out, (first % most) as usize, len as usize);
+        Ok(out)
+    }
+
+    /// Appends the samples of the intervals from number `from` up to number `to`.
+    fn decode_intervals(&mut self, from: u64, to: u64, out: &mut Vec<i64>) -> Result<(), Fault>
+        requires order { from ≤ to }
+        requires within { to ≤ interval_count (C.format self.old.codec) self.old.samples }
+        ensures ok { OnOk result (out.new.items ≡ out.old.items
+            ++ drop (from * (C.format self.old.codec).most) (take (to * (C.format self.old.codec).most) self.old.samples)) }
+        ensures fault { IfErr result (λ e. e ≡ Memory) }
+        ensures samples { self.new.samples ≡ self.old.samples }
+        ensures limit { self.new.limit ≡ self.old.limit }
+        ensures calls { C.called self.new.codec ≡ C.called self.old.codec }
+        ensures reads { RisesAtMost (to - from) (C.read self.old.codec) (C.read self.new.codec) }
+        ensures format { C.format self.new.codec ≡ C.format self.old.codec }
+    {
+        for i in from..to {
+            self.decode_interval(i, out)?;
+        }
+        Ok(())
+    }
+}
+
+ghost use Rattle.std.specs.Prelude.{◌≡◌, ◌+◌, ◌≤◌, take, drop, vec_len};
+
+/// Keeps the `len` items from place `first` on.
+fn keep_part(items: &mut Vec<i64>, first: usize, len: usize)
+    requires { first + len ≤ vec_len items.old }
+    ensures { items.new.items ≡ take len (drop first items.old.items) }
+{
+    items.copy_within(first..first + len, 0);
+    items.truncate(len);
+}

@@ -1,0 +1,7 @@
+//! What no clause says: that edits and ranges succeed where there is memory, and values from outside.
+
+mod edges;
+mod many;
+mod ranges;
+mod shared;
+mod steps;

@@ -1,0 +1,129 @@
+//! The workspace: a coded list of samples.
+
+mod intervals;
+mod recoding;
+
+ghost use Rattle.aec_edit.specs.Index.{KeptSamples, one_list};
+
+use crate::coded::Coded;
+use aec_bits::{Codec, Sink};
+use aec_params::Fault;
+use std::alloc::Global;
+use std::marker::Model;
+
+/// Samples, kept as their code and the places where its intervals begin. The samples themselves aren't kept.
+#[derive(Debug, Drop)]
+pub struct Workspace<C: Codec> {
+    coded: Coded,
+    limit: u64,
+    codec: C,
+    alloc: Global,
+    ghost written: { KeptSamples (C.format codec) coded.count coded.bits.list coded.starts.items } by { one_list (C.format codec) coded.count coded.bits.list coded.starts.items (C.lawful codec) },
+}
+
+impl<C: Codec> Model for Workspace<C> {
+    ghost use Rattle.std.specs.Prelude.{◌^◌, ◌-◌, ◌≤◌};
+    ghost use Rattle.aec_edit.specs.Workspace.{Contents};
+    ghost use Rattle.aec_edit.specs.Index.{kept_samples};
+
+    ghost Value = { Contents C };
+
+    ghost view = { λ w. record { samples = kept_samples w.written; limit = w.limit; codec = w.codec } };
+
+    ghost invariant = { λ w. (w.coded.count ≤ w.limit) × (w.limit ≤ 2 ^ 32) × (C.read w.codec ≤ 2 ^ 64 - 1) };
+}
+
+impl<C: Codec> Workspace<C> {
+    ghost use Rattle.std.specs.Prelude.{◌≡◌, ◌<◌, ◌≤◌, ◌^◌, [], length, MatchOption, OnOk, OnErr, IfErr};
+    ghost use Rattle.std.specs.Io.KnownBytes.{Appends};
+    ghost use Rattle.aec_params.specs.declared.fault.Fault.TheVariants.{Write as WriteFault};
+    ghost use Rattle.aec_params.specs.Codewords.{bytes_of};
+    ghost use Rattle.aec_bits.specs.Codec.{AreHeld, code_of};
+    ghost use Rattle.aec_bits.specs.Devices.{AppendsFront};
+    ghost use Rattle.aec_edit.specs.Workspace.{interval_count, start_of};
+
+    /// An empty workspace, which is to hold no more samples than the limit. Takes no memory.
+    pub fn new(alloc: Global, codec: C, limit: u64) -> Workspace<C>
+        requires { limit ≤ 2 ^ 32 }
+        ensures samples { result.samples ≡ [] }
+        ensures limit { result.limit ≡ limit }
+        ensures codec { result.codec ≡ codec }
+    {
+        let _reads = codec.reads();
+        Workspace {
+            coded: Coded::new(alloc),
+            limit,
+            codec,
+            alloc,
+        }
+    }
+
+    /// The number of samples.
+    pub fn count(&self) -> u64
+        ensures value { result ≡ length self.now.samples }
+        ensures few { length self.now.samples ≤ self.now.limit }
+        ensures bound { self.now.limit ≤ 2 ^ 32 }
+        ensures held { AreHeld (C.format self.now.codec) self.now.samples }
+    {
+        self.coded.count
+    }
+
+    /// The number of intervals that the samples fill.
+    pub fn intervals(&self) -> u64
+        ensures { result ≡ interval_count (C.format self.now.codec) self.now.samples }
+    {
+        self.coded.starts.len() as u64
+    }
+
+    /// The number of bits in the code of the samples.
+    pub fn stream_bits(&self) -> u64
+        ensures { result ≡ length (code_of (C.format self.now.codec) self.now.samples) }
+    {
+        self.coded.bits.len()
+    }
+
+    /// The bit where interval `i` begins in the code, which is the number of bits in the code of the samples before it. `None`
+    /// where there is no such interval.
+    pub fn offset(&self, i: u64) -> Option<u64>
+        ensures { MatchOption result
+            (interval_count (C.format self.now.codec) self.now.samples ≤ i)
+            (λ start. (i < interval_count (C.format self.now.codec) self.now.samples)
+            × (start ≡ start_of (C.format self.now.codec) self.now.samples i)) }
+    {
+        if i < self.intervals() {
+            Some(self.start_at(i))
+        } else {
+            None
+        }
+    }
+
+    /// How many intervals the codec has coded.
+    pub fn calls(&self) -> u64
+        ensures { result ≡ C.called self.now.codec }
+    {
+        self.codec.calls()
+    }
+
+    /// How often the codec has been asked to decode an interval.
+    pub fn reads(&self) -> u64
+        ensures { result ≡ C.read self.now.codec }
+    {
+        self.codec.reads()
+    }
+
+    /// Appends the bytes that the code of the samples fills to what the sink has taken; zeros fill the last one. `Write` where
+    /// the sink fails, which has then taken the front of these bytes. Takes no memory, and doesn't call `begin`.
+    pub fn write_to<W: Sink>(&self, out: &mut W) -> Result<(), Fault>
+        ensures ok { OnOk result (Appends (W.taken out.old) (W.taken out.new)
+            (bytes_of (code_of (C.format self.now.codec) self.now.samples))) }
+        ensures front { OnErr result (AppendsFront (W.taken out.old) (W.taken out.new)
+            (bytes_of (code_of (C.format self.now.codec) self.now.samples))) }
+        ensures begun { W.begun out.new ≡ W.begun out.old }
+        ensures fault { IfErr result (λ e. (e ≡ WriteFault) × (W.failed out.new ≡ 1)) }
+        ensures failures { OnOk result (W.failed out.new ≡ W.failed out.old) }
+        ensures refuses { OnOk result
+            (0 < length (code_of (C.format self.now.codec) self.now.samples) → W.failed out.old ≡ 0) }
+    {
+        self.coded.bits.write_to(out)
+    }
+}
