@@ -7,7 +7,7 @@ use crate::usage::Usage;
 use aec_params::Fault;
 use thiserror::Error;
 
-/// The failure of a run. Its text is what stands on the printed line behind `aec: `.
+/// The failure of a run. Its text is what stands on the printed line after `aec: `.
 #[derive(Clone, Copy, Debug, PartialEq, Eq, Error)]
 pub enum Failure {
     /// The words make no job.

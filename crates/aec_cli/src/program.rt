@@ -1,12 +1,13 @@
 //! One whole run of the program.
 
-ghost use Rattle.std.specs.Prelude.{◌≡◌, ◌≤◌, ℕ, map};
+ghost use Rattle.std.specs.Prelude.{◌≡◌, ◌≤◌, ℕ, List, [], map};
 ghost use Rattle.std.specs.String.{string_bytes};
 ghost use Rattle.clap.specs.Faults.{fault_of};
 ghost use Rattle.clap.specs.Values.{kind_of};
+ghost use Rattle.clap.specs.Walk.{Text};
 ghost use Rattle.aec_cli.specs.Actions.{IsAnswerOf, bytes_allowed, program_caps};
 ghost use Rattle.aec_cli.specs.Commands.{aec_app};
-ghost use Rattle.aec_cli.specs.Statuses.{EndsByMistake, parse_status, status_of};
+ghost use Rattle.aec_cli.specs.Statuses.{EndsByMistake, EndsByWords, parse_status, status_of};
 ghost use Rattle.aec_cli.specs.Transfers.{Taking, taking_of, Putting, putting_of, Leaves};
 
 use crate::engine::{decode, encode, range};
@@ -34,18 +35,20 @@ pub fn perform<F: Files, O: Write, E: Write>(
 ) -> u8
     ensures bound { result ≤ 2 }
     ensures mistakes { EndsByMistake (fault_of aec_app (map string_bytes words.items)) result }
+    ensures refusals { let given : List Text = map string_bytes words.items in
+        fault_of aec_app given ≡ [] → EndsByWords given result }
 {
     let matches = match parse(alloc, words.as_slice()) {
         Ok(matches) => matches,
         Err(error) => return answer(&error, out, err),
     };
-    let done = match settings(alloc, &matches) {
-        Ok(job) => run(rt, alloc, job).map_err(Failure::Fault),
-        Err(usage) => Err(Failure::Usage(usage)),
+    let job = match settings(alloc, &matches) {
+        Ok(job) => job,
+        Err(usage) => return report(Failure::Usage(usage), err),
     };
-    match done {
+    match run(rt, alloc, job) {
         Ok(()) => 0,
-        Err(failure) => report(failure, err),
+        Err(fault) => report(Failure::Fault(fault), err),
     }
 }
 

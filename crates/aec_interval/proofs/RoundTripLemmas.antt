@@ -14,8 +14,7 @@ use Rattle.aec_params.specs.Blocks.{filled_samples, reference_of, with_reference
 use Rattle.aec_params.specs.Streams.{stream_of}
 use Rattle.aec_params.specs.Reading.{IsBlockReading, FillBlocks, IsReading}
 use Rattle.aec_interval.proofs.CuttingLemmas.{IsPieceBefore, by_pieces, pieces_of-one, div_ceil-zero, div_ceil-times}
-use Rattle.aec_interval.proofs.BlockLemmas.{all-filled_samples, length-filled_samples, length-blocks_of, block_size-positive}
-use Rattle.aec_interval.proofs.IntervalLemmas.{blocks-few}
+use Rattle.aec_interval.proofs.BlockLemmas.{all-filled_samples, length-filled_samples, length-blocks_of, blocks-few, block_size-positive}
 use Rattle.aec_interval.proofs.StreamLemmas.{walk_of, interval_len-positive, div_ceil-add, all_blocks_of-nil, all_blocks_of-cons}
 
 -- ---- how many blocks there are

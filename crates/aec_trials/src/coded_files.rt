@@ -169,9 +169,9 @@ fn blocks_without_compression_are_decoded(rt: HostRuntime) -> Result<(), Fail> {
     let (status, _err, raw) = run_on(
         &rt,
         rt.alloc(),
-        &["aec", "-d", "-N", "plain.aec", "plain.raw"],
-        "plain.aec",
-        "plain.raw",
+        &["aec", "-d", "-N", "unprocessed.aec", "unprocessed.raw"],
+        "unprocessed.aec",
+        "unprocessed.raw",
         &coded,
     )?;
     assert_eq!(rt; status, 0);

@@ -39,14 +39,14 @@ const SAMPLES: [u8; 16] = [
 
 #[test]
 fn a_stream_is_cut_behind_each_byte(rt: HostRuntime) -> Result<(), Fail> {
-    let plain = Settings {
+    let unprocessed = Settings {
         preprocess: false,
         ..DEFAULTS
     };
     for k in 0..18usize {
         assert!(rt; k <= 17);
         let stream = &UNCOMPRESSED[..k];
-        let (answer, written) = read(&rt, rt.alloc(), plain, stream, None)?;
+        let (answer, written) = read(&rt, rt.alloc(), unprocessed, stream, None)?;
         let (expected, whole) = match k {
             0 => (Ok(()), 0),
             1..=8 => (Err(Fault::Truncated { bit: 0 }), 0),
@@ -55,7 +55,7 @@ fn a_stream_is_cut_behind_each_byte(rt: HostRuntime) -> Result<(), Fail> {
         };
         assert_eq!(rt; answer, expected, "at {k} bytes");
         assert_eq!(rt; written.as_slice(), &SAMPLES[..whole]);
-        let (answer, written) = read(&rt, rt.alloc(), plain, stream, Some(5))?;
+        let (answer, written) = read(&rt, rt.alloc(), unprocessed, stream, Some(5))?;
         let (expected, whole) = match k {
             0..=8 => (Err(Fault::Truncated { bit: 0 }), 0),
             _ => (Ok(()), 5),
@@ -66,10 +66,10 @@ fn a_stream_is_cut_behind_each_byte(rt: HostRuntime) -> Result<(), Fail> {
     Ok(())
 }
 
-// Cut in a block without compression; zero bits alone; cut behind two of eight values.
+// Cut in a block without compression; zero bits alone; cut after two of eight values.
 #[test]
 fn a_stream_has_no_whole_block(rt: HostRuntime) -> Result<(), Fail> {
-    let plain = Settings {
+    let unprocessed = Settings {
         preprocess: false,
         ..DEFAULTS
     };
@@ -79,7 +79,7 @@ fn a_stream_has_no_whole_block(rt: HostRuntime) -> Result<(), Fail> {
         (&[0x20, 0x09], Err(Fault::Truncated { bit: 0 })),
     ];
     for (stream, expected) in cases {
-        let (answer, written) = read(&rt, rt.alloc(), plain, stream, None)?;
+        let (answer, written) = read(&rt, rt.alloc(), unprocessed, stream, None)?;
         assert_eq!(rt; answer, expected, "at {stream:?}");
         assert_eq!(rt; written.len(), 0, "at {stream:?}");
     }

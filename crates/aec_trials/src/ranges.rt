@@ -180,8 +180,8 @@ fn places_outside_the_samples_are_refused(rt: HostRuntime) -> Result<(), Fail> {
 #[test]
 fn faults_after_a_range_are_refused(rt: HostRuntime) -> Result<(), Fail> {
     let cut = "aec: coded data is cut short at bit 67\n";
-    let plain: [&str; 4] = ["-N", "--range", "0:3", "-n8"];
-    refused_part(&rt, rt.alloc(), plain, &UNCOMPRESSED[..16], cut)?;
+    let unprocessed: [&str; 4] = ["-N", "--range", "0:3", "-n8"];
+    refused_part(&rt, rt.alloc(), unprocessed, &UNCOMPRESSED[..16], cut)?;
     let damaged = "aec: coded data is cut short at bit 31\n";
     let ranging = ["--range", "0:1", "-n", "8"];
     refused_part(&rt, rt.alloc(), ranging, &DAMAGED, damaged)?;

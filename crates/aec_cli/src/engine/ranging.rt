@@ -44,7 +44,7 @@ fn range_source<R: Source>(
 
 #[tactic(auto, using(crate::proofs::OutputLemmas::leaves_settled))]
 /// Reads the source whole, and writes the bytes of `len` of the samples that it codes, from place `first` on. The refusals
-/// in their order: those of `decode`, so that coded data behind the range are judged too; then `OutOfRange` where the
+/// in their order: those of `decode`, so that coded data after the range are judged too; then `OutOfRange` where the
 /// range passes the samples, which are `count` where a count is given; then `Memory`. Nothing has been written then and
 /// `begin` was not called. After `begin` only `Write` can come, and a front of the answer has been written.
 pub fn range<R: Source, W: Sink>(
