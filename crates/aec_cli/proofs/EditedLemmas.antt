@@ -21,7 +21,7 @@ use Rattle.aec_interval.proofs.ReadingLemmas.{length-stream_blocks, readings_are
 use Rattle.aec_bits.specs.Codec.{Format, AreHeld}
 use Rattle.aec_bits.specs.Refusals.{first_unheld, values_refusal, refusal_of}
 use Rattle.aec_edit.specs.Calls.{want_of_calls}
-use Rattle.aec_edit.specs.Steps.{LacksMemory, IsRefused}
+use Rattle.aec_edit.specs.Steps.{LacksMemory, IsAccepted, IsRefused}
 use Rattle.aec_interval.specs.IntervalFormat.{interval_format}
 use Rattle.aec_cli.specs.Scripts.{Listing, listing_of}
 use Rattle.aec_cli.specs.Transfers as transfers
@@ -177,8 +177,14 @@ first-append {X} r fault f format limit s values calls after is same none fresh 
 
     enough : want_of_calls calls needed ≡ None
     enough = ap (λ t. if t then Some Spent else None)
-        (le-ltb (2 ^ 64 - 1) (calls + needed) (omega (arith, needed_calls-le format.most (length s) (Append values) some, few, low, fresh)))
+        (le-ltb (2 ^ 64 - 1 - calls) needed (omega (arith, needed_calls-le format.most (length s) (Append values) some, few, low, fresh)))
 
     lacks : LacksMemory needed calls f after
     lacks = subst (λ t. MatchOption (option_or t None) (LacksMemory needed calls f after) (λ due. (f ≡ due) × (after ≡ calls))) fits
         (subst (λ want. MatchOption (option_or (refusal_of format limit s (Append values)) want) (LacksMemory needed calls f after) (λ due. (f ≡ due) × (after ≡ calls))) enough refused)
+
+-- an append calls the coder at most once for each value
+pub append-calls : (format : Format) (limit : ℕ) (s values all : List ℤ) (calls coded after : ℕ) → values ≡ all → calls ≡ 0 → 0 < format.most
+    → IsAccepted format limit s calls (Append values) coded after → after ≤ length all
+append-calls format limit s values all calls coded after same fresh some made =
+    omega (arith, made.calls_are, made.coded_is, needed_calls-le format.most (length s) (Append values) some, fresh, ap length same)

@@ -50,8 +50,8 @@ none-due : (f : Format) (limit : ℕ) (s : List ℤ) (calls : ℕ) (e : Edit) �
     → want_of_calls calls (needed_calls f.most (length s) e) ≡ None
 none-due f limit s calls e some few =
     let needed = needed_calls f.most (length s) e in
-    let within : calls + needed ≤ 2 ^ 64 - 1 = omega (arith, needed_calls-le f.most (length s) e some, few) in
-    ap (λ t. if t then Some Spent else None) (le-ltb (2 ^ 64 - 1) (calls + needed) within)
+    let within : needed ≤ 2 ^ 64 - 1 - calls = omega (arith, needed_calls-le f.most (length s) e some, few) in
+    ap (λ t. if t then Some Spent else None) (le-ltb (2 ^ 64 - 1 - calls) needed within)
 
 -- one more edit is made
 pub carried-on : (f : Format) (limit : ℕ) (s : List ℤ) (edits : List Edit) (lines : List ℕ) (i : ℕ) (reached after : List ℤ) (e : Edit) (n : ℕ)

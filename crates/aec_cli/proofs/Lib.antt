@@ -21,3 +21,4 @@ pub mod EditingLemmas
 pub mod EditedLemmas
 pub mod EditAnswerLemmas
 pub mod OneEditLemmas
+pub mod EditedStreamLemmas

@@ -128,7 +128,8 @@ pub gave_samples : {X : Type 0} (view : X → List ℤ) (r : Result X Fault) (s 
     → IsTakenWhole before after failures limit bytes → IfOk r (λ x. (count_refusal most count ≡ None) × IsReading s count most bits (view x))
     → IfOk r (λ x. GaveSamples s caps count (taking before after failures) (view x))
 gave_samples view r s caps count before after failures limit most bytes bits limited counted spelled taken ok =
-    IfOk-weaker r (λ x. (count_refusal most count ≡ None) × IsReading s count most bits (view x)) (λ x. GaveSamples s caps count (taking before after failures) (view x))
+    IfOk-weaker r (λ x. (count_refusal most count ≡ None) × IsReading s count most bits (view x))
+    (λ x. GaveSamples s caps count (taking before after failures) (view x))
     (λ x read. read_samples s caps count before after failures bytes (view x) (subst (λ limit. IsTakenWhole before after failures limit bytes) limited taken)
     (subst (λ most. count_refusal most count ≡ None) counted read.0)
     (subst (λ bits. IsReading s count caps.samples bits (view x)) spelled (subst (λ most. IsReading s count most bits (view x)) counted read.1))) ok

@@ -37,10 +37,12 @@ only-read : (s : Settings) (caps : Caps) (count : Option ℕ) (first len : ℕ) 
 only-read s caps count first len input samples other allowed read (not_decoded fault refused) =
     absurd (not_both s caps count input samples fault allowed read refused)
 only-read s caps count first len input samples other allowed read (outside others also past) =
-    sym (ap (λ t. if t then Err (OutOfRange (length others)) else Ok (all_stored s (samples_from first len others))) (lt-ltb (length others) (first + len) past))
+    sym (ap (λ t. if t then Err (OutOfRange (length others)) else Ok (all_stored s (samples_from first len others)))
+    (lt-ltb (length others) (first + len) past))
     ∙ ap (range_answer s first len) (one_read s caps count input samples others allowed read also)
 only-read s caps count first len input samples other allowed read (cut_out others also within) =
-    sym (ap (λ t. if t then Err (OutOfRange (length others)) else Ok (all_stored s (samples_from first len others))) (le-ltb (length others) (first + len) within))
+    sym (ap (λ t. if t then Err (OutOfRange (length others)) else Ok (all_stored s (samples_from first len others)))
+    (le-ltb (length others) (first + len) within))
     ∙ ap (range_answer s first len) (one_read s caps count input samples others allowed read also)
 
 only-refused : (s : Settings) (caps : Caps) (count : Option ℕ) (first len : ℕ) (input : Input) (fault : Fault) (other : Result (List ℕ) Fault) → IsAllowed s

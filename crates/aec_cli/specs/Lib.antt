@@ -16,3 +16,4 @@ pub mod EditingSteps
 pub mod Actions
 pub mod InMemory
 pub mod Laws
+pub mod EditedStreams

@@ -37,9 +37,6 @@ fn move_later(starts: &mut Vec<u64>, from: usize, to: usize)
     ensures items { starts.new.items ≡ take to (starts.old.items ++ replicate (to - from) 0) ++ drop from starts.old.items }
     ensures len { vec_len starts.new ≡ to + (vec_len starts.old - from) }
 {
-    if from == to {
-        return;
-    }
     let len = starts.len();
     starts.resize(len + to.saturating_sub(from), 0).unwrap();
     starts.copy_within(from..len, to);
@@ -66,9 +63,6 @@ fn shift_starts(starts: &mut [u64], at: usize, old_end: u64, new_end: u64)
         → (old_end ≤ slice_index starts.old k) × (slice_index starts.old k ≤ 2 ^ 62) }
     ensures { starts.new ≡ take at starts.old ++ map (λ x. x - old_end + new_end) (drop at starts.old) }
 {
-    if old_end == new_end {
-        return;
-    }
     for k in at..starts.len() {
         starts[k] = starts[k] - old_end + new_end;
     }

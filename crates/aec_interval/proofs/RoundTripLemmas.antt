@@ -1,5 +1,5 @@
 -- Reading the code of samples with their count gives the samples.
-use Rattle.std.proofs.Common.{◌≡◌, ℕ, ◌+◌, ◌-◌, ◌*◌, ◌%◌, ◌<◌, ◌≤◌, Option, Some, None, List, [], ◌∷◌, ◌++◌, length, replicate, refl, sym, ap, ap₂, ◌∙◌, subst, arith}
+use Rattle.std.proofs.Common.{◌≡◌, ℕ, ◌+◌, ◌-◌, ◌*◌, ◌%◌, ◌<◌, ◌≤◌, Bool, Option, Some, None, List, [], ◌∷◌, ◌++◌, length, replicate, refl, sym, ap, ap₂, ◌∙◌, subst, arith}
 use Rattle.std.specs.Prelude.{ℤ, pos, unwrap_or}
 use Rattle.std.specs.List.{AllByRecursion, flat_map, last_or}
 use Rattle.std.specs.Int.{div_ceil}
@@ -125,10 +125,10 @@ FillBlocks-all_blocks_of s xs a held = record {
   mapped = all_blocks_of-filled s a xs;
 }
 
-pub IsBlockReading-stream_of : (s : Settings) (limit : ℕ) (xs : List ℤ) → IsAllowed s → AllByRecursion (IsHeld s) xs
-    → IsBlockReading s (Some (length xs)) limit (stream_of s xs) 0 0 (all_blocks_of s xs)
-IsBlockReading-stream_of s limit xs a held =
-    let walk = walk_of s (length xs) limit a xs 0 0 0 [] (stream_of s xs) held (λ _. refl) (omega arith) refl refl (omega arith) in
+pub IsBlockReading-stream_of : (s : Settings) (limit : ℕ) (xs : List ℤ) (rest : List Bool) → IsAllowed s → AllByRecursion (IsHeld s) xs
+    → IsBlockReading s (Some (length xs)) limit (stream_of s xs ++ rest) 0 0 (all_blocks_of s xs)
+IsBlockReading-stream_of s limit xs rest a held =
+    let walk = walk_of s (length xs) limit rest a xs 0 0 0 [] (stream_of s xs ++ rest) held (λ _. refl) (omega arith) refl refl (omega arith) in
     record {
       sets = walk.sets;
       end_block = walk.end_block;
@@ -138,11 +138,11 @@ IsBlockReading-stream_of s limit xs a held =
       kept = sym walk.blocks;
     }
 
-pub IsReading-stream_of : (s : Settings) (limit : ℕ) (xs : List ℤ) → IsAllowed s → AllByRecursion (IsHeld s) xs
-    → IsReading s (Some (length xs)) limit (stream_of s xs) xs
-IsReading-stream_of s limit xs a held = record {
+pub IsReading-stream_of : (s : Settings) (limit : ℕ) (xs : List ℤ) (rest : List Bool) → IsAllowed s → AllByRecursion (IsHeld s) xs
+    → IsReading s (Some (length xs)) limit (stream_of s xs ++ rest) xs
+IsReading-stream_of s limit xs rest a held = record {
   blocks = all_blocks_of s xs;
-  read = IsBlockReading-stream_of s limit xs a held;
+  read = IsBlockReading-stream_of s limit xs rest a held;
   all_samples = filled_samples s xs;
   filled = FillBlocks-all_blocks_of s xs a held;
   counted = sym (take_at xs (replicate (up_to_multiple s.block_size (length xs)) (unwrap_or (last_or None xs) (pos 0))) (length xs) refl);

@@ -3,6 +3,8 @@
 #![tactic(auto)]
 
 #[cfg(test)]
+mod answers;
+#[cfg(test)]
 mod bytes;
 #[cfg(test)]
 mod coded_files;
@@ -15,15 +17,21 @@ mod engines;
 #[cfg(test)]
 mod files;
 #[cfg(test)]
+mod large_inputs;
+#[cfg(test)]
 mod limits;
 #[cfg(test)]
 mod ranges;
 #[cfg(test)]
 mod refused_files;
 #[cfg(test)]
+mod runs;
+#[cfg(test)]
 mod scripts;
 #[cfg(test)]
 mod shared;
+#[cfg(test)]
+mod tables;
 #[cfg(test)]
 mod unsynced_files;
 #[cfg(test)]

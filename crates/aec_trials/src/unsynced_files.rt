@@ -127,8 +127,8 @@ fn a_dest_that_is_not_synced_is_a_failure(rt: HostRuntime) -> Result<(), Fail> {
     )?;
     for (kind, expected, text) in cases {
         let unsynced = Unsynced { rt: &rt, kind };
-        let words = ["aec", "unsynced.in", "unsynced.out"];
-        let (status, _out, err) = run_of(&unsynced, rt.alloc(), words.as_slice())?;
+        let words = "unsynced.in unsynced.out";
+        let (status, _out, err) = run_of(&unsynced, rt.alloc(), words)?;
         assert_eq!(rt; status, expected, "at {kind:?}");
         assert_eq!(rt; str::from_utf8(err.as_slice())?, text, "at {kind:?}");
         assert_eq!(rt;

@@ -1,6 +1,6 @@
 //! Many edits, beside a plain list that takes the same ones.
 
-use super::shared::{bytes, workspace};
+use super::shared::{apply, bytes, counts, range, workspace};
 use aec_params::{Edit, Fault, Samples};
 use std::alloc::{AllocError, Global};
 use std::test::Fail;
@@ -133,7 +133,7 @@ fn mixed_edits_as_on_a_plain_list(rt: HostRuntime) -> Result<(), Fail> {
     let (mut made, mut refused) = (0u64, 0u64);
     for _step in 0..2000 {
         let edit = some_edit(alloc, &mut seed)?;
-        let answer = work.apply(&edit);
+        let answer = apply(&mut work, &edit);
         match plain_edit(&mut list, &edit) {
             Ok((coded, opened)) => {
                 assert_eq!(rt; answer, Ok(coded), "at {edit:?}");
@@ -150,9 +150,8 @@ fn mixed_edits_as_on_a_plain_list(rt: HostRuntime) -> Result<(), Fail> {
             are_bytes_of(&bytes(alloc, &work)?, &list),
             "after {edit:?}"
         );
-        assert_eq!(rt; work.count(), list.len() as u64);
-        assert_eq!(rt; work.calls(), calls);
-        assert_eq!(rt; work.reads(), reads, "after {edit:?}");
+        let wanted = (list.len() as u64, calls, reads);
+        assert_eq!(rt; counts(&work), wanted, "after {edit:?}");
     }
     assert!(rt; made > 500 && refused > 200);
     Ok(())
@@ -166,19 +165,18 @@ fn many_intervals_each_overwritten(rt: HostRuntime) -> Result<(), Fail> {
     let zeros = Edit::Append {
         values: Samples::new(zeros),
     };
-    assert_eq!(rt; work.apply(&zeros), Ok(5_000));
+    assert_eq!(rt; apply(&mut work, &zeros), Ok(5_000));
     for k in 0..5_000u64 {
         let edit = Edit::Overwrite {
             first: 4 * k + 1,
             values: Samples::new([1i64].to_vec(alloc)?),
         };
-        assert_eq!(rt; work.apply(&edit), Ok(1));
+        assert_eq!(rt; apply(&mut work, &edit), Ok(1));
     }
-    assert_eq!(rt; work.calls(), 10_000);
-    assert_eq!(rt; work.reads(), 5_000);
+    assert_eq!(rt; counts(&work), (20_000, 10_000, 5_000));
     assert_eq!(rt; work.offset(4_999), Some(159_968));
     assert_eq!(rt;
-        work.range(alloc, 19_996, 4)?.as_slice(),
+        range(&mut work, alloc, 19_996, 4)?.as_slice(),
         [0, 1, 0, 0].as_slice()
     );
     Ok(())

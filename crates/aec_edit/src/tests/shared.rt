@@ -38,3 +38,23 @@ pub fn bytes<C: Codec>(alloc: Global, workspace: &Workspace<C>) -> Result<Vec<u8
     workspace.write_to(&mut sink)?;
     Ok(sink.into_inner())
 }
+
+// The tests make edits and read ranges through these, so that the contracts stay out of their proofs.
+
+pub fn apply(work: &mut Workspace<Octets>, edit: &Edit) -> Result<u64, Fault> {
+    work.apply(edit)
+}
+
+pub fn range(
+    work: &mut Workspace<Octets>,
+    alloc: Global,
+    first: u64,
+    len: u64,
+) -> Result<Vec<i64>, Fault> {
+    work.range(alloc, first, len)
+}
+
+/// How many samples there are, and how often the coder and the decoder were asked.
+pub fn counts(work: &Workspace<Octets>) -> (u64, u64, u64) {
+    (work.count(), work.calls(), work.reads())
+}
