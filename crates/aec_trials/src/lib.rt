@@ -11,6 +11,8 @@ mod cut_streams;
 #[cfg(test)]
 mod devices;
 #[cfg(test)]
+mod edits;
+#[cfg(test)]
 mod engines;
 #[cfg(test)]
 mod files;
