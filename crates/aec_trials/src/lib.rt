@@ -15,6 +15,8 @@ mod devices;
 #[cfg(test)]
 mod edited_streams;
 #[cfg(test)]
+mod edits;
+#[cfg(test)]
 mod engines;
 #[cfg(test)]
 mod files;
