@@ -39,9 +39,10 @@ is_read back leave s limit edits done after bits count w =
     let within = leave (interval_format s) limit [] 0 edits done after w.answers refl (omega arith) in
     let held = all-held s left within.0 in
     let filled : bits ≡ stream ++ replicate (up_to_multiple 8 (length stream)) false = w.bits_are ∙ bits_of_bytes-bytes_of stream in
-    let read = back s limit left (replicate (up_to_multiple 8 (length stream)) false) w.allowed held in
-    (subst (λ n. IsReading s (Some n) limit bits left) (sym w.count_is) (subst (λ b. IsReading s (Some (length left)) limit b left) (sym filled) read),
-    omega (arith, w.count_is, within.1))
+    let read = back s limit left (replicate (up_to_multiple 8 (length stream)) false) w.allowed held in (
+      subst (λ n. IsReading s (Some n) limit bits left) (sym w.count_is) (subst (λ b. IsReading s (Some (length left)) limit b left) (sym filled) read),
+      omega (arith, w.count_is, within.1),
+    )
 
 pub decoded_left : StreamsAreReadBack → AllBitsAreReadInOneWay → RunsLeaveSamples → (s : Settings) (limit : ℕ) (edits : List Edit) (done : List Outcome) (after : ℕ)
     (bits : List Bool) (count : ℕ) (samples : List ℤ)

@@ -1,5 +1,5 @@
 -- Edits made one after the other.
-use Rattle.std.proofs.Common.{◌≡◌, ℕ, zero, suc, ◌+◌, ◌-◌, ◌^◌, ◌<◌, ◌≤◌, ◌⊎◌, inl, inr, Bool, true, false, if◌then◌else◌, nat_lt, Option, Some, None, Result, Ok, Err, ℤ, List, [], ◌∷◌, length, drop, get_or, refl, sym, ap, ◌∙◌, subst, arith}
+use Rattle.std.proofs.Common.{◌≡◌, ℕ, zero, suc, ◌+◌, ◌-◌, ◌^◌, ◌<◌, ◌≤◌, ◌⊎◌, inl, inr, Bool, true, false, if◌then◌else◌, nat_lt, Option, Some, None, Result, Ok, Err, ℤ, List, [], ◌∷◌, length, drop, get_or, slice_index, refl, sym, ap, ◌∙◌, subst, arith}
 use Rattle.std.specs.Prelude.{MatchOption}
 use Rattle.std.specs.Option.{option_or, option_map_or}
 use Rattle.std.proofs.lemmas.Bool.{le-ltb}
@@ -27,10 +27,10 @@ pub record IsCarriedTo (f : Format) (limit : ℕ) (s : List ℤ) (edits : List E
 pub carried-none : (f : Format) (limit : ℕ) (s : List ℤ) (edits : List Edit) (lines : List ℕ) → IsCarriedTo f limit s edits lines 0 s
 carried-none f limit s edits lines = record { same = refl; lacks = λ line lacks. lacks }
 
-next-item : {X : Type 0} (xs : List X) (i : ℕ) (x : X) → i < length xs → x ≡ get_or xs i x → drop i xs ≡ x ∷ drop (i + 1) xs
-next-item xs i x within is =
+next-item : {X : Type 0} (xs : List X) (i : ℕ) (x other : X) → i < length xs → x ≡ get_or xs i other → drop i xs ≡ x ∷ drop (i + 1) xs
+next-item xs i x other within is =
     let one : suc i ≡ i + 1 = omega arith in
-    drop-cons xs i x within ∙ (ap (λ y. y ∷ drop (suc i) xs) (sym is) ∙ ap (λ n. x ∷ drop n xs) one)
+    drop-cons xs i other within ∙ (ap (λ y. y ∷ drop (suc i) xs) (sym is) ∙ ap (λ n. x ∷ drop n xs) one)
 
 -- the edit at place i and its line
 pub record IsNext (edits : List Edit) (lines : List ℕ) (i : ℕ) (e : Edit) (n : ℕ) : Type 0 where
@@ -38,11 +38,11 @@ pub record IsNext (edits : List Edit) (lines : List ℕ) (i : ℕ) (e : Edit) (n
   pub line_is : drop i lines ≡ n ∷ drop (i + 1) lines
 
 pub is-next : (all edits : List Edit) (lines : List ℕ) (i : ℕ) (e : Edit) (n : ℕ) → all ≡ edits → length edits ≤ length lines → i < length all
-    → e ≡ get_or all i e → n ≡ get_or lines i n → IsNext edits lines i e n
+    → e ≡ get_or all i e → n ≡ slice_index lines i → IsNext edits lines i e n
 is-next all edits lines i e n same enough within this line =
     let inside : i < length lines = omega (arith, ap length same, within, enough) in record {
-      edit_is = subst (λ edits. drop i edits ≡ e ∷ drop (i + 1) edits) same (next-item all i e within this);
-      line_is = next-item lines i n inside line;
+      edit_is = subst (λ edits. drop i edits ≡ e ∷ drop (i + 1) edits) same (next-item all i e e within this);
+      line_is = next-item lines i n 0 inside line;
     }
 
 -- nothing is due where enough calls are left and the edit fits

@@ -40,7 +40,12 @@ struct Written {
 }
 
 /// Makes edits, from no samples on, and gives the stream that they leave.
-fn write_stream(alloc: Global, params: &Params, limit: u64, edits: &[Edit]) -> Result<Written, Fault>
+fn write_stream(
+    alloc: Global,
+    params: &Params,
+    limit: u64,
+    edits: &[Edit],
+) -> Result<Written, Fault>
     requires { limit ≤ 2 ^ 32 }
     ensures written { IfOk result (λ w. IsWritten params.now limit edits.now w.outcomes.items w.calls w.bits.list w.count) }
     ensures stream { IfOk result (λ w. w.stream.items ≡ bytes_of (stream_of params.now (all_left [] edits.now w.outcomes.items))) }

@@ -13,11 +13,17 @@ mod cut_streams;
 #[cfg(test)]
 mod devices;
 #[cfg(test)]
+mod edited_streams;
+#[cfg(test)]
+mod edits;
+#[cfg(test)]
 mod engines;
 #[cfg(test)]
 mod files;
 #[cfg(test)]
 mod large_inputs;
+#[cfg(test)]
+mod library_example;
 #[cfg(test)]
 mod limits;
 #[cfg(test)]

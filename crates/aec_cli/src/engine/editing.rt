@@ -1,17 +1,16 @@
 //! Coded data edited by a script.
 
-ghost use Rattle.std.specs.Prelude.{◌≡◌, ◌+◌, ◌-◌, ◌^◌, ◌≤◌, length, Ok, Err, IfOk, IfErr, OnOk, OnErr};
+ghost use Rattle.std.specs.Prelude.{◌≡◌, ◌+◌, ◌-◌, ◌^◌, ◌<◌, ◌≤◌, length, slice_index, Ok, Err, IfOk, IfErr, OnOk, OnErr};
 ghost use Rattle.std.specs.Io.KnownBytes.{Appends};
 ghost use Rattle.aec_params.specs.declared.fault.Fault.TheVariants.{Memory, Write as WriteFault};
 ghost use Rattle.aec_params.specs.Codewords.{bytes_of};
-ghost use Rattle.aec_params.specs.Streams.{stream_of};
 ghost use Rattle.aec_bits.specs.Codec.{AreHeld, code_of};
 ghost use Rattle.aec_bits.specs.Devices.{counted, AppendsFront};
 ghost use Rattle.aec_interval.specs.IntervalFormat.{interval_format};
-ghost use Rattle.aec_cli.specs.Transfers.{Taking, taking_of, Putting, putting_of, GivesAnswer};
+ghost use Rattle.aec_cli.specs.Transfers.{Taking, taking_of, Putting, putting_of, answer_of, GivesAnswer};
 ghost use Rattle.aec_cli.specs.Output.{GaveSamples, IsDecoded};
 ghost use Rattle.aec_cli.specs.Editing.{samples_edited, GivesEdited, LeavesEdited};
-ghost use Rattle.aec_cli.specs.EditingSteps.{GaveScript, RefusesScript, StopsEditing, most_calls};
+ghost use Rattle.aec_cli.specs.EditingSteps.{GaveScript, RefusesScript, StopsEditing, SettlesEdited, most_calls};
 
 use crate::engine::decoding::read_source;
 use crate::engine::intake::read_whole;
@@ -80,6 +79,14 @@ fn workspace_of<R: Source>(
     workspace_with(alloc, codec, limits.samples(), samples)
 }
 
+/// The line of the edit at a place of a script.
+fn line_of(script: &Script, place: usize) -> u64
+    requires { place < length script.now.lines.items }
+    ensures { result ≡ slice_index script.now.lines.items place }
+{
+    script.lines[place]
+}
+
 /// Makes the edits of a script, up to the first that is refused.
 fn carry_out<C: Codec>(workspace: &mut Workspace<C>, script: &Script) -> Result<(), EditFault>
     requires lines { length script.now.edits.items ≤ length script.now.lines.items }
@@ -90,8 +97,8 @@ fn carry_out<C: Codec>(workspace: &mut Workspace<C>, script: &Script) -> Result<
         script.now.edits.items script.now.lines.items fault) }
     ensures format { C.format workspace.new.codec ≡ C.format workspace.old.codec }
 {
-    for (i, edit) in script.edits.iter().enumerate() {
-        let line = script.lines[i];
+    for (place, edit) in script.edits.iter().enumerate() {
+        let line = line_of(script, place);
         if let Err(fault) = workspace.apply(edit) {
             return Err(EditFault::Line { line, fault });
         }
@@ -99,8 +106,8 @@ fn carry_out<C: Codec>(workspace: &mut Workspace<C>, script: &Script) -> Result<
     Ok(())
 }
 
-/// A workspace with the samples that the edits of a script leave.
-fn edited_workspace<Q: Source, R: Source>(
+/// What carrying out a script answers: a workspace with the samples that its edits leave.
+fn edit_source<Q: Source, R: Source>(
     alloc: Global,
     params: &Params,
     limits: Limits,
@@ -108,13 +115,10 @@ fn edited_workspace<Q: Source, R: Source>(
     from: &mut Q,
     source: &mut R,
 ) -> Result<Workspace<AecCodec>, EditFault>
-    ensures ok { let read : Taking = taking_of Q.left Q.failed from.old from.new in
+    ensures { let read : Taking = taking_of Q.left Q.failed from.old from.new in
         let took : Taking = taking_of R.left R.failed source.old source.new in
-        IfOk result (λ w. GivesEdited params.now limits count read took (Ok (bytes_of (stream_of params.now w.samples)))) }
-    ensures format { IfOk result (λ w. ⟦<AecCodec as Codec>⟧.format w.codec ≡ interval_format params.now) }
-    ensures refuses { let read : Taking = taking_of Q.left Q.failed from.old from.new in
-        let took : Taking = taking_of R.left R.failed source.old source.new in
-        IfErr result (λ fault. GivesEdited params.now limits count read took (Err fault)) }
+        GivesEdited params.now limits count read took
+        (answer_of (λ w. bytes_of (code_of (⟦<AecCodec as Codec>⟧.format w.codec) w.samples)) result) }
 {
     let script = read_script(alloc, limits, from)?;
     let mut workspace = workspace_of(alloc, params, limits, count, source)?;
@@ -135,6 +139,20 @@ fn deliver_code<C: Codec, W: Sink>(workspace: &Workspace<C>, sink: &mut W) -> Re
     workspace.write_to(sink)
 }
 
+/// Begins, and writes the code of an answer that is ready; or answers its refusal.
+fn settle_code<W: Sink>(
+    answer: Result<Workspace<AecCodec>, EditFault>,
+    sink: &mut W,
+) -> Result<(), EditFault>
+    ensures { let put : Putting = putting_of W.taken W.begun W.failed sink.old sink.new in
+        SettlesEdited put (answer_of (λ w. bytes_of (code_of (⟦<AecCodec as Codec>⟧.format w.codec) w.samples)) answer) result }
+{
+    let workspace = answer?;
+    deliver_code(&workspace, sink)?;
+    Ok(())
+}
+
+#[tactic(auto, using(crate::proofs::EditAnswerLemmas::leaves_edited))]
 /// Reads a script whole, then the source, makes the edits of the script on the samples that the source codes (with a count
 /// the first `count`, without one all), and writes the bytes of the code of the samples that they leave.
 ///
@@ -157,7 +175,6 @@ pub fn edit<Q: Source, R: Source, W: Sink>(
         let put : Putting = putting_of W.taken W.begun W.failed sink.old sink.new in
         LeavesEdited params.now limits count read took put result }
 {
-    let workspace = edited_workspace(alloc, params, limits, count, from, source)?;
-    deliver_code(&workspace, sink)?;
-    Ok(())
+    let answer = edit_source(alloc, params, limits, count, from, source);
+    settle_code(answer, sink)
 }

@@ -12,8 +12,8 @@ returns-clause-written c =
     let streamed : c.into_inner-stream.result.items ≡ bytes_of (stream_of c.args.params.now (all_left [] c.args.edits.now edited.outcomes.items)) = grind (arith, common_steps) in
     let answers : AnswersAll (interval_format c.args.params.now) c.args.limit [] 0 c.args.edits.now edited.outcomes.items edited.calls = grind (arith, common_steps) in
     record {
-        allowed = c.interval_len-len.ensures.allowed;
-        answers = answers;
-        bits_are = c.in_ok-bits.ensures.ok ∙ ap bits_of_bytes (c.deref.ensures.value ∙ streamed);
-        count_is = omega (arith, edited.samples.ok.0, ap length c.in_ok-edited.ensures.samples);
+      allowed = c.interval_len-len.ensures.allowed;
+      answers = answers;
+      bits_are = c.in_ok-bits.ensures.ok ∙ ap bits_of_bytes (c.deref.ensures.value ∙ streamed);
+      count_is = omega (arith, edited.samples.ok.0, ap length c.in_ok-edited.ensures.samples);
     }
