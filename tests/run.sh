@@ -1,6 +1,6 @@
 #!/bin/sh
-# Every test: the gate, and then, by the program that it has built, the round trips with the client of libaec and the edits
-# by generated scripts. Fails if one fails. The last line counts what passed and failed: the gate's where all have passed,
+# Every test: the gate, and then with the program that it has built coded data that is cut, the round trips with the client of
+# libaec, and edits by generated scripts. Fails if one fails. The last line counts what passed and failed: the gate's where all have passed,
 # else that of the first part that failed. Run from the top of the repository by `make test`.
 kept=$(mktemp -d)
 trap 'rm -rf "$kept"' EXIT
@@ -29,13 +29,15 @@ on_program() {
 }
 
 part gate rt ci
+echo "== coded data that is cut"
+part cuts on_program tests/cuts.py
 echo "== round trips with libaec's client"
 part trips on_program tests/interop.py
 echo "== edits by generated scripts"
 part scripts on_program tests/scripts.py
 
 last=gate
-for name in gate trips scripts; do
+for name in gate cuts trips scripts; do
     if ! has_passed "$name"; then
         last=$name
         break

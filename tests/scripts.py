@@ -393,7 +393,23 @@ BAD_LINES = [
     b"-",
     b"0",
 ]
+# Lines that say nothing.
 SKIPPED_LINES = [b"", b" ", b"\t \t", b"#", b"# append 1", b"\t#x \0\x80\xff", b"#overwrite", b"##\r#"]
+
+
+def try_lines(program, tally):
+    """Each bad line between others and as the last one, and all lines that say nothing."""
+    program.write("source", ZEROS)
+    for bad in BAD_LINES:
+        for end in (b"\nappend\n", b""):
+            program.write("script", b"append 1\n\n" + bad + end)
+            program.write("dest", None)
+            answer = program.run("--edit", "script", "source", "dest")
+            tally.check(f"the bad line {bad!r}: answer", answer, said("script line 3 is not an edit"))
+            tally.check(f"the bad line {bad!r}: DEST", program.read("dest"), None)
+    program.write("script", b"\r\n".join(SKIPPED_LINES) + b"\r\noverwrite 20 1\r")
+    tally.check("lines that say nothing: answer", program.run("--edit", "script", "source", "dest"), said(None))
+    tally.check("lines that say nothing: DEST", program.read("dest"), bytes.fromhex("00 04 40 30 C2 00 08"))
 
 
 def some_samples(settings, chance):
@@ -568,6 +584,7 @@ def main():
         for example in EXAMPLES:
             try_example(example, program, tally)
         try_shared_names(program, tally)
+        try_lines(program, tally)
         for number in range(asked.cases):
             try_case(number, chance, program, tally)
         try_options(program, tally)
