@@ -55,7 +55,8 @@ echo
 echo "The same stream, edited by a script of one line:"
 echo "overwrite 2500 1 2 3 4" | tee script
 run --edit script --count 4090 -n 16 -j 16 -r 128 measured.aec edited.aec
-echo "  $(wc -c < measured.aec) bytes become $(wc -c < edited.aec): $(differing measured.aec edited.aec), all before it as it was"
+echo "  $(wc -c < measured.aec) bytes become $(wc -c < edited.aec), all before the first change as they were:"
+echo "  $(differing measured.aec edited.aec)"
 run -d --count 4090 -n 16 -j 16 -r 128 edited.aec back.raw
 echo "  of the bytes of samples $(differing measured.raw back.raw)"
 { head -c 5000 measured.raw; printf '\1\0\2\0\3\0\4\0'; tail -c +5009 measured.raw; } | cmp - back.raw

@@ -1,7 +1,7 @@
 #!/bin/sh
-# Every test: the gate, and then with the program that it has built coded data that is cut, the round trips with the client of
-# libaec, and edits by generated scripts. Fails if one fails. The last line counts what passed and failed: the gate's where all have passed,
-# else that of the first part that failed. Run from the top of the repository by `make test`.
+# Every test: the gate, and then with the program that it has built coded data that is cut, the round trips with the
+# client of libaec, and edits by generated scripts. Fails if one fails. The last line counts what passed and failed: the
+# gate's where all have passed, else that of the first part that failed. Run from the top of the repository by `make test`.
 kept=$(mktemp -d)
 trap 'rm -rf "$kept"' EXIT
 

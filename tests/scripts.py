@@ -415,7 +415,8 @@ def try_lines(program, tally):
 def some_samples(settings, chance):
     """Samples of one of several natures, as many as an edge of blocks and intervals asks for."""
     size, whole = settings.block_size, settings.interval_len()
-    count = chance.choice([0, 1, size - 1, size, 5 * size, 7 * size + 1, whole - 1, whole, whole + 1, 2 * whole + 3, 70 * size + 5])
+    edges = [0, 1, size - 1, size, 5 * size, 7 * size + 1, 70 * size + 5, whole - 1, whole, whole + 1, 2 * whole + 3]
+    count = chance.choice(edges)
     count = min(count if chance.random() < 0.7 else chance.randint(0, 3 * whole), MOST_SAMPLES)
     least, most = settings.least(), settings.most()
     nature = chance.randrange(5)
@@ -464,7 +465,8 @@ def fitting_line(settings, count, chance):
         values = some_values(settings, chance, count)
         room = count - len(values)
         edges = [0, room, room // settings.interval_len() * settings.interval_len(), chance.randint(0, room)]
-        return line_of(kind, [written(chance.choice(edges), chance)] + [value_written(x, chance) for x in values], chance), count
+        numbers = [written(chance.choice(edges), chance)] + [value_written(x, chance) for x in values]
+        return line_of(kind, numbers, chance), count
     if kind == "append":
         values = some_values(settings, chance, MOST_SAMPLES)
         return line_of(kind, [value_written(x, chance) for x in values], chance), count + len(values)
