@@ -21,7 +21,7 @@ OPTIONS ?= -n 16
 sizes: bin/aec
 	@sh examples/sizes.sh bin/aec $(FILE) $(OPTIONS)
 
-# The gate, and then the round trips with the client of libaec.
+# The gate, then coded data that is cut, and the round trips with the client of libaec.
 test:
 	sh tests/run.sh
 

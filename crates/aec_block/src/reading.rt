@@ -6,6 +6,7 @@ ghost use Rattle.aec_params.specs.Params.{IsAllowed, id_len};
 ghost use Rattle.aec_params.specs.CodedDataSets.{CodedDataSet, written_count};
 ghost use Rattle.aec_params.specs.Places.{placed_values};
 ghost use Rattle.aec_block.specs.declared.cds.Cds.TheVariants.{Single};
+ghost use Rattle.aec_block.specs.BlockShape.{most_values};
 ghost use Rattle.aec_block.specs.ReadAt.{map_taken, kind_at, reference_at, body_at, cds_at};
 ghost use Rattle.aec_block.specs.Gathering.{bits_at, as_taken};
 ghost use Rattle.aec_block.specs.ReadCds.{run_len_of, checked, checked_body, HasShortSplit, IsReadAs};
@@ -87,7 +88,7 @@ fn run_len(number: u64) -> RunLen
 /// How many values a block with that reference sample or without one writes one by one.
 fn values_due(params: &Params, reference: Option<u32>) -> u32
     ensures count { result ≡ written_count params.now (is_some reference) }
-    ensures most { length (placed_values reference []) + result ≤ 64 }
+    ensures most { length (placed_values reference []) + result ≤ most_values }
 {
     match reference {
         Some(_) => params.block_size() - 1,

@@ -138,14 +138,16 @@ coding-front s caps front rest allowed past = record {
 -- ---- decoding
 
 refused_whole : (limit : ℕ) (bytes : List ℕ) (failed : Bool) → limit < length bytes → intake_refusal limit (input_of bytes failed) ≡ Some (StreamTooLong limit)
-refused_whole limit bytes failed past = ap (λ t. if t then Some (StreamTooLong limit) else (if failed then Some Read else None)) (lt-ltb limit (length bytes) past)
+refused_whole limit bytes failed past =
+    ap (λ t. if t then Some (StreamTooLong limit) else (if failed then Some Read else None)) (lt-ltb limit (length bytes) past)
 
 -- answers that begin with the refusal of the intake
 judged_by_intake : (answers : Input → Result (List ℕ) Fault → Type 0) (limit : ℕ) (front rest : List ℕ) → limit < length front
     → ((input : Input) (fault : Fault) (answer : Result (List ℕ) Fault) → intake_refusal limit input ≡ Some fault → answers input answer ↔ (answer ≡ Err fault))
     → IsJudgedByFront answers front rest
 judged_by_intake answers limit front rest past refusing =
-    let longer : limit < length (front ++ rest) = (let e : length (front ++ rest) ≡ length front + length rest = length-append front rest in omega (arith, past, e)) in
+    let e : length (front ++ rest) ≡ length front + length rest = length-append front rest in
+    let longer : limit < length (front ++ rest) = omega (arith, past, e) in
     record {
       fault = StreamTooLong limit;
       of_front = λ failed answer. refusing (input_of front failed) (StreamTooLong limit) answer (refused_whole limit front failed past);

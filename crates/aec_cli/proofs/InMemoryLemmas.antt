@@ -1,15 +1,14 @@
 -- What the engines leave where source and sink are bytes in memory.
-use Rattle.std.proofs.Common.{◌≡◌, ℕ, ◌≤◌, Bool, true, false, nat_lt, if◌then◌else◌, Option, Some, None, Result, Ok, Err, List, [], ◌∷◌, ◌++◌, length, refl, sym, ap, ◌∙◌, ◌⊎◌, inl, inr, subst}
+use Rattle.std.proofs.Common.{◌≡◌, ℕ, ◌≤◌, Bool, true, false, nat_lt, if◌then◌else◌, Option, Some, None, Result, Ok, Err, List, [], length, refl, sym, ap, ◌∙◌, ◌⊎◌, inl, inr, subst}
 use Rattle.std.specs.Io.KnownBytes.{Appends}
 use Rattle.std.specs.Option.{option_or}
 use Rattle.std.proofs.lemmas.Bool.{ltb-false, ltb-true}
 use Rattle.aec_params.specs.declared.settings.Settings.{Settings}
 use Rattle.aec_params.specs.declared.fault.Fault.{Fault}
-use Rattle.aec_params.specs.declared.fault.Fault.TheVariants.{Memory, Read, Write, StreamTooLong, TooManySamples}
+use Rattle.aec_params.specs.declared.fault.Fault.TheVariants.{Memory, Write, StreamTooLong, TooManySamples}
 use Rattle.aec_params.specs.Limits.{Caps}
 use Rattle.aec_params.specs.Params.{IsAllowed}
-use Rattle.aec_params.specs.Stored.{samples_of_bytes}
-use Rattle.aec_cli.specs.Transfers.{Input, input_of, Taking, Putting, Gave, Leaves, written, refused, no_answer, not_written}
+use Rattle.aec_cli.specs.Transfers.{Input, input_of, Taking, Putting, Leaves, written, refused, no_answer, not_written}
 use Rattle.aec_cli.specs.Output as output
 use Rattle.aec_cli.specs.Output.{IsEncoded, bytes_within, samples_refusal, coding_refusal, not_coded, encoded, IsDecoded, intake_refusal, not_taken, decoded}
 use Rattle.aec_cli.specs.Laws.{IsJudgedWhole}
@@ -150,3 +149,5 @@ undecoded_in_memory s caps count source sink coded fault f before sound memory o
     by_answer : (f ≡ Memory) ⊎ IsDecoded s caps count (input_of coded false) (Err f) → (f ≡ Memory) ⊎ RefusesCoded s caps count coded f
     by_answer (inl lacks) = inl lacks
     by_answer (inr answered) = inr (refusal_of s caps count coded (Err f) f refl answered)
+
+pub ruleset coded = (coded_in_memory)

@@ -1,14 +1,13 @@
 -- Which refusal samples have, from what reading them answers.
-use Rattle.std.proofs.Common.{◌≡◌, ℕ, zero, suc, ◌+◌, ◌/◌, ◌<◌, ◌≤◌, Bool, true, false, nat_lt, if◌then◌else◌, Option, Some, None, Result, Ok, Err, IfErr, ℤ, List, [], ◌∷◌, length, drop, refl, sym, ap, ◌∙◌, arith}
+use Rattle.std.proofs.Common.{◌≡◌, ℕ, zero, suc, ◌+◌, ◌/◌, ◌<◌, ◌≤◌, Bool, true, false, nat_lt, if◌then◌else◌, Option, Some, None, Result, Ok, Err, ℤ, List, [], ◌∷◌, length, drop, refl, sym, ap, ◌∙◌}
 use Rattle.std.specs.Simd.{first_chunks}
 use Rattle.std.specs.Option.{option_or}
 use Rattle.std.specs.Result.{result_err}
 use Rattle.std.proofs.lemmas.Bool.{lt-ltb, le-ltb}
 use Rattle.aec_params.specs.declared.settings.Settings.{Settings}
-use Rattle.aec_params.specs.declared.fault.Fault.{Fault}
-use Rattle.aec_params.specs.declared.fault.Fault.TheVariants.{Memory, Read, SampleRange, TooManySamples}
+use Rattle.aec_params.specs.declared.fault.Fault.TheVariants.{Read, TooManySamples}
 use Rattle.aec_params.specs.Params.{storage_len}
-use Rattle.aec_params.specs.Stored.{AnswersSamples, number_in, sample_of_number, sample_before, samples_of_groups, samples_of_bytes, byte_groups}
+use Rattle.aec_params.specs.Stored.{number_in, sample_of_number, sample_before, samples_of_groups, samples_of_bytes, byte_groups}
 use Rattle.aec_cli.specs.Transfers.{input_of}
 use Rattle.aec_cli.specs.Output.{samples_refusal, coding_refusal}
 

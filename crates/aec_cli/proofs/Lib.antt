@@ -16,3 +16,9 @@ pub mod ValueLemmas
 pub mod ScriptNumberLemmas
 pub mod ScriptLineLemmas
 pub mod InMemoryLemmas
+pub mod CallLemmas
+pub mod EditingLemmas
+pub mod EditedLemmas
+pub mod EditAnswerLemmas
+pub mod OneEditLemmas
+pub mod EditedStreamLemmas

@@ -1,5 +1,6 @@
 -- How the numbers of words are read.
-use Rattle.std.proofs.Common.{◌≡◌, ap, ap₂, sym, ◌∙◌, subst, Bool, true, false, List, [], ◌∷◌, ℕ, ◌<◌, length, ◌&&◌, ◌==◌, ◌^◌, nat_lt, if◌then◌else◌, refl, Option, Some, None, slice_index, Bor, rules, arith}
+use Rattle.std.proofs.Common.{◌≡◌, ap, ap₂, sym, ◌∙◌, subst, refl, arith}
+use Rattle.std.proofs.Common.{Bool, true, false, List, [], ◌∷◌, ℕ, ◌<◌, length, ◌&&◌, ◌==◌, ◌^◌, nat_lt, if◌then◌else◌, Option, Some, None, slice_index, Bor}
 use Rattle.std.specs.Prelude.{Ok, Err, Result, MatchOption, option_map, option_and_then}
 use Rattle.std.specs.List.{list_all, slice_split, join_with_byte, position_or_len, before_first, after_first}
 use Rattle.std.specs.Result.{result_ok}

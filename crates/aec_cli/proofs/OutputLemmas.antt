@@ -1,5 +1,5 @@
 -- Answers of the engines from what their parts answer.
-use Rattle.std.proofs.Common.{◌≡◌, ℕ, zero, suc, ◌≤◌, Bool, true, false, if◌then◌else◌, Option, Some, None, Result, Ok, Err, IfOk, IfErr, ℤ, List, [], ◌∷◌, length, take, refl, sym, ap, ◌∙◌, subst, arith}
+use Rattle.std.proofs.Common.{◌≡◌, ◌⊎◌, inl, inr, ⊎_elim, ℕ, zero, suc, ◌≤◌, Bool, true, false, if◌then◌else◌, Option, Some, None, Result, Ok, Err, IfOk, IfErr, ℤ, List, [], ◌∷◌, length, take, refl, sym, ap, ◌∙◌, subst, arith}
 use Rattle.std.proofs.lemmas.Bool.{lt-ltb, le-ltb}
 use Rattle.std.proofs.lemmas.Result.{IfOk-weaker, IfErr-weaker}
 use Rattle.std.specs.Io.KnownBytes.{Keeps, Appends}
@@ -52,15 +52,29 @@ gave_whole before after failures limit bytes taken = record {
 pub none_refused : (limit : ℕ) (bytes : List ℕ) → length bytes ≤ limit → intake_refusal limit (sound_input bytes) ≡ None
 none_refused limit bytes within = ap (λ b. if b then Some (StreamTooLong limit) else None) (le-ltb limit (length bytes) within)
 
+-- a source that was not read whole: for want of memory, or it gave an input that is refused
+pub intake_given : (before after : Option (List ℕ)) (failures limit : ℕ) (fault : Fault) → RefusesIntake before after failures limit fault
+    → (fault ≡ Memory) ⊎ ((input : Input) × Gave (record { before = before; after = after; failures = failures }) limit input × (intake_refusal limit input ≡ Some fault))
+intake_given before after failures limit fault transfers.no_memory = inl refl
+intake_given before after failures limit fault (source_failed bytes fails) =
+    inr (
+      failed_input bytes,
+      record { taken = fails.taken; failed = λ e. fails.failed; sound = λ e. absurd (cc); whole = λ within e. absurd (cc) },
+      ap (λ b. if b then Some (StreamTooLong limit) else Some Read) (le-ltb limit (length bytes) fails.within),
+    )
+intake_given before after failures limit fault (too_many_bytes bytes passes) =
+    inr (
+      sound_input bytes,
+      record { taken = passes.taken; failed = λ e. absurd (cc); sound = λ e. passes.sound; whole = λ within e. absurd (omega arith) },
+      ap (λ b. if b then Some (StreamTooLong limit) else None) (lt-ltb limit (length bytes) passes.past),
+    )
+
 pub refused_intake : (s : Settings) (caps : Caps) (count : Option ℕ) (before after : Option (List ℕ)) (failures : ℕ) (fault : Fault) → RefusesIntake before after failures caps.bytes fault
     → GivesAnswer (IsDecoded s caps count) (record { before = before; after = after; failures = failures }) caps.bytes (Err fault)
-refused_intake s caps count before after failures fault transfers.no_memory = lacks_memory
-refused_intake s caps count before after failures fault (source_failed bytes fails) =
-    given (failed_input bytes) (Err Read) (record { taken = fails.taken; failed = λ e. fails.failed; sound = λ e. absurd (cc); whole = λ within e. absurd (cc) })
-    (not_taken Read (ap (λ b. if b then Some (StreamTooLong caps.bytes) else Some Read) (le-ltb caps.bytes (length bytes) fails.within)))
-refused_intake s caps count before after failures fault (too_many_bytes bytes passes) =
-    given (sound_input bytes) (Err (StreamTooLong caps.bytes)) (record { taken = passes.taken; failed = λ e. absurd (cc); sound = λ e. passes.sound; whole = λ within e. absurd (omega arith) })
-    (not_taken (StreamTooLong caps.bytes) (ap (λ b. if b then Some (StreamTooLong caps.bytes) else None) (lt-ltb caps.bytes (length bytes) passes.past)))
+refused_intake s caps count before after failures fault refuses =
+    let source : Taking = record { before = before; after = after; failures = failures } in
+    ⊎_elim (λ memory. subst (λ fault. GivesAnswer (IsDecoded s caps count) source caps.bytes (Err fault)) (sym memory) lacks_memory)
+    (λ found. given found.0 (Err fault) found.1 (not_taken fault found.2)) (intake_given before after failures caps.bytes fault refuses)
 
 pub refused_decoding : (s : Settings) (caps : Caps) (count : Option ℕ) (before after : Option (List ℕ)) (failures : ℕ) (bytes : List ℕ) (fault : Fault) → IsTakenWhole before after failures caps.bytes bytes
     → RefusesDecoding s count caps.samples (bits_of_bytes bytes) fault → GivesAnswer (IsDecoded s caps count) (record { before = before; after = after; failures = failures }) caps.bytes (Err fault)
@@ -114,7 +128,8 @@ pub gave_samples : {X : Type 0} (view : X → List ℤ) (r : Result X Fault) (s 
     → IsTakenWhole before after failures limit bytes → IfOk r (λ x. (count_refusal most count ≡ None) × IsReading s count most bits (view x))
     → IfOk r (λ x. GaveSamples s caps count (taking before after failures) (view x))
 gave_samples view r s caps count before after failures limit most bytes bits limited counted spelled taken ok =
-    IfOk-weaker r (λ x. (count_refusal most count ≡ None) × IsReading s count most bits (view x)) (λ x. GaveSamples s caps count (taking before after failures) (view x))
+    IfOk-weaker r (λ x. (count_refusal most count ≡ None) × IsReading s count most bits (view x))
+    (λ x. GaveSamples s caps count (taking before after failures) (view x))
     (λ x read. read_samples s caps count before after failures bytes (view x) (subst (λ limit. IsTakenWhole before after failures limit bytes) limited taken)
     (subst (λ most. count_refusal most count ≡ None) counted read.0)
     (subst (λ bits. IsReading s count caps.samples bits (view x)) spelled (subst (λ most. IsReading s count most bits (view x)) counted read.1))) ok
@@ -145,7 +160,7 @@ answers_storing r answers source limit memory =
 
 -- ---- what is left in the sink
 
-Keeps-same : (bytes : Option (List ℕ)) → Keeps bytes bytes
+pub Keeps-same : (bytes : Option (List ℕ)) → Keeps bytes bytes
 Keeps-same None = tt
 Keeps-same (Some bytes) = refl
 

@@ -1,5 +1,5 @@
 -- Each input has one answer where a range is cut out of it.
-use Rattle.std.proofs.Common.{◌≡◌, ℕ, ◌+◌, ◌<◌, ◌≤◌, Bool, true, false, nat_lt, if◌then◌else◌, Option, Some, None, Result, Ok, Err, ℤ, List, length, refl, sym, ap, ◌∙◌, subst}
+use Rattle.std.proofs.Common.{◌≡◌, ℕ, ◌+◌, Bool, true, false, nat_lt, if◌then◌else◌, Option, Result, Ok, Err, ℤ, List, length, refl, sym, ap, ◌∙◌}
 use Rattle.std.proofs.lemmas.Bool.{lt-ltb, le-ltb, ltb-true, ltb-false}
 use Rattle.aec_params.specs.declared.settings.Settings.{Settings}
 use Rattle.aec_params.specs.declared.fault.Fault.{Fault}
@@ -18,12 +18,12 @@ abbrev range_answer : Settings → ℕ → ℕ → List ℤ → Result (List ℕ
 range_answer s first len samples =
     if nat_lt (length samples) (first + len) then Err (OutOfRange (length samples)) else Ok (all_stored s (samples_from first len samples))
 
-one_read : (s : Settings) (caps : Caps) (count : Option ℕ) (input : Input) (samples others : List ℤ) → IsAllowed s → IsRead s caps count input samples
+pub one_read : (s : Settings) (caps : Caps) (count : Option ℕ) (input : Input) (samples others : List ℤ) → IsAllowed s → IsRead s caps count input samples
     → IsRead s caps count input others → others ≡ samples
 one_read s caps count input samples others allowed read also =
     (bits_are_read_in_one_way s count caps.samples (bits_of_bytes input.bytes) allowed).one_reading others samples also.reading read.reading
 
-not_both : (s : Settings) (caps : Caps) (count : Option ℕ) (input : Input) (samples : List ℤ) (fault : Fault) → IsAllowed s
+pub not_both : (s : Settings) (caps : Caps) (count : Option ℕ) (input : Input) (samples : List ℤ) (fault : Fault) → IsAllowed s
     → IsRead s caps count input samples → IsDecoded s caps count input (Err fault) → ⊥
 not_both s caps count input samples fault allowed read refused =
     let one = decoding_has_one_answer s caps count input allowed in
@@ -37,10 +37,12 @@ only-read : (s : Settings) (caps : Caps) (count : Option ℕ) (first len : ℕ) 
 only-read s caps count first len input samples other allowed read (not_decoded fault refused) =
     absurd (not_both s caps count input samples fault allowed read refused)
 only-read s caps count first len input samples other allowed read (outside others also past) =
-    sym (ap (λ t. if t then Err (OutOfRange (length others)) else Ok (all_stored s (samples_from first len others))) (lt-ltb (length others) (first + len) past))
+    sym (ap (λ t. if t then Err (OutOfRange (length others)) else Ok (all_stored s (samples_from first len others)))
+    (lt-ltb (length others) (first + len) past))
     ∙ ap (range_answer s first len) (one_read s caps count input samples others allowed read also)
 only-read s caps count first len input samples other allowed read (cut_out others also within) =
-    sym (ap (λ t. if t then Err (OutOfRange (length others)) else Ok (all_stored s (samples_from first len others))) (le-ltb (length others) (first + len) within))
+    sym (ap (λ t. if t then Err (OutOfRange (length others)) else Ok (all_stored s (samples_from first len others)))
+    (le-ltb (length others) (first + len) within))
     ∙ ap (range_answer s first len) (one_read s caps count input samples others allowed read also)
 
 only-refused : (s : Settings) (caps : Caps) (count : Option ℕ) (first len : ℕ) (input : Input) (fault : Fault) (other : Result (List ℕ) Fault) → IsAllowed s

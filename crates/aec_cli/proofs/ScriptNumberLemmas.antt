@@ -51,4 +51,5 @@ value_in-no_text word no_text = by_plus (slice_index word 0 == 43) refl
         by_numeral e (is_numeral (without_leading_sign word)) refl ∙ sym (ap (λ t. if t then None else signed_in word) e)
 
 pub ruleset no_number = (decimal_in-no_text)
+
 pub ruleset no_value = (value_in-no_text)

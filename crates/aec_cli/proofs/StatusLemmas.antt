@@ -1,10 +1,14 @@
 -- How a run on words with a mistake ends.
-use Rattle.std.proofs.Common.{◌≡◌, ◌∙◌, ℕ, [], ◌∷◌, ap, inl, inr}
+use Rattle.std.proofs.Common.{◌≡◌, ◌∙◌, ℕ, List, [], ◌∷◌, Result, Ok, Err, IfErr, ap, sym, subst, inl, inr}
 use Rattle.clap.specs.Kinds.{HasKind, IsAmong, Kinds}
 use Rattle.clap.specs.Values.{kind_of}
 use Rattle.clap.specs.declared.error.Error.{Error}
 use Rattle.clap.specs.declared.error.kind.ErrorKind.{ErrorKind}
-use Rattle.aec_cli.specs.Statuses.{EndsByMistake, IsStatusAmong, parse_status}
+use Rattle.clap.specs.Walk.{Text}
+use Rattle.clap.specs.declared.parser.matches.Found.{Found}
+use Rattle.aec_cli.specs.declared.usage.Usage.{Usage}
+use Rattle.aec_cli.specs.Jobs.{Task, job_of}
+use Rattle.aec_cli.specs.Statuses.{EndsByMistake, EndsByRefusal, EndsByWords, IsFoundIn, IsStatusAmong, parse_status, usage_status}
 
 status_among : (kind : ErrorKind) (kinds : Kinds) (status : ℕ) → IsAmong kind kinds → status ≡ parse_status kind → IsStatusAmong status kinds
 status_among kind [] status among is = among
@@ -19,3 +23,23 @@ ends_by_error (k ∷ ks) e status has is = elim has [
   | inl memory ↦ inl (is ∙ ap parse_status memory)
   | inr among ↦ inr (status_among (kind_of e) (k ∷ ks) status among is)
 ]
+
+-- words without a mistake that have no matches
+pub ends_by_memory : (words : List Text) (e : Error) (status : ℕ) → HasKind [] e → status ≡ parse_status (kind_of e) → EndsByWords words status
+ends_by_memory words e status has is = elim has [
+  | inl memory ↦ inl (is ∙ ap parse_status memory)
+  | inr among ↦ absurd among
+]
+
+-- words that make no job
+pub ends_by_usage : {J : Type 0} (words : List Text) (found : Found) (r : Result J Usage) (usage : Usage) (status : ℕ)
+    → IsFoundIn words found → r ≡ Err usage → IfErr (job_of found) (λ u. r ≡ Err u) → status ≡ usage_status usage → EndsByWords words status
+ends_by_usage words found r usage status finds is refuses ends = inr (found, finds, by_job (job_of found) refuses)
+  where
+    by_job : (j : Result Task Usage) → IfErr j (λ u. r ≡ Err u) → EndsByRefusal j status
+    by_job (Ok task) refuses = tt
+    by_job (Err u) refuses = let same : usage ≡ u = cc in ends ∙ ap usage_status same
+
+-- words that make one
+pub ends_by_job : (words : List Text) (found : Found) (task : Task) (status : ℕ) → IsFoundIn words found → job_of found ≡ Ok task → EndsByWords words status
+ends_by_job words found task status finds is = inr (found, finds, subst (λ j. EndsByRefusal j status) (sym is) tt)

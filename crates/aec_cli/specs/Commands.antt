@@ -69,7 +69,7 @@ storage_rules = flag_rule (codes "signed") (letter (codes "s")) ∷ flag_rule (c
 -- what is done
 unfoldable pub work_rules : List Rule
 work_rules = flag_rule (codes "decode") (letter (codes "d")) ∷ long_text_rule (codes "range")
-    ∷ long_number_rule long_parser (codes "count") ∷ number_rule long_parser (codes "buffer") (letter (codes "b")) ∷ []
+    ∷ long_text_rule (codes "edit") ∷ long_number_rule long_parser (codes "count") ∷ number_rule long_parser (codes "buffer") (letter (codes "b")) ∷ []
 
 -- the two files, in this order
 unfoldable pub file_rules : List Rule

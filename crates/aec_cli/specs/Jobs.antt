@@ -1,5 +1,5 @@
 -- The job that the words of a command ask for: a function of what a parse found.
-use Rattle.std.specs.Prelude.{ℕ, Bool, false, not, ◌&&◌, ◌==◌, nat_lt, if◌then◌else◌, List, [], ◌∷◌, count_by}
+use Rattle.std.specs.Prelude.{ℕ, Bool, false, not, ◌&&◌, ◌==◌, nat_lt, if◌then◌else◌, [], ◌∷◌, count_by}
 use Rattle.std.specs.Prelude.{Option, Some, None, is_some, unwrap_or, option_map, option_and_then, Result, Ok, Err, codes}
 use Rattle.std.specs.Option.{option_map_or, option_or}
 use Rattle.std.specs.Str.{bytes_eq}
@@ -16,15 +16,28 @@ use Rattle.aec_cli.specs.declared.job.Action.TheVariants as action
 use Rattle.aec_cli.specs.declared.job.Job.{Job}
 use Rattle.aec_cli.specs.Numerals.{number_in, range_in}
 
+-- what is done: samples are coded; coded data are decoded, cut to a range, or edited by the script in a file
+pub data Work : Type 0 where
+  coding : Work
+  decoding : Option ℕ → Work
+  cutting : ℕ → ℕ → Option ℕ → Work
+  editing : Text → Option ℕ → Work
+
+abbrev pub work_of : Action → Work
+work_of action.Encode = coding
+work_of (action.Decode count) = decoding count
+work_of (action.Range first len count) = cutting first len count
+work_of (action.Edit script count) = editing (string_bytes script) count
+
 -- one job: the settings, what is done, and the names of the two files
 pub record Task : Type 0 where
   pub settings : Settings
-  pub action : Action
+  pub work : Work
   pub source : Text
   pub dest : Text
 
 abbrev pub task_of : Job → Task
-task_of j = record { settings = j.params; action = j.action; source = string_bytes j.source; dest = string_bytes j.dest }
+task_of j = record { settings = j.params; work = work_of j.action; source = string_bytes j.source; dest = string_bytes j.dest }
 
 -- whether a flag is given: its value is the word `true`
 unfoldable pub is_given : Text → Found → Bool
@@ -58,9 +71,11 @@ settings_of f = record {
 
 -- ---- what is done
 
--- how many of `-d` and `--range` are given
+-- how many of `-d`, `--range` and `--edit` are given
 unfoldable pub actions_given : Found → ℕ
-actions_given f = count_by (λ given. given) (is_given (codes "decode") f ∷ is_some (first_value f (codes "range")) ∷ [])
+actions_given f =
+    count_by (λ given. given)
+    (is_given (codes "decode") f ∷ is_some (first_value f (codes "range")) ∷ is_some (first_value f (codes "edit")) ∷ [])
 
 -- the range, where its text is one
 unfoldable pub range_of : Found → Option (ℕ × ℕ)
@@ -78,17 +93,18 @@ action_refusal f =
     (option_or (refused_where (is_some (count_of f) && actions_given f == 0) Count)
     (refused_where (is_some (first_value f (codes "range")) && not (is_some (range_of f))) Range))
 
--- what is asked for where nothing is refused: a range, all samples, or coding
-unfoldable pub action_of : Found → Action
-action_of f = option_map_or (λ range. action.Range range.0 range.1 (count_of f)) (range_of f)
-    (if is_given (codes "decode") f then action.Decode (count_of f) else action.Encode)
+-- what is asked for where nothing is refused: a script's edits, a range, all samples, or coding
+unfoldable pub work_asked : Found → Work
+work_asked f = option_map_or (λ script. editing script (count_of f)) (first_value f (codes "edit"))
+    (option_map_or (λ range. cutting range.0 range.1 (count_of f)) (range_of f)
+    (if is_given (codes "decode") f then decoding (count_of f) else coding))
 
 -- ---- the job
 
 abbrev pub asked_task : Found → Task
 asked_task f = record {
   settings = settings_of f;
-  action = action_of f;
+  work = work_asked f;
   source = file_of (codes "SOURCE") f;
   dest = file_of (codes "DEST") f;
 }

@@ -1,19 +1,23 @@
 -- What the definitions of what a run writes were meant to say.
-use Rattle.std.specs.Prelude.{◌≡◌, ◌↔◌, ℕ, ◌<◌, Bool, false, Option, Some, Result, Err, List, ◌++◌, length}
+use Rattle.std.specs.Prelude.{◌≡◌, ◌↔◌, ℕ, ◌<◌, Bool, false, Option, Some, None, Result, Ok, Err, ℤ, List, [], ◌++◌, length}
 use Rattle.aec_params.specs.declared.settings.Settings.{Settings}
 use Rattle.aec_params.specs.declared.fault.Fault.{Fault}
 use Rattle.aec_params.specs.Limits.{Caps}
 use Rattle.aec_params.specs.Params.{IsAllowed}
+use Rattle.aec_params.specs.Codewords.{bytes_of}
+use Rattle.aec_params.specs.Streams.{stream_of}
 use Rattle.aec_cli.specs.Transfers.{Input, input_of, Taking, Gave}
-use Rattle.aec_cli.specs.Output.{IsEncoded, bytes_within, IsDecoded, IsRanged}
+use Rattle.aec_cli.specs.Output.{IsEncoded, bytes_within, IsRead, IsDecoded, IsRanged}
+use Rattle.aec_cli.specs.Scripts.{listing_of}
+use Rattle.aec_cli.specs.Editing.{script_refusal, IsEdited}
 
 -- ---- bytes or one refusal
 
 -- an input has one answer
-pub record HasOneAnswer (answers : Input → Result (List ℕ) Fault → Type 0) (input : Input) : Type 0 where
-  pub answer : Result (List ℕ) Fault
+pub record HasOneAnswer {E : Type 0} (answers : Input → Result (List ℕ) E → Type 0) (input : Input) : Type 0 where
+  pub answer : Result (List ℕ) E
   pub is_answer : answers input answer
-  pub only : (other : Result (List ℕ) Fault) → answers input other → other ≡ answer
+  pub only : (other : Result (List ℕ) E) → answers input other → other ≡ answer
 
 -- each input is coded into bytes or has one refusal; so it is decoded, and so is each range of it
 pub record EachInputHasOneAnswer : Type 0 where
@@ -21,6 +25,17 @@ pub record EachInputHasOneAnswer : Type 0 where
   pub decoding : (s : Settings) (caps : Caps) (count : Option ℕ) (input : Input) → IsAllowed s → HasOneAnswer (IsDecoded s caps count) input
   pub ranging : (s : Settings) (caps : Caps) (count : Option ℕ) (first len : ℕ) (input : Input) → IsAllowed s
       → HasOneAnswer (IsRanged s caps count first len) input
+
+-- each script and input have one answer
+abbrev pub EachScriptHasOneAnswer : Type 0
+EachScriptHasOneAnswer = (s : Settings) (caps : Caps) (count : Option ℕ) (script input : Input) → IsAllowed s
+    → HasOneAnswer (IsEdited s caps count script) input
+
+-- a script that asks for nothing leaves all samples: each input has the code of what it is read as
+abbrev pub NoEditsKeepTheSamples : Type 0
+NoEditsKeepTheSamples = (s : Settings) (caps : Caps) (count : Option ℕ) (script input : Input) (samples : List ℤ)
+    → script_refusal caps.bytes script ≡ None → (listing_of script.bytes).edits ≡ [] → IsRead s caps count input samples
+    → IsEdited s caps count script input (Ok (bytes_of (stream_of s samples)))
 
 -- ---- inputs past a limit
 

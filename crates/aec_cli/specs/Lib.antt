@@ -5,11 +5,15 @@ pub mod Scripts
 pub mod ScriptExamples
 pub mod ScriptLines
 pub mod Jobs
+pub mod Asked
 pub mod Openings
 pub mod Statuses
 pub mod Transfers
 pub mod Output
 pub mod OutputExamples
+pub mod Editing
+pub mod EditingSteps
 pub mod Actions
 pub mod InMemory
 pub mod Laws
+pub mod EditedStreams

@@ -21,13 +21,13 @@ use Rattle.aec_cli.specs.Transfers.{Input, Taking, Gave}
 abbrev pub bytes_within : Settings → ℕ → ℕ
 bytes_within s limit = (limit + 1) * storage_len s - 1
 
--- Why samples are refused, which are judged in their order: one behind the limit is too many, whatever it holds; before it the
+-- Why samples are refused, which are judged in their order: one after the limit is too many, whatever it holds; before it the
 -- first that is none of the settings is out of range.
 abbrev pub samples_refusal : ℕ → Result (List ℤ) ℕ → Option Fault
 samples_refusal limit (Ok samples) = if nat_lt limit (length samples) then Some (TooManySamples limit) else None
 samples_refusal limit (Err bad) = Some (if nat_lt bad limit then SampleRange bad else TooManySamples limit)
 
--- why an input is not coded: the first refusal of its samples, and behind them the failure of its source
+-- why an input is not coded: the first refusal of its samples, and after them the failure of its source
 abbrev pub coding_refusal : Settings → ℕ → Input → Option Fault
 coding_refusal s limit input = option_or (samples_refusal limit (samples_of_bytes s input.bytes)) (if input.failed then Some Read else None)
 
@@ -40,7 +40,7 @@ pub data IsEncoded (s : Settings) (caps : Caps) (input : Input) : Result (List �
 
 -- ---- decoding
 
--- samples as bytes, one behind the other
+-- samples as bytes, one after the other
 abbrev pub all_stored : Settings → List ℤ → List ℕ
 all_stored s samples = flat_map (stored_bytes s) samples
 

@@ -1,11 +1,14 @@
--- What coding answers to inputs that are written out. A wrong line here fails the check.
-use Rattle.std.specs.Prelude.{◌≡◌, ℕ, true, false, Some, Ok, Err, pos, [], ◌∷◌, List, Bool, refl}
-use Rattle.aec_params.specs.declared.fault.Fault.TheVariants.{SampleRange, TooManySamples, Read}
+-- What coding and cutting out a range answer to inputs that are written out. A wrong line here fails the check.
+use Rattle.std.specs.Prelude.{◌≡◌, ℕ, true, false, Some, None, Ok, Err, pos, [], ◌∷◌, List, Bool, refl}
+use Rattle.aec_params.specs.declared.fault.Fault.TheVariants.{SampleRange, TooManySamples, OutOfRange, Read}
 use Rattle.aec_params.specs.Limits.{Caps}
 use Rattle.aec_params.specs.Stored.{samples_of_bytes}
 use Rattle.aec_params.proofs.WorkedSettings.{usual, twelve_bits, five_signed}
 use Rattle.aec_cli.specs.Transfers.{Input}
+use Rattle.std.proofs.Common.{lit<, lit≤}
+use Rattle.aec_params.proofs.WorkedReadings.{ramp_without_count, five_sevens}
 use Rattle.aec_cli.specs.Output.{IsEncoded, bytes_within, samples_refusal, encoded, not_coded}
+use Rattle.aec_cli.specs.Output.{IsRanged, not_taken, not_decoded, outside, cut_out}
 
 -- so many samples; coding has no limit of bytes
 abbrev at_most : ℕ → Caps
@@ -21,8 +24,8 @@ third_is_bad = 31 ∷ 255 ∷ 224 ∷ []
 bad_sample : samples_refusal 3 (samples_of_bytes five_signed third_is_bad) ≡ Some (SampleRange 2)
 bad_sample = refl
 
-bad_behind_the_limit : samples_refusal 2 (samples_of_bytes five_signed third_is_bad) ≡ Some (TooManySamples 2)
-bad_behind_the_limit = refl
+bad_after_the_limit : samples_refusal 2 (samples_of_bytes five_signed third_is_bad) ≡ Some (TooManySamples 2)
+bad_after_the_limit = refl
 
 bad_before_the_limit : samples_refusal 1 (samples_of_bytes five_signed (224 ∷ 0 ∷ [])) ≡ Some (SampleRange 0)
 bad_before_the_limit = refl
@@ -45,8 +48,33 @@ no_samples = encoded [] refl refl
 failed_source : IsEncoded five_signed (at_most 2) (input (31 ∷ 255 ∷ []) true) (Err Read)
 failed_source = not_coded Read refl
 
-failed_behind_a_bad_sample : IsEncoded five_signed (at_most 3) (input third_is_bad true) (Err (SampleRange 2))
-failed_behind_a_bad_sample = not_coded (SampleRange 2) refl
+failed_after_a_bad_sample : IsEncoded five_signed (at_most 3) (input third_is_bad true) (Err (SampleRange 2))
+failed_after_a_bad_sample = not_coded (SampleRange 2) refl
 
-failed_behind_the_limit : IsEncoded five_signed (at_most 2) (input third_is_bad true) (Err (TooManySamples 2))
-failed_behind_the_limit = not_coded (TooManySamples 2) refl
+failed_after_the_limit : IsEncoded five_signed (at_most 2) (input third_is_bad true) (Err (TooManySamples 2))
+failed_after_the_limit = not_coded (TooManySamples 2) refl
+
+-- ---- ranges
+
+abbrev both_limits : Caps
+both_limits = record { samples = 4096; bytes = 4 }
+
+abbrev ramp_bytes : List ℕ
+ramp_bytes = 0x20 ∷ 0x09 ∷ 0x24 ∷ 0x92 ∷ []
+
+three_of_a_ramp : IsRanged usual both_limits None 2 3 (input ramp_bytes false) (Ok (2 ∷ 3 ∷ 4 ∷ []))
+three_of_a_ramp = cut_out _ (record { taken = refl; within = refl; reading = ramp_without_count }) (lit≤ tt)
+
+past_a_ramp : IsRanged usual both_limits None 6 3 (input ramp_bytes false) (Err (OutOfRange 8))
+past_a_ramp = outside _ (record { taken = refl; within = refl; reading = ramp_without_count }) (lit< tt)
+
+-- with a count, the samples are so many
+nothing_after_the_count : IsRanged usual both_limits (Some 5) 5 0 (input (0x00 ∷ 0x78 ∷ []) false) (Ok [])
+nothing_after_the_count = cut_out _ (record { taken = refl; within = refl; reading = five_sevens }) (lit≤ tt)
+
+past_the_count : IsRanged usual both_limits (Some 5) 3 3 (input (0x00 ∷ 0x78 ∷ []) false) (Err (OutOfRange 5))
+past_the_count = outside _ (record { taken = refl; within = refl; reading = five_sevens }) (lit< tt)
+
+-- a source that fails is named before any place
+failed_range : IsRanged usual both_limits None 9 9 (input ramp_bytes true) (Err Read)
+failed_range = not_decoded Read (not_taken Read refl)

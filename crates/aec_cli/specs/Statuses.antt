@@ -1,8 +1,13 @@
 -- The status that the program ends with where its job is not done.
-use Rattle.std.specs.Prelude.{◌≡◌, ◌⊎◌, ℕ, [], ◌∷◌}
+use Rattle.std.specs.Prelude.{◌≡◌, ◌⊎◌, ℕ, List, [], ◌∷◌, Result, Ok, Err}
 use Rattle.clap.specs.Kinds.{Kinds}
+use Rattle.clap.specs.Simple.{matches_of}
+use Rattle.clap.specs.Walk.{Text, rows_of}
+use Rattle.clap.specs.declared.parser.matches.Found.{Found}
 use Rattle.clap.specs.declared.error.kind.ErrorKind.{ErrorKind}
 use Rattle.clap.specs.declared.error.kind.ErrorKind.TheVariants as kind
+use Rattle.aec_cli.specs.Commands.{aec_app}
+use Rattle.aec_cli.specs.Jobs.{Task, job_of}
 use Rattle.aec_cli.specs.declared.usage.Usage.{Usage}
 use Rattle.aec_cli.specs.declared.usage.Usage.TheVariants.{Jobs, Count, Range, Setting, Memory}
 use Rattle.aec_cli.specs.declared.failure.Failure.{Failure}
@@ -20,6 +25,7 @@ usage_status Memory = 1
 abbrev pub status_of : Failure → ℕ
 status_of (failure.Usage usage) = usage_status usage
 status_of (failure.Fault fault) = 1
+status_of (failure.Edit fault) = 1
 
 -- where a parse gives no matches: 0 for what was asked for, 1 for want of memory, and else 2
 abbrev pub parse_status : ErrorKind → ℕ
@@ -37,3 +43,18 @@ IsStatusAmong status (k ∷ ks) = (status ≡ parse_status k) ⊎ IsStatusAmong 
 abbrev pub EndsByMistake : Kinds → ℕ → Type 0
 EndsByMistake [] status = Unit {0}
 EndsByMistake (k ∷ ks) status = (status ≡ 1) ⊎ IsStatusAmong status (k ∷ ks)
+
+-- ---- words that make no job
+
+-- what a parse of the words finds
+abbrev pub IsFoundIn : List Text → Found → Type 0
+IsFoundIn words found = rows_of found ≡ matches_of aec_app words
+
+-- the status of a refused job; nothing is said where there is one
+abbrev pub EndsByRefusal : Result Task Usage → ℕ → Type 0
+EndsByRefusal (Ok task) status = Unit {0}
+EndsByRefusal (Err usage) status = status ≡ usage_status usage
+
+-- words without a mistake end with the status of the first refusal of their job, where it has one, or with 1 for want of memory
+abbrev pub EndsByWords : List Text → ℕ → Type 0
+EndsByWords words status = (status ≡ 1) ⊎ ((found : Found) × IsFoundIn words found × EndsByRefusal (job_of found) status)

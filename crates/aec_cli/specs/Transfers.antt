@@ -91,7 +91,7 @@ pub data GivesAnswer (answers : Input → Result (List ℕ) Fault → Type 0) (s
   lacks_memory : GivesAnswer answers source limit (Err Memory)
 
 -- an answer as its bytes, or its refusal
-abbrev pub answer_of : {X : Type 0} → (X → List ℕ) → Result X Fault → Result (List ℕ) Fault
+abbrev pub answer_of : {X E : Type 0} → (X → List ℕ) → Result X E → Result (List ℕ) E
 answer_of bytes_in (Ok x) = Ok (bytes_in x)
 answer_of bytes_in (Err fault) = Err fault
 

@@ -2,10 +2,12 @@
 
 mod coding;
 mod decoding;
+mod editing;
 mod intake;
 mod outlet;
 mod ranging;
 
 pub use coding::encode;
 pub use decoding::decode;
+pub use editing::edit;
 pub use ranging::range;

@@ -3,11 +3,12 @@
 ghost use Rattle.std.specs.Prelude.{◌≡◌};
 ghost use Rattle.aec_cli.specs.Statuses.{status_of};
 
+use crate::scripts::EditFault;
 use crate::usage::Usage;
 use aec_params::Fault;
 use thiserror::Error;
 
-/// The failure of a run. Its text is what stands on the printed line behind `aec: `.
+/// The failure of a run. Its text is what stands on the printed line after `aec: `.
 #[derive(Clone, Copy, Debug, PartialEq, Eq, Error)]
 pub enum Failure {
     /// The words make no job.
@@ -16,6 +17,9 @@ pub enum Failure {
     /// The job was refused.
     #[error("{0}")]
     Fault(Fault),
+    /// The job was refused, which was to edit by a script.
+    #[error("{0}")]
+    Edit(EditFault),
 }
 
 /// The status that the program ends with: 2 for words that make no job, and else 1. Want of memory is no fault of the
@@ -25,6 +29,6 @@ pub fn status(failure: &Failure) -> u8
 {
     match failure {
         Failure::Usage(Usage::Jobs | Usage::Count | Usage::Range | Usage::Setting(_)) => 2,
-        Failure::Usage(Usage::Memory) | Failure::Fault(_) => 1,
+        Failure::Usage(Usage::Memory) | Failure::Fault(_) | Failure::Edit(_) => 1,
     }
 }

@@ -51,6 +51,7 @@ fn refusal(fault: Fault) -> Fault
 
 /// The bytes of the code of stored samples. The refusals in their order: at each sample `TooManySamples`, then
 /// `SampleRange`. `Memory` can come at any time. `limits.bytes` is not used.
+#[tactic(auto, using(crate::proofs::InMemoryLemmas::coded))]
 pub fn encode_bytes(
     alloc: Global,
     params: &Params,

@@ -5,7 +5,8 @@ ghost use Rattle.std.specs.Result.{result_err};
 ghost use Rattle.std.specs.String.{string_bytes};
 ghost use Rattle.clap.specs.Matches.{found_of};
 ghost use Rattle.aec_cli.specs.Jobs.{job_of, task_of, settings_of, is_given, word_of, count_of, file_of};
-ghost use Rattle.aec_cli.specs.Jobs.{action_of, action_refusal};
+ghost use Rattle.aec_cli.specs.Jobs.{work_of, work_asked, action_refusal};
+ghost use Rattle.aec_cli.specs.Asked.{work_meant};
 
 use crate::numerals::range_in;
 use crate::usage::Usage;
@@ -28,6 +29,26 @@ pub enum Action {
         len: u64,
         count: Option<u64>,
     },
+    /// It is decoded, and the samples that the edits of the file `script` leave are coded.
+    Edit { script: String, count: Option<u64> },
+}
+
+// What is done, before a name is kept.
+#[derive(Drop)]
+enum Asked<'a> {
+    Encode,
+    Decode {
+        count: Option<u64>,
+    },
+    Range {
+        first: u64,
+        len: u64,
+        count: Option<u64>,
+    },
+    Edit {
+        script: &'a str,
+        count: Option<u64>,
+    },
 }
 
 /// One run: the parameters, what is done, and the names of the file that is read and of the file that is written.
@@ -46,8 +67,9 @@ pub fn settings(alloc: Global, matches: &ArgMatches<'_>) -> Result<Job, Usage>
     ensures refuses { IfErr (job_of (found_of matches.now)) (λ usage. result ≡ Err usage) }
     ensures memory { IfErr result (λ usage. IsOk (job_of (found_of matches.now)) → usage ≡ Usage.Memory) }
 {
-    let action = asked_action(matches)?;
+    let asked = asked_action(matches)?;
     let params = Params::new(asked_settings(matches)).map_err(Usage::Setting)?;
+    let action = kept_action(alloc, asked)?;
     let source = file_name(alloc, matches, "SOURCE")?;
     let dest = file_name(alloc, matches, "DEST")?;
     Ok(Job {
@@ -77,22 +99,42 @@ fn asked_settings(matches: &ArgMatches<'_>) -> Settings
 }
 
 // What is done, or the first rule of actions that is broken.
-#[tactic(auto, unfolding(crate::specs::Jobs::action_of, crate::specs::Jobs::action_refusal, crate::specs::Jobs::actions_given, crate::specs::Jobs::range_of))]
-fn asked_action(matches: &ArgMatches<'_>) -> Result<Action, Usage>
-    ensures ok { IfOk result (λ action. action ≡ action_of (found_of matches.now)) }
+#[tactic(auto, unfolding(crate::specs::Jobs::work_asked, crate::specs::Jobs::action_refusal, crate::specs::Jobs::actions_given, crate::specs::Jobs::range_of))]
+fn asked_action<'a>(matches: &'a ArgMatches<'_>) -> Result<Asked<'a>, Usage>
+    ensures ok { IfOk result (λ asked. work_meant asked ≡ work_asked (found_of matches.now)) }
     ensures refuses { result_err result ≡ action_refusal (found_of matches.now) }
 {
     let count = sample_count(matches);
-    match (has_flag(matches, "decode"), matches.get_str("range")) {
-        (true, Some(_)) => Err(Usage::Jobs),
-        (true, None) => Ok(Action::Decode { count }),
-        (false, Some(text)) => {
+    match (
+        has_flag(matches, "decode"),
+        matches.get_str("range"),
+        matches.get_str("edit"),
+    ) {
+        (true, None, None) => Ok(Asked::Decode { count }),
+        (false, Some(text), None) => {
             let (first, len) = range_in(text).ok_or(Usage::Range)?;
-            Ok(Action::Range { first, len, count })
+            Ok(Asked::Range { first, len, count })
         }
-        (false, None) if count.is_some() => Err(Usage::Count),
-        (false, None) => Ok(Action::Encode),
+        (false, None, Some(script)) => Ok(Asked::Edit { script, count }),
+        (false, None, None) if count.is_some() => Err(Usage::Count),
+        (false, None, None) => Ok(Asked::Encode),
+        _ => Err(Usage::Jobs),
     }
+}
+
+// What is asked for, with the name of a script kept.
+fn kept_action(alloc: Global, asked: Asked<'_>) -> Result<Action, AllocError>
+    ensures { IfOk result (λ action. work_of action ≡ work_meant asked.entry) }
+{
+    Ok(match asked {
+        Asked::Encode => Action::Encode,
+        Asked::Decode { count } => Action::Decode { count },
+        Asked::Range { first, len, count } => Action::Range { first, len, count },
+        Asked::Edit { script, count } => Action::Edit {
+            script: String::from_str(alloc, script)?,
+            count,
+        },
+    })
 }
 
 #[tactic(auto, unfolding(crate::specs::Jobs::is_given))]

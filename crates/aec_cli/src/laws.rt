@@ -1,10 +1,20 @@
 //! Laws of what a run writes. Their functions do nothing: what each one's contract says is proved.
 
-ghost use Rattle.aec_cli.specs.Laws.{EachInputHasOneAnswer, FrontsPastALimitAreEnough, WhatIsTakenIsEnough};
+ghost use Rattle.aec_cli.specs.Laws.{EachInputHasOneAnswer, EachScriptHasOneAnswer, NoEditsKeepTheSamples, FrontsPastALimitAreEnough, WhatIsTakenIsEnough};
 
 /// Each input is coded into bytes or has one refusal; so it is decoded, and so is each range of it.
 pub fn each_input_has_one_answer()
     ensures { EachInputHasOneAnswer }
+{}
+
+/// Each script and input are carried out into bytes or have one refusal.
+pub fn each_script_has_one_answer()
+    ensures { EachScriptHasOneAnswer }
+{}
+
+/// A script without edits gives the code of the samples that the input is read as, whatever coder wrote the input.
+pub fn no_edits_keep_the_samples()
+    ensures { NoEditsKeepTheSamples }
 {}
 
 /// An input that is past its limit is refused, and by its front alone: whatever follows, the refusal is the same.

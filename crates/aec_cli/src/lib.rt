@@ -1,6 +1,7 @@
 //! The command `aec`: its words, its job, the files that it reads and writes, and one whole run.
 #![tactic(auto)]
 
+mod edited_streams;
 mod engine;
 mod failure;
 mod files;
@@ -16,7 +17,8 @@ mod scripts;
 mod usage;
 mod words;
 
-pub use engine::{decode, encode, range};
+pub use edited_streams::{Decoded, decode_edited};
+pub use engine::{decode, edit, encode, range};
 pub use failure::{Failure, status};
 pub use files::{DestSink, FileSource};
 pub use in_memory::{decode_bytes, encode_bytes};

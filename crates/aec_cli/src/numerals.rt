@@ -9,7 +9,8 @@ ghost use Rattle.aec_cli.specs.Scripts.{value_in};
 pub(crate) fn decimal_in(text: &str) -> Option<u64>
     ensures { result ≡ decimal_in 64 text.now }
 {
-    if text.starts_with('+') {
+    let has_plus = text.starts_with('+');
+    if has_plus {
         return None;
     }
     text.parse().ok()

@@ -1,18 +1,21 @@
 //! One whole run of the program.
 
-ghost use Rattle.std.specs.Prelude.{◌≡◌, ◌≤◌, ℕ, map};
+ghost use Rattle.std.specs.Prelude.{◌≡◌, ◌≤◌, IfErr, ℕ, List, [], map};
 ghost use Rattle.std.specs.String.{string_bytes};
 ghost use Rattle.clap.specs.Faults.{fault_of};
 ghost use Rattle.clap.specs.Values.{kind_of};
-ghost use Rattle.aec_cli.specs.Actions.{IsAnswerOf, bytes_allowed, program_caps};
+ghost use Rattle.clap.specs.Walk.{Text};
+ghost use Rattle.aec_cli.specs.Actions.{HasNoScript, IsAnswerOf, bytes_allowed, program_caps};
 ghost use Rattle.aec_cli.specs.Commands.{aec_app};
-ghost use Rattle.aec_cli.specs.Statuses.{EndsByMistake, parse_status, status_of};
+ghost use Rattle.aec_cli.specs.Editing.{LeavesEdited};
+ghost use Rattle.aec_cli.specs.Statuses.{EndsByMistake, EndsByWords, parse_status, status_of};
 ghost use Rattle.aec_cli.specs.Transfers.{Taking, taking_of, Putting, putting_of, Leaves};
 
-use crate::engine::{decode, encode, range};
+use crate::engine::{decode, edit, encode, range};
 use crate::failure::{Failure, status};
 use crate::files::{DestSink, FileSource};
 use crate::job::{Action, Job, settings};
+use crate::scripts::EditFault;
 use crate::usage::Usage;
 use crate::words::parse;
 use aec_bits::{Sink, Source};
@@ -34,16 +37,18 @@ pub fn perform<F: Files, O: Write, E: Write>(
 ) -> u8
     ensures bound { result ≤ 2 }
     ensures mistakes { EndsByMistake (fault_of aec_app (map string_bytes words.items)) result }
+    ensures refusals { let given : List Text = map string_bytes words.items in
+        fault_of aec_app given ≡ [] → EndsByWords given result }
 {
     let matches = match parse(alloc, words.as_slice()) {
         Ok(matches) => matches,
         Err(error) => return answer(&error, out, err),
     };
-    let done = match settings(alloc, &matches) {
-        Ok(job) => run(rt, alloc, job).map_err(Failure::Fault),
-        Err(usage) => Err(Failure::Usage(usage)),
+    let job = match settings(alloc, &matches) {
+        Ok(job) => job,
+        Err(usage) => return report(Failure::Usage(usage), err),
     };
-    match done {
+    match run(rt, alloc, job) {
         Ok(()) => 0,
         Err(failure) => report(failure, err),
     }
@@ -59,7 +64,7 @@ fn limits() -> Limits
     }
 }
 
-// Does with a source what is asked for, within the limits of the program, and leaves its answer in a sink.
+// Does with a source what is asked for without a script, within the limits of the program, and leaves its answer in a sink.
 fn act<R: Source, W: Sink>(
     alloc: Global,
     params: &Params,
@@ -67,6 +72,7 @@ fn act<R: Source, W: Sink>(
     source: &mut R,
     sink: &mut W,
 ) -> Result<(), Fault>
+    requires { HasNoScript action }
     ensures { let took : Taking = taking_of R.left R.failed source.old source.new in
         let put : Putting = putting_of W.taken W.begun W.failed sink.old sink.new in
         let most : ℕ = bytes_allowed action params.now program_caps in
@@ -78,11 +84,31 @@ fn act<R: Source, W: Sink>(
         Action::Range { first, len, count } => {
             range(alloc, params, limits(), count, first, len, source, sink)
         }
+        Action::Edit { .. } => unreachable!(),
     }
 }
 
+// Edits what a source codes by the script that another gives, within the limits of the program.
+fn act_by_script<Q: Source, R: Source, W: Sink>(
+    alloc: Global,
+    params: &Params,
+    count: Option<u64>,
+    from: &mut Q,
+    source: &mut R,
+    sink: &mut W,
+) -> Result<(), EditFault>
+    ensures { let read : Taking = taking_of Q.left Q.failed from.old from.new in
+        let took : Taking = taking_of R.left R.failed source.old source.new in
+        let put : Putting = putting_of W.taken W.begun W.failed sink.old sink.new in
+        LeavesEdited params.now program_caps count read took put result }
+{
+    edit(alloc, params, limits(), count, from, source, sink)
+}
+
 // Does a job with its files.
-fn run<F: Files>(rt: &F, alloc: Global, job: Job) -> Result<(), Fault> {
+fn run<F: Files>(rt: &F, alloc: Global, job: Job) -> Result<(), Failure>
+    ensures { IfErr result (λ failure. status_of failure ≡ 1) }
+{
     let Job {
         params,
         action,
@@ -91,8 +117,17 @@ fn run<F: Files>(rt: &F, alloc: Global, job: Job) -> Result<(), Fault> {
     } = job;
     let mut source = FileSource::new(rt, source);
     let mut sink = DestSink::new(rt, dest);
-    act(alloc, &params, action, &mut source, &mut sink)?;
-    sink.finish()
+    match action {
+        Action::Edit { script, count } => {
+            let mut from = FileSource::new(rt, script);
+            act_by_script(alloc, &params, count, &mut from, &mut source, &mut sink)
+                .map_err(Failure::Edit)?;
+        }
+        action => {
+            act(alloc, &params, action, &mut source, &mut sink).map_err(Failure::Fault)?;
+        }
+    }
+    sink.finish().map_err(Failure::Fault)
 }
 
 // Prints the line of a failure, and answers its status.

@@ -20,3 +20,15 @@ pub enum EditFault {
     #[error("line {line}: {fault}")]
     Line { line: u64, fault: Fault },
 }
+
+/// A refusal that isn't that of one edit.
+impl From<Fault> for EditFault {
+    ghost use Rattle.std.specs.Prelude.{◌≡◌};
+    ghost use Rattle.aec_cli.specs.declared.scripts.EditFault.TheVariants.{Plain};
+
+    ghost from_gives = { λ fault e. e ≡ Plain fault };
+
+    fn from(fault: Fault) -> EditFault {
+        EditFault::Plain(fault)
+    }
+}

@@ -132,6 +132,12 @@ fn with_work<'a>(alloc: Global, command: Command<'a>) -> Result<Command<'a>, All
         "FIRST:LEN",
         "decode LEN samples from FIRST on, counted from 0",
     );
+    let edit = long_text(
+        alloc,
+        "edit",
+        "SCRIPT",
+        "write a coded SOURCE anew, edited by this script",
+    );
     let count = long_number(
         alloc,
         "count",
@@ -146,7 +152,12 @@ fn with_work<'a>(alloc: Global, command: Command<'a>) -> Result<Command<'a>, All
         clap::value_parser!(u64),
         "size of a buffer; read, without effect",
     );
-    command.arg(decode)?.arg(range)?.arg(count)?.arg(buffer)
+    command
+        .arg(decode)?
+        .arg(range)?
+        .arg(edit)?
+        .arg(count)?
+        .arg(buffer)
 }
 
 // The two files.

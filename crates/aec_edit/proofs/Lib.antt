@@ -1,3 +1,5 @@
+pub mod RunLemmas
+pub mod RunLaws
 pub mod CountLemmas
 pub mod HeldLemmas
 pub mod StartLemmas

@@ -3,3 +3,5 @@ pub mod Calls
 pub mod Steps
 pub mod Index
 pub mod Changes
+pub mod Runs
+pub mod Laws

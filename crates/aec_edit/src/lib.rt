@@ -3,14 +3,18 @@
 
 mod coded;
 mod coding;
+mod edited;
 mod editing;
 mod exchanging;
 mod index;
+pub mod laws;
 mod outcome;
 mod ranging;
+mod running;
 #[cfg(test)]
 mod tests;
 mod workspace;
 
+pub use edited::{Edited, write_edited};
 pub use outcome::Outcome;
 pub use workspace::Workspace;

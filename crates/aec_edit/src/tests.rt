@@ -3,5 +3,6 @@
 mod edges;
 mod many;
 mod ranges;
+mod running;
 mod shared;
 mod steps;

@@ -1,5 +1,5 @@
 -- Blocks: each has J values below 2^n, and a reference with 0 in its place exactly where one is due.
-use Rattle.std.proofs.Common.{◌≡◌, ℕ, zero, suc, ◌+◌, ◌-◌, ◌*◌, ◌^◌, ◌<◌, Bool, true, false, Option, Some, None, ℤ, pos, List, [], ◌∷◌, ◌++◌, length, map, take, drop, replicate, refl, sym, ap, ◌∙◌, subst, arith, ⊎_elim}
+use Rattle.std.proofs.Common.{◌≡◌, ℕ, zero, suc, ◌+◌, ◌-◌, ◌*◌, ◌^◌, ◌<◌, Bool, true, false, Option, Some, None, ℤ, pos, List, [], ◌∷◌, ◌++◌, length, map, take, drop, replicate, refl, sym, ap, ◌∙◌, subst, arith, ⊎_elim, ◌≤◌, add-one, mod-eq_of_lt, lt_of_mul-lt-mul_right}
 use Rattle.std.specs.Prelude.{⊤, ◌==◌, ◌&&◌, if◌then◌else◌, unwrap_or}
 use Rattle.std.specs.List.{AllByRecursion, last_or}
 use Rattle.std.specs.Int.{div_ceil}
@@ -7,16 +7,17 @@ use Rattle.std.proofs.lemmas.List.{length-append, length-replicate, length-take,
 use Rattle.std.proofs.lemmas.Bool.{cases_lt, cond_both, and_right, ne_eqb}
 use Rattle.std.proofs.lemmas.Nat.{pow_pos}
 use Rattle.aec_params.specs.declared.settings.Settings.{Settings}
-use Rattle.aec_params.specs.Params.{IsAllowed, IsHeld, sample_pattern}
+use Rattle.aec_params.specs.Params.{IsAllowed, IsHeld, interval_len, sample_pattern}
 use Rattle.aec_params.specs.Cutting.{pieces_of, up_to_multiple}
 use Rattle.aec_params.specs.Mapping.{mapped_after, mapped_values}
 use Rattle.aec_params.specs.Blocks.{Block, filled_samples, reference_of, with_reference, blocks_of}
-use Rattle.aec_params.specs.CodedDataSets.{HasReference}
+use Rattle.aec_params.specs.BlockShapes.{IsBlockAt, AreBlocksFrom}
 use Rattle.aec_params.specs.Places.{is_reference_block, placed_values}
 use Rattle.aec_params.specs.Spellings.{written_values, after_reference}
-use Rattle.aec_interval.proofs.CuttingLemmas.{IsPieceBefore, by_pieces, pieces_of-nil, pieces_of-cons, length-pieces_of, up_to_multiple-fills, div_ceil-times}
+use Rattle.aec_interval.proofs.CuttingLemmas.{IsPieceBefore, by_pieces, pieces_of-nil, pieces_of-cons, length-pieces_of, up_to_multiple-fills, div_ceil-times, div_ceil-bounds}
 use Rattle.aec_params.proofs.ValueLaws.{mapped_value-fits}
 use Rattle.aec_params.proofs.PatternLaws.{pattern-fits}
+use Rattle.aec_params.proofs.SampleShapeLaws.{blocks_of-shape}
 pub use Rattle.aec_params.proofs.SettingLaws.{block_size-positive}
 
 -- ---- what holds of each element
@@ -100,91 +101,21 @@ all-filled_samples s x v h =
 
 -- ---- blocks
 
--- a block as it is due at a place: with a reference or not, J values below 2^n, and 0 in the reference place
-pub record IsBlockFor (s : Settings) (is_reference : Bool) (b : Block) : Type 0 where
-  pub has_reference : HasReference s is_reference b.reference
-  pub count : length b.values ≡ s.block_size
-  pub small : AllByRecursion (λ v. v < 2 ^ s.bits) b.values
-  pub placed : placed_values b.reference (written_values b) ≡ b.values
-
--- blocks as they are due from block p of an interval on
-abbrev pub AreBlocksFrom : Settings → ℕ → List Block → Type 0
-AreBlocksFrom s p [] = ⊤
-AreBlocksFrom s p (b ∷ blocks) = IsBlockFor s (is_reference_block s p) b × AreBlocksFrom s (suc p) blocks
+-- the blocks of an interval from block p on, each as it can stand there
+abbrev pub AreDueFrom : Settings → ℕ → List Block → Type 0
+AreDueFrom s p [] = ⊤
+AreDueFrom s p (b ∷ blocks) = IsBlockAt s p b × AreDueFrom s (suc p) blocks
 
 pub later_reference : (s : Settings) (p : ℕ) → is_reference_block s (suc p) ≡ false
 later_reference s p = and_right s.preprocess (suc p == 0) (ne_eqb (suc p) 0 (λ e. omega arith))
 
-later_blocks : (s : Settings) (p : ℕ) (groups : List (List ℕ)) → AllByRecursion (λ piece. length piece ≡ s.block_size) groups
-    → AllByRecursion (AllByRecursion (λ v. v < 2 ^ s.bits)) groups
-    → AreBlocksFrom s (suc p) (map (λ values. record { reference = None; values = values }) groups)
-later_blocks s p [] h k = tt
-later_blocks s p (g ∷ groups) h k = (
-  record { has_reference = subst (λ t. HasReference s t None) (sym (later_reference s p)) tt; count = h.0; small = k.0; placed = refl },
-  later_blocks s (suc p) groups h.1 k.1,
+-- blocks of the stream that stay in the first interval
+AreDueFrom-stream : (s : Settings) (p : ℕ) (blocks : List Block) → p + length blocks ≤ s.interval → AreBlocksFrom s p blocks → AreDueFrom s p blocks
+AreDueFrom-stream s p [] within h = tt
+AreDueFrom-stream s p (b ∷ blocks) within h = (
+  subst (λ q. IsBlockAt s q b) (mod-eq_of_lt (omega arith)) h.0,
+  AreDueFrom-stream s (suc p) blocks (omega arith) (subst (λ q. AreBlocksFrom s q blocks) (add-one p) h.1),
 )
-
-first_reference : (s : Settings) (t : Bool) (u : ℕ) → u < 2 ^ s.bits → HasReference s (t && true) (if t then Some u else None)
-first_reference s true u h = h
-first_reference s false u h = tt
-
-first_placed : (t : Bool) (u w : ℕ) (rest : List ℕ)
-    → placed_values (if t then Some u else None) (after_reference (if t then Some u else None) ((if t then 0 else w) ∷ rest)) ≡ (if t then 0 else w) ∷ rest
-first_placed true u w rest = refl
-first_placed false u w rest = refl
-
--- the values of an interval in groups are its blocks
-blocks_from_groups : (s : Settings) (x : ℤ) (v : List ℤ) (w : ℕ) (rest : List ℕ) (groups : List (List ℕ)) → sample_pattern s x < 2 ^ s.bits
-    → AllByRecursion (λ piece. length piece ≡ s.block_size) (((if s.preprocess then 0 else w) ∷ rest) ∷ groups)
-    → AllByRecursion (AllByRecursion (λ u. u < 2 ^ s.bits)) (((if s.preprocess then 0 else w) ∷ rest) ∷ groups)
-    → AreBlocksFrom s 0 (with_reference (reference_of s (x ∷ v)) (((if s.preprocess then 0 else w) ∷ rest) ∷ groups))
-blocks_from_groups s x v w rest groups below h k = (
-  record {
-    has_reference = first_reference s s.preprocess (sample_pattern s x) below;
-    count = h.0;
-    small = k.0;
-    placed = first_placed s.preprocess (sample_pattern s x) w rest;
-  },
-  later_blocks s 0 groups h.1 k.1,
-)
-
--- the first piece of a list that is not empty begins as the list does
-first_piece : {X : Type 0} (n : ℕ) → 0 < n → (x : X) (xs : List X) → pieces_of n (x ∷ xs) ≡ (x ∷ take (n - 1) xs) ∷ pieces_of n (drop (n - 1) xs)
-first_piece n h x xs =
-    ap (λ ys. pieces_of n (x ∷ ys)) (sym (take-append-drop (n - 1) xs))
-    ∙ pieces_of-cons n (x ∷ take (n - 1) xs) (drop (n - 1) xs) (record {
-      some = omega arith;
-      fits = omega (arith, length-take (n - 1) xs);
-      full = λ l. omega (arith, length-take (n - 1) xs, length-drop (n - 1) xs);
-    })
-
-pub AreBlocksFrom-blocks_of : (s : Settings) (x : ℤ) (v : List ℤ) → IsAllowed s → AllByRecursion (IsHeld s) (x ∷ v)
-    → AreBlocksFrom s 0 (blocks_of s (x ∷ v))
-AreBlocksFrom-blocks_of s x v a h =
-    subst (λ groups. AreBlocksFrom s 0 (with_reference (reference_of s (x ∷ v)) groups)) (sym e)
-    (blocks_from_groups s x v (sample_pattern s x) (take (s.block_size - 1) behind) (pieces_of s.block_size (drop (s.block_size - 1) behind))
-    (pattern-fits s x a h.0)
-    (subst (AllByRecursion (λ piece. length piece ≡ s.block_size)) e
-    (whole_pieces s.block_size positive values (div_ceil (length (x ∷ v)) s.block_size)
-    (length-mapped_values s filled ∙ length-filled_samples s (x ∷ v) positive)))
-    (subst (AllByRecursion (AllByRecursion (λ u. u < 2 ^ s.bits))) e
-    (all-pieces_of (λ u. u < 2 ^ s.bits) s.block_size positive values (all-mapped_values s filled a (all-filled_samples s x v h)))))
-  where
-    positive : 0 < s.block_size
-    positive = block_size-positive s a
-
-    filled : List ℤ
-    filled = filled_samples s (x ∷ v)
-
-    values : List ℕ
-    values = mapped_values s filled
-
-    behind : List ℕ
-    behind = mapped_after s x (v ++ replicate (up_to_multiple s.block_size (length (x ∷ v))) (unwrap_or (last_or (Some x) v) (pos 0)))
-
-    e : pieces_of s.block_size values ≡ ((if s.preprocess then 0 else sample_pattern s x) ∷ take (s.block_size - 1) behind) ∷ pieces_of s.block_size
-        (drop (s.block_size - 1) behind)
-    e = first_piece s.block_size positive (if s.preprocess then 0 else sample_pattern s x) behind
 
 length-with_reference : (reference : Option ℕ) (groups : List (List ℕ)) → length (with_reference reference groups) ≡ length groups
 length-with_reference reference [] = refl
@@ -202,3 +133,17 @@ length-blocks_of s v a =
 
     values : List ℕ
     values = mapped_values s (filled_samples s v)
+
+-- no more blocks than an interval has
+pub blocks-few : (s : Settings) (v : List ℤ) → IsAllowed s → length v ≤ interval_len s → length (blocks_of s v) ≤ s.interval
+blocks-few s v a h =
+    let positive = block_size-positive s a in
+    let bound = (div_ceil-bounds (length v) s.block_size positive).1 in
+    let len = length-blocks_of s v a in
+    let k = lt_of_mul-lt-mul_right s.block_size {m = div_ceil (length v) s.block_size} {n = s.interval + 1} (omega arith) in
+    omega arith
+
+pub AreDueFrom-blocks_of : (s : Settings) (x : ℤ) (v : List ℤ) → IsAllowed s → AllByRecursion (IsHeld s) (x ∷ v) → length (x ∷ v) ≤ interval_len s
+    → AreDueFrom s 0 (blocks_of s (x ∷ v))
+AreDueFrom-blocks_of s x v a h few =
+    AreDueFrom-stream s 0 (blocks_of s (x ∷ v)) (omega (arith, blocks-few s (x ∷ v) a few)) (blocks_of-shape s x v a h few)

@@ -13,9 +13,9 @@ use Rattle.aec_params.specs.Places.{is_reference_block, zero_block, placed_value
 use Rattle.aec_params.specs.Spellings.{shortest_spelling}
 use Rattle.aec_params.specs.Runs.{Group, zero_run, single_block, with_zero_block, groups_of, run_code}
 use Rattle.aec_params.specs.Intervals.{group_sets, is_empty, block_sets}
-use Rattle.aec_interval.proofs.BlockLemmas.{AreBlocksFrom}
+use Rattle.aec_interval.proofs.BlockLemmas.{AreDueFrom}
 use Rattle.aec_interval.proofs.GroupLemmas.{AreGroupsFrom, AreGroupsFrom-groups_of}
-use Rattle.aec_interval.proofs.IntervalLemmas.{AreBlocksFrom_right}
+use Rattle.aec_interval.proofs.IntervalLemmas.{AreDueFrom_right}
 use Rattle.aec_interval.proofs.PlaceLemmas.{block_count-positive}
 use Rattle.aec_interval.proofs.ShortestLemmas.{run_code-joined, run_code-last, shortest-uncompressed_values, shortest-split_values, shortest-value_pairs, length-run, block_size-least, plain-longer, split-longer, pairs-longer}
 
@@ -145,7 +145,7 @@ run_step s p q reference m x some ends g =
 
 pub body_step : (s : Settings) (p : ℕ) (reference : Option ℕ) (body : Body) (x : List Block) → IsAllowed s → p < s.interval
     → IsLawfulAt s p (record { reference = reference; body = body })
-    → (x ≡ []) ⊎ (body_blocks s p body < segment_left s p) → AreBlocksFrom s p (blocks_in s p reference body ++ x)
+    → (x ≡ []) ⊎ (body_blocks s p body < segment_left s p) → AreDueFrom s p (blocks_in s p reference body ++ x)
     → group_cost s (groups_of (blocks_in s p reference body ++ x)) ≤ length (cds_bits s (record { reference = reference; body = body })) + group_cost s
     (groups_of x)
 body_step s p reference (uncompressed_values values) x a h l ends due =
@@ -166,4 +166,4 @@ body_step s p reference (split_values k values) x a h l ends due =
 body_step s p reference (zero_blocks m) x a h l ends due =
     let front = blocks_in s p reference (zero_blocks m) in
     run_step s p (p + length front) reference m x (block_count-positive s p (run_set reference m) h) ends
-    (AreGroupsFrom-groups_of s (p + length front) x (AreBlocksFrom_right s p front x due))
+    (AreGroupsFrom-groups_of s (p + length front) x (AreDueFrom_right s p front x due))

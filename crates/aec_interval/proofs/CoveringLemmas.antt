@@ -13,7 +13,7 @@ use Rattle.aec_params.specs.Spellings.{shortest_spelling}
 use Rattle.aec_params.specs.Runs.{Group, zero_run, single_block, run_code}
 use Rattle.aec_params.specs.Intervals.{group_set, group_sets, is_empty}
 use Rattle.aec_params.specs.Reading.{Covers, covered_blocks}
-use Rattle.aec_interval.proofs.BlockLemmas.{IsBlockFor}
+use Rattle.aec_params.specs.BlockShapes.{IsBlockAt}
 use Rattle.aec_interval.proofs.SpellingLemmas.{Spells-shortest_spelling}
 use Rattle.aec_interval.proofs.GroupLemmas.{group_blocks, group_len, IsGroupAt, AreGroupsFrom, length-group_blocks}
 
@@ -91,7 +91,7 @@ run_written s p z m reference h k e = record {
   count = e;
 }
 
-block_written : (s : Settings) (p : ℕ) (b : Block) → IsBlockFor s (is_reference_block s p) b → 1 ≤ segment_left s p
+block_written : (s : Settings) (p : ℕ) (b : Block) → IsBlockAt s p b → 1 ≤ segment_left s p
     → IsWrittenFor s p (single_block b) (shortest_spelling s b)
 block_written s p b h k =
     let w = Spells-shortest_spelling s (is_reference_block s p) b h in

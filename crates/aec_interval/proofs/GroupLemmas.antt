@@ -9,7 +9,8 @@ use Rattle.aec_params.specs.Blocks.{Block, is_zero_block}
 use Rattle.aec_params.specs.CodedDataSets.{HasReference}
 use Rattle.aec_params.specs.Places.{is_reference_block, zero_block}
 use Rattle.aec_params.specs.Runs.{Group, zero_run, single_block, with_zero_block, groups_of}
-use Rattle.aec_interval.proofs.BlockLemmas.{IsBlockFor, AreBlocksFrom, later_reference}
+use Rattle.aec_interval.proofs.BlockLemmas.{AreDueFrom, later_reference}
+use Rattle.aec_params.specs.BlockShapes.{IsBlockOf, IsBlockAt}
 
 -- the blocks that a group stands for, and how many they are
 abbrev pub group_blocks : Settings → Group → List Block
@@ -23,7 +24,7 @@ group_len (single_block b) = 1
 -- a group as it is due at block p of an interval
 abbrev pub IsGroupAt : Settings → ℕ → Group → Type 0
 IsGroupAt s p (zero_run reference z) = (0 < z) × HasReference s (is_reference_block s p) reference
-IsGroupAt s p (single_block b) = IsBlockFor s (is_reference_block s p) b
+IsGroupAt s p (single_block b) = IsBlockAt s p b
 
 abbrev pub AreGroupsFrom : Settings → ℕ → List Group → Type 0
 AreGroupsFrom s p [] = ⊤
@@ -42,12 +43,12 @@ groups-with_zero_block s p reference [] h k = ((omega arith, h), tt)
 groups-with_zero_block s p reference (zero_run later z ∷ groups) h k = ((omega arith, h), subst (λ q. AreGroupsFrom s q groups) (omega arith) k.1)
 groups-with_zero_block s p reference (single_block b ∷ groups) h k = ((omega arith, h), groups-from_next s p (single_block b ∷ groups) k)
 
-pub AreGroupsFrom-groups_of : (s : Settings) (p : ℕ) (blocks : List Block) → AreBlocksFrom s p blocks → AreGroupsFrom s p (groups_of blocks)
+pub AreGroupsFrom-groups_of : (s : Settings) (p : ℕ) (blocks : List Block) → AreDueFrom s p blocks → AreGroupsFrom s p (groups_of blocks)
 AreGroupsFrom-groups_of s p [] h = tt
 AreGroupsFrom-groups_of s p (b ∷ blocks) h =
     let later = AreGroupsFrom-groups_of s (suc p) blocks h.1 in
     cond_both (is_zero_block b) (with_zero_block b.reference (groups_of blocks)) (single_block b ∷ groups_of blocks) (AreGroupsFrom s p)
-    (λ _. groups-with_zero_block s p b.reference (groups_of blocks) h.0.has_reference later)
+    (λ _. groups-with_zero_block s p b.reference (groups_of blocks) h.0.reference later)
     (λ _. (h.0, groups-from_next s p (groups_of blocks) later))
 
 -- ---- a segment's groups give its blocks back
@@ -60,7 +61,7 @@ zeros-are (v ∷ values) h =
     let r = zeros-are values both.1 in
     cc
 
-zero_block-is : (s : Settings) (t : Bool) (b : Block) → IsBlockFor s t b → is_zero_block b ≡ true → zero_block s b.reference ≡ b
+zero_block-is : (s : Settings) (t : Bool) (b : Block) → IsBlockOf s t b → is_zero_block b ≡ true → zero_block s b.reference ≡ b
 zero_block-is s t b h z =
     ap (λ values. record { reference = b.reference; values = values }) (sym (zeros-are b.values z ∙ ap (λ n. replicate n 0) h.count))
 
@@ -82,7 +83,7 @@ blocks-with_zero_block s p reference (zero_run later z ∷ groups) h =
     longer : (z : ℕ) → 0 < z → replicate (z + 1 - 1) (zero_block s None) ≡ zero_block s None ∷ replicate (z - 1) (zero_block s None)
     longer z h = let e : z + 1 - 1 ≡ suc (z - 1) = omega arith in ap (λ n. replicate n (zero_block s None)) e
 
-pub flat_map-groups_of : (s : Settings) (p : ℕ) (blocks : List Block) → AreBlocksFrom s p blocks → flat_map (group_blocks s) (groups_of blocks) ≡ blocks
+pub flat_map-groups_of : (s : Settings) (p : ℕ) (blocks : List Block) → AreDueFrom s p blocks → flat_map (group_blocks s) (groups_of blocks) ≡ blocks
 flat_map-groups_of s p [] h = refl
 flat_map-groups_of s p (b ∷ blocks) h =
     let later = flat_map-groups_of s (suc p) blocks h.1 in

@@ -13,18 +13,18 @@ use Rattle.aec_params.specs.Runs.{groups_of}
 use Rattle.aec_params.specs.Intervals.{group_sets, block_sets, unpadded_bits}
 use Rattle.aec_params.specs.Reading.{ReadsBlocks}
 use Rattle.aec_interval.proofs.CuttingLemmas.{IsPieceBefore, by_pieces, pieces_of-nil, pieces_of-cons, div_ceil-bounds}
-use Rattle.aec_interval.proofs.BlockLemmas.{AreBlocksFrom, AreBlocksFrom-blocks_of, length-blocks_of, block_size-positive}
+use Rattle.aec_interval.proofs.BlockLemmas.{AreDueFrom, AreDueFrom-blocks_of, blocks-few, block_size-positive}
 use Rattle.aec_interval.proofs.GroupLemmas.{group_blocks, AreGroupsFrom-groups_of, flat_map-groups_of}
 use Rattle.aec_interval.proofs.CoveringLemmas.{IsCovering, IsCovering-nil, IsCovering-groups, EndsWell}
 
 -- blocks in two parts
-pub AreBlocksFrom_left : (s : Settings) (p : ℕ) (front rest : List Block) → AreBlocksFrom s p (front ++ rest) → AreBlocksFrom s p front
-AreBlocksFrom_left s p [] rest h = tt
-AreBlocksFrom_left s p (b ∷ front) rest h = (h.0, AreBlocksFrom_left s (suc p) front rest h.1)
+pub AreDueFrom_left : (s : Settings) (p : ℕ) (front rest : List Block) → AreDueFrom s p (front ++ rest) → AreDueFrom s p front
+AreDueFrom_left s p [] rest h = tt
+AreDueFrom_left s p (b ∷ front) rest h = (h.0, AreDueFrom_left s (suc p) front rest h.1)
 
-pub AreBlocksFrom_right : (s : Settings) (p : ℕ) (front rest : List Block) → AreBlocksFrom s p (front ++ rest) → AreBlocksFrom s (p + length front) rest
-AreBlocksFrom_right s p [] rest h = subst (λ q. AreBlocksFrom s q rest) (omega arith) h
-AreBlocksFrom_right s p (b ∷ front) rest h = subst (λ q. AreBlocksFrom s q rest) (omega arith) (AreBlocksFrom_right s (suc p) front rest h.1)
+pub AreDueFrom_right : (s : Settings) (p : ℕ) (front rest : List Block) → AreDueFrom s p (front ++ rest) → AreDueFrom s (p + length front) rest
+AreDueFrom_right s p [] rest h = subst (λ q. AreDueFrom s q rest) (omega arith) h
+AreDueFrom_right s p (b ∷ front) rest h = subst (λ q. AreDueFrom s q rest) (omega arith) (AreDueFrom_right s (suc p) front rest h.1)
 
 pub block_sets-nil : (s : Settings) → block_sets s [] ≡ []
 block_sets-nil s = ap (flat_map (λ segment. group_sets s (groups_of segment))) (pieces_of-nil 64 (omega arith))
@@ -35,7 +35,7 @@ block_sets-cons s front rest h = ap (flat_map (λ segment. group_sets s (groups_
 
 -- blocks from the start of a segment on are covered, segment by segment
 abbrev AreCovered : Settings → ℕ → List Block → Type 0
-AreCovered s n blocks = (p : ℕ) → AreBlocksFrom s p blocks → p % 64 ≡ 0 → p + length blocks ≡ n → n ≤ s.interval
+AreCovered s n blocks = (p : ℕ) → AreDueFrom s p blocks → p % 64 ≡ 0 → p + length blocks ≡ n → n ≤ s.interval
     → IsCovering s n p (block_sets s blocks) blocks
 
 IsCovering-no_blocks : (s : Settings) (n p : ℕ) (rest : List Block) → rest ≡ [] → p ≡ n → IsCovering s n p (block_sets s rest) rest
@@ -50,8 +50,8 @@ AreCovered-segment s n front rest piece ih p h aligned reach within =
     (AreGroupsFrom-groups_of s p front here) (λ _. refl) (omega (arith, len, piece.fits, length-append front rest)) ends
     (subst (λ k. IsCovering s n (p + k) (block_sets s rest) rest) (sym len) later)))
   where
-    here : AreBlocksFrom s p front
-    here = AreBlocksFrom_left s p front rest h
+    here : AreDueFrom s p front
+    here = AreDueFrom_left s p front rest h
 
     e : flat_map (group_blocks s) (groups_of front) ≡ front
     e = flat_map-groups_of s p front here
@@ -70,30 +70,21 @@ AreCovered-segment s n front rest piece ih p h aligned reach within =
 
     later : IsCovering s n (p + length front) (block_sets s rest) rest
     later = ⊎_elim
-        (λ l. ih (p + length front) (AreBlocksFrom_right s p front rest h) (omega (arith, piece.full l)) (omega (arith, length-append front rest)) within)
+        (λ l. ih (p + length front) (AreDueFrom_right s p front rest h) (omega (arith, piece.full l)) (omega (arith, length-append front rest)) within)
         (λ l. IsCovering-no_blocks s n (p + length front) rest (nil_from_length rest (omega arith)) (omega (arith, length-append front rest)))
         (cases_lt 0 (length rest))
 
-pub IsCovering-block_sets : (s : Settings) (blocks : List Block) → AreBlocksFrom s 0 blocks → length blocks ≤ s.interval
+pub IsCovering-block_sets : (s : Settings) (blocks : List Block) → AreDueFrom s 0 blocks → length blocks ≤ s.interval
     → IsCovering s (length blocks) 0 (block_sets s blocks) blocks
 IsCovering-block_sets s blocks h few =
     by_pieces (AreCovered s (length blocks)) 64 (omega arith)
     (λ p _ _ reach _. subst (λ sets. IsCovering s (length blocks) p sets []) (sym (block_sets-nil s)) (IsCovering-nil s (length blocks) p (omega arith)))
     (AreCovered-segment s (length blocks)) blocks 0 h refl (omega arith) few
 
--- no more blocks than an interval has
-pub blocks-few : (s : Settings) (v : List ℤ) → IsAllowed s → length v ≤ interval_len s → length (blocks_of s v) ≤ s.interval
-blocks-few s v a h =
-    let positive = block_size-positive s a in
-    let bound = (div_ceil-bounds (length v) s.block_size positive).1 in
-    let len = length-blocks_of s v a in
-    let k = lt_of_mul-lt-mul_right s.block_size {m = div_ceil (length v) s.block_size} {n = s.interval + 1} (omega arith) in
-    omega arith
-
 -- the code of an interval's samples is read as their blocks
 pub ReadsBlocks-unpadded_bits : (s : Settings) (v : List ℤ) → IsAllowed s → AllByRecursion (IsHeld s) v → 0 < length v → length v ≤ interval_len s
     → ReadsBlocks s (unpadded_bits s v) (blocks_of s v)
 ReadsBlocks-unpadded_bits s [] a h some few = absurd (omega arith)
 ReadsBlocks-unpadded_bits s (x ∷ v) a h some few =
-    let c = IsCovering-block_sets s (blocks_of s (x ∷ v)) (AreBlocksFrom-blocks_of s x v a h) (blocks-few s (x ∷ v) a few) in
+    let c = IsCovering-block_sets s (blocks_of s (x ∷ v)) (AreDueFrom-blocks_of s x v a h few) (blocks-few s (x ∷ v) a few) in
     record { sets = block_sets s (blocks_of s (x ∷ v)); covers = c.covers; stand_for = c.stand_for; spelled = refl }

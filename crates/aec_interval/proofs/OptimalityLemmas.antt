@@ -19,8 +19,8 @@ use Rattle.aec_params.specs.Reading.{Covers, covered_blocks, ReadsBlocks}
 use Rattle.aec_interval.specs.Laws.{ReadsEach, CodesAreShortest}
 use Rattle.aec_interval.proofs.CuttingLemmas.{IsPieceBefore, by_pieces, pieces_of-cons}
 use Rattle.aec_interval.proofs.StreamLemmas.{interval_len-positive, stream_of-nil, stream_of-cons}
-use Rattle.aec_interval.proofs.BlockLemmas.{all_left, all_right, AreBlocksFrom, AreBlocksFrom-blocks_of}
-use Rattle.aec_interval.proofs.IntervalLemmas.{AreBlocksFrom_left, AreBlocksFrom_right, block_sets-nil, block_sets-cons, blocks-few}
+use Rattle.aec_interval.proofs.BlockLemmas.{all_left, all_right, AreDueFrom, AreDueFrom-blocks_of, blocks-few}
+use Rattle.aec_interval.proofs.IntervalLemmas.{AreDueFrom_left, AreDueFrom_right, block_sets-nil, block_sets-cons}
 use Rattle.aec_interval.proofs.PlaceLemmas.{length-cds_blocks}
 use Rattle.aec_interval.proofs.ShortestLemmas.{length-run}
 use Rattle.aec_interval.proofs.CostLemmas.{group_cost, block_cost, groups_of-zeros, run_set, run_code-at_end, body_step}
@@ -61,7 +61,7 @@ cost_from-segment s p (b ∷ blocks) h =
 -- one coded data set that stands for just the blocks in front of the others
 set_step : (s : Settings) (p : ℕ) (c : CodedDataSet) (rest : List Block) → IsAllowed s → p < s.interval → IsLawfulAt s p c
     → p + block_count s p c + length rest ≤ s.interval
-    → AreBlocksFrom s p (cds_blocks s p c ++ rest)
+    → AreDueFrom s p (cds_blocks s p c ++ rest)
     → cost_from s p (cds_blocks s p c ++ rest) ≤ length (cds_bits s c) + cost_from s (p + block_count s p c) rest
 set_step s p c rest a h l fits due = ⊎_elim inside (λ e. at_end (omega (arith, within))) (cases_lt k (room p))
   where
@@ -77,8 +77,8 @@ set_step s p c rest a h l fits due = ⊎_elim inside (λ e. at_end (omega (arith
     within : k ≤ segment_left s p
     within = leb-true k (segment_left s p) l.within
 
-    here : AreBlocksFrom s p front
-    here = AreBlocksFrom_left s p front rest due
+    here : AreDueFrom s p front
+    here = AreDueFrom_left s p front rest due
 
     inside : k < room p → cost_from s p (front ++ rest) ≤ length (cds_bits s c) + cost_from s (p + k) rest
     inside e =
@@ -89,7 +89,7 @@ set_step s p c rest a h l fits due = ⊎_elim inside (λ e. at_end (omega (arith
         let ends : (x ≡ []) ⊎ (k < segment_left s p) =
         ⊎_elim (λ some. inr (omega (arith, length-take next rest))) (λ none. inl (nil_from_length x (omega arith))) (cases_lt 0 (length x)) in
         let parts : (front ++ x) ++ y ≡ front ++ rest = append_assoc front x y ∙ ap (◌++◌ front) (take-append-drop next rest) in
-        let step = body_step s p c.reference c.body x a h l ends (AreBlocksFrom_left s p (front ++ x) y (subst (AreBlocksFrom s p) (sym parts) due)) in
+        let step = body_step s p c.reference c.body x a h l ends (AreDueFrom_left s p (front ++ x) y (subst (AreDueFrom s p) (sym parts) due)) in
         let split : cost_from s p (front ++ rest) ≡ group_cost s (groups_of (front ++ x)) + block_cost s y =
         ap (λ n. group_cost s (groups_of (take n (front ++ rest))) + block_cost s (drop n (front ++ rest))) left
         ∙ ap₂ (λ u v. group_cost s (groups_of u) + block_cost s v) (take-append-add front rest next) (drop-append-add front rest next) in
@@ -98,7 +98,7 @@ set_step s p c rest a h l fits due = ⊎_elim inside (λ e. at_end (omega (arith
     at_end : k ≡ room p → cost_from s p (front ++ rest) ≤ length (cds_bits s c) + cost_from s (p + k) rest
     at_end e =
         let full : length front ≡ room p = omega (arith, len) in
-        let step = body_step s p c.reference c.body [] a h l (inl refl) (subst (AreBlocksFrom s p) (sym (append-nil front)) here) in
+        let step = body_step s p c.reference c.body [] a h l (inl refl) (subst (AreDueFrom s p) (sym (append-nil front)) here) in
         let split : cost_from s p (front ++ rest) ≡ group_cost s (groups_of front) + block_cost s rest =
         ap₂ (λ u v. group_cost s (groups_of u) + block_cost s v) (take_at front rest (room p) full) (drop_at front rest (room p) full) in
         let later = cost_from-segment s (p + k) rest (omega arith) in
@@ -142,8 +142,8 @@ overhang s p reference (zero_blocks m) blocks h l some more e =
 -- a coded data set that ends within the blocks, if what is behind it costs no more than the others have
 exact_step : (s : Settings) (n p : ℕ) (c : CodedDataSet) (sets : List CodedDataSet) (blocks : List Block) → IsAllowed s → p < s.interval → n ≤ s.interval
     → IsLawfulAt s p c
-    → AreBlocksFrom s p blocks → p + length blocks ≡ n → take (length blocks) (covered_blocks s p (c ∷ sets)) ≡ blocks → block_count s p c ≤ length blocks
-    → ((rest : List Block) → AreBlocksFrom s (p + block_count s p c) rest → p + block_count s p c + length rest ≡ n
+    → AreDueFrom s p blocks → p + length blocks ≡ n → take (length blocks) (covered_blocks s p (c ∷ sets)) ≡ blocks → block_count s p c ≤ length blocks
+    → ((rest : List Block) → AreDueFrom s (p + block_count s p c) rest → p + block_count s p c + length rest ≡ n
     → take (length rest) (covered_blocks s (p + block_count s p c) sets) ≡ rest
     → cost_from s (p + block_count s p c) rest ≤ length (flat_map (cds_bits s) sets))
     → cost_from s p blocks ≤ length (flat_map (cds_bits s) (c ∷ sets))
@@ -153,7 +153,7 @@ exact_step s n p c sets blocks a h few l due reach e fits ih =
       ap (cost_from s p) parts,
       length-append (cds_bits s c) (flat_map (cds_bits s) sets),
       set_step s p c rest a h l (omega (arith, count)) due_parts,
-      ih rest (subst (λ q. AreBlocksFrom s q rest) (omega (arith, len)) (AreBlocksFrom_right s p front rest due_parts)) (omega (arith, count))
+      ih rest (subst (λ q. AreDueFrom s q rest) (omega (arith, len)) (AreDueFrom_right s p front rest due_parts)) (omega (arith, count))
           (ap (λ m. take m behind) count),
     )
   where
@@ -178,11 +178,11 @@ exact_step s n p c sets blocks a h few l due reach e fits ih =
     count : length rest ≡ length blocks - k
     count = omega (arith, ap length parts, length-append front rest, len)
 
-    due_parts : AreBlocksFrom s p (front ++ rest)
-    due_parts = subst (AreBlocksFrom s p) parts due
+    due_parts : AreDueFrom s p (front ++ rest)
+    due_parts = subst (AreDueFrom s p) parts due
 
 optimal_from : (s : Settings) (n p : ℕ) (sets : List CodedDataSet) (blocks : List Block) → IsAllowed s → n ≤ s.interval → Covers s n p sets
-    → AreBlocksFrom s p blocks
+    → AreDueFrom s p blocks
     → p + length blocks ≡ n → take (length blocks) (covered_blocks s p sets) ≡ blocks → cost_from s p blocks ≤ length (flat_map (cds_bits s) sets)
 optimal_from s n p sets [] a few h due reach e = omega (arith, cost_from-nil s p)
 optimal_from s n p [] (b ∷ blocks) a few h due reach e = absurd (omega (arith, leb-true n p h))
@@ -219,7 +219,7 @@ pub unpadded_bits-optimal : (s : Settings) (samples : List ℤ) (bits : List Boo
 unpadded_bits-optimal s [] bits a held some fits r = absurd (omega arith)
 unpadded_bits-optimal s (x ∷ v) bits a held some fits r =
     let blocks = blocks_of s (x ∷ v) in
-    let due = AreBlocksFrom-blocks_of s x v a held in
+    let due = AreDueFrom-blocks_of s x v a held fits in
     let least = optimal_from s (length blocks) 0 r.sets blocks a (blocks-few s (x ∷ v) a fits) r.covers due (omega arith) r.stand_for in
     omega (arith, cost_from-segment s 0 blocks refl, ap length r.spelled)
 

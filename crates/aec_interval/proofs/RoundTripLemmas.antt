@@ -1,5 +1,5 @@
 -- Reading the code of samples with their count gives the samples.
-use Rattle.std.proofs.Common.{◌≡◌, ℕ, ◌+◌, ◌-◌, ◌*◌, ◌%◌, ◌<◌, ◌≤◌, Option, Some, None, List, [], ◌∷◌, ◌++◌, length, replicate, refl, sym, ap, ap₂, ◌∙◌, subst, arith}
+use Rattle.std.proofs.Common.{◌≡◌, ℕ, ◌+◌, ◌-◌, ◌*◌, ◌%◌, ◌<◌, ◌≤◌, Bool, Option, Some, None, List, [], ◌∷◌, ◌++◌, length, replicate, refl, sym, ap, ap₂, ◌∙◌, subst, arith}
 use Rattle.std.specs.Prelude.{ℤ, pos, unwrap_or}
 use Rattle.std.specs.List.{AllByRecursion, flat_map, last_or}
 use Rattle.std.specs.Int.{div_ceil}
@@ -14,8 +14,7 @@ use Rattle.aec_params.specs.Blocks.{filled_samples, reference_of, with_reference
 use Rattle.aec_params.specs.Streams.{stream_of}
 use Rattle.aec_params.specs.Reading.{IsBlockReading, FillBlocks, IsReading}
 use Rattle.aec_interval.proofs.CuttingLemmas.{IsPieceBefore, by_pieces, pieces_of-one, div_ceil-zero, div_ceil-times}
-use Rattle.aec_interval.proofs.BlockLemmas.{all-filled_samples, length-filled_samples, length-blocks_of, block_size-positive}
-use Rattle.aec_interval.proofs.IntervalLemmas.{blocks-few}
+use Rattle.aec_interval.proofs.BlockLemmas.{all-filled_samples, length-filled_samples, length-blocks_of, blocks-few, block_size-positive}
 use Rattle.aec_interval.proofs.StreamLemmas.{walk_of, interval_len-positive, div_ceil-add, all_blocks_of-nil, all_blocks_of-cons}
 
 -- ---- how many blocks there are
@@ -126,10 +125,10 @@ FillBlocks-all_blocks_of s xs a held = record {
   mapped = all_blocks_of-filled s a xs;
 }
 
-pub IsBlockReading-stream_of : (s : Settings) (limit : ℕ) (xs : List ℤ) → IsAllowed s → AllByRecursion (IsHeld s) xs
-    → IsBlockReading s (Some (length xs)) limit (stream_of s xs) 0 0 (all_blocks_of s xs)
-IsBlockReading-stream_of s limit xs a held =
-    let walk = walk_of s (length xs) limit a xs 0 0 0 [] (stream_of s xs) held (λ _. refl) (omega arith) refl refl (omega arith) in
+pub IsBlockReading-stream_of : (s : Settings) (limit : ℕ) (xs : List ℤ) (rest : List Bool) → IsAllowed s → AllByRecursion (IsHeld s) xs
+    → IsBlockReading s (Some (length xs)) limit (stream_of s xs ++ rest) 0 0 (all_blocks_of s xs)
+IsBlockReading-stream_of s limit xs rest a held =
+    let walk = walk_of s (length xs) limit rest a xs 0 0 0 [] (stream_of s xs ++ rest) held (λ _. refl) (omega arith) refl refl (omega arith) in
     record {
       sets = walk.sets;
       end_block = walk.end_block;
@@ -139,11 +138,11 @@ IsBlockReading-stream_of s limit xs a held =
       kept = sym walk.blocks;
     }
 
-pub IsReading-stream_of : (s : Settings) (limit : ℕ) (xs : List ℤ) → IsAllowed s → AllByRecursion (IsHeld s) xs
-    → IsReading s (Some (length xs)) limit (stream_of s xs) xs
-IsReading-stream_of s limit xs a held = record {
+pub IsReading-stream_of : (s : Settings) (limit : ℕ) (xs : List ℤ) (rest : List Bool) → IsAllowed s → AllByRecursion (IsHeld s) xs
+    → IsReading s (Some (length xs)) limit (stream_of s xs ++ rest) xs
+IsReading-stream_of s limit xs rest a held = record {
   blocks = all_blocks_of s xs;
-  read = IsBlockReading-stream_of s limit xs a held;
+  read = IsBlockReading-stream_of s limit xs rest a held;
   all_samples = filled_samples s xs;
   filled = FillBlocks-all_blocks_of s xs a held;
   counted = sym (take_at xs (replicate (up_to_multiple s.block_size (length xs)) (unwrap_or (last_or None xs) (pos 0))) (length xs) refl);

@@ -1,5 +1,5 @@
 -- The shortest spelling of a block is one of its spellings: a lawful coded data set that stands for the block.
-use Rattle.std.proofs.Common.{◌≡◌, ℕ, zero, suc, ◌+◌, ◌-◌, ◌^◌, ◌<◌, ◌≤◌, Bool, true, false, cond, Option, Some, None, List, [], ◌∷◌, length, map, drop, refl, ap, ◌∙◌, arith}
+use Rattle.std.proofs.Common.{◌≡◌, ℕ, zero, suc, ◌+◌, ◌-◌, ◌^◌, ◌<◌, ◌≤◌, Bool, true, false, cond, Option, Some, None, List, [], ◌∷◌, length, map, drop, refl, sym, ap, ◌∙◌, arith}
 use Rattle.std.specs.Prelude.{nat_lt}
 use Rattle.std.specs.List.{AllByRecursion, range_with_len, best_of, list_all}
 use Rattle.std.proofs.lemmas.List.{length-drop}
@@ -10,7 +10,7 @@ use Rattle.aec_params.specs.Blocks.{Block}
 use Rattle.aec_params.specs.CodedDataSets.{value_pairs, CodedDataSet, HasReference, HasShape, has_small_values, written_count}
 use Rattle.aec_params.specs.Places.{placed_values, placed_members, block_count, cds_blocks}
 use Rattle.aec_params.specs.Spellings.{written_values, after_reference, uncompressed, paired, split, compressed_spellings, shortest_spelling, is_shorter}
-use Rattle.aec_interval.proofs.BlockLemmas.{IsBlockFor}
+use Rattle.aec_params.specs.BlockShapes.{IsBlockOf}
 
 -- a coded data set that spells one block by itself
 pub record Spells (s : Settings) (is_reference : Bool) (b : Block) (c : CodedDataSet) : Type 0 where
@@ -48,12 +48,6 @@ pub list_all-from_all : (m : ℕ) (values : List ℕ) → AllByRecursion (λ v. 
 list_all-from_all m [] h = refl
 list_all-from_all m (v ∷ values) h = and_from (nat_lt v m) (list_all (λ v. nat_lt v m) values) (lt-ltb v m h.0) (list_all-from_all m values h.1)
 
--- with 0 in the reference place, members are placed as values are
-members-placed : (reference : Option ℕ) (values : List ℕ) → placed_values reference (after_reference reference values) ≡ values
-    → placed_members reference values ≡ values
-members-placed None values e = refl
-members-placed (Some r) values e = e
-
 judged_members : (s : Settings) (reference : Option ℕ) (values : List ℕ) → AllByRecursion (λ v. v < 2 ^ s.bits) values
     → has_small_values s (record { reference = reference; body = value_pairs values }) ≡ true
 judged_members s None values h = list_all-from_all (2 ^ s.bits) values h
@@ -64,40 +58,40 @@ judged_members s (Some r) values h = list_all-from_all (2 ^ s.bits) (drop 1 valu
 block-again : (b : Block) (values : List ℕ) → values ≡ b.values → record { reference = b.reference; values = values } ≡ b
 block-again b values e = ap (λ values. record { reference = b.reference; values = values }) e
 
-pub Spells-uncompressed : (s : Settings) (t : Bool) (b : Block) → IsBlockFor s t b → Spells s t b (uncompressed b)
+pub Spells-uncompressed : (s : Settings) (t : Bool) (b : Block) → IsBlockOf s t b → Spells s t b (uncompressed b)
 Spells-uncompressed s t b h = record {
   shape = record {
-    reference = h.has_reference;
-    body = (length-written_values s t b.reference b.values h.has_reference h.count, all-written_values (λ v. v < 2 ^ s.bits) b.reference b.values h.small);
+    reference = h.reference;
+    body = (length-written_values s t b.reference b.values h.reference h.count, all-written_values (λ v. v < 2 ^ s.bits) b.reference b.values h.below);
   };
-  small = list_all-from_all (2 ^ s.bits) (written_values b) (all-written_values (λ v. v < 2 ^ s.bits) b.reference b.values h.small);
+  small = list_all-from_all (2 ^ s.bits) (written_values b) (all-written_values (λ v. v < 2 ^ s.bits) b.reference b.values h.below);
   single = λ p. refl;
-  blocks = λ p. ap (λ b. b ∷ []) (block-again b (placed_values b.reference (written_values b)) h.placed);
+  blocks = λ p. ap (λ b. b ∷ []) (block-again b (placed_values b.reference (written_values b)) (sym h.place));
 }
 
-pub Spells-paired : (s : Settings) (t : Bool) (b : Block) → IsBlockFor s t b → Spells s t b (paired b)
+pub Spells-paired : (s : Settings) (t : Bool) (b : Block) → IsBlockOf s t b → Spells s t b (paired b)
 Spells-paired s t b h = record {
-  shape = record { reference = h.has_reference; body = h.count };
-  small = judged_members s b.reference b.values h.small;
+  shape = record { reference = h.reference; body = h.count };
+  small = judged_members s b.reference b.values h.below;
   single = λ p. refl;
-  blocks = λ p. ap (λ b. b ∷ []) (block-again b (placed_members b.reference b.values) (members-placed b.reference b.values h.placed));
+  blocks = λ p. ap (λ b. b ∷ []) (block-again b (placed_members b.reference b.values) (sym h.place));
 }
 
-pub Spells-split : (s : Settings) (t : Bool) (b : Block) (k : ℕ) → IsBlockFor s t b → k < split_count s → Spells s t b (split b k)
+pub Spells-split : (s : Settings) (t : Bool) (b : Block) (k : ℕ) → IsBlockOf s t b → k < split_count s → Spells s t b (split b k)
 Spells-split s t b k h few = record {
-  shape = record { reference = h.has_reference; body = (few, length-written_values s t b.reference b.values h.has_reference h.count) };
-  small = list_all-from_all (2 ^ s.bits) (written_values b) (all-written_values (λ v. v < 2 ^ s.bits) b.reference b.values h.small);
+  shape = record { reference = h.reference; body = (few, length-written_values s t b.reference b.values h.reference h.count) };
+  small = list_all-from_all (2 ^ s.bits) (written_values b) (all-written_values (λ v. v < 2 ^ s.bits) b.reference b.values h.below);
   single = λ p. refl;
-  blocks = λ p. ap (λ b. b ∷ []) (block-again b (placed_values b.reference (written_values b)) h.placed);
+  blocks = λ p. ap (λ b. b ∷ []) (block-again b (placed_values b.reference (written_values b)) (sym h.place));
 }
 
-all-splits : (s : Settings) (t : Bool) (b : Block) → IsBlockFor s t b → (first count : ℕ) → first + count ≤ split_count s
+all-splits : (s : Settings) (t : Bool) (b : Block) → IsBlockOf s t b → (first count : ℕ) → first + count ≤ split_count s
     → AllByRecursion (Spells s t b) (map (split b) (range_with_len first count))
 all-splits s t b h first zero few = tt
 all-splits s t b h first (suc count) few = (Spells-split s t b first h (omega arith), all-splits s t b h (first + 1) count (omega arith))
 
 -- the shortest spelling is one of the spellings
-pub Spells-shortest_spelling : (s : Settings) (t : Bool) (b : Block) → IsBlockFor s t b → Spells s t b (shortest_spelling s b)
+pub Spells-shortest_spelling : (s : Settings) (t : Bool) (b : Block) → IsBlockOf s t b → Spells s t b (shortest_spelling s b)
 Spells-shortest_spelling s t b h =
     best_of-either (Spells s t b) (is_shorter s) (uncompressed b) (compressed_spellings s b) (Spells-uncompressed s t b h)
     (Spells-paired s t b h, all-splits s t b h 0 (split_count s) (omega arith))

@@ -16,8 +16,8 @@ use Rattle.aec_params.specs.Intervals.{unpadded_bits, interval_bits}
 use Rattle.aec_params.specs.Streams.{stream_of}
 use Rattle.aec_params.specs.Reading.{covered_blocks, begin_of, LeadsTo, stream_blocks}
 use Rattle.aec_interval.proofs.CuttingLemmas.{IsPieceBefore, by_pieces, pieces_of-nil, pieces_of-cons, pieces_of-one, div_ceil-zero, div_ceil-positive, div_ceil-times}
-use Rattle.aec_interval.proofs.BlockLemmas.{all_left, all_right, length-blocks_of, block_size-positive}
-use Rattle.aec_interval.proofs.IntervalLemmas.{ReadsBlocks-unpadded_bits, blocks-few}
+use Rattle.aec_interval.proofs.BlockLemmas.{all_left, all_right, length-blocks_of, blocks-few, block_size-positive}
+use Rattle.aec_interval.proofs.IntervalLemmas.{ReadsBlocks-unpadded_bits}
 use Rattle.aec_interval.proofs.PlaceLemmas.{end_of, end_of-reaches, end_of-within, length-covered_blocks, stream_blocks-covered, LeadsTo-append, stream_blocks-append, LeadsTo-interval}
 pub use Rattle.aec_params.proofs.SettingLaws.{interval-positive}
 pub use Rattle.aec_params.proofs.SampleLaws.{interval_len-positive, all_blocks_of-nil}
@@ -111,7 +111,7 @@ IsAligned-interval s v pre aligned t =
 
 -- ---- from interval to interval
 
--- a walk through the code of samples, of so many blocks in all, which stands for their blocks
+-- a walk through the code of samples, of so many blocks in all, which stands for their blocks, whatever follows the code
 pub record IsWalk (s : Settings) (count limit : ℕ) (bits : List Bool) (i b : ℕ) (xs : List ℤ) : Type 0 where
   pub sets : List CodedDataSet
   pub end_block : ℕ
@@ -120,12 +120,12 @@ pub record IsWalk (s : Settings) (count limit : ℕ) (bits : List Bool) (i b : �
   pub enough : div_ceil count s.block_size ≤ end_block
   pub blocks : take (div_ceil count s.block_size - i) (stream_blocks s i sets) ≡ all_blocks_of s xs
 
-abbrev HasWalk : Settings → ℕ → ℕ → List ℤ → Type 0
-HasWalk s count limit xs = (k i b : ℕ) (pre bits : List Bool) → AllByRecursion (IsHeld s) xs → IsAligned s pre → i ≡ k * s.interval → b ≡ length pre
-    → bits ≡ pre ++ stream_of s xs → i + div_ceil (length xs) s.block_size ≡ div_ceil count s.block_size → IsWalk s count limit bits i b xs
+abbrev HasWalk : Settings → ℕ → ℕ → List Bool → List ℤ → Type 0
+HasWalk s count limit tail xs = (k i b : ℕ) (pre bits : List Bool) → AllByRecursion (IsHeld s) xs → IsAligned s pre → i ≡ k * s.interval → b ≡ length pre
+    → bits ≡ pre ++ (stream_of s xs ++ tail) → i + div_ceil (length xs) s.block_size ≡ div_ceil count s.block_size → IsWalk s count limit bits i b xs
 
-no_walk : (s : Settings) (count limit : ℕ) → IsAllowed s → HasWalk s count limit []
-no_walk s count limit a k i b pre bits held aligned e f spelled need =
+no_walk : (s : Settings) (count limit : ℕ) (tail : List Bool) → IsAllowed s → HasWalk s count limit tail []
+no_walk s count limit tail a k i b pre bits held aligned e f spelled need =
     let z : div_ceil count s.block_size - i ≡ 0 = omega (arith, div_ceil-zero s.block_size (block_size-positive s a)) in
     record {
       sets = [];
@@ -179,10 +179,11 @@ part_of s count limit k i b pre after rest bits v a some few held e f spelled on
       stand_for = r.stand_for;
     }
 
-last_walk : (s : Settings) (count limit : ℕ) → IsAllowed s → (v : List ℤ) → 0 < length v → length v ≤ interval_len s → HasWalk s count limit v
-last_walk s count limit a v some few k i b pre bits held aligned e f spelled need =
-    let part = part_of s count limit k i b pre (stream_of s v) [] bits v a some few held e f spelled
-    (ap (flat_map (interval_bits s)) (pieces_of-one (interval_len s) v some few)) (omega arith) in
+last_walk : (s : Settings) (count limit : ℕ) (tail : List Bool) → IsAllowed s → (v : List ℤ) → 0 < length v → length v ≤ interval_len s
+    → HasWalk s count limit tail v
+last_walk s count limit tail a v some few k i b pre bits held aligned e f spelled need =
+    let part = part_of s count limit k i b pre (stream_of s v ++ tail) tail bits v a some few held e f spelled
+    (ap (λ x. x ++ tail) (ap (flat_map (interval_bits s)) (pieces_of-one (interval_len s) v some few) ∙ append-nil (interval_bits s v))) (omega arith) in
     let len = length-blocks_of s v a in
     let needed : div_ceil count s.block_size - i ≡ length (blocks_of s v) = omega arith in
     record {
@@ -196,9 +197,9 @@ last_walk s count limit a v some few k i b pre bits held aligned e f spelled nee
     }
 
 -- the walk through a full interval, and on
-walk_on : (s : Settings) (count limit : ℕ) → IsAllowed s → (front rest : List ℤ) → IsPieceBefore (interval_len s) front rest → 0 < length rest
-    → HasWalk s count limit rest → HasWalk s count limit (front ++ rest)
-walk_on s count limit a front rest piece more ih k i b pre bits held aligned e f spelled need =
+walk_on : (s : Settings) (count limit : ℕ) (tail : List Bool) → IsAllowed s → (front rest : List ℤ) → IsPieceBefore (interval_len s) front rest → 0 < length rest
+    → HasWalk s count limit tail rest → HasWalk s count limit tail (front ++ rest)
+walk_on s count limit tail a front rest piece more ih k i b pre bits held aligned e f spelled need =
     record {
       sets = part.sets ++ later.sets;
       end_block = later.end_block;
@@ -222,10 +223,13 @@ walk_on s count limit a front rest piece more ih k i b pre bits held aligned e f
     n = length-blocks_of s front a ∙ ap (λ m. div_ceil m s.block_size) (full ∙ omega arith)
         ∙ div_ceil-times s.interval s.block_size (block_size-positive s a)
 
+    cut : stream_of s (front ++ rest) ++ tail ≡ interval_bits s front ++ (stream_of s rest ++ tail)
+    cut = ap (λ x. x ++ tail) (stream_of-cons s front rest piece) ∙ append_assoc (interval_bits s front) (stream_of s rest) tail
+
     part : IsPart s count limit k i b pre bits front
-    part = part_of s count limit k i b pre (stream_of s (front ++ rest)) (stream_of s rest) bits front a piece.some piece.fits
+    part = part_of s count limit k i b pre (stream_of s (front ++ rest) ++ tail) (stream_of s rest ++ tail) bits front a piece.some piece.fits
         (all_left (IsHeld s) front rest held) e f spelled
-        (stream_of-cons s front rest piece) (omega (arith, n, length-blocks_of s front a, counted, need))
+        cut (omega (arith, n, length-blocks_of s front a, counted, need))
 
     j : ℕ
     j = k * s.interval + end_of s 0 part.sets
@@ -236,16 +240,16 @@ walk_on s count limit a front rest piece more ih k i b pre bits held aligned e f
     next : j ≡ (k + 1) * s.interval
     next = omega (arith, part.reaches, part.within, n)
 
-    behind : bits ≡ pre ++ (interval_bits s front ++ stream_of s rest)
-    behind = spelled ∙ ap (◌++◌ pre) (stream_of-cons s front rest piece)
+    behind : bits ≡ pre ++ (interval_bits s front ++ (stream_of s rest ++ tail))
+    behind = spelled ∙ ap (◌++◌ pre) cut
 
     start : g ≡ length (pre ++ interval_bits s front)
     start = ap₂ (λ x q. begin_of s x q (length pre + length (unpadded_bits s front))) behind next
-        ∙ begin_of-interval s front pre (stream_of s rest) (k + 1) aligned
+        ∙ begin_of-interval s front pre (stream_of s rest ++ tail) (k + 1) aligned
 
     later : IsWalk s count limit bits j g rest
     later = ih (k + 1) j g (pre ++ interval_bits s front) bits (all_right (IsHeld s) front rest held) (IsAligned-interval s front pre aligned) next start
-        (behind ∙ sym (append_assoc pre (interval_bits s front) (stream_of s rest))) (omega (arith, counted, need, e, next))
+        (behind ∙ sym (append_assoc pre (interval_bits s front) (stream_of s rest ++ tail))) (omega (arith, counted, need, e, next))
 
     all_needed : div_ceil count s.block_size - i ≡ length (covered_blocks s 0 part.sets) + (div_ceil count s.block_size - j)
     all_needed = omega (arith, part.len, part.reaches, part.within, n, counted, need, e)
@@ -253,10 +257,12 @@ walk_on s count limit a front rest piece more ih k i b pre bits held aligned e f
     here : covered_blocks s 0 part.sets ≡ blocks_of s front
     here = sym (take_all (length (blocks_of s front)) (covered_blocks s 0 part.sets) (omega (arith, part.len, part.within, n))) ∙ part.stand_for
 
-step : (s : Settings) (count limit : ℕ) → IsAllowed s → (front rest : List ℤ) → IsPieceBefore (interval_len s) front rest → HasWalk s count limit rest
-    → HasWalk s count limit (front ++ rest)
-step s count limit a front [] piece ih = subst (HasWalk s count limit) (sym (append-nil front)) (last_walk s count limit a front piece.some piece.fits)
-step s count limit a front (x ∷ rest) piece ih = walk_on s count limit a front (x ∷ rest) piece (omega arith) ih
+step : (s : Settings) (count limit : ℕ) (tail : List Bool) → IsAllowed s → (front rest : List ℤ) → IsPieceBefore (interval_len s) front rest
+    → HasWalk s count limit tail rest → HasWalk s count limit tail (front ++ rest)
+step s count limit tail a front [] piece ih =
+    subst (HasWalk s count limit tail) (sym (append-nil front)) (last_walk s count limit tail a front piece.some piece.fits)
+step s count limit tail a front (x ∷ rest) piece ih = walk_on s count limit tail a front (x ∷ rest) piece (omega arith) ih
 
-pub walk_of : (s : Settings) (count limit : ℕ) → IsAllowed s → (xs : List ℤ) → HasWalk s count limit xs
-walk_of s count limit a = by_pieces (HasWalk s count limit) (interval_len s) (interval_len-positive s a) (no_walk s count limit a) (step s count limit a)
+pub walk_of : (s : Settings) (count limit : ℕ) (tail : List Bool) → IsAllowed s → (xs : List ℤ) → HasWalk s count limit tail xs
+walk_of s count limit tail a =
+    by_pieces (HasWalk s count limit tail) (interval_len s) (interval_len-positive s a) (no_walk s count limit tail a) (step s count limit tail a)

@@ -25,10 +25,10 @@ abbrev pub IntervalsAreTold : Type 0
 IntervalsAreTold = (s : Settings) (a b : List ℤ) (x y : List Bool) → IsAllowed s → AreOfInterval s a → AreOfInterval s b → length a ≡ length b
     → interval_bits s a ++ x ≡ interval_bits s b ++ y → (a ≡ b) × (x ≡ y)
 
--- the code of samples, read with their count, gives the samples
+-- the code of samples, read with their count, gives the samples, whatever bits follow
 abbrev pub StreamsAreReadBack : Type 0
-StreamsAreReadBack = (s : Settings) (limit : ℕ) (samples : List ℤ) → IsAllowed s → AllByRecursion (IsHeld s) samples
-    → IsReading s (Some (length samples)) limit (stream_of s samples) samples
+StreamsAreReadBack = (s : Settings) (limit : ℕ) (samples : List ℤ) (rest : List Bool) → IsAllowed s → AllByRecursion (IsHeld s) samples
+    → IsReading s (Some (length samples)) limit (stream_of s samples ++ rest) samples
 
 -- what bits are read as
 pub record BitsAreReadInOneWay (s : Settings) (count : Option ℕ) (limit : ℕ) (bits : List Bool) : Type 0 where

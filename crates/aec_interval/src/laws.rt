@@ -19,7 +19,7 @@ pub fn intervals_are_told()
     ensures { IntervalsAreTold }
 {}
 
-/// The code of samples, read with their count, gives the samples.
+/// The code of samples, read with their count, gives the samples, whatever bits follow it.
 pub fn streams_are_read_back()
     ensures { StreamsAreReadBack }
 {}

@@ -42,7 +42,11 @@ fn bytes_are_refused(rt: HostRuntime) -> Result<(), Fail> {
         assert_eq!(rt; refusal, Some(fault), "of {bytes:?}");
     }
     let decoding = [
-        (RAMP_CODED.as_slice(), None, Fault::StreamTooLong { limit: 3 }),
+        (
+            RAMP_CODED.as_slice(),
+            None,
+            Fault::StreamTooLong { limit: 3 },
+        ),
         (b"".as_slice(), Some(3), Fault::TooManySamples { limit: 2 }),
         (b"\x20".as_slice(), Some(1), Fault::Truncated { bit: 0 }),
     ];

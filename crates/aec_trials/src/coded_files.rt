@@ -1,232 +1,71 @@
-//! Runs that code files which the tests make, and decode what was written.
+//! Runs that code files, and runs that decode them.
 
-use crate::shared::{run_of, run_on};
-use std::alloc::{Alloc, Global};
-use std::fs;
-use std::process::Abort;
-use std::rt::Files;
+use crate::runs::runs_end_so;
 use std::test::Fail;
 
-// Codes the file `raw` into the file `coded` by the first words, and decodes it back by the second ones; compares what
-// each run writes.
-fn there_and_back<R: Abort + Alloc<A = Global> + Files>(
-    rt: &R,
-    alloc: Global,
-    names: [&str; 2],
-    coding: &[&str],
-    decoding: &[&str],
-    bytes: [&[u8]; 3],
-) -> Result<(), Fail> {
-    let [raw, coded] = names;
-    let [samples, stream, blocks] = bytes;
-    let (status, err, written) = run_on(rt, alloc, coding, raw, coded, samples)?;
-    assert_eq!(rt; (status, err.len()), (0, 0), "at {coding:?}");
-    assert_eq!(rt; written.as_slice(), stream, "at {coding:?}");
-    let (status, err, written) = run_on(rt, alloc, decoding, coded, raw, stream)?;
-    assert_eq!(rt; (status, err.len()), (0, 0), "at {decoding:?}");
-    assert_eq!(rt; written.as_slice(), blocks, "at {decoding:?}");
-    Ok(())
-}
-
-// By the usual settings.
-fn by_default<R: Abort + Alloc<A = Global> + Files>(
-    rt: &R,
-    alloc: Global,
-    samples: &[u8],
-    stream: &[u8],
-    blocks: &[u8],
-) -> Result<(), Fail> {
-    there_and_back(
-        rt,
-        alloc,
-        ["usual.raw", "usual.aec"],
-        &["aec", "usual.raw", "usual.aec"],
-        &["aec", "-d", "usual.aec", "usual.raw"],
-        [samples, stream, blocks],
-    )
-}
+// By the usual settings: no samples, and zero bits that are none; a zero block; a ramp; filler; two intervals. The last file
+// is coded into itself.
+const USUAL: &str = "\
+         in out |                         | 0 |
+      -d in out |                         | 0 |
+      -d in out | 00                      | 0 |
+         in out | 00*8                    | 0 | 00 08
+      -d in out | 00 08                   | 0 | 00*8
+         in out | 00 01 02 03 04 05 06 07 | 0 | 20 09 24 92
+      -d in out | 20 09 24 92             | 0 | 00 01 02 03 04 05 06 07
+         in out | 07*5                    | 0 | 00 78
+      -d in out | 00 78                   | 0 | 07*8
+         in out | 00*17                   | 0 | 00 04 00 20
+      -d in out | 00 04 00 20             | 0 | 00*24
+          in in | 00 01 02 03 04 05 06 07 | 0 | 20 09 24 92
+       -d in in | 20 09 24 92             | 0 | 00 01 02 03 04 05 06 07";
 
 #[test]
-fn files_are_coded(rt: HostRuntime) -> Result<(), Fail> {
-    let ramp: [u8; 8] = [0, 1, 2, 3, 4, 5, 6, 7];
-    let zeros = [0u8; 24];
-    by_default(&rt, rt.alloc(), &[], &[], &[])?;
-    by_default(&rt, rt.alloc(), &zeros[..8], &[0x00, 0x08], &zeros[..8])?;
-    by_default(&rt, rt.alloc(), &ramp, &[0x20, 0x09, 0x24, 0x92], &ramp)?;
-    by_default(&rt, rt.alloc(), &[7; 5], &[0x00, 0x78], &[7; 8])?;
-    by_default(
-        &rt,
-        rt.alloc(),
-        &zeros[..17],
-        &[0x00, 0x04, 0x00, 0x20],
-        &zeros,
-    )
+fn files_are_coded_and_decoded(rt: HostRuntime) -> Result<(), Fail> {
+    runs_end_so(&rt, rt.alloc(), USUAL)
 }
 
-#[test]
-fn files_are_coded_with_padding(rt: HostRuntime) -> Result<(), Fail> {
-    there_and_back(
-        &rt,
-        rt.alloc(),
-        ["filled.raw", "filled.aec"],
-        &["aec", "-p", "filled.raw", "filled.aec"],
-        &["aec", "-d", "-p", "filled.aec", "filled.raw"],
-        [&[0; 17], &[0x00, 0x04, 0x00, 0x08], &[0; 24]],
-    )
-}
+// Each option in both directions, where the answer is another one without it.
+//
+// -n: two bytes a sample, of which a third byte is none. -m: the same bytes are another sample. -3: samples of 17 bits. -s:
+// the least and the greatest sample of 32 bits in turn, by no compression; samples of 3 bits, read and written with copies
+// of the sign. -N: 0 to 7 by splitting and by no compression; a run of six zero blocks and one by the second extension. -j: a zero block of
+// 16, and 64 of 64. -r: a run to the end of a segment; a run of 64 and one of 1. -t: the second extension where no
+// compression is as long. -p: an interval begins at a byte; two set bits that fill a byte are skipped.
+const OPTIONS: &str = "\
+              -n 12 set got | 01 00 02                | 0 | 00 00 C0
+           -d -n 12 set got | 00 00 C0                | 0 | 01 00 01 00 01 00 01 00 01 00 01 00 01 00 01 00
+           -n 12 -m set got | 01 00 02                | 0 | 00 80 40
+        -d -n 12 -m set got | 00 80 40                | 0 | 01 00 01 00 01 00 01 00 01 00 01 00 01 00 01 00
+           -n 17 -3 set got | FF FF 01 00*3 01 00*2 03 00*2 02 00*2 FE FF 01 FF FF 01 FF FF 01 00*3 02 00*2 | 0 | \
+87 FF FC 78 FF FF C0 00 80 03 00 03 FF F8 00 10 00 07 00 00 FF FF F8 00 80 00*9
+        -d -n 17 -3 set got | 87 FF FC 78 FF FF C0 00 80 03 00 03 FF F8 00 10 00 07 00 00 FF FF F8 00 80 00*9 | 0 | \
+FF FF 01 00*3 01 00*2 03 00*2 02 00*2 FE FF 01 FF FF 01 FF FF 01 00*3 \
+02 00*2 02 00*2 02 00*2 02 00*2 02 00*2 02 00*2 02 00*2
+           -n 32 -s set got | 00*3 80 FF*3 7F 00*3 80 FF*3 7F 00*3 80 FF*3 7F 00*3 80 FF*3 7F | 0 | FC 00*3 07 FF*27 F8
+        -d -n 32 -s set got | FC 00*3 07 FF*27 F8     | 0 | 00*3 80 FF*3 7F 00*3 80 FF*3 7F 00*3 80 FF*3 7F 00*3 80 FF*3 7F
+            -n 3 -s set got | 03 FC FD FF FE 02 03 03 FC FE | 0 | EF 96 72 04 04 FE
+         -d -n 3 -s set got | EF 96 72 04 04 FE       | 0 | 03 FC FD FF FE 02 03 03 FC FE*7
+                 -N set got | 00 01 02 03 04 05 06 07 | 0 | 5A 92 22 AA
+              -d -N set got | 5A 92 22 AA             | 0 | 00 01 02 03 04 05 06 07
+              -d -N set got | E0 00 20 40 60 80 A0 C0 E0 | 0 | 00 01 02 03 04 05 06 07
+            -N -r 8 set got | 00*48 01 00*7           | 0 | 00 22 F0
+         -d -N -r 8 set got | 00 22 F0                | 0 | 00*48 01 00*7
+              -j 16 set got | 00*16                   | 0 | 00 08
+           -d -j 16 set got | 00 08                   | 0 | 00*16
+ -d -j 64 -r 4096   set got | 00 00 80                | 0 | 00*4096
+              -r 64 set got | 00*40                   | 0 | 00 00 80
+           -d -r 64 set got | 00 00 80                | 0 | 00*512
+             -r 128 set got | 00*520                  | 0 | 00 00 84
+          -d -r 128 set got | 00 00 84                | 0 | 00*520
+       -t -n 2 -r 1 set got | 00*7 03                 | 0 | 80 01 80
+      -d -t -n2 -r1 set got | 80 01 80                | 0 | 00*7 03
+                 -p set got | 00*17                   | 0 | 00 04 00 08
+              -d -p set got | 00 04 00 08             | 0 | 00*24
+              -d -p set got | 00 07                   | 0 | 00*16
+              -d -p set got | 00 07 00 08             | 0 | 00*24";
 
 #[test]
-fn files_are_coded_in_long_runs(rt: HostRuntime) -> Result<(), Fail> {
-    there_and_back(
-        &rt,
-        rt.alloc(),
-        ["run.raw", "run.aec"],
-        &["aec", "-r", "64", "run.raw", "run.aec"],
-        &["aec", "-d", "-r", "64", "run.aec", "run.raw"],
-        [&[0; 40], &[0x00, 0x00, 0x80], &[0; 512]],
-    )?;
-    there_and_back(
-        &rt,
-        rt.alloc(),
-        ["run.raw", "run.aec"],
-        &["aec", "-r", "128", "run.raw", "run.aec"],
-        &["aec", "-d", "-r", "128", "run.aec", "run.raw"],
-        [&[0; 520], &[0x00, 0x00, 0x84], &[0; 520]],
-    )?;
-    let mut spike = [0u8; 56];
-    spike[48] = 1;
-    there_and_back(
-        &rt,
-        rt.alloc(),
-        ["run.raw", "run.aec"],
-        &["aec", "-N", "-r", "8", "run.raw", "run.aec"],
-        &["aec", "-d", "-N", "-r", "8", "run.aec", "run.raw"],
-        [&spike, &[0x00, 0x22, 0xF0], &spike],
-    )
-}
-
-#[test]
-fn files_are_coded_by_restricted_codes(rt: HostRuntime) -> Result<(), Fail> {
-    let spike = [0, 0, 0, 0, 0, 0, 0, 3];
-    there_and_back(
-        &rt,
-        rt.alloc(),
-        ["restricted.raw", "restricted.aec"],
-        &[
-            "aec",
-            "-t",
-            "-n",
-            "2",
-            "-r",
-            "1",
-            "restricted.raw",
-            "restricted.aec",
-        ],
-        &[
-            "aec",
-            "-d",
-            "-t",
-            "-n2",
-            "-r1",
-            "restricted.aec",
-            "restricted.raw",
-        ],
-        [&spike, &[0x80, 0x01, 0x80], &spike],
-    )
-}
-
-#[test]
-fn files_are_coded_in_either_order_of_bytes(rt: HostRuntime) -> Result<(), Fail> {
-    there_and_back(
-        &rt,
-        rt.alloc(),
-        ["width.raw", "width.aec"],
-        &["aec", "-n", "12", "width.raw", "width.aec"],
-        &["aec", "-d", "-n", "12", "width.aec", "width.raw"],
-        [
-            &[1, 0, 2],
-            &[0x00, 0x00, 0xC0],
-            &[1, 0, 1, 0, 1, 0, 1, 0, 1, 0, 1, 0, 1, 0, 1, 0],
-        ],
-    )?;
-    there_and_back(
-        &rt,
-        rt.alloc(),
-        ["width.raw", "width.aec"],
-        &["aec", "-n", "12", "-m", "width.raw", "width.aec"],
-        &["aec", "-d", "-n", "12", "-m", "width.aec", "width.raw"],
-        [
-            &[1, 0, 2],
-            &[0x00, 0x80, 0x40],
-            &[1, 0, 1, 0, 1, 0, 1, 0, 1, 0, 1, 0, 1, 0, 1, 0],
-        ],
-    )
-}
-
-#[test]
-fn blocks_without_compression_are_decoded(rt: HostRuntime) -> Result<(), Fail> {
-    let coded: [u8; 9] = [0xE0, 0, 0x20, 0x40, 0x60, 0x80, 0xA0, 0xC0, 0xE0];
-    let (status, _err, raw) = run_on(
-        &rt,
-        rt.alloc(),
-        &["aec", "-d", "-N", "plain.aec", "plain.raw"],
-        "plain.aec",
-        "plain.raw",
-        &coded,
-    )?;
-    assert_eq!(rt; status, 0);
-    assert_eq!(rt; raw.as_slice(), [0u8, 1, 2, 3, 4, 5, 6, 7].as_slice());
-    Ok(())
-}
-
-// Two zero blocks fill an interval and end at bit 14; two set bits fill the byte.
-#[test]
-fn filling_bits_are_skipped(rt: HostRuntime) -> Result<(), Fail> {
-    let cases: [(&[u8], &[u8]); 2] = [
-        (&[0x00, 0x07], &[0; 16]),
-        (&[0x00, 0x07, 0x00, 0x08], &[0; 24]),
-    ];
-    for (stream, samples) in cases {
-        let (status, err, raw) = run_on(
-            &rt,
-            rt.alloc(),
-            &["aec", "-d", "-p", "filling.aec", "filling.raw"],
-            "filling.aec",
-            "filling.raw",
-            stream,
-        )?;
-        assert_eq!(rt; (status, err.len()), (0, 0), "at {stream:?}");
-        assert_eq!(rt; raw.as_slice(), samples, "at {stream:?}");
-    }
-    Ok(())
-}
-
-#[test]
-fn zero_bits_are_no_samples(rt: HostRuntime) -> Result<(), Fail> {
-    let (status, _err, raw) = run_on(
-        &rt,
-        rt.alloc(),
-        &["aec", "-d", "empty.aec", "empty.raw"],
-        "empty.aec",
-        "empty.raw",
-        &[0x00],
-    )?;
-    assert_eq!(rt; (status, raw.len()), (0, 0));
-    Ok(())
-}
-
-#[test]
-fn a_file_is_coded_into_itself(rt: HostRuntime) -> Result<(), Fail> {
-    let ramp: [u8; 8] = [0, 1, 2, 3, 4, 5, 6, 7];
-    fs::write(&rt, "itself", ramp.as_slice())?;
-    let (status, _out, _err) = run_of(&rt, rt.alloc(), &["aec", "itself", "itself"])?;
-    assert_eq!(rt; status, 0);
-    let coded = fs::read(&rt, "itself")?;
-    assert_eq!(rt; coded.as_slice(), [0x20, 0x09, 0x24, 0x92].as_slice());
-    let (status, _out, _err) = run_of(&rt, rt.alloc(), &["aec", "-d", "itself", "itself"])?;
-    assert_eq!(rt; status, 0);
-    let raw = fs::read(&rt, "itself")?;
-    assert_eq!(rt; raw.as_slice(), ramp.as_slice());
-    fs::remove_file(&rt, "itself")?;
-    Ok(())
+fn each_option_changes_a_run(rt: HostRuntime) -> Result<(), Fail> {
+    runs_end_so(&rt, rt.alloc(), OPTIONS)
 }

@@ -1,108 +1,135 @@
 //! Streams that are cut, and streams that zero bits follow.
 
-use crate::devices::{Basin, Pieces};
-use crate::shared::DEFAULTS;
-use aec_bits::Sink;
-use aec_cli::{decode, encode};
-use aec_params::{Fault, Limits, Params, Settings};
-use std::alloc::Global;
-use std::process::Abort;
+use crate::answers::engines_answer_so;
 use std::test::Fail;
 
-// What decoding answers to a stream, and what is written.
-fn read(
-    rt: &impl Abort,
-    alloc: Global,
-    settings: Settings,
-    stream: &[u8],
-    count: Option<u64>,
-) -> Result<(Result<(), Fault>, Vec<u8>), Fail> {
-    let limits = Limits::new(1 << 20, 1 << 20).ok_or("limits")?;
-    let mut sink = Basin::deep(alloc);
-    let mut source = Pieces::whole(stream, 5);
-    let params = Params::new(settings)?;
-    let answer = decode(alloc, &params, limits, count, &mut source, &mut sink);
-    let begins = if answer.is_ok() { 1 } else { 0 };
-    assert_eq!(rt; sink.begins(), begins);
-    Ok((answer, sink.bytes))
-}
-
-// Two blocks without compression, of 67 bits each: 0 to 7, and 255 down to 248.
-const UNCOMPRESSED: [u8; 17] = [
-    0xE0, 0x00, 0x20, 0x40, 0x60, 0x80, 0xA0, 0xC0, 0xFF, 0xFF, 0xFB, 0xF7, 0xF3, 0xEF, 0xEB, 0xE7,
-    0xE0,
-];
-
-const SAMPLES: [u8; 16] = [
-    0, 1, 2, 3, 4, 5, 6, 7, 255, 254, 253, 252, 251, 250, 249, 248,
-];
+// Two blocks without compression, of 67 bits each: 0 to 7, and 255 down to 248. Cut after each byte, without a count and
+// with one.
+const UNCOMPRESSED: &str = "\
+-d -N | 5000 20 |  |
+-d -N | 5000 20 | E0 | coded data is cut short at bit 0
+-d -N | 5000 20 | E0 00 | coded data is cut short at bit 0
+-d -N | 5000 20 | E0 00 20 | coded data is cut short at bit 0
+-d -N | 5000 20 | E0 00 20 40 | coded data is cut short at bit 0
+-d -N | 5000 20 | E0 00 20 40 60 | coded data is cut short at bit 0
+-d -N | 5000 20 | E0 00 20 40 60 80 | coded data is cut short at bit 0
+-d -N | 5000 20 | E0 00 20 40 60 80 A0 | coded data is cut short at bit 0
+-d -N | 5000 20 | E0 00 20 40 60 80 A0 C0 | coded data is cut short at bit 0
+-d -N | 5000 20 | E0 00 20 40 60 80 A0 C0 FF | coded data is cut short at bit 67
+-d -N | 5000 20 | E0 00 20 40 60 80 A0 C0 FF FF | coded data is cut short at bit 67
+-d -N | 5000 20 | E0 00 20 40 60 80 A0 C0 FF FF FB | coded data is cut short at bit 67
+-d -N | 5000 20 | E0 00 20 40 60 80 A0 C0 FF FF FB F7 | coded data is cut short at bit 67
+-d -N | 5000 20 | E0 00 20 40 60 80 A0 C0 FF FF FB F7 F3 | coded data is cut short at bit 67
+-d -N | 5000 20 | E0 00 20 40 60 80 A0 C0 FF FF FB F7 F3 EF | coded data is cut short at bit 67
+-d -N | 5000 20 | E0 00 20 40 60 80 A0 C0 FF FF FB F7 F3 EF EB | coded data is cut short at bit 67
+-d -N | 5000 20 | E0 00 20 40 60 80 A0 C0 FF FF FB F7 F3 EF EB E7 | coded data is cut short at bit 67
+-d -N | 5000 20 | E0 00 20 40 60 80 A0 C0 FF FF FB F7 F3 EF EB E7 E0 | 00 01 02 03 04 05 06 07 FF FE FD FC FB FA F9 F8
+-d -N --count 5 | 5000 20 |  | coded data is cut short at bit 0
+-d -N --count 5 | 5000 20 | E0 | coded data is cut short at bit 0
+-d -N --count 5 | 5000 20 | E0 00 | coded data is cut short at bit 0
+-d -N --count 5 | 5000 20 | E0 00 20 | coded data is cut short at bit 0
+-d -N --count 5 | 5000 20 | E0 00 20 40 | coded data is cut short at bit 0
+-d -N --count 5 | 5000 20 | E0 00 20 40 60 | coded data is cut short at bit 0
+-d -N --count 5 | 5000 20 | E0 00 20 40 60 80 | coded data is cut short at bit 0
+-d -N --count 5 | 5000 20 | E0 00 20 40 60 80 A0 | coded data is cut short at bit 0
+-d -N --count 5 | 5000 20 | E0 00 20 40 60 80 A0 C0 | coded data is cut short at bit 0
+-d -N --count 5 | 5000 20 | E0 00 20 40 60 80 A0 C0 FF | 00 01 02 03 04
+-d -N --count 5 | 5000 20 | E0 00 20 40 60 80 A0 C0 FF FF | 00 01 02 03 04
+-d -N --count 5 | 5000 20 | E0 00 20 40 60 80 A0 C0 FF FF FB | 00 01 02 03 04
+-d -N --count 5 | 5000 20 | E0 00 20 40 60 80 A0 C0 FF FF FB F7 | 00 01 02 03 04
+-d -N --count 5 | 5000 20 | E0 00 20 40 60 80 A0 C0 FF FF FB F7 F3 | 00 01 02 03 04
+-d -N --count 5 | 5000 20 | E0 00 20 40 60 80 A0 C0 FF FF FB F7 F3 EF | 00 01 02 03 04
+-d -N --count 5 | 5000 20 | E0 00 20 40 60 80 A0 C0 FF FF FB F7 F3 EF EB | 00 01 02 03 04
+-d -N --count 5 | 5000 20 | E0 00 20 40 60 80 A0 C0 FF FF FB F7 F3 EF EB E7 | 00 01 02 03 04
+-d -N --count 5 | 5000 20 | E0 00 20 40 60 80 A0 C0 FF FF FB F7 F3 EF EB E7 E0 | 00 01 02 03 04";
 
 #[test]
-fn a_stream_is_cut_behind_each_byte(rt: HostRuntime) -> Result<(), Fail> {
-    let plain = Settings {
-        preprocess: false,
-        ..DEFAULTS
-    };
-    for k in 0..18usize {
-        assert!(rt; k <= 17);
-        let stream = &UNCOMPRESSED[..k];
-        let (answer, written) = read(&rt, rt.alloc(), plain, stream, None)?;
-        let (expected, whole) = match k {
-            0 => (Ok(()), 0),
-            1..=8 => (Err(Fault::Truncated { bit: 0 }), 0),
-            9..=16 => (Err(Fault::Truncated { bit: 67 }), 0),
-            _ => (Ok(()), 16),
-        };
-        assert_eq!(rt; answer, expected, "at {k} bytes");
-        assert_eq!(rt; written.as_slice(), &SAMPLES[..whole]);
-        let (answer, written) = read(&rt, rt.alloc(), plain, stream, Some(5))?;
-        let (expected, whole) = match k {
-            0..=8 => (Err(Fault::Truncated { bit: 0 }), 0),
-            _ => (Ok(()), 5),
-        };
-        assert_eq!(rt; answer, expected, "at {k} bytes with a count");
-        assert_eq!(rt; written.as_slice(), &SAMPLES[..whole]);
-    }
-    Ok(())
+fn a_stream_is_cut_after_each_byte(rt: HostRuntime) -> Result<(), Fail> {
+    engines_answer_so(&rt, rt.alloc(), UNCOMPRESSED)
 }
 
-// Cut in a block without compression; zero bits alone; cut behind two of eight values.
-#[test]
-fn a_stream_has_no_whole_block(rt: HostRuntime) -> Result<(), Fail> {
-    let plain = Settings {
-        preprocess: false,
-        ..DEFAULTS
-    };
-    let cases: [(&[u8], Result<(), Fault>); 3] = [
-        (&[0xE0, 0x00], Err(Fault::Truncated { bit: 0 })),
-        (&[0x00], Ok(())),
-        (&[0x20, 0x09], Err(Fault::Truncated { bit: 0 })),
-    ];
-    for (stream, expected) in cases {
-        let (answer, written) = read(&rt, rt.alloc(), plain, stream, None)?;
-        assert_eq!(rt; answer, expected, "at {stream:?}");
-        assert_eq!(rt; written.len(), 0, "at {stream:?}");
-    }
-    Ok(())
-}
+// Cut in a block without compression; zero bits alone; cut after two of eight values.
+const NO_WHOLE_BLOCK: &str = "\
+-d -N | 9 9 | E0 00 | coded data is cut short at bit 0
+-d | 9 9 | 00    |
+-d | 9 9 | 20 09 | coded data is cut short at bit 0";
 
 // One coded data set of 4 bytes less the rest: twelve zero bits (identifier and reference sample), and a fundamental
 // sequence of 19 less the rest. The blocks that it stands for: the number itself, but of 3 four, and of 4 all that the
 // interval of 32 blocks has.
+const ZERO_RESTS: &str = "\
+-d -r 32 | 152 4 | 00 00 00 01 | 00*152
+-d -r 32 | 152 4 | 00 00 00 02 | 00*144
+-d -r 32 | 152 4 | 00 00 00 04 | 00*136
+-d -r 32 | 152 4 | 00 00 00 08 | 00*128
+-d -r 32 | 152 4 | 00 00 00 10 | 00*120
+-d -r 32 | 152 4 | 00 00 00 20 | 00*112
+-d -r 32 | 152 4 | 00 00 00 40 | 00*104
+-d -r 32 | 152 4 | 00 00 00 80 | 00*96
+-d -r 32 | 152 4 | 00 00 01 00 | 00*88
+-d -r 32 | 152 4 | 00 00 02 00 | 00*80
+-d -r 32 | 152 4 | 00 00 04 00 | 00*72
+-d -r 32 | 152 4 | 00 00 08 00 | 00*64
+-d -r 32 | 152 4 | 00 00 10 00 | 00*56
+-d -r 32 | 152 4 | 00 00 20 00 | 00*48
+-d -r 32 | 152 4 | 00 00 40 00 | 00*40
+-d -r 32 | 256 4 | 00 00 80 00 | 00*256
+-d -r 32 | 152 4 | 00 01 00 00 | 00*32";
+
 #[test]
 fn a_rest_of_zeros_ends_a_stream(rt: HostRuntime) -> Result<(), Fail> {
-    let blocks: [usize; 17] = [19, 18, 17, 16, 15, 14, 13, 12, 11, 10, 9, 8, 7, 6, 5, 32, 4];
-    let long = Settings {
-        interval: 32,
-        ..DEFAULTS
-    };
-    for (rest, blocks) in blocks.iter().enumerate() {
-        assert!(rt; rest <= 16 && *blocks <= 32);
-        let stream = (1u32 << rest as u32).to_be_bytes();
-        let (answer, written) = read(&rt, rt.alloc(), long, &stream, None)?;
-        assert_eq!(rt; answer, Ok(()), "at a rest of {rest}");
-        assert_eq!(rt; written.len(), 8 * blocks, "at a rest of {rest}");
-        assert!(rt; written.iter().all(|byte| *byte == 0));
-    }
-    Ok(())
+    engines_answer_so(&rt, rt.alloc(), NO_WHOLE_BLOCK)?;
+    engines_answer_so(&rt, rt.alloc(), ZERO_RESTS)
+}
+
+// Cut after each byte, without a count and with one. Three intervals of zeros, of 14, 14 and 13 bits, and no cut is seen
+// without a count: what is left of an interval is zero bits. The same with a one at place 20: the second interval has bits
+// 14 to 38, its second block the last five of them. A ramp of 31 bits and a zero block: the cut between them isn't seen.
+const ZERO_BLOCKS: &str = "\
+-d | 99 9 |  |
+-d | 99 9 | 00 |
+-d | 99 9 | 00 04 | 00*16
+-d | 99 9 | 00 04 00 | 00*16
+-d | 99 9 | 00 04 00 10 | 00*32
+-d | 99 9 | 00 04 00 10 00 | 00*32
+-d | 99 9 | 00 04 00 10 00 40 | 00*48
+-d --count 48 | 99 9 |  | coded data is cut short at bit 0
+-d --count 48 | 99 9 | 00 | coded data is cut short at bit 0
+-d --count 48 | 99 9 | 00 04 | coded data is cut short at bit 14
+-d --count 48 | 99 9 | 00 04 00 | coded data is cut short at bit 14
+-d --count 48 | 99 9 | 00 04 00 10 | coded data is cut short at bit 28
+-d --count 48 | 99 9 | 00 04 00 10 00 | coded data is cut short at bit 28
+-d --count 48 | 99 9 | 00 04 00 10 00 40 | 00*48
+-d | 99 9 |  |
+-d | 99 9 | 00 |
+-d | 99 9 | 00 04 | 00*16
+-d | 99 9 | 00 04 40 | coded data is cut short at bit 14
+-d | 99 9 | 00 04 40 30 | coded data is cut short at bit 14
+-d | 99 9 | 00 04 40 30 C2 | 00*20 01 00*11
+-d | 99 9 | 00 04 40 30 C2 00 | 00*20 01 00*11
+-d | 99 9 | 00 04 40 30 C2 00 08 | 00*20 01 00*11 00*16
+-d --count 48 | 99 9 |  | coded data is cut short at bit 0
+-d --count 48 | 99 9 | 00 | coded data is cut short at bit 0
+-d --count 48 | 99 9 | 00 04 | coded data is cut short at bit 14
+-d --count 48 | 99 9 | 00 04 40 | coded data is cut short at bit 14
+-d --count 48 | 99 9 | 00 04 40 30 | coded data is cut short at bit 14
+-d --count 48 | 99 9 | 00 04 40 30 C2 | coded data is cut short at bit 39
+-d --count 48 | 99 9 | 00 04 40 30 C2 00 | coded data is cut short at bit 39
+-d --count 48 | 99 9 | 00 04 40 30 C2 00 08 | 00*20 01 00*11 00*16
+-d | 99 9 |  |
+-d | 99 9 | 20 | coded data is cut short at bit 0
+-d | 99 9 | 20 09 | coded data is cut short at bit 0
+-d | 99 9 | 20 09 24 | coded data is cut short at bit 0
+-d | 99 9 | 20 09 24 92 | 00 01 02 03 04 05 06 07
+-d | 99 9 | 20 09 24 92 10 | 00 01 02 03 04 05 06 07 07*8
+-d --count 16 | 99 9 |  | coded data is cut short at bit 0
+-d --count 16 | 99 9 | 20 | coded data is cut short at bit 0
+-d --count 16 | 99 9 | 20 09 | coded data is cut short at bit 0
+-d --count 16 | 99 9 | 20 09 24 | coded data is cut short at bit 0
+-d --count 16 | 99 9 | 20 09 24 92 | coded data is cut short at bit 31
+-d --count 16 | 99 9 | 20 09 24 92 10 | 00 01 02 03 04 05 06 07 07*8";
+
+#[test]
+fn cuts_before_zero_bits_are_seen_by_a_count(rt: HostRuntime) -> Result<(), Fail> {
+    engines_answer_so(&rt, rt.alloc(), ZERO_BLOCKS)
 }

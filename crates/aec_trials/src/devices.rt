@@ -4,32 +4,31 @@ use aec_bits::{Sink, Source};
 use aec_params::Fault;
 use std::alloc::Global;
 
-/// Gives bytes, at most `step` a call. Behind them it ends, or fails.
+/// What a source does after its bytes.
+#[derive(Clone, Copy)]
+pub(crate) enum After {
+    Ends,
+    Fails,
+    /// Gives zeros for ever.
+    Zeros,
+}
+
+/// Gives bytes, at most `step` a call, and then does what `after` says.
 #[derive(Drop)]
 pub(crate) struct Pieces<'a> {
     rest: &'a [u8],
     step: usize,
-    fails: bool,
+    after: After,
     failed: bool,
 }
 
 impl<'a> Pieces<'a> {
-    /// Ends behind the bytes.
-    pub(crate) fn whole(bytes: &'a [u8], step: usize) -> Pieces<'a> {
+    /// Gives these bytes, of which none has been taken.
+    pub(crate) fn of(bytes: &'a [u8], step: usize, after: After) -> Pieces<'a> {
         Pieces {
             rest: bytes,
             step,
-            fails: false,
-            failed: false,
-        }
-    }
-
-    /// Fails behind the bytes.
-    pub(crate) fn torn(bytes: &'a [u8], step: usize) -> Pieces<'a> {
-        Pieces {
-            rest: bytes,
-            step,
-            fails: true,
+            after,
             failed: false,
         }
     }
@@ -46,9 +45,18 @@ impl<'a> Source for Pieces<'a> {
         if self.failed {
             return Err(Fault::Read);
         }
-        if self.fails && self.rest.is_empty() {
-            self.failed = true;
-            return Err(Fault::Read);
+        if self.rest.is_empty() {
+            return match self.after {
+                After::Ends => Ok(0),
+                After::Fails => {
+                    self.failed = true;
+                    Err(Fault::Read)
+                }
+                After::Zeros => {
+                    buf.fill(0);
+                    Ok(buf.len())
+                }
+            };
         }
         let count = self.step.min(self.rest.len()).min(buf.len());
         let (front, rest) = self.rest.split_at(count);
@@ -59,29 +67,6 @@ impl<'a> Source for Pieces<'a> {
 
     fn failures(&self) -> u64 {
         u64::from(self.failed)
-    }
-}
-
-/// Gives the same byte for ever.
-#[derive(Drop)]
-pub(crate) struct Endless {
-    pub(crate) byte: u8,
-}
-
-impl Source for Endless {
-    ghost use Rattle.std.specs.Prelude.{None};
-
-    ghost left = { λ _. None };
-
-    ghost failed = { λ _. 0 };
-
-    fn take(&mut self, buf: &mut [u8]) -> Result<usize, Fault> {
-        buf.fill(self.byte);
-        Ok(buf.len())
-    }
-
-    fn failures(&self) -> u64 {
-        0
     }
 }
 
@@ -97,11 +82,6 @@ pub(crate) struct Basin {
 }
 
 impl Basin {
-    /// Takes all that comes.
-    pub(crate) fn deep(alloc: Global) -> Basin {
-        Basin::of(alloc, 64, 1 << 20)
-    }
-
     /// Takes at most `step` bytes a call, and `room` in all.
     pub(crate) fn of(alloc: Global, step: usize, room: usize) -> Basin {
         Basin {
@@ -117,12 +97,8 @@ impl Basin {
     /// Fails at `begin`.
     pub(crate) fn shut(alloc: Global) -> Basin {
         Basin {
-            bytes: Vec::new(alloc),
-            step: 64,
-            room: 64,
             shut: true,
-            failed: false,
-            begins: 0,
+            ..Basin::of(alloc, 64, 64)
         }
     }
 }

@@ -1,105 +1,120 @@
 //! The engines over devices in memory: what is written, and what is left where a device fails.
 
-use crate::devices::{Basin, Pieces};
-use crate::shared::DEFAULTS;
-use aec_bits::{Sink, Source};
-use aec_cli::{decode, encode};
+use crate::devices::{After, Basin, Pieces};
+use crate::shared::{DEFAULTS, Outcome, run_engine};
+use aec_cli::Action;
 use aec_params::{Fault, Limits, Params};
+use std::alloc::Global;
+use std::process::Abort;
 use std::test::Fail;
 
 const RAMP: [u8; 8] = [0, 1, 2, 3, 4, 5, 6, 7];
 
 const RAMP_CODED: [u8; 4] = [0x20, 0x09, 0x24, 0x92];
 
-// Far above what the tests take.
-fn ample() -> Result<Limits, Fail> {
-    Ok(Limits::new(1 << 32, 1 << 40).ok_or("limits")?)
+const PART: Action = Action::Range {
+    first: 5,
+    len: 2,
+    count: None,
+};
+
+// Coding, decoding, cutting out: what is read, and what is written.
+const WAYS: [(Action, &[u8], &[u8]); 3] = [
+    (Action::Encode, &RAMP, &RAMP_CODED),
+    (Action::Decode { count: None }, &RAMP_CODED, &RAMP),
+    (PART, &RAMP_CODED, &[5, 6]),
+];
+
+// Tries one way by the usual settings, under limits far above.
+fn leaves<R: Abort>(
+    rt: &R,
+    alloc: Global,
+    action: &Action,
+    source: Pieces<'_>,
+    sink: Basin,
+    (answer, written, begins, failures): (Result<(), Fault>, &[u8], u64, [u64; 2]),
+) -> Result<(), Fail> {
+    let params = Params::new(DEFAULTS)?;
+    let limits = Limits::new(1 << 32, 1 << 40).ok_or("limits")?;
+    let expected = Outcome {
+        answer,
+        written: written.to_vec(alloc)?,
+        begins,
+        failures,
+    };
+    let left = run_engine(alloc, &params, action, limits, source, sink);
+    assert_eq!(rt; left, expected);
+    Ok(())
 }
 
 #[test]
 fn samples_are_coded_and_decoded(rt: HostRuntime) -> Result<(), Fail> {
-    let params = Params::new(DEFAULTS)?;
-    for step in 1..10usize {
-        let mut coded = Basin::of(rt.alloc(), step, 100);
-        let mut source = Pieces::whole(&RAMP, step);
-        encode(rt.alloc(), &params, ample()?, &mut source, &mut coded)?;
-        assert_eq!(rt; coded.bytes.as_slice(), RAMP_CODED.as_slice());
-        assert_eq!(rt; (coded.begins(), source.failures()), (1, 0));
-        let mut raw = Basin::of(rt.alloc(), step, 100);
-        let mut source = Pieces::whole(&RAMP_CODED, step);
-        decode(rt.alloc(), &params, ample()?, None, &mut source, &mut raw)?;
-        assert_eq!(rt; raw.bytes.as_slice(), RAMP.as_slice());
-        assert_eq!(rt; (raw.begins(), source.failures()), (1, 0));
+    for (action, given, wanted) in WAYS.iter() {
+        for step in 1..10usize {
+            let source = Pieces::of(given, step, After::Ends);
+            let sink = Basin::of(rt.alloc(), step, 100);
+            leaves(
+                &rt,
+                rt.alloc(),
+                action,
+                source,
+                sink,
+                (Ok(()), wanted, 1, [0, 0]),
+            )?;
+        }
     }
     Ok(())
 }
 
 #[test]
 fn failed_sources_leave_nothing(rt: HostRuntime) -> Result<(), Fail> {
-    let params = Params::new(DEFAULTS)?;
-    for k in 0..9usize {
-        assert!(rt; k <= 8);
-        let mut sink = Basin::deep(rt.alloc());
-        let mut source = Pieces::torn(&RAMP[..k], 3);
-        let answer = encode(rt.alloc(), &params, ample()?, &mut source, &mut sink);
-        assert_eq!(rt; answer, Err(Fault::Read), "behind {k} bytes");
-        assert_eq!(rt;
-            (sink.bytes.len(), sink.begins(), source.failures()),
-            (0, 0, 1)
-        );
-    }
-    for k in 0..5usize {
-        assert!(rt; k <= 4);
-        let mut sink = Basin::deep(rt.alloc());
-        let mut source = Pieces::torn(&RAMP_CODED[..k], 3);
-        let answer = decode(rt.alloc(), &params, ample()?, None, &mut source, &mut sink);
-        assert_eq!(rt; answer, Err(Fault::Read), "behind {k} bytes");
-        assert_eq!(rt;
-            (sink.bytes.len(), sink.begins(), source.failures()),
-            (0, 0, 1)
-        );
+    for (action, given, _) in WAYS.iter() {
+        for count in 0..9usize {
+            let front = given.get(..count).unwrap_or(given);
+            let source = Pieces::of(front, 3, After::Fails);
+            let sink = Basin::of(rt.alloc(), 64, 100);
+            leaves(
+                &rt,
+                rt.alloc(),
+                action,
+                source,
+                sink,
+                (Err(Fault::Read), &[], 0, [1, 0]),
+            )?;
+        }
     }
     Ok(())
 }
 
+// A sink that takes no byte or some, and one that fails when it is begun.
 #[test]
 fn failed_sinks_have_a_front(rt: HostRuntime) -> Result<(), Fail> {
-    let params = Params::new(DEFAULTS)?;
-    for step in 1..4usize {
-        for room in 0..4usize {
-            assert!(rt; room < 4);
-            let mut sink = Basin::of(rt.alloc(), step, room);
-            let mut source = Pieces::whole(&RAMP, 8);
-            let answer = encode(rt.alloc(), &params, ample()?, &mut source, &mut sink);
-            assert_eq!(rt; answer, Err(Fault::Write));
-            assert_eq!(rt; sink.bytes.as_slice(), &RAMP_CODED[..room]);
-            assert_eq!(rt; (sink.begins(), sink.failures()), (1, 1));
+    for (action, given, wanted) in WAYS.iter() {
+        for step in 1..4usize {
+            for room in 0..wanted.len() {
+                let front = wanted.get(..room).ok_or("a front")?;
+                let source = Pieces::of(given, 8, After::Ends);
+                let sink = Basin::of(rt.alloc(), step, room);
+                leaves(
+                    &rt,
+                    rt.alloc(),
+                    action,
+                    source,
+                    sink,
+                    (Err(Fault::Write), front, 1, [0, 1]),
+                )?;
+            }
         }
-        for room in 0..8usize {
-            assert!(rt; room < 8);
-            let mut sink = Basin::of(rt.alloc(), step, room);
-            let mut source = Pieces::whole(&RAMP_CODED, 8);
-            let answer = decode(rt.alloc(), &params, ample()?, None, &mut source, &mut sink);
-            assert_eq!(rt; answer, Err(Fault::Write));
-            assert_eq!(rt; sink.bytes.as_slice(), &RAMP[..room]);
-            assert_eq!(rt; (sink.begins(), sink.failures()), (1, 1));
-        }
+        let source = Pieces::of(given, 8, After::Ends);
+        let sink = Basin::shut(rt.alloc());
+        leaves(
+            &rt,
+            rt.alloc(),
+            action,
+            source,
+            sink,
+            (Err(Fault::Write), &[], 1, [0, 1]),
+        )?;
     }
-    Ok(())
-}
-
-#[test]
-fn sinks_that_fail_at_the_beginning_hold_nothing(rt: HostRuntime) -> Result<(), Fail> {
-    let params = Params::new(DEFAULTS)?;
-    let mut sink = Basin::shut(rt.alloc());
-    let mut source = Pieces::whole(&RAMP, 8);
-    let answer = encode(rt.alloc(), &params, ample()?, &mut source, &mut sink);
-    assert_eq!(rt; answer, Err(Fault::Write));
-    assert_eq!(rt; (sink.bytes.len(), sink.begins()), (0, 1));
-    let mut sink = Basin::shut(rt.alloc());
-    let mut source = Pieces::whole(&RAMP_CODED, 8);
-    let answer = decode(rt.alloc(), &params, ample()?, None, &mut source, &mut sink);
-    assert_eq!(rt; answer, Err(Fault::Write));
-    assert_eq!(rt; (sink.bytes.len(), sink.begins()), (0, 1));
     Ok(())
 }

@@ -1,133 +1,138 @@
-//! Files as devices.
+//! Files as devices, step by step.
 
+use crate::tables::cell;
 use aec_bits::{Sink, Source};
 use aec_cli::{DestSink, FileSource};
 use aec_params::Fault;
+use std::alloc::{Alloc, Global};
 use std::fs;
+use std::process::Abort;
+use std::rt::Files;
 use std::test::Fail;
 
-fn taken<R: Source>(source: &mut R, buf: &mut [u8]) -> Result<usize, Fault> {
-    source.take(buf)
-}
+// A row: the name of the file; what is asked of the source in turn; how often it has failed then. `4=3:n..e` asks for 4 bytes
+// and gets 3, after which the buffer, that all steps share, holds `n..e`; `4!` asks for 4 and fails; `+abc` writes the file.
+// A file in pieces, then one that is there only after it was missed, and a folder.
+const SOURCES: &str = "\
+taken | +seven.. 0=0:.... 4=4:seve 4=3:n..e 4=0:n..e | 0
+late  | 4! +here 4! 0! | 1
+.     | 4! 4! | 1";
 
-fn written<W: Sink>(sink: &mut W, piece: &[u8]) -> Result<usize, Fault> {
-    sink.put(piece)
+// Whether the source does what a step says.
+fn gives<R: Source>(source: &mut R, buf: &mut [u8; 4], step: &str) -> Result<bool, Fail> {
+    if let Some(len) = step.strip_suffix("!") {
+        let len = len.parse::<usize>()?.min(4);
+        return Ok(source.take(&mut buf[..len]) == Err(Fault::Read));
+    }
+    let (len, rest) = step.split_once('=').ok_or("a step")?;
+    let (count, held) = rest.split_once(':').ok_or("a step")?;
+    let len = len.parse::<usize>()?.min(4);
+    let count = count.parse::<usize>()?;
+    Ok(source.take(&mut buf[..len]) == Ok(count) && buf.as_slice() == held.as_bytes())
 }
 
 #[test]
-fn a_file_is_taken_in_pieces(rt: HostRuntime) -> Result<(), Fail> {
-    fs::write(&rt, "taken", "seven..")?;
-    let path = String::from_str(rt.alloc(), "taken")?;
-    let mut source = FileSource::new(&rt, path);
-    let mut buf = [0u8; 4];
-    assert_eq!(rt; taken(&mut source, &mut [])?, 0);
-    assert_eq!(rt; taken(&mut source, &mut buf)?, 4);
-    assert_eq!(rt; buf, *b"seve");
-    assert_eq!(rt; taken(&mut source, &mut buf)?, 3);
-    assert_eq!(rt; buf, *b"n..e");
-    assert_eq!(rt; taken(&mut source, &mut buf)?, 0);
-    assert_eq!(rt; source.failures(), 0);
-    fs::remove_file(&rt, "taken")?;
+fn sources_go_step_by_step(rt: HostRuntime) -> Result<(), Fail> {
+    for row in SOURCES.lines() {
+        let (name, rest) = cell(row);
+        let (steps, failures) = cell(rest);
+        let name = name.trim();
+        let mut source = FileSource::new(&rt, String::from_str(rt.alloc(), name)?);
+        let mut buf = *b"....";
+        for step in steps.split_whitespace() {
+            match step.strip_prefix("+") {
+                Some(bytes) => fs::write(&rt, name, bytes)?,
+                None => assert!(rt; gives(&mut source, &mut buf, step)?, "{step} of {row}"),
+            }
+        }
+        assert_eq!(rt;
+            source.failures(),
+            failures.trim().parse::<u64>()?,
+            "at {row}"
+        );
+        let _ = fs::remove_file(&rt, name);
+    }
+    Ok(())
+}
+
+// A row: the name of the file; what is asked of the sink in turn; how often it has failed and begun then; how it ends, or
+// `-`. `abc=3` gives 3 bytes that are taken, `abc!` gives 3 and fails; `+abc` writes the file, and `?abc` is what it holds.
+// A file that is there and is emptied; a second `begin`; bytes before `begin`; a file that can't be created; one that is
+// full; one that can't be synced; a sink that is not begun.
+const SINKS: &str = "\
+written        | +there-before ?there-before begin ? abc=3 =0 de=2 ?abcde | 0 1 | -
+kept           | begin abc=3 begin ?abc de=2 ?abcde | 0 2 | ends
+early          | abc! begin! | 1 1 | -
+no/such/folder | begin! abc! | 1 1 | fails
+/dev/full      | begin abc! abc! begin! | 1 2 | fails
+/dev/null      | begin abc=3 | 0 1 | ends
+unbegun        | | 0 0 | ends";
+
+// Whether the sink does what a step says.
+fn takes<W: Sink>(sink: &mut W, step: &str) -> Result<bool, Fail> {
+    match step {
+        "begin" => return Ok(sink.begin() == Ok(())),
+        "begin!" => return Ok(sink.begin() == Err(Fault::Write)),
+        _ => {}
+    }
+    if let Some(piece) = step.strip_suffix("!") {
+        return Ok(sink.put(piece.as_bytes()) == Err(Fault::Write));
+    }
+    let (piece, count) = step.split_once('=').ok_or("a step")?;
+    Ok(sink.put(piece.as_bytes()) == Ok(count.parse::<usize>()?))
+}
+
+// Whether a step goes so, with the sink or with its file.
+fn goes<F: Files + Alloc<A = Global>, W: Sink>(
+    rt: &F,
+    name: &str,
+    sink: &mut W,
+    step: &str,
+) -> Result<bool, Fail> {
+    if let Some(bytes) = step.strip_prefix("+") {
+        fs::write(rt, name, bytes)?;
+        return Ok(true);
+    }
+    match step.strip_prefix("?") {
+        Some(bytes) => Ok(fs::read(rt, name)?.as_slice() == bytes.as_bytes()),
+        None => takes(sink, step),
+    }
+}
+
+// Tries a row of SINKS.
+fn sink_goes_so<R: Abort + Files + Alloc<A = Global>>(
+    rt: &R,
+    alloc: Global,
+    row: &str,
+) -> Result<(), Fail> {
+    let (name, rest) = cell(row);
+    let (steps, rest) = cell(rest);
+    let (counts, end) = cell(rest);
+    let name = name.trim();
+    let mut sink = DestSink::new(rt, String::from_str(alloc, name)?);
+    for step in steps.split_whitespace() {
+        assert!(rt; goes(rt, name, &mut sink, step)?, "{step} of {row}");
+    }
+    let found = format!(in alloc; "{} {}", sink.failures(), sink.begins())?;
+    assert_eq!(rt; found.as_str(), counts.trim(), "at {row}");
+    let ended = match end.trim() {
+        "-" => true,
+        "ends" => sink.finish() == Ok(()),
+        _ => sink.finish() == Err(Fault::Write),
+    };
+    assert!(rt; ended, "at {row}");
     Ok(())
 }
 
 #[test]
-fn a_missing_file_fails_for_good(rt: HostRuntime) -> Result<(), Fail> {
-    let mut source = FileSource::new(&rt, String::from_str(rt.alloc(), "late")?);
-    let mut buf = [0u8; 4];
-    assert_eq!(rt; source.failures(), 0);
-    assert_eq!(rt; taken(&mut source, &mut buf), Err(Fault::Read));
-    fs::write(&rt, "late", "here now")?;
-    assert_eq!(rt; taken(&mut source, &mut buf), Err(Fault::Read));
-    assert_eq!(rt; source.failures(), 1);
-    fs::remove_file(&rt, "late")?;
-    Ok(())
-}
-
-#[test]
-fn a_sink_creates_or_empties_its_file(rt: HostRuntime) -> Result<(), Fail> {
-    fs::write(&rt, "written", "what was there before")?;
-    let mut sink = DestSink::new(&rt, String::from_str(rt.alloc(), "written")?);
-    assert_eq!(rt;
-        fs::read(&rt, "written")?.as_slice(),
-        b"what was there before".as_slice()
-    );
-    sink.begin()?;
-    assert_eq!(rt; written(&mut sink, b"abc")?, 3);
-    assert_eq!(rt; written(&mut sink, b"")?, 0);
-    assert_eq!(rt; written(&mut sink, b"de")?, 2);
-    assert_eq!(rt; (sink.failures(), sink.begins()), (0, 1));
-    assert_eq!(rt; fs::read(&rt, "written")?.as_slice(), b"abcde".as_slice());
+fn sinks_go_step_by_step(rt: HostRuntime) -> Result<(), Fail> {
+    for row in SINKS.lines() {
+        sink_goes_so(&rt, rt.alloc(), row)?;
+    }
+    for name in ["early", "unbegun", "no"] {
+        assert!(rt; !fs::exists(&rt, name)?, "at {name}");
+    }
     fs::remove_file(&rt, "written")?;
-    Ok(())
-}
-
-#[test]
-fn a_second_begin_keeps_what_was_taken(rt: HostRuntime) -> Result<(), Fail> {
-    let mut sink = DestSink::new(&rt, String::from_str(rt.alloc(), "kept")?);
-    sink.begin()?;
-    assert_eq!(rt; written(&mut sink, b"abc")?, 3);
-    sink.begin()?;
-    assert_eq!(rt; fs::read(&rt, "kept")?.as_slice(), b"abc".as_slice());
-    assert_eq!(rt; written(&mut sink, b"de")?, 2);
-    assert_eq!(rt; (sink.failures(), sink.begins()), (0, 2));
-    assert_eq!(rt; sink.finish(), Ok(()));
-    assert_eq!(rt; fs::read(&rt, "kept")?.as_slice(), b"abcde".as_slice());
     fs::remove_file(&rt, "kept")?;
-    Ok(())
-}
-
-#[test]
-fn a_sink_is_finished(rt: HostRuntime) -> Result<(), Fail> {
-    let unbegun = DestSink::new(&rt, String::from_str(rt.alloc(), "unbegun")?);
-    assert_eq!(rt; unbegun.finish(), Ok(()));
-    assert!(rt; !fs::exists(&rt, "unbegun")?);
-    // a file that can't be synced
-    let mut nowhere = DestSink::new(&rt, String::from_str(rt.alloc(), "/dev/null")?);
-    nowhere.begin()?;
-    assert_eq!(rt; written(&mut nowhere, b"abc")?, 3);
-    assert_eq!(rt; nowhere.finish(), Ok(()));
-    let mut lost = DestSink::new(&rt, String::from_str(rt.alloc(), "no/such/folder")?);
-    assert_eq!(rt; lost.begin(), Err(Fault::Write));
-    assert_eq!(rt; lost.finish(), Err(Fault::Write));
-    let mut full = DestSink::new(&rt, String::from_str(rt.alloc(), "/dev/full")?);
-    full.begin()?;
-    assert_eq!(rt; written(&mut full, b"abc"), Err(Fault::Write));
-    assert_eq!(rt; full.finish(), Err(Fault::Write));
-    Ok(())
-}
-
-#[test]
-fn a_sink_fails_for_good(rt: HostRuntime) -> Result<(), Fail> {
-    let mut early = DestSink::new(&rt, String::from_str(rt.alloc(), "early")?);
-    assert_eq!(rt; written(&mut early, b"abc"), Err(Fault::Write));
-    assert_eq!(rt; early.begin(), Err(Fault::Write));
-    assert_eq!(rt; (early.failures(), early.begins()), (1, 1));
-    assert!(rt; !fs::exists(&rt, "early")?);
-    let mut lost = DestSink::new(&rt, String::from_str(rt.alloc(), "no/such/folder")?);
-    assert_eq!(rt; lost.begin(), Err(Fault::Write));
-    assert_eq!(rt; written(&mut lost, b"abc"), Err(Fault::Write));
-    assert_eq!(rt; (lost.failures(), lost.begins()), (1, 1));
-    Ok(())
-}
-
-#[test]
-fn a_folder_is_opened_and_fails_when_read(rt: HostRuntime) -> Result<(), Fail> {
-    let mut source = FileSource::new(&rt, String::from_str(rt.alloc(), ".")?);
-    let mut buf = [0u8; 4];
-    assert_eq!(rt; taken(&mut source, &mut buf), Err(Fault::Read));
-    assert_eq!(rt; taken(&mut source, &mut buf), Err(Fault::Read));
-    assert_eq!(rt; source.failures(), 1);
-    Ok(())
-}
-
-#[test]
-fn a_full_device_is_created_and_fails_when_written(rt: HostRuntime) -> Result<(), Fail> {
-    let mut sink = DestSink::new(&rt, String::from_str(rt.alloc(), "/dev/full")?);
-    sink.begin()?;
-    assert_eq!(rt; written(&mut sink, b"abc"), Err(Fault::Write));
-    assert_eq!(rt; written(&mut sink, b"abc"), Err(Fault::Write));
-    assert_eq!(rt; sink.begin(), Err(Fault::Write));
-    assert_eq!(rt; (sink.failures(), sink.begins()), (1, 2));
     Ok(())
 }

@@ -3,6 +3,8 @@
 #![tactic(auto)]
 
 #[cfg(test)]
+mod answers;
+#[cfg(test)]
 mod bytes;
 #[cfg(test)]
 mod coded_files;
@@ -11,9 +13,17 @@ mod cut_streams;
 #[cfg(test)]
 mod devices;
 #[cfg(test)]
+mod edited_streams;
+#[cfg(test)]
+mod edits;
+#[cfg(test)]
 mod engines;
 #[cfg(test)]
 mod files;
+#[cfg(test)]
+mod large_inputs;
+#[cfg(test)]
+mod library_example;
 #[cfg(test)]
 mod limits;
 #[cfg(test)]
@@ -21,9 +31,13 @@ mod ranges;
 #[cfg(test)]
 mod refused_files;
 #[cfg(test)]
+mod runs;
+#[cfg(test)]
 mod scripts;
 #[cfg(test)]
 mod shared;
+#[cfg(test)]
+mod tables;
 #[cfg(test)]
 mod unsynced_files;
 #[cfg(test)]

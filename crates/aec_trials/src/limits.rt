@@ -1,157 +1,54 @@
 //! Where the limits of the engines lie, and in which order samples are judged.
 
-use crate::devices::{Basin, Endless, Pieces};
-use crate::shared::DEFAULTS;
-use aec_bits::Sink;
-use aec_cli::{decode, encode};
-use aec_params::{Fault, Limits, Params, Settings};
-use std::alloc::Global;
-use std::process::Abort;
+use crate::answers::engines_answer_so;
 use std::test::Fail;
 
-const RAMP: [u8; 8] = [0, 1, 2, 3, 4, 5, 6, 7];
-
-const RAMP_CODED: [u8; 4] = [0x20, 0x09, 0x24, 0x92];
-
-fn limits(samples: u64, bytes: u64) -> Result<Limits, Fail> {
-    Ok(Limits::new(samples, bytes).ok_or("limits")?)
-}
-
-#[test]
-fn endless_sources_come_to_a_limit(rt: HostRuntime) -> Result<(), Fail> {
-    let params = Params::new(DEFAULTS)?;
-    let mut sink = Basin::deep(rt.alloc());
-    let mut zeros = Endless { byte: 0 };
-    let few = limits(20, 1 << 40)?;
-    let answer = encode(rt.alloc(), &params, few, &mut zeros, &mut sink);
-    assert_eq!(rt; answer, Err(Fault::TooManySamples { limit: 20 }));
-    let none = limits(0, 0)?;
-    let answer = encode(rt.alloc(), &params, none, &mut zeros, &mut sink);
-    assert_eq!(rt; answer, Err(Fault::TooManySamples { limit: 0 }));
-    let short = limits(1 << 32, 1000)?;
-    let answer = decode(rt.alloc(), &params, short, None, &mut zeros, &mut sink);
-    assert_eq!(rt; answer, Err(Fault::StreamTooLong { limit: 1000 }));
-    assert_eq!(rt; (sink.bytes.len(), sink.begins()), (0, 0));
-    Ok(())
-}
+// Sources that never end; then the code of eight samples.
+const LIMITS: &str = "\
+ | 20 1099511627776 | .. | more than 20 samples
+ | 0 0 | .. | more than 0 samples
+-d | 4294967296 1000 | .. | input is longer than 1000 bytes
+-d | 7 8 | 20 09 24 92 | more than 7 samples
+-d | 8 4 | 20 09 24 92 | 00 01 02 03 04 05 06 07
+-d | 8 3 | 20 09 24 92 | input is longer than 3 bytes
+-d | 7 3 | 20 09 24 92 | input is longer than 3 bytes
+-d --count 9 | 8 4 | 20 09 24 92 | more than 8 samples
+-d --count 9 | 9 4 | 20 09 24 92 | coded data is cut short at bit 31
+-d --count 8 | 8 4 | 20 09 24 92 | 00 01 02 03 04 05 06 07
+-d --count 2 | 2 4 | 20 09 24 92 | 00 01
+-d --count 0 | 0 0 | 20 09 24 92 | input is longer than 0 bytes
+-d --count 0 | 0 4 | 20 09 24 92 |";
 
 #[test]
 fn limits_hold_to_the_last_sample(rt: HostRuntime) -> Result<(), Fail> {
-    let params = Params::new(DEFAULTS)?;
-    let cases = [
-        (7, 8, None, Err(Fault::TooManySamples { limit: 7 })),
-        (8, 4, None, Ok(())),
-        (8, 3, None, Err(Fault::StreamTooLong { limit: 3 })),
-        (7, 3, None, Err(Fault::StreamTooLong { limit: 3 })),
-        (8, 4, Some(9), Err(Fault::TooManySamples { limit: 8 })),
-        (9, 4, Some(9), Err(Fault::Truncated { bit: 31 })),
-        (8, 4, Some(8), Ok(())),
-        (2, 4, Some(2), Ok(())),
-        (0, 0, Some(0), Err(Fault::StreamTooLong { limit: 0 })),
-        (0, 4, Some(0), Ok(())),
-    ];
-    for (samples, bytes, count, expected) in cases {
-        let mut sink = Basin::deep(rt.alloc());
-        let mut source = Pieces::whole(&RAMP_CODED, 3);
-        let caps = limits(samples, bytes)?;
-        let answer = decode(rt.alloc(), &params, caps, count, &mut source, &mut sink);
-        assert_eq!(rt; answer, expected, "at {samples} {bytes} {count:?}");
-        let begins = if answer.is_ok() { 1 } else { 0 };
-        assert_eq!(rt; sink.begins(), begins);
-        let written = count.unwrap_or(8) as usize;
-        assert!(rt; answer.is_err() || written <= 8);
-        let kept = if answer.is_ok() { written } else { 0 };
-        assert!(rt; kept <= 8);
-        assert_eq!(rt; sink.bytes.as_slice(), &RAMP[..kept]);
-    }
-    Ok(())
+    engines_answer_so(&rt, rt.alloc(), LIMITS)
 }
 
-// What coding answers to samples of n bits under a limit of samples, from a source that fails behind them or ends. With a
-// refusal nothing is written.
-fn judged(
-    rt: &impl Abort,
-    alloc: Global,
-    bits: u32,
-    bytes: &[u8],
-    limit: u64,
-    fails: bool,
-) -> Result<Result<(), Fault>, Fail> {
-    let params = Params::new(Settings { bits, ..DEFAULTS })?;
-    let mut sink = Basin::deep(alloc);
-    let mut source = if fails {
-        Pieces::torn(bytes, 2)
-    } else {
-        Pieces::whole(bytes, 2)
-    };
-    let answer = encode(alloc, &params, limits(limit, 0)?, &mut source, &mut sink);
-    if answer.is_err() {
-        assert_eq!(rt; (sink.bytes.len(), sink.begins()), (0, 0));
-    }
-    Ok(answer)
-}
+// Samples of 5 bits, of which 32 is none, and of 12 bits, of two bytes each; a byte that is no whole sample is left out.
+const JUDGED: &str = "\
+-n 5 | 3 0 | 1F 1F 1F      | 0F C0
+-n 5 | 2 0 | 1F 1F 1F      | more than 2 samples
+-n 5 | 3 0 | 1F 20 1F      | sample 1 is out of range
+-n 5 | 2 0 | 1F 20 1F      | sample 1 is out of range
+-n 5 | 1 0 | 1F 20 1F      | more than 1 samples
+-n 5 | 1 0 | 1F 1F 20      | more than 1 samples
+-n 5 | 0 0 | 20            | more than 0 samples
+-n 5 | 3 0 | 1F 1F 1F !    | read failed
+-n 5 | 2 0 | 1F 1F 1F !    | more than 2 samples
+-n 5 | 3 0 | 1F 20 1F !    | sample 1 is out of range
+-n 5 | 1 0 | 1F 20 1F !    | more than 1 samples
+-n 12 | 1 0 | 00 01 00      | 00 80 40
+-n 12 | 0 0 | 00 01 00      | more than 0 samples
+-n 12 | 1 0 | 00 01 00 !    | read failed
+-n 12 | 1 0 | 00 01 00 10 ! | more than 1 samples
+-n 12 | 2 0 | 00 01 00 10 ! | sample 1 is out of range
+-n 12 | 2 0 | 00 01 FF      | 00 80 40
+-n 12 | 1 0 | 01 00 02      | 00 00 C0
+-n 12 -m | 1 0 | 01 00 02      | 00 80 40
+-d -n 12 --count 1 | 1 3 | 00 00 C0      | 01 00
+-d -n 12 -m --count 1 | 1 3 | 00 80 40   | 01 00";
 
-const fn too_many(limit: u64) -> Result<(), Fault> {
-    Err(Fault::TooManySamples { limit })
-}
-
-const fn out_of_range(index: u64) -> Result<(), Fault> {
-    Err(Fault::SampleRange { index })
-}
-
-// Samples of 5 bits, of which 32 is none, and of 12 bits, of two bytes each.
 #[test]
 fn samples_are_judged_in_their_order(rt: HostRuntime) -> Result<(), Fail> {
-    let cases: [(u32, &[u8], u64, bool, Result<(), Fault>); 17] = [
-        (5, &[31, 31, 31], 3, false, Ok(())),
-        (5, &[31, 31, 31], 2, false, too_many(2)),
-        (5, &[31, 32, 31], 3, false, out_of_range(1)),
-        (5, &[31, 32, 31], 2, false, out_of_range(1)),
-        (5, &[31, 32, 31], 1, false, too_many(1)),
-        (5, &[31, 31, 32], 1, false, too_many(1)),
-        (5, &[32], 0, false, too_many(0)),
-        (5, &[31, 31, 31], 3, true, Err(Fault::Read)),
-        (5, &[31, 31, 31], 2, true, too_many(2)),
-        (5, &[31, 32, 31], 3, true, out_of_range(1)),
-        (5, &[31, 32, 31], 1, true, too_many(1)),
-        (12, &[0, 1, 0], 1, false, Ok(())),
-        (12, &[0, 1, 0], 0, false, too_many(0)),
-        (12, &[0, 1, 0], 1, true, Err(Fault::Read)),
-        (12, &[0, 1, 0, 16], 1, true, too_many(1)),
-        (12, &[0, 1, 0, 16], 2, true, out_of_range(1)),
-        (12, &[0, 1, 255], 2, false, Ok(())),
-    ];
-    for (bits, bytes, limit, fails, expected) in cases {
-        let answer = judged(&rt, rt.alloc(), bits, bytes, limit, fails)?;
-        assert_eq!(rt; answer, expected, "at {bytes:?}, limit {limit}");
-    }
-    Ok(())
-}
-
-// One sample of two bytes, and a byte that is none.
-#[test]
-fn bytes_that_are_no_whole_sample_are_left_out(rt: HostRuntime) -> Result<(), Fail> {
-    for (msb_first, coded) in [(false, [0x00, 0x00, 0xC0]), (true, [0x00, 0x80, 0x40])] {
-        let params = Params::new(Settings {
-            bits: 12,
-            msb_first,
-            ..DEFAULTS
-        })?;
-        let mut sink = Basin::deep(rt.alloc());
-        let mut source = Pieces::whole(&[0x01, 0x00, 0x02], 2);
-        encode(rt.alloc(), &params, limits(1, 0)?, &mut source, &mut sink)?;
-        assert_eq!(rt; sink.bytes.as_slice(), coded.as_slice());
-        let mut raw = Basin::deep(rt.alloc());
-        let mut source = Pieces::whole(&coded, 2);
-        decode(
-            rt.alloc(),
-            &params,
-            limits(1, 3)?,
-            Some(1),
-            &mut source,
-            &mut raw,
-        )?;
-        assert_eq!(rt; raw.bytes.as_slice(), [0x01, 0x00].as_slice());
-    }
-    Ok(())
+    engines_answer_so(&rt, rt.alloc(), JUDGED)
 }

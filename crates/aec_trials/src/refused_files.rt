@@ -1,147 +1,60 @@
 //! Runs that are refused: what is printed, and that DEST is not made, or stays as it was.
 
-use crate::shared::run_of;
-use std::alloc::{Alloc, Global};
+use crate::runs::runs_end_so;
 use std::fs;
-use std::process::Abort;
-use std::rt::Files;
 use std::test::Fail;
 
-/// A run on a SOURCE of these bytes, first without a DEST and then with one, by the words with the names of both.
-pub(crate) fn refused<R: Abort + Alloc<A = Global> + Files>(
-    rt: &R,
-    alloc: Global,
-    words: &[&str],
-    source: &[u8],
-    status: u8,
-    line: &[u8],
-) -> Result<(), Fail> {
-    fs::write(rt, "refused.in", source)?;
-    let (ended, out, err) = run_of(rt, alloc, words)?;
-    assert_eq!(rt; (ended, out.len()), (status, 0), "at {words:?}");
-    assert!(rt; err.starts_with(line), "at {words:?}");
-    assert!(rt; !fs::exists(rt, "refused.out")?, "at {words:?}");
-    fs::write(rt, "refused.out", "as it was")?;
-    let (ended, out, err) = run_of(rt, alloc, words)?;
-    assert_eq!(rt; (ended, out.len()), (status, 0), "at {words:?}");
-    assert!(rt; err.starts_with(line), "at {words:?}");
-    let kept = fs::read(rt, "refused.out")?;
-    assert_eq!(rt; kept.as_slice(), b"as it was".as_slice(), "at {words:?}");
-    fs::remove_file(rt, "refused.in")?;
-    fs::remove_file(rt, "refused.out")?;
+// No such file; samples out of range; streams that are cut, or say what none may; no folder for DEST.
+const REFUSED: &str = "\
+                        none kept | - | 1 | aec: read failed
+                     -d none kept | - | 1 | aec: read failed
+                   -n 5 bad kept | 1F 20 20 | 1 | aec: sample 1 is out of range
+                     -d bad kept | 20 09 24 | 1 | aec: coded data is cut short at bit 0
+                     -d bad kept | 00 02 | 1 | aec: zero run too long at bit 0
+                     -d bad kept | 00 07 | 1 | aec: coded data is cut short at bit 14
+             -d -N -n 1 bad kept | 27 F8 | 1 | aec: value too large at bit 0
+           bad no_such_folder/out | 20 09 24 92 | 1 | aec: write failed
+        -d bad no_such_folder/out | 20 09 24 92 | 1 | aec: write failed";
+
+#[test]
+fn broken_files_are_refused(rt: HostRuntime) -> Result<(), Fail> {
+    runs_end_so(&rt, rt.alloc(), REFUSED)?;
+    assert!(rt; !fs::exists(&rt, "no_such_folder")?);
     Ok(())
 }
 
-#[test]
-fn missing_sources_are_refused(rt: HostRuntime) -> Result<(), Fail> {
-    let line: &[u8] = b"aec: read failed\n";
-    refused(
-        &rt,
-        rt.alloc(),
-        &["aec", "none", "refused.out"],
-        &[],
-        1,
-        line,
-    )?;
-    refused(
-        &rt,
-        rt.alloc(),
-        &["aec", "-d", "none", "refused.out"],
-        &[],
-        1,
-        line,
-    )
-}
-
-#[test]
-fn samples_out_of_range_are_refused(rt: HostRuntime) -> Result<(), Fail> {
-    refused(
-        &rt,
-        rt.alloc(),
-        &["aec", "-n", "5", "refused.in", "refused.out"],
-        &[31, 32, 32],
-        1,
-        b"aec: sample 1 is out of range\n",
-    )
-}
-
-#[test]
-fn broken_streams_are_refused(rt: HostRuntime) -> Result<(), Fail> {
-    refused(
-        &rt,
-        rt.alloc(),
-        &["aec", "-d", "refused.in", "refused.out"],
-        &[0x20, 0x09, 0x24],
-        1,
-        b"aec: coded data is cut short at bit 0\n",
-    )?;
-    refused(
-        &rt,
-        rt.alloc(),
-        &["aec", "-d", "refused.in", "refused.out"],
-        &[0x00, 0x02],
-        1,
-        b"aec: zero run too long at bit 0\n",
-    )?;
-    refused(
-        &rt,
-        rt.alloc(),
-        &["aec", "-d", "refused.in", "refused.out"],
-        &[0x00, 0x07],
-        1,
-        b"aec: coded data is cut short at bit 14\n",
-    )?;
-    refused(
-        &rt,
-        rt.alloc(),
-        &["aec", "-d", "-N", "-n", "1", "refused.in", "refused.out"],
-        &[0x27, 0xF8],
-        1,
-        b"aec: value too large at bit 0\n",
-    )
-}
+// The first broken rule of the settings; the action before them; then words that the command doesn't have.
+const WRONG_WORDS: &str = "\
+           -n 40 word same | 00 | 2 | aec: bits per sample must be 1 to 32
+     -n 33 -j 10 word same | 00 | 2 | aec: bits per sample must be 1 to 32
+      -j 10 -r 0 word same | 00 | 2 | aec: block size must be 8, 16, 32 or 64
+            -r 0 word same | 00 | 2 | aec: reference sample interval must be 1 to 4096
+   -t -r 4097 -s word same | 00 | 2 | aec: reference sample interval must be 1 to 4096
+      -t -n 5 -d word same | 00 | 2 | aec: restricted codes need 4 bits per sample or fewer
+  -d --range 0:1 word same | 00 | 2 | aec: only one of -d, --range and --edit may be given
+  -d --range=x -n 40 word same | 00 | 2 | aec: only one of -d, --range and --edit may be given
+  -d --range=0:1 --count 3 word same | 00 | 2 | aec: only one of -d, --range and --edit may be given
+         --count 3 word same | 00 | 2 | aec: --count needs -d, --range or --edit
+   --count 3 -n 40 word same | 00 | 2 | aec: --count needs -d, --range or --edit
+    --count 0 -n 8 word same | 00 | 2 | aec: --count needs -d, --range or --edit
+         --range 3 word same | 00 | 2 | aec: --range needs FIRST:LEN
+   --range x -n 40 word same | 00 | 2 | aec: --range needs FIRST:LEN
+ --range x --count 3 word same | 00 | 2 | aec: --range needs FIRST:LEN
+ --range 0:1 -n 40 word same | 00 | 2 | aec: bits per sample must be 1 to 32
+                      same |  - | 2 | error:
+       -n 8 -n 8 word same | 00 | 2 | error:
+           -d -d word same | 00 | 2 | error:
+            -n x word same | 00 | 2 | error:
+   -n 4294967296 word same | 00 | 2 | error:
+   -b 18446744073709551616 word same | 00 | 2 | error:
+    -d --count x word same | 00 | 2 | error:
+   -d --count 18446744073709551616 word same | 00 | 2 | error:
+   -d --count 1 --count 1 word same | 00 | 2 | error:
+    --range -1:2 word same | 00 | 2 | error:
+   --range 0:1 --range 0:1 word same | 00 | 2 | error:
+              -x word same | 00 | 2 | error:";
 
 #[test]
 fn words_that_make_no_job_are_refused(rt: HostRuntime) -> Result<(), Fail> {
-    refused(
-        &rt,
-        rt.alloc(),
-        &["aec", "-r", "0", "refused.in", "refused.out"],
-        &[0],
-        2,
-        b"aec: reference sample interval must be 1 to 4096\n",
-    )?;
-    refused(
-        &rt,
-        rt.alloc(),
-        &["aec", "-x", "refused.in", "refused.out"],
-        &[0],
-        2,
-        b"error: ",
-    )
-}
-
-// A DEST in a folder that isn't there.
-fn homeless<R: Abort + Alloc<A = Global> + Files>(
-    rt: &R,
-    alloc: Global,
-    words: &[&str],
-) -> Result<(), Fail> {
-    fs::write(rt, "sound", [0x20u8, 0x09, 0x24, 0x92].as_slice())?;
-    let (status, out, err) = run_of(rt, alloc, words)?;
-    assert_eq!(rt; (status, out.len()), (1, 0));
-    assert_eq!(rt; err.as_slice(), b"aec: write failed\n".as_slice());
-    assert!(rt; !fs::exists(rt, "no_such_folder")?);
-    fs::remove_file(rt, "sound")?;
-    Ok(())
-}
-
-#[test]
-fn missing_folders_are_refused(rt: HostRuntime) -> Result<(), Fail> {
-    homeless(&rt, rt.alloc(), &["aec", "sound", "no_such_folder/out"])?;
-    homeless(
-        &rt,
-        rt.alloc(),
-        &["aec", "-d", "sound", "no_such_folder/out"],
-    )
+    runs_end_so(&rt, rt.alloc(), WRONG_WORDS)
 }

@@ -40,19 +40,37 @@ const READ: [(&str, &str); 22] = [
     ("\n\n", ""),
     ("\r", ""),
     (" \t \r\n\t", ""),
-    ("# p\noverwrite 20 1 -2\nappend\ntruncate 5\n", "2 overwrite 20 1 -2;3 append;4 truncate 5;"),
+    (
+        "# p\noverwrite 20 1 -2\nappend\ntruncate 5\n",
+        "2 overwrite 20 1 -2;3 append;4 truncate 5;",
+    ),
     ("append 007 -0\r", "1 append 7 0;"),
     ("append 1\r\nappend 2\r\n", "1 append 1;2 append 2;"),
     ("append 1\nappend 2", "1 append 1;2 append 2;"),
     ("\t append\t1 \t 2\t", "1 append 1 2;"),
     ("  # append 1\n#append 2\n#\nappend 3", "4 append 3;"),
     ("overwrite 3", "1 overwrite 3;"),
-    ("overwrite 18446744073709551615 1", "1 overwrite 18446744073709551615 1;"),
-    ("overwrite 00000000000000000000000000000004 1", "1 overwrite 4 1;"),
-    ("truncate 18446744073709551615", "1 truncate 18446744073709551615;"),
+    (
+        "overwrite 18446744073709551615 1",
+        "1 overwrite 18446744073709551615 1;",
+    ),
+    (
+        "overwrite 00000000000000000000000000000004 1",
+        "1 overwrite 4 1;",
+    ),
+    (
+        "truncate 18446744073709551615",
+        "1 truncate 18446744073709551615;",
+    ),
     ("truncate 0", "1 truncate 0;"),
-    ("append -9223372036854775808", "1 append -9223372036854775808;"),
-    ("append 9223372036854775807", "1 append 9223372036854775807;"),
+    (
+        "append -9223372036854775808",
+        "1 append -9223372036854775808;",
+    ),
+    (
+        "append 9223372036854775807",
+        "1 append 9223372036854775807;",
+    ),
     ("append -000", "1 append 0;"),
     ("append", "1 append;"),
     ("append \r", "1 append;"),
@@ -133,15 +151,18 @@ fn long_scripts_are_read(rt: HostRuntime) -> Result<(), Fail> {
     line.extend_from_slice(&repeated(rt.alloc(), b" -7", 100_000)?)?;
     let read = script(rt.alloc(), &line)?;
     assert_eq!(rt; read.lines.as_slice(), [1u64].as_slice());
-    match &read.edits[0] {
-        Edit::Append { values } => {
+    match read.edits.first() {
+        Some(Edit::Append { values }) => {
             assert_eq!(rt; values.as_slice().len(), 100_000);
             assert!(rt; values.as_slice().iter().all(|x| *x == -7));
         }
         _ => panic!(rt; "no append"),
     }
 
-    let many = script(rt.alloc(), &repeated(rt.alloc(), b"truncate 0\n", 1_000_000)?)?;
+    let many = script(
+        rt.alloc(),
+        &repeated(rt.alloc(), b"truncate 0\n", 1_000_000)?,
+    )?;
     assert_eq!(rt; many.edits.len(), 1_000_000);
     assert_eq!(rt; many.lines.last(), Some(&1_000_000));
     Ok(())

@@ -1,53 +1,98 @@
-//! What the tests share: the default settings, and runs of the program.
+//! What the tests share: jobs, and runs of an engine or of the program.
 
-use aec_cli::perform;
-use aec_params::Settings;
-use std::alloc::{Alloc, AllocError, Global};
-use std::fs;
+use crate::devices::{Basin, Pieces};
+use aec_bits::{Sink, Source};
+use aec_cli::{Action, Job, Usage, command, decode, encode, perform, range, settings};
+use aec_params::{Fault, Limits, Params, Settings};
+use std::alloc::{AllocError, Global};
 use std::rt::Files;
 use std::test::Fail;
 
 /// The settings of a run with no options.
 pub(crate) const DEFAULTS: Settings = Settings::USUAL;
 
-pub(crate) fn words_of(alloc: Global, words: &[&str]) -> Result<Vec<String>, AllocError> {
-    let mut owned = Vec::new(alloc);
-    for word in words {
-        owned.push(String::from_str(alloc, *word)?)?;
+/// The job that the words ask for, or why there is none. The first word is the name of the program.
+pub(crate) fn job_by(alloc: Global, words: &[&str]) -> Result<Result<Job, Usage>, Fail> {
+    let command = command(alloc)?;
+    let matches = command.try_get_matches_from(words)?;
+    Ok(settings(alloc, &matches))
+}
+
+/// The same for the words of a text, without that name.
+pub(crate) fn job_of(alloc: Global, words: &str) -> Result<Result<Job, Usage>, Fail> {
+    let mut list = Vec::new(alloc);
+    list.push("aec")?;
+    for word in words.split_whitespace() {
+        list.push(word)?;
     }
-    Ok(owned)
+    job_by(alloc, list.as_slice())
+}
+
+/// What an engine leaves: its answer, what was written, how often it began, and how often source and sink failed.
+#[derive(Debug, PartialEq, Eq, Drop)]
+pub(crate) struct Outcome {
+    pub(crate) answer: Result<(), Fault>,
+    pub(crate) written: Vec<u8>,
+    pub(crate) begins: u64,
+    pub(crate) failures: [u64; 2],
+}
+
+/// Does what is asked for with what the source gives.
+pub(crate) fn run_engine(
+    alloc: Global,
+    params: &Params,
+    action: &Action,
+    limits: Limits,
+    mut source: Pieces<'_>,
+    mut sink: Basin,
+) -> Outcome {
+    let answer = match action {
+        Action::Encode => encode(alloc, params, limits, &mut source, &mut sink),
+        Action::Decode { count } => {
+            decode(alloc, params, limits, *count, &mut source, &mut sink)
+        }
+        Action::Range { first, len, count } => {
+            range(
+                alloc,
+                params,
+                limits,
+                *count,
+                *first,
+                *len,
+                &mut source,
+                &mut sink,
+            )
+        }
+    };
+    let begins = sink.begins();
+    let failures = [source.failures(), sink.failures()];
+    Outcome {
+        answer,
+        written: sink.bytes,
+        begins,
+        failures,
+    }
+}
+
+/// The words of a command, the name of the program before them.
+pub(crate) fn words_of(alloc: Global, words: &str) -> Result<Vec<String>, AllocError> {
+    let mut list = Vec::new(alloc);
+    list.push(String::from_str(alloc, "aec")?)?;
+    for word in words.split_whitespace() {
+        list.push(String::from_str(alloc, word)?)?;
+    }
+    Ok(list)
 }
 
 /// A run of the program: its status, and what it wrote to standard output and to standard error.
 pub(crate) fn run_of<F: Files>(
     rt: &F,
     alloc: Global,
-    words: &[&str],
+    words: &str,
 ) -> Result<(u8, Vec<u8>, Vec<u8>), AllocError> {
     let words = words_of(alloc, words)?;
     let mut out = Vec::new(alloc);
     let mut err = Vec::new(alloc);
     let status = perform(rt, alloc, words, &mut out, &mut err);
     Ok((status, out, err))
-}
-
-/// A run on a SOURCE of these bytes, whose name and that of DEST are the last of the words: the status, what was printed as
-/// a fault, and what DEST holds where the run succeeded. Both files are gone then.
-pub(crate) fn run_on<F: Files + Alloc<A = Global>>(
-    rt: &F,
-    alloc: Global,
-    words: &[&str],
-    source: &str,
-    dest: &str,
-    bytes: &[u8],
-) -> Result<(u8, Vec<u8>, Vec<u8>), Fail> {
-    fs::write(rt, source, bytes)?;
-    let (status, _out, err) = run_of(rt, alloc, words)?;
-    fs::remove_file(rt, source)?;
-    if status != 0 {
-        return Ok((status, err, Vec::new(alloc)));
-    }
-    let written = fs::read(rt, dest)?;
-    fs::remove_file(rt, dest)?;
-    Ok((status, err, written))
 }

@@ -2,11 +2,10 @@
 
 use crate::shared::run_of;
 use std::alloc::Allocator;
-use std::fs;
 use std::fs::{Files, Metadata, OpenFile, OpenOptions};
-use std::io;
 use std::io::{ErrorKind, Read, Seek, SeekFrom, Write};
 use std::test::Fail;
+use std::{fs, io};
 
 // The files of another runtime, whose syncs all fail so.
 #[derive(Drop)]
@@ -121,14 +120,21 @@ fn a_dest_that_is_not_synced_is_a_failure(rt: HostRuntime) -> Result<(), Fail> {
         (ErrorKind::InvalidInput, 0, ""),
         (ErrorKind::Unsupported, 0, ""),
     ];
-    fs::write(&rt, "unsynced.in", b"\x00\x01\x02\x03\x04\x05\x06\x07".as_slice())?;
+    fs::write(
+        &rt,
+        "unsynced.in",
+        b"\x00\x01\x02\x03\x04\x05\x06\x07".as_slice(),
+    )?;
     for (kind, expected, text) in cases {
         let unsynced = Unsynced { rt: &rt, kind };
-        let words = ["aec", "unsynced.in", "unsynced.out"];
-        let (status, _out, err) = run_of(&unsynced, rt.alloc(), words.as_slice())?;
+        let words = "unsynced.in unsynced.out";
+        let (status, _out, err) = run_of(&unsynced, rt.alloc(), words)?;
         assert_eq!(rt; status, expected, "at {kind:?}");
         assert_eq!(rt; str::from_utf8(err.as_slice())?, text, "at {kind:?}");
-        assert_eq!(rt; fs::read(&rt, "unsynced.out")?.as_slice(), b"\x20\x09\x24\x92".as_slice());
+        assert_eq!(rt;
+            fs::read(&rt, "unsynced.out")?.as_slice(),
+            b"\x20\x09\x24\x92".as_slice()
+        );
     }
     fs::remove_file(&rt, "unsynced.in")?;
     fs::remove_file(&rt, "unsynced.out")?;

@@ -1,194 +1,101 @@
 //! Samples of every storage, coded and decoded.
 
-use crate::devices::{Basin, Pieces};
-use crate::shared::DEFAULTS;
-use aec_cli::{decode, encode};
+use crate::devices::{After, Basin, Pieces};
+use crate::shared::{DEFAULTS, run_engine};
+use crate::tables::{cell, spelled};
+use aec_cli::Action;
 use aec_params::{Limits, Params, Settings};
 use std::alloc::Global;
 use std::process::Abort;
 use std::test::Fail;
 
-// The bytes of samples, which are given as words with their sign in all bits.
-fn stored(
-    rt: &impl Abort,
-    alloc: Global,
-    settings: Settings,
-    len: usize,
-    words: &[u32],
-) -> Result<Vec<u8>, Fail> {
-    assert!(rt; len <= 4);
+// Bits of a sample; bytes of a stored one; whether there is a sign; ten samples; their code.
+const WIDTHS: &str = "\
+ 1 | 1 | - | 1 0 0 1 1 1 0 1 0 0             | FA 62 F0
+ 1 | 1 | s | 0 -1 -1 0 0 0 -1 0 -1 -1        | EA 62 F0
+ 3 | 1 | - | 7 0 1 3 2 6 7 7 0 2             | FF 96 72 04 04 FE
+ 3 | 1 | s | 3 -4 -3 -1 -2 2 3 3 -4 -2       | EF 96 72 04 04 FE
+ 9 | 2 | - | 511 0 1 3 2 510 511 511 0 2     | 8F F8 F1 FF 81 06 07 F0 20 0C 00 03 FF E2 00*4
+ 9 | 2 | s | 255 -256 -255 -253 -254 254 255 255 -256 -254 | 87 F8 F1 FF 81 06 07 F0 20 0C 00 03 FF E2 00*4
+17 | 4 | - | 131071 0 1 3 2 131070 131071 131071 0 2 | \
+87 FF FC 78 FF FF C0 00 80 03 00 03 FF F8 00 10 00 07 00 00 FF FF F8 00 80 00*9
+17 | 4 | s | 65535 -65536 -65535 -65533 -65534 65534 65535 65535 -65536 -65534 | \
+83 FF FC 78 FF FF C0 00 80 03 00 03 FF F8 00 10 00 07 00 00 FF FF F8 00 80 00*9
+24 | 4 | - | 16777215 0 1 3 2 16777214 16777215 16777215 0 2 | \
+BF FF FF F8 F1 FF*3 00*2 04 00*2 30 00*2 7F FF FE 00*2 08 00*2 0A 80 00 FF*3 F0 00 02 00*15
+24 | 4 | s | 8388607 -8388608 -8388607 -8388605 -8388606 8388606 8388607 8388607 -8388608 -8388606 | \
+BB FF FF F8 F1 FF*3 00*2 04 00*2 30 00*2 7F FF FE 00*2 08 00*2 0A 80 00 FF*3 F0 00 02 00*15
+32 | 4 | - | 4294967295 0 1 3 2 4294967294 4294967295 4294967295 0 2 | \
+FF*8 F8 00*3 08 00*3 18 00*3 0F FF*3 F0 00*3 10 00*3 07 40 00 7F FF*3 F8 00*2 01 00*22
+32 | 4 | s | 2147483647 -2147483648 -2147483647 -2147483645 -2147483646 2147483646 2147483647 2147483647 -2147483648 -2147483646 | \
+FB FF*7 F8 00*3 08 00*3 18 00*3 0F FF*3 F0 00*3 10 00*3 07 40 00 7F FF*3 F8 00*2 01 00*22";
+
+// The bytes of the samples of a cell, each of so many bytes.
+fn stored(alloc: Global, cell: &str, len: usize, msb_first: bool) -> Result<Vec<u8>, Fail> {
     let mut bytes = Vec::new(alloc);
-    for word in words {
-        if settings.msb_first {
-            bytes.extend_from_slice(&word.to_be_bytes()[4 - len..])?;
+    for word in cell.split_whitespace() {
+        let sample = word.parse::<i64>()?;
+        let [ends, starts] = [sample.to_be_bytes(), sample.to_le_bytes()];
+        let part = if msb_first {
+            &ends[8 - len.min(8)..]
         } else {
-            bytes.extend_from_slice(&word.to_le_bytes()[..len])?;
-        }
+            &starts[..len.min(8)]
+        };
+        bytes.extend_from_slice(part)?;
     }
     Ok(bytes)
 }
 
-// Codes ten samples of `len` bytes each, and decodes their code, whose bytes are given.
-fn both_ways(
-    rt: &impl Abort,
+// Codes the samples of a row and decodes their code, in one storage.
+fn both_ways<R: Abort>(
+    rt: &R,
     alloc: Global,
     settings: Settings,
-    len: usize,
-    words: &[u32],
+    bytes: &[u8],
     coded: &[u8],
 ) -> Result<(), Fail> {
     let params = Params::new(settings)?;
     let limits = Limits::new(10, 100).ok_or("limits")?;
-    let bytes = stored(rt, alloc, settings, len, words)?;
-    let mut sink = Basin::deep(alloc);
-    let mut source = Pieces::whole(&bytes, 7);
-    encode(alloc, &params, limits, &mut source, &mut sink)?;
-    assert_eq!(rt; sink.bytes.as_slice(), coded, "at {settings:?}");
-    let mut sink = Basin::deep(alloc);
-    let mut source = Pieces::whole(coded, 7);
-    decode(alloc, &params, limits, Some(10), &mut source, &mut sink)?;
-    assert_eq!(rt; sink.bytes.as_slice(), bytes.as_slice(), "at {settings:?}");
-    Ok(())
-}
-
-// The same in both orders of bytes, with the three-byte flag and without it.
-fn in_each_storage(
-    rt: &impl Abort,
-    alloc: Global,
-    bits: u32,
-    signed: bool,
-    len: usize,
-    words: &[u32],
-    coded: &[u8],
-) -> Result<(), Fail> {
-    for (msb_first, three_byte) in [(false, false), (false, true), (true, false), (true, true)] {
-        let settings = Settings {
-            bits,
-            signed,
-            msb_first,
-            three_byte,
-            ..DEFAULTS
-        };
-        let len = if three_byte && bits > 16 && bits <= 24 {
-            3
-        } else {
-            len
-        };
-        both_ways(rt, alloc, settings, len, words, coded)?;
+    let decoding = Action::Decode { count: Some(10) };
+    for (action, given, wanted) in [(Action::Encode, bytes, coded), (decoding, coded, bytes)] {
+        let source = Pieces::of(given, 7, After::Ends);
+        let sink = Basin::of(alloc, 64, 100);
+        let left = run_engine(alloc, &params, &action, limits, source, sink);
+        assert_eq!(rt; left.written.as_slice(), wanted, "at {settings:?}");
     }
     Ok(())
 }
 
+// The same in both orders of bytes, with the three-byte flag and without it.
 #[test]
-fn samples_of_one_bit(rt: HostRuntime) -> Result<(), Fail> {
-    let words: [u32; 10] = [1, 0, 0, 1, 1, 1, 0, 1, 0, 0];
-    let coded: [u8; 3] = [0xFA, 0x62, 0xF0];
-    in_each_storage(&rt, rt.alloc(), 1, false, 1, &words, &coded)?;
-    let words: [u32; 10] = [
-        0, 0xFFFFFFFF, 0xFFFFFFFF, 0, 0, 0, 0xFFFFFFFF, 0, 0xFFFFFFFF, 0xFFFFFFFF,
-    ];
-    let coded: [u8; 3] = [0xEA, 0x62, 0xF0];
-    in_each_storage(&rt, rt.alloc(), 1, true, 1, &words, &coded)
-}
-
-#[test]
-fn samples_of_three_bits(rt: HostRuntime) -> Result<(), Fail> {
-    let words: [u32; 10] = [7, 0, 1, 3, 2, 6, 7, 7, 0, 2];
-    let coded: [u8; 6] = [0xFF, 0x96, 0x72, 0x04, 0x04, 0xFE];
-    in_each_storage(&rt, rt.alloc(), 3, false, 1, &words, &coded)?;
-    let words: [u32; 10] = [
-        3, 0xFFFFFFFC, 0xFFFFFFFD, 0xFFFFFFFF, 0xFFFFFFFE, 2, 3, 3, 0xFFFFFFFC, 0xFFFFFFFE,
-    ];
-    let coded: [u8; 6] = [0xEF, 0x96, 0x72, 0x04, 0x04, 0xFE];
-    in_each_storage(&rt, rt.alloc(), 3, true, 1, &words, &coded)
-}
-
-#[test]
-fn samples_of_nine_bits(rt: HostRuntime) -> Result<(), Fail> {
-    let words: [u32; 10] = [0x1FF, 0, 1, 3, 2, 0x1FE, 0x1FF, 0x1FF, 0, 2];
-    let coded: [u8; 18] = [
-        0x8F, 0xF8, 0xF1, 0xFF, 0x81, 0x06, 0x07, 0xF0, 0x20, 0x0C, 0x00, 0x03, 0xFF, 0xE2, 0x00,
-        0x00, 0x00, 0x00,
-    ];
-    in_each_storage(&rt, rt.alloc(), 9, false, 2, &words, &coded)?;
-    let words: [u32; 10] = [
-        0xFF, 0xFFFFFF00, 0xFFFFFF01, 0xFFFFFF03, 0xFFFFFF02, 0xFE, 0xFF, 0xFF, 0xFFFFFF00,
-        0xFFFFFF02,
-    ];
-    let coded: [u8; 18] = [
-        0x87, 0xF8, 0xF1, 0xFF, 0x81, 0x06, 0x07, 0xF0, 0x20, 0x0C, 0x00, 0x03, 0xFF, 0xE2, 0x00,
-        0x00, 0x00, 0x00,
-    ];
-    in_each_storage(&rt, rt.alloc(), 9, true, 2, &words, &coded)
-}
-
-#[test]
-fn samples_of_seventeen_bits(rt: HostRuntime) -> Result<(), Fail> {
-    let words: [u32; 10] = [0x1FFFF, 0, 1, 3, 2, 0x1FFFE, 0x1FFFF, 0x1FFFF, 0, 2];
-    let coded: [u8; 34] = [
-        0x87, 0xFF, 0xFC, 0x78, 0xFF, 0xFF, 0xC0, 0x00, 0x80, 0x03, 0x00, 0x03, 0xFF, 0xF8, 0x00,
-        0x10, 0x00, 0x07, 0x00, 0x00, 0xFF, 0xFF, 0xF8, 0x00, 0x80, 0x00, 0x00, 0x00, 0x00, 0x00,
-        0x00, 0x00, 0x00, 0x00,
-    ];
-    in_each_storage(&rt, rt.alloc(), 17, false, 4, &words, &coded)?;
-    let words: [u32; 10] = [
-        0xFFFF, 0xFFFF0000, 0xFFFF0001, 0xFFFF0003, 0xFFFF0002, 0xFFFE, 0xFFFF, 0xFFFF, 0xFFFF0000,
-        0xFFFF0002,
-    ];
-    let coded: [u8; 34] = [
-        0x83, 0xFF, 0xFC, 0x78, 0xFF, 0xFF, 0xC0, 0x00, 0x80, 0x03, 0x00, 0x03, 0xFF, 0xF8, 0x00,
-        0x10, 0x00, 0x07, 0x00, 0x00, 0xFF, 0xFF, 0xF8, 0x00, 0x80, 0x00, 0x00, 0x00, 0x00, 0x00,
-        0x00, 0x00, 0x00, 0x00,
-    ];
-    in_each_storage(&rt, rt.alloc(), 17, true, 4, &words, &coded)
-}
-
-#[test]
-fn samples_of_twenty_four_bits(rt: HostRuntime) -> Result<(), Fail> {
-    let words: [u32; 10] = [0xFFFFFF, 0, 1, 3, 2, 0xFFFFFE, 0xFFFFFF, 0xFFFFFF, 0, 2];
-    let coded: [u8; 48] = [
-        0xBF, 0xFF, 0xFF, 0xF8, 0xF1, 0xFF, 0xFF, 0xFF, 0x00, 0x00, 0x04, 0x00, 0x00, 0x30, 0x00,
-        0x00, 0x7F, 0xFF, 0xFE, 0x00, 0x00, 0x08, 0x00, 0x00, 0x0A, 0x80, 0x00, 0xFF, 0xFF, 0xFF,
-        0xF0, 0x00, 0x02, 0x00, 0x00, 0x00, 0x00, 0x00, 0x00, 0x00, 0x00, 0x00, 0x00, 0x00, 0x00,
-        0x00, 0x00, 0x00,
-    ];
-    in_each_storage(&rt, rt.alloc(), 24, false, 4, &words, &coded)?;
-    let words: [u32; 10] = [
-        0x7FFFFF, 0xFF800000, 0xFF800001, 0xFF800003, 0xFF800002, 0x7FFFFE, 0x7FFFFF, 0x7FFFFF,
-        0xFF800000, 0xFF800002,
-    ];
-    let coded: [u8; 48] = [
-        0xBB, 0xFF, 0xFF, 0xF8, 0xF1, 0xFF, 0xFF, 0xFF, 0x00, 0x00, 0x04, 0x00, 0x00, 0x30, 0x00,
-        0x00, 0x7F, 0xFF, 0xFE, 0x00, 0x00, 0x08, 0x00, 0x00, 0x0A, 0x80, 0x00, 0xFF, 0xFF, 0xFF,
-        0xF0, 0x00, 0x02, 0x00, 0x00, 0x00, 0x00, 0x00, 0x00, 0x00, 0x00, 0x00, 0x00, 0x00, 0x00,
-        0x00, 0x00, 0x00,
-    ];
-    in_each_storage(&rt, rt.alloc(), 24, true, 4, &words, &coded)
-}
-
-#[test]
-fn samples_of_thirty_two_bits(rt: HostRuntime) -> Result<(), Fail> {
-    let words: [u32; 10] = [
-        0xFFFFFFFF, 0, 1, 3, 2, 0xFFFFFFFE, 0xFFFFFFFF, 0xFFFFFFFF, 0, 2,
-    ];
-    let coded: [u8; 65] = [
-        0xFF, 0xFF, 0xFF, 0xFF, 0xFF, 0xFF, 0xFF, 0xFF, 0xF8, 0x00, 0x00, 0x00, 0x08, 0x00, 0x00,
-        0x00, 0x18, 0x00, 0x00, 0x00, 0x0F, 0xFF, 0xFF, 0xFF, 0xF0, 0x00, 0x00, 0x00, 0x10, 0x00,
-        0x00, 0x00, 0x07, 0x40, 0x00, 0x7F, 0xFF, 0xFF, 0xFF, 0xF8, 0x00, 0x00, 0x01, 0x00, 0x00,
-        0x00, 0x00, 0x00, 0x00, 0x00, 0x00, 0x00, 0x00, 0x00, 0x00, 0x00, 0x00, 0x00, 0x00, 0x00,
-        0x00, 0x00, 0x00, 0x00, 0x00,
-    ];
-    in_each_storage(&rt, rt.alloc(), 32, false, 4, &words, &coded)?;
-    let words: [u32; 10] = [
-        0x7FFFFFFF, 0x80000000, 0x80000001, 0x80000003, 0x80000002, 0x7FFFFFFE, 0x7FFFFFFF,
-        0x7FFFFFFF, 0x80000000, 0x80000002,
-    ];
-    let coded: [u8; 65] = [
-        0xFB, 0xFF, 0xFF, 0xFF, 0xFF, 0xFF, 0xFF, 0xFF, 0xF8, 0x00, 0x00, 0x00, 0x08, 0x00, 0x00,
-        0x00, 0x18, 0x00, 0x00, 0x00, 0x0F, 0xFF, 0xFF, 0xFF, 0xF0, 0x00, 0x00, 0x00, 0x10, 0x00,
-        0x00, 0x00, 0x07, 0x40, 0x00, 0x7F, 0xFF, 0xFF, 0xFF, 0xF8, 0x00, 0x00, 0x01, 0x00, 0x00,
-        0x00, 0x00, 0x00, 0x00, 0x00, 0x00, 0x00, 0x00, 0x00, 0x00, 0x00, 0x00, 0x00, 0x00, 0x00,
-        0x00, 0x00, 0x00, 0x00, 0x00,
-    ];
-    in_each_storage(&rt, rt.alloc(), 32, true, 4, &words, &coded)
+fn samples_of_each_width_are_coded_and_decoded(rt: HostRuntime) -> Result<(), Fail> {
+    for row in WIDTHS.lines() {
+        let (bits, rest) = cell(row);
+        let (len, rest) = cell(rest);
+        let (sign, rest) = cell(rest);
+        let (samples, coded) = cell(rest);
+        let coded = spelled(rt.alloc(), coded)?;
+        for (msb_first, three_byte) in [
+            (false, false),
+            (false, true),
+            (true, false),
+            (true, true),
+        ] {
+            let settings = Settings {
+                bits: bits.trim().parse::<u32>()?,
+                signed: sign.trim() == "s",
+                msb_first,
+                three_byte,
+                ..DEFAULTS
+            };
+            let len = if three_byte && settings.bits > 16 && settings.bits <= 24 {
+                3
+            } else {
+                len.trim().parse::<usize>()?
+            };
+            let bytes = stored(rt.alloc(), samples, len, msb_first)?;
+            both_ways(&rt, rt.alloc(), settings, &bytes, &coded)?;
+        }
+    }
+    Ok(())
 }

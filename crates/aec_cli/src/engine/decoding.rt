@@ -1,7 +1,8 @@
 //! Coded data back to stored samples.
 
-ghost use Rattle.std.specs.Prelude.{Err, IfOk, IfErr};
+ghost use Rattle.std.specs.Prelude.{ℕ, List, Result, Err, IfOk, IfErr};
 ghost use Rattle.std.specs.List.{AllByRecursion};
+ghost use Rattle.aec_params.specs.declared.fault.Fault.{Fault};
 ghost use Rattle.aec_params.specs.Params.{IsHeld};
 ghost use Rattle.aec_cli.specs.Transfers.{Taking, taking_of, Putting, putting_of, answer_of, GivesAnswer, Leaves};
 ghost use Rattle.aec_cli.specs.Output.{GaveSamples, IsDecoded};
@@ -41,7 +42,8 @@ fn decode_source<R: Source>(
     source: &mut R,
 ) -> Result<Vec<u8>, Fault>
     ensures { let took : Taking = taking_of R.left R.failed source.old source.new in
-        GivesAnswer (IsDecoded params.now limits count) took limits.bytes (answer_of (λ bytes. bytes.items) result) }
+        let answer : Result (List ℕ) Fault = answer_of (λ bytes. bytes.items) result in
+        GivesAnswer (IsDecoded params.now limits count) took limits.bytes answer }
 {
     let samples = read_source(alloc, params, limits, count, source)?;
     stored(alloc, params, &samples)

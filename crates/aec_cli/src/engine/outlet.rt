@@ -14,7 +14,7 @@ use aec_bits::{BitBuf, Sink, put_all};
 use aec_params::{Fault, Params, put_sample};
 use std::alloc::Global;
 
-/// The bytes of samples, one behind the other.
+/// The bytes of samples, one after the other.
 pub(crate) fn stored(alloc: Global, params: &Params, samples: &[i64]) -> Result<Vec<u8>, Fault>
     requires { AllByRecursion (IsHeld params.now) samples.now }
     ensures ok { IfOk result (λ bytes. bytes.items ≡ all_stored params.now samples.now) }

@@ -1,6 +1,7 @@
 //! A part of coded data back to stored samples.
 
-ghost use Rattle.std.specs.Prelude.{◌≡◌, ◌+◌, ◌<◌, ◌≤◌, length, IfOk, IfErr, OnOk};
+ghost use Rattle.std.specs.Prelude.{◌≡◌, ℕ, ◌+◌, ◌<◌, ◌≤◌, List, length, Result, IfOk, IfErr, OnOk, OnErr};
+ghost use Rattle.aec_params.specs.declared.fault.Fault.{Fault};
 ghost use Rattle.aec_params.specs.declared.fault.Fault.TheVariants.{OutOfRange};
 ghost use Rattle.aec_cli.specs.Transfers.{Taking, taking_of, Putting, putting_of, answer_of, GivesAnswer, Leaves};
 ghost use Rattle.aec_cli.specs.Output.{IsRanged, samples_from};
@@ -15,7 +16,8 @@ use std::alloc::Global;
 fn samples_from(samples: &[i64], first: u64, len: u64) -> Result<&[i64], Fault>
     ensures ok { IfOk result (λ part. part.now ≡ samples_from first len samples.now) }
     ensures within { OnOk result (first + len ≤ length samples.now) }
-    ensures refuses { IfErr result (λ fault. (fault ≡ OutOfRange (length samples.now)) × (length samples.now < first + len)) }
+    ensures refuses { IfErr result (λ fault. fault ≡ OutOfRange (length samples.now)) }
+    ensures past { OnErr result (length samples.now < first + len) }
 {
     let count = samples.len() as u64;
     match first.checked_add(len) {
@@ -35,7 +37,8 @@ fn range_source<R: Source>(
     source: &mut R,
 ) -> Result<Vec<u8>, Fault>
     ensures { let took : Taking = taking_of R.left R.failed source.old source.new in
-        GivesAnswer (IsRanged params.now limits count first len) took limits.bytes (answer_of (λ bytes. bytes.items) result) }
+        let answer : Result (List ℕ) Fault = answer_of (λ bytes. bytes.items) result in
+        GivesAnswer (IsRanged params.now limits count first len) took limits.bytes answer }
 {
     let samples = read_source(alloc, params, limits, count, source)?;
     let part = samples_from(&samples, first, len)?;
@@ -44,7 +47,7 @@ fn range_source<R: Source>(
 
 #[tactic(auto, using(crate::proofs::OutputLemmas::leaves_settled))]
 /// Reads the source whole, and writes the bytes of `len` of the samples that it codes, from place `first` on. The refusals
-/// in their order: those of `decode`, so that coded data behind the range are judged too; then `OutOfRange` where the
+/// in their order: those of `decode`, so that coded data after the range are judged too; then `OutOfRange` where the
 /// range passes the samples, which are `count` where a count is given; then `Memory`. Nothing has been written then and
 /// `begin` was not called. After `begin` only `Write` can come, and a front of the answer has been written.
 pub fn range<R: Source, W: Sink>(

@@ -98,6 +98,29 @@ fn codes_intervals_behind_other_bits(rt: HostRuntime) -> Result<(), Fail> {
     expect_interval(&rt, rt.alloc(), Settings::USUAL, &[7; 5], 16, &[0xA0, 0x0F])
 }
 
+// As many samples as an interval can have, from 128 to 254. Without preprocessing each block of 64 is coded by no
+// compression, in 3 bits and 8 a sample: splitting at the greatest k, 5, takes at least 10 bits a sample.
+#[test]
+fn codes_the_longest_interval(rt: HostRuntime) -> Result<(), Fail> {
+    let longest = Settings {
+        block_size: 64,
+        interval: 4096,
+        preprocess: false,
+        ..Settings::USUAL
+    };
+    let mut codec = AecCodec::new(rt.alloc(), Params::new(longest)?);
+    let mut samples = Vec::new(rt.alloc());
+    for index in 0..262_144i64 {
+        samples.push(128 + index % 127)?;
+    }
+    let mut buf = BitBuf::new(rt.alloc());
+    let mut out = Vec::new(rt.alloc());
+    coded_and_back(&rt, &mut codec, &samples, &mut buf, &mut out)?;
+    assert_eq!(rt; buf.len(), 2_109_440);
+    assert!(rt; out == samples);
+    Ok(())
+}
+
 #[test]
 fn decodes_one_interval_of_many(rt: HostRuntime) -> Result<(), Fail> {
     let mut codec = AecCodec::new(rt.alloc(), Params::new(padded())?);

@@ -1,11 +1,6 @@
-use Rattle.std.proofs.Common.{Some, ap, refl, ◌∙◌}
-use Rattle.aec_cli.proofs.InMemoryLemmas.{coded_in_memory, refused_in_memory}
+use Rattle.std.proofs.Common.{refl}
+use Rattle.aec_cli.proofs.InMemoryLemmas.{refused_in_memory}
 use Rattle.aec_cli.proofs.in_memory.encode_bytes.Goals as goal
-
-pub returns-in-Ok-clause-ok : goal.returns-in-Ok-clause-ok
-returns-in-Ok-clause-ok c =
-    coded_in_memory c.args.params.now c.args.limits _ _ c.args.bytes.now c.into_inner.result.items c.storage.ensures.allowed
-    c.new-source.ensures refl (c.new-sink.ensures.taken ∙ ap Some c.new.ensures.items) c.into_inner.ensures c.in-Ok.ensures
 
 pub returns-in-Err-clause-refuses : goal.returns-in-Err-clause-refuses
 returns-in-Err-clause-refuses c =

@@ -14,5 +14,6 @@ returns c =
     c.number-buffer.ensures.rule ∙ ap (λ p. number_rule p (codes "buffer") 98) c.value_parser-2.ensures in
     let first = app_of-added _ _ _ _ _ c.in_ok-arg.ensures c.flag-decode.ensures.local refl c.flag-decode.ensures.rule in
     let second = app_of-added _ _ _ _ _ c.in_ok-arg-2.ensures c.long_text-range.ensures.local first c.long_text-range.ensures.rule in
-    let third = app_of-added _ _ _ _ _ c.in_ok-arg-3.ensures c.long_number-count.ensures.local second count in
-    IfOk-weaker c.arg-4.result _ _ (λ r added. app_of-added _ _ _ _ _ added c.number-buffer.ensures.local third buffer) c.arg-4.ensures
+    let third = app_of-added _ _ _ _ _ c.in_ok-arg-3.ensures c.long_text-edit.ensures.local second c.long_text-edit.ensures.rule in
+    let fourth = app_of-added _ _ _ _ _ c.in_ok-arg-4.ensures c.long_number-count.ensures.local third count in
+    IfOk-weaker c.arg-5.result _ _ (λ r added. app_of-added _ _ _ _ _ added c.number-buffer.ensures.local fourth buffer) c.arg-5.ensures

@@ -12,7 +12,8 @@ pub returns-in_err-part : goal.returns-in_err-part
 returns-in_err-part g c =
     let exit = err_from_is_err_and c.from_residual-in_err-part.result c.from_residual-in_err-part.ensures.1 in
     ranged_outside (λ v. v.items) _ exit.0 c.in_err-part.field-0.0 c.args.params.now c.args.limits c.args.count c.args.first c.args.len _
-    c.in_ok-samples.samples.items c.deref.result.now exit.1 exit.2 c.deref.ensures.value c.in_ok-samples.ensures.ok c.in_err-part.ensures.refuses
+    c.in_ok-samples.samples.items c.deref.result.now exit.1 exit.2 c.deref.ensures.value c.in_ok-samples.ensures.ok
+    (c.in_err-part.ensures.refuses, c.in_err-part.ensures.past)
 
 pub returns : goal.returns
 returns g c =

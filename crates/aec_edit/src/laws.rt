@@ -1,0 +1,46 @@
+//! Laws of edits and runs. Their functions do nothing: what each one's contract says is proved.
+
+ghost use Rattle.aec_edit.specs.Laws.{
+  OverwritesCodeWhatTheyTouch,
+  RefusedEditsChangeNothing,
+  EditsThatCodeNothingAreMade,
+  RunsCountTheirCalls,
+  RunsJoin,
+  RunsHaveOneAnswer,
+  RunsLeaveSamples,
+};
+
+/// An overwrite that is made has called the coder once for each interval that it touches.
+pub fn overwrites_code_what_they_touch()
+    ensures { OverwritesCodeWhatTheyTouch }
+{}
+
+/// A refused edit leaves the samples, and with them their code; and but for want of memory the calls.
+pub fn refused_edits_change_nothing()
+    ensures { RefusedEditsChangeNothing }
+{}
+
+/// An edit that codes no interval is made wherever it fits, whatever memory there is.
+pub fn edits_that_code_nothing_are_made()
+    ensures { EditsThatCodeNothingAreMade }
+{}
+
+/// Over a run the calls rise by what the edits that were made have coded, or by more where memory was wanting.
+pub fn runs_count_their_calls()
+    ensures { RunsCountTheirCalls }
+{}
+
+/// Runs one after the other are one run of all their edits, and an edit by itself is a run.
+pub fn runs_join()
+    ensures { RunsJoin }
+{}
+
+/// Where memory is there, edits have one list of outcomes, and no more.
+pub fn runs_have_one_answer()
+    ensures { RunsHaveOneAnswer }
+{}
+
+/// The samples that edits leave are held, and no more than the limit.
+pub fn runs_leave_samples()
+    ensures { RunsLeaveSamples }
+{}

@@ -1,0 +1,90 @@
+//! Tables of what an engine answers to bytes in memory. A row: the options, which name the action too; the limits of samples
+//! and of bytes; what the source gives, and `!` where it fails then, `..` where it gives zeros for ever; and what is
+//! written, or the refusal.
+
+use crate::devices::{After, Basin, Pieces};
+use crate::shared::{Outcome, job_of, run_engine};
+use crate::tables::{cell, spelled};
+use aec_params::Limits;
+use std::alloc::Global;
+use std::process::Abort;
+use std::test::Fail;
+
+#[derive(Clone, Copy)]
+struct Row<'a> {
+    options: &'a str,
+    limits: &'a str,
+    source: &'a str,
+    answer: &'a str,
+}
+
+fn row_of(text: &str) -> Row<'_> {
+    let (options, rest) = cell(text);
+    let (limits, rest) = cell(rest);
+    let (source, answer) = cell(rest);
+    Row {
+        options,
+        limits: limits.trim(),
+        source: source.trim(),
+        answer: answer.trim(),
+    }
+}
+
+fn limits_of(cell: &str) -> Result<Limits, Fail> {
+    let (samples, bytes) = cell.split_once(' ').ok_or("two limits")?;
+    Ok(Limits::new(samples.parse::<u64>()?, bytes.parse::<u64>()?).ok_or("limits")?)
+}
+
+// The bytes of a source, and what it does then.
+fn given(cell: &str) -> (&str, After) {
+    if let Some(bytes) = cell.strip_suffix("..") {
+        return (bytes, After::Zeros);
+    }
+    match cell.strip_suffix("!") {
+        Some(bytes) => (bytes, After::Fails),
+        None => (cell, After::Ends),
+    }
+}
+
+// What the engine leaves.
+fn tried(alloc: Global, row: Row<'_>) -> Result<Outcome, Fail> {
+    let words = format!(in alloc; "{} in out", row.options)?;
+    let job = job_of(alloc, words.as_str())??;
+    let (cell, after) = given(row.source);
+    let bytes = spelled(alloc, cell)?;
+    let source = Pieces::of(&bytes, 2, after);
+    let sink = Basin::of(alloc, 64, 1 << 20);
+    Ok(run_engine(
+        alloc,
+        &job.params,
+        &job.action,
+        limits_of(row.limits)?,
+        source,
+        sink,
+    ))
+}
+
+// Whether that is what the row says: the bytes, begun once, or the refusal, with nothing begun.
+fn is_so(alloc: Global, left: &Outcome, answer: &str) -> Result<bool, Fail> {
+    match left.answer {
+        Ok(()) => {
+            let wanted = spelled(alloc, answer)?;
+            Ok(left.begins == 1 && left.written == wanted)
+        }
+        Err(fault) => {
+            let text = fault.to_string(alloc)?;
+            Ok(left.begins == 0 && left.written.is_empty() && text.as_str() == answer)
+        }
+    }
+}
+
+/// Tries each row.
+pub(crate) fn engines_answer_so<R: Abort>(rt: &R, alloc: Global, table: &str) -> Result<(), Fail> {
+    for text in table.lines() {
+        let row = row_of(text);
+        let left = tried(alloc, row)?;
+        let is_so = is_so(alloc, &left, row.answer)?;
+        assert!(rt; is_so, "{left:?} at {text}");
+    }
+    Ok(())
+}

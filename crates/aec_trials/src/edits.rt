@@ -1,0 +1,285 @@
+//! Scripts carried out on streams: what is written, what is refused and named by which line, and what is left untaken.
+
+use crate::devices::{Basin, Pieces};
+use crate::shared::DEFAULTS;
+use aec_bits::{Sink, Source};
+use aec_cli::{EditFault, edit};
+use aec_params::{Fault, Limits, Params};
+use std::alloc::{Alloc, Global};
+use std::process::Abort;
+use std::test::Fail;
+
+// The streams of 48 zeros, of these with a 1 at place 20, of the bytes 0 to 7, of five samples of 7, of these with 7, 7, 7 and
+// 8 after them, of eight zeros, and of no samples.
+const ZEROS: [u8; 6] = [0x00, 0x04, 0x00, 0x10, 0x00, 0x40];
+
+const ONE_CHANGED: [u8; 7] = [0x00, 0x04, 0x40, 0x30, 0xC2, 0x00, 0x08];
+
+const RAMP: [u8; 4] = [0x20, 0x09, 0x24, 0x92];
+
+const SEVENS: [u8; 2] = [0x00, 0x78];
+
+const SEVENS_AND_EIGHT: [u8; 3] = [0x00, 0x78, 0x8F];
+
+const EIGHT_ZEROS: [u8; 2] = [0x00, 0x08];
+
+// The bytes 0 to 7 in another spelling.
+const FOREIGN_RAMP: [u8; 4] = [0x40, 0x15, 0x55, 0x80];
+
+// Far above what the tests take.
+fn ample() -> Result<Limits, Fail> {
+    Ok(Limits::new(1 << 32, 1 << 40).ok_or("limits")?)
+}
+
+// What a script makes of a stream, and how often the sink was begun.
+fn edited(
+    alloc: Global,
+    text: &str,
+    stream: &[u8],
+    count: Option<u64>,
+) -> Result<(Result<(), EditFault>, Vec<u8>, u64), Fail> {
+    let params = Params::new(DEFAULTS)?;
+    let mut script = Pieces::whole(text.as_bytes(), 5);
+    let mut source = Pieces::whole(stream, 3);
+    let mut sink = Basin::deep(alloc);
+    let answer = edit(
+        alloc,
+        &params,
+        ample()?,
+        count,
+        &mut script,
+        &mut source,
+        &mut sink,
+    );
+    let begins = sink.begins();
+    Ok((answer, sink.bytes, begins))
+}
+
+fn written<R: Abort + Alloc<A = Global>>(
+    rt: &R,
+    text: &str,
+    stream: &[u8],
+    count: Option<u64>,
+    expected: &[u8],
+) -> Result<(), Fail> {
+    let (answer, bytes, begins) = edited(rt.alloc(), text, stream, count)?;
+    assert_eq!(rt; (answer, begins), (Ok(()), 1), "at {text:?}");
+    assert_eq!(rt; bytes.as_slice(), expected, "at {text:?}");
+    Ok(())
+}
+
+fn refused<R: Abort + Alloc<A = Global>>(
+    rt: &R,
+    text: &str,
+    stream: &[u8],
+    count: Option<u64>,
+    fault: EditFault,
+) -> Result<(), Fail> {
+    let (answer, bytes, begins) = edited(rt.alloc(), text, stream, count)?;
+    assert_eq!(rt; (answer, begins), (Err(fault), 0), "at {text:?}");
+    assert!(rt; bytes.is_empty(), "at {text:?}");
+    Ok(())
+}
+
+#[test]
+fn scripts_are_carried_out(rt: HostRuntime) -> Result<(), Fail> {
+    written(&rt, "overwrite 20 1", &ZEROS, None, &ONE_CHANGED)?;
+    written(
+        &rt,
+        "overwrite 20 1\noverwrite 20 0\n",
+        &ZEROS,
+        None,
+        &ZEROS,
+    )?;
+    written(
+        &rt,
+        "truncate 8\n# the ramp\noverwrite 0 0 1 2 3\noverwrite 4 4 5 6 7\n",
+        &ZEROS,
+        None,
+        &RAMP,
+    )?;
+    written(&rt, "truncate 0\r\nappend 7 7 7 7 7", &RAMP, None, &SEVENS)?;
+    written(&rt, "truncate 0", &RAMP, None, &[])?;
+    written(&rt, "append 0 0 0 0 0 0 0 0", &[], None, &EIGHT_ZEROS)
+}
+
+#[test]
+fn a_script_of_nothing_gives_the_own_code_of_a_foreign_stream(rt: HostRuntime) -> Result<(), Fail> {
+    written(&rt, "", &FOREIGN_RAMP, None, &RAMP)?;
+    written(&rt, "# nothing\n\n", &FOREIGN_RAMP, Some(8), &RAMP)?;
+    written(
+        &rt,
+        "append\noverwrite 8\ntruncate 8\n",
+        &FOREIGN_RAMP,
+        None,
+        &RAMP,
+    )
+}
+
+#[test]
+fn filling_samples_count_where_no_count_is_given(rt: HostRuntime) -> Result<(), Fail> {
+    written(&rt, "append 7 7 7 8", &SEVENS, Some(5), &SEVENS_AND_EIGHT)?;
+    written(
+        &rt,
+        "truncate 5\nappend 7 7 7 8",
+        &SEVENS,
+        None,
+        &SEVENS_AND_EIGHT,
+    )?;
+    written(&rt, "truncate 6\ntruncate 5", &SEVENS, None, &SEVENS)?;
+    let fault = Fault::OutOfRange { count: 5 };
+    refused(
+        &rt,
+        "truncate 6",
+        &SEVENS,
+        Some(5),
+        EditFault::Line { line: 1, fault },
+    )
+}
+
+#[test]
+fn the_first_refused_edit_is_named_by_its_line(rt: HostRuntime) -> Result<(), Fail> {
+    let fault = Fault::SampleRange { index: 0 };
+    refused(
+        &rt,
+        "overwrite 0 256",
+        &EIGHT_ZEROS,
+        None,
+        EditFault::Line { line: 1, fault },
+    )?;
+    let fault = Fault::SampleRange { index: 1 };
+    let text = "append 1\n\noverwrite 0 255 -1\ntruncate 99\nappend 1\n";
+    refused(
+        &rt,
+        text,
+        &EIGHT_ZEROS,
+        None,
+        EditFault::Line { line: 3, fault },
+    )?;
+    let fault = Fault::OutOfRange { count: 9 };
+    let text = "# one more\nappend 1\noverwrite 9 1\nappend 256";
+    refused(
+        &rt,
+        text,
+        &EIGHT_ZEROS,
+        None,
+        EditFault::Line { line: 3, fault },
+    )
+}
+
+#[test]
+fn scripts_are_refused_before_streams(rt: HostRuntime) -> Result<(), Fail> {
+    let script_fault = EditFault::Plain(Fault::Script { line: 3 });
+    refused(
+        &rt,
+        "append 1\n\ntruncate x\nappend 256",
+        &[0x20],
+        None,
+        script_fault,
+    )?;
+    refused(
+        &rt,
+        "append 256",
+        &[0x20],
+        None,
+        EditFault::Plain(Fault::Truncated { bit: 0 }),
+    )?;
+    let fault = Fault::TooManySamples { limit: 1 << 32 };
+    refused(&rt, "", &RAMP, Some((1 << 32) + 1), EditFault::Plain(fault))
+}
+
+#[test]
+fn devices_of_an_edit_fail(rt: HostRuntime) -> Result<(), Fail> {
+    let params = Params::new(DEFAULTS)?;
+    for k in 0..9usize {
+        assert!(rt; k <= 8);
+        let mut script = Pieces::torn(&b"append 1"[..k], 3);
+        // It would fail too, and isn't asked.
+        let mut source = Pieces::torn(&[], 1);
+        let mut sink = Basin::shut(rt.alloc());
+        let answer = edit(
+            rt.alloc(),
+            &params,
+            ample()?,
+            None,
+            &mut script,
+            &mut source,
+            &mut sink,
+        );
+        assert_eq!(rt; answer, Err(EditFault::Plain(Fault::Read)));
+        assert_eq!(rt;
+            (script.failures(), source.failures(), sink.begins()),
+            (1, 0, 0)
+        );
+    }
+    for k in 0..5usize {
+        assert!(rt; k <= 4);
+        let mut script = Pieces::whole(b"append 1", 3);
+        let mut source = Pieces::torn(&RAMP[..k], 1);
+        let mut sink = Basin::shut(rt.alloc());
+        let answer = edit(
+            rt.alloc(),
+            &params,
+            ample()?,
+            None,
+            &mut script,
+            &mut source,
+            &mut sink,
+        );
+        assert_eq!(rt; answer, Err(EditFault::Plain(Fault::Read)));
+        assert_eq!(rt;
+            (script.failures(), source.failures(), sink.begins()),
+            (0, 1, 0)
+        );
+    }
+    for room in 0..7usize {
+        assert!(rt; room < 7);
+        let mut script = Pieces::whole(b"overwrite 20 1", 64);
+        let mut source = Pieces::whole(&ZEROS, 64);
+        let mut sink = Basin::of(rt.alloc(), 2, room);
+        let answer = edit(
+            rt.alloc(),
+            &params,
+            ample()?,
+            None,
+            &mut script,
+            &mut source,
+            &mut sink,
+        );
+        assert_eq!(rt; answer, Err(EditFault::Plain(Fault::Write)));
+        assert_eq!(rt; sink.bytes.as_slice(), &ONE_CHANGED[..room]);
+        assert_eq!(rt; (sink.begins(), sink.failures()), (1, 1));
+    }
+    Ok(())
+}
+
+#[test]
+fn limits_hold_for_scripts_streams_and_edits(rt: HostRuntime) -> Result<(), Fail> {
+    let params = Params::new(DEFAULTS)?;
+    let limits = Limits::new(8, 8).ok_or("limits")?;
+    let refusals = [
+        ("truncate 0", Fault::StreamTooLong { limit: 8 }, 0),
+        ("append 1", Fault::TooManySamples { limit: 8 }, 1),
+    ];
+    for (text, fault, line) in refusals {
+        let expected = match line {
+            0 => EditFault::Plain(fault),
+            line => EditFault::Line { line, fault },
+        };
+        let mut script = Pieces::whole(text.as_bytes(), 64);
+        let mut source = Pieces::whole(&RAMP, 64);
+        let mut sink = Basin::deep(rt.alloc());
+        let answer = edit(
+            rt.alloc(),
+            &params,
+            limits,
+            None,
+            &mut script,
+            &mut source,
+            &mut sink,
+        );
+        assert_eq!(rt; answer, Err(expected), "at {text:?}");
+        assert_eq!(rt; sink.begins(), 0);
+    }
+    Ok(())
+}

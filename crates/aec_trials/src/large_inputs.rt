@@ -1,0 +1,66 @@
+//! Inputs far above a piece, a block, an interval: a body that lacked memory there would be proved.
+
+use crate::shared::run_of;
+use std::alloc::{Alloc, Global};
+use std::fs;
+use std::process::Abort;
+use std::rt::Files;
+use std::test::Fail;
+
+// One sample more than fills 131,072 blocks of 8.
+const SAMPLES: usize = (1 << 20) + 1;
+
+// Samples from 128 to 254. Without preprocessing no block of them is shorter by any option than by no compression: splitting
+// at the greatest k, 5, takes at least 10 bits a sample.
+fn high_samples(alloc: Global) -> Result<Vec<u8>, Fail> {
+    let mut bytes = Vec::new(alloc);
+    for index in 0..SAMPLES {
+        bytes.push(128 + (index % 127) as u8)?;
+    }
+    Ok(bytes)
+}
+
+// A run without a word, and what DEST holds then.
+fn written<R: Abort + Files + Alloc<A = Global>>(
+    rt: &R,
+    alloc: Global,
+    words: &str,
+    dest: &str,
+) -> Result<Vec<u8>, Fail> {
+    let (status, out, err) = run_of(rt, alloc, words)?;
+    assert_eq!(rt; (status, out.len(), err.len()), (0, 0, 0), "at {words}");
+    Ok(fs::read(rt, dest)?)
+}
+
+// The words; how long the code is: of each block an identifier of 3 bits and its samples; how long what is decoded.
+const ROUND_TRIPS: [(&str, &str, usize, usize); 2] = [
+    (
+        "-N much.raw much.aec",
+        "-d -N much.aec much.back",
+        1_097_737,
+        1_048_584,
+    ),
+    (
+        "-N -j 64 -r 4096 much.raw much.aec",
+        "-d -N -j 64 -r 4096 much.aec much.back",
+        1_054_785,
+        1_048_640,
+    ),
+];
+
+#[test]
+fn a_million_samples_are_coded_and_decoded(rt: HostRuntime) -> Result<(), Fail> {
+    let samples = high_samples(rt.alloc())?;
+    fs::write(&rt, "much.raw", samples.as_slice())?;
+    for (coding, decoding, coded_len, len) in ROUND_TRIPS.iter() {
+        let coded = written(&rt, rt.alloc(), coding, "much.aec")?;
+        assert_eq!(rt; coded.len(), *coded_len, "at {coding}");
+        let back = written(&rt, rt.alloc(), decoding, "much.back")?;
+        assert_eq!(rt; back.len(), *len, "at {decoding}");
+        assert!(rt; back.starts_with(&samples), "at {decoding}");
+    }
+    for name in ["much.raw", "much.aec", "much.back"] {
+        fs::remove_file(&rt, name)?;
+    }
+    Ok(())
+}

@@ -1,0 +1,125 @@
+//! Tables of whole runs on files. A row: the words, of which the last two name SOURCE and DEST; what SOURCE holds, or `-`
+//! where it isn't there; the status; what DEST holds then or, with a status above 0, the line that is printed.
+
+use crate::shared::run_of;
+use crate::tables::{cell, spelled};
+use std::alloc::{Alloc, Global};
+use std::fs;
+use std::process::Abort;
+use std::rt::Files;
+use std::test::Fail;
+
+// What a run leaves: its status, what it wrote to standard output and to standard error, and what DEST holds, if it is
+// there.
+#[derive(Debug, PartialEq, Eq, Drop)]
+struct Ended {
+    status: u8,
+    out: Vec<u8>,
+    err: Vec<u8>,
+    dest: Option<Vec<u8>>,
+}
+
+#[derive(Clone, Copy)]
+struct Row<'a> {
+    words: &'a str,
+    source: &'a str,
+    status: &'a str,
+    last: &'a str,
+}
+
+fn row_of(text: &str) -> Row<'_> {
+    let (words, rest) = cell(text);
+    let (source, rest) = cell(rest);
+    let (status, last) = cell(rest);
+    Row {
+        words,
+        source: source.trim(),
+        status: status.trim(),
+        last: last.trim(),
+    }
+}
+
+// The names of SOURCE and DEST.
+fn names(words: &str) -> [&str; 2] {
+    let mut last = ["", ""];
+    for word in words.split_whitespace() {
+        last = [last[1], word];
+    }
+    last
+}
+
+// What was printed; of a text of the argument parser its first word.
+fn said(alloc: Global, err: Vec<u8>) -> Result<Vec<u8>, Fail> {
+    if err.starts_with(b"error: ") {
+        return Ok(b"error:\n".to_vec(alloc)?);
+    }
+    Ok(err)
+}
+
+// What DEST holds, once these bytes are written to it where they can be.
+fn placed<F: Files + Alloc<A = Global>>(
+    rt: &F,
+    row: Row<'_>,
+    bytes: Option<&[u8]>,
+) -> Option<Vec<u8>> {
+    let [_, dest] = names(row.words);
+    if let Some(bytes) = bytes {
+        let _ = fs::write(rt, dest, bytes);
+    }
+    fs::read(rt, dest).ok()
+}
+
+// The run of a row. Afterwards neither file is there.
+fn tried<F: Files + Alloc<A = Global>>(rt: &F, alloc: Global, row: Row<'_>) -> Result<Ended, Fail> {
+    let [source, dest] = names(row.words);
+    if row.source != "-" {
+        fs::write(rt, source, spelled(alloc, row.source)?)?;
+    }
+    let (status, out, err) = run_of(rt, alloc, row.words)?;
+    let held = fs::read(rt, dest).ok();
+    let _ = fs::remove_file(rt, source);
+    let _ = fs::remove_file(rt, dest);
+    Ok(Ended {
+        status,
+        out,
+        err: said(alloc, err)?,
+        dest: held,
+    })
+}
+
+// What the row says that its run leaves, where DEST holds this before it.
+fn expected(alloc: Global, row: Row<'_>, before: Option<Vec<u8>>) -> Result<Ended, Fail> {
+    let mut err = Vec::new(alloc);
+    if row.status != "0" {
+        err.extend_from_slice(row.last.as_bytes())?;
+        err.push(b'\n')?;
+    }
+    let dest = match row.status {
+        "0" => Some(spelled(alloc, row.last)?),
+        _ => before,
+    };
+    Ok(Ended {
+        status: row.status.parse::<u8>()?,
+        out: Vec::new(alloc),
+        err,
+        dest,
+    })
+}
+
+/// Tries each row twice: where DEST isn't there, and where it holds more than most rows write.
+pub(crate) fn runs_end_so<R: Abort + Files + Alloc<A = Global>>(
+    rt: &R,
+    alloc: Global,
+    table: &str,
+) -> Result<(), Fail> {
+    let long = [0xAAu8; 600];
+    for text in table.lines() {
+        for bytes in [None, Some(long.as_slice())] {
+            let row = row_of(text);
+            let before = placed(rt, row, bytes);
+            let expected = expected(alloc, row, before)?;
+            assert_eq!(rt; tried(rt, alloc, row)?, expected, "at {text}");
+        }
+    }
+    Ok(())
+}
