@@ -18,6 +18,11 @@ bytes() {
     od -An -tx1 "$1"
 }
 
+# Prints how many bytes of two files differ, place by place, and at which byte, counted from 0, the first such place is.
+differing() {
+    cmp -l "$1" "$2" 2> /dev/null | awk 'NR == 1 { first = $1 - 1 } END { print NR " bytes differ, the first at byte " first }'
+}
+
 # Fails unless a file has, from a byte on, what another file holds.
 holds() {
     tail -c +$(($2 + 1)) "$1" | head -c "$(wc -c < "$3")" | cmp - "$3"
@@ -45,3 +50,16 @@ echo "  $(wc -c < back.raw) bytes: without the count the filler of the last bloc
 run --range 2500:4 --count 4090 -n 16 -j 16 -r 128 measured.aec part.raw
 holds measured.raw 5000 part.raw
 echo "  the samples 2500 to 2503:$(od -An -tu2 part.raw)"
+
+echo
+echo "The same stream, edited by a script of one line:"
+echo "overwrite 2500 1 2 3 4" | tee script
+run --edit script --count 4090 -n 16 -j 16 -r 128 measured.aec edited.aec
+echo "  $(wc -c < measured.aec) bytes become $(wc -c < edited.aec): $(differing measured.aec edited.aec), all before it as it was"
+run -d --count 4090 -n 16 -j 16 -r 128 edited.aec back.raw
+echo "  of the bytes of samples $(differing measured.raw back.raw)"
+{ head -c 5000 measured.raw; printf '\1\0\2\0\3\0\4\0'; tail -c +5009 measured.raw; } | cmp - back.raw
+echo "  the samples before and after these four are as they were"
+run -n 16 -j 16 -r 128 back.raw anew.aec
+cmp edited.aec anew.aec
+echo "  coding the edited samples afresh gives the same stream"

@@ -1,29 +1,46 @@
 #!/bin/sh
-# Every test: the gate, and then with the program that it has built coded data that is cut, and the round trips with the
-# client of libaec. Fails if one fails. The last line counts what passed and failed: the gate's, or that of the runs after
-# it where these alone failed. Run from the top of the repository by `make test`.
+# Every test: the gate, and then, by the program that it has built, the round trips with the client of libaec and the edits
+# by generated scripts. Fails if one fails. The last line counts what passed and failed: the gate's where all have passed,
+# else that of the first part that failed. Run from the top of the repository by `make test`.
 kept=$(mktemp -d)
 trap 'rm -rf "$kept"' EXIT
 
-{ rt ci 2>&1; echo $? > "$kept/status"; } | tee "$kept/log"
-gate=$(cat "$kept/status")
+# Runs a part: its name, and the words of its command. Shows what it prints, and keeps that and its status.
+part() {
+    name=$1
+    shift
+    { "$@" 2>&1; echo $? > "$kept/$name.status"; } | tee "$kept/$name.log"
+}
 
-program=crates/aec/out/aec
-runs=0
-if [ -x "$program" ]; then
-    echo "== coded data that is cut"
-    python3 tests/cuts.py "$program" || runs=1
-    echo "== round trips with libaec's client"
-    python3 tests/interop.py "$program" || runs=1
-else
-    echo "the gate has built no program"
-    echo "0 passed, 1 failed"
-    runs=1
-fi
+has_passed() {
+    [ "$(cat "$kept/$1.status")" = 0 ]
+}
 
-# a failed gate's line comes last, a passed gate's only where the runs after it passed too
-if [ "$gate" -ne 0 ] || [ "$runs" -eq 0 ]; then
-    echo "== the gate"
-    tail -n 1 "$kept/log"
-fi
-[ "$gate" -eq 0 ] && [ "$runs" -eq 0 ]
+# Runs a test on the program that the gate has built.
+on_program() {
+    program=crates/aec/out/aec
+    if [ -x "$program" ]; then
+        python3 "$1" "$program"
+    else
+        echo "the gate has built no program"
+        echo "0 passed, 1 failed"
+        return 1
+    fi
+}
+
+part gate rt ci
+echo "== round trips with libaec's client"
+part trips on_program tests/interop.py
+echo "== edits by generated scripts"
+part scripts on_program tests/scripts.py
+
+last=gate
+for name in gate trips scripts; do
+    if ! has_passed "$name"; then
+        last=$name
+        break
+    fi
+done
+echo "== $last"
+tail -n 1 "$kept/$last.log"
+has_passed "$last"
