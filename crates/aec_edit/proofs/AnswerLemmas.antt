@@ -16,7 +16,8 @@ none_if_refused None a b h = h
 none_if_refused (Some fault) a b h = omega arith
 
 module _ (f : Format) (limit calls reads : ℕ) (s : List ℤ) (e : Edit) (needed opened : ℕ)
-    (fits : refusal_of f limit s e ≡ None) (needed_is : needed ≡ needed_calls f.most (length s) e) (opened_few : opened ≤ opened_intervals f.most (length s) e) where
+    (fits : refusal_of f limit s e ≡ None) (needed_is : needed ≡ needed_calls f.most (length s) e) (opened_few : opened ≤ opened_intervals f.most
+        (length s) e) where
   due : due_refusal f limit s calls e ≡ want_of_calls calls needed
   due = ap (λ p. option_or p (want_of_calls calls (needed_calls f.most (length s) e))) fits ∙ ap (want_of_calls calls) (sym needed_is)
 
@@ -38,7 +39,8 @@ module _ (f : Format) (limit calls reads : ℕ) (s : List ℤ) (e : Edit) (neede
   from_exchange (Err fault) s' calls' reads' answer ok err rises = record {
     answer =
         rw due
-        (subst (λ n. MatchOption (want_of_calls calls needed) (LacksMemory n calls fault calls') (λ refusal. (fault ≡ refusal) × (calls' ≡ calls))) needed_is answer);
+        (subst (λ n. MatchOption (want_of_calls calls needed) (LacksMemory n calls fault calls') (λ refusal. (fault ≡ refusal) ×
+            (calls' ≡ calls))) needed_is answer);
     samples = err;
     opens = opens reads' rises;
   }

@@ -35,5 +35,6 @@ pub recoded_at : (f g : Format) (from from' to to' : ℕ) (s s' fresh fresh' : L
 recoded_at f g from from' to to' s s' fresh fresh' format_is from_is to_is s_is fresh_is = rw (format_is, from_is, to_is, s_is, fresh_is) refl
 
 -- how many intervals samples fill, under other names
-pub count_at : (f g : Format) (fresh fresh' : List ℤ) (k : ℕ) → g ≡ f → fresh' ≡ fresh → div_ceil (length fresh) f.most ≡ k → div_ceil (length fresh') g.most ≡ k
+pub count_at : (f g : Format) (fresh fresh' : List ℤ) (k : ℕ) → g ≡ f → fresh' ≡ fresh → div_ceil (length fresh) f.most ≡ k
+    → div_ceil (length fresh') g.most ≡ k
 count_at f g fresh fresh' k format_is fresh_is count = rw (format_is, fresh_is) count

@@ -1,5 +1,6 @@
 -- Places exchanged for values: the samples of the touched intervals, and how many intervals they fill.
-use Rattle.std.proofs.Common.{◌≡◌, ℕ, ◌+◌, ◌-◌, ◌*◌, ◌/◌, ◌%◌, ◌<◌, ◌≤◌, ◌⊎◌, min, List, [], ◌++◌, length, take, drop, ℤ, sym, ap, ◌∙◌, inl, inr, arith, append_assoc, length-append}
+use Rattle.std.proofs.Common.{◌≡◌, ℕ, ◌+◌, ◌-◌, ◌*◌, ◌/◌, ◌%◌, ◌<◌, ◌≤◌, ◌⊎◌, min, List, []}
+use Rattle.std.proofs.Common.{◌++◌, length, take, drop, ℤ, sym, ap, ◌∙◌, inl, inr, arith, append_assoc, length-append}
 use Rattle.std.specs.Int.{div_ceil}
 use Rattle.std.proofs.lemmas.Bool.{cases_lt}
 use Rattle.std.proofs.lemmas.Nat.{div-add-mod', mod_below}
@@ -39,7 +40,8 @@ ceil_from n m q c k split low high =
 
 -- ---- an exchange
 
-module _ (f : Format) (limit first stop : ℕ) (s values : List ℤ) (lawful : IsLawful f) (held : AreHeld f s) (fits : IsExchange f limit s first stop values) where
+module _ (f : Format) (limit first stop : ℕ) (s values : List ℤ) (lawful : IsLawful f) (held : AreHeld f s)
+    (fits : IsExchange f limit s first stop values) where
   pub head_len : length (head_of f.most first s) ≡ first % f.most
   head_len =
       omega (arith, length-drop (first / f.most * f.most) (take first s), length-take first s, fits.order, fits.within, begins_before first f.most lawful.some)
@@ -72,7 +74,8 @@ module _ (f : Format) (limit first stop : ℕ) (s values : List ℤ) (lawful : I
       elim fits.fitting [
         | inl at_end ↦
             ceil_from f.most (length (head_of f.most first s ++ (values ++ tail_of f.most stop s))) (first / f.most) (div_ceil (first + length values) f.most)
-            (exchange_calls f.most first (length values)) split (omega (arith, fresh_len, begins.2, reach.0, back.0)) (omega (arith, fresh_len, begins.2, reach.1, back.0))
+            (exchange_calls f.most first (length values)) split (omega (arith, fresh_len, begins.2, reach.0, back.0)) (omega
+                (arith, fresh_len, begins.2, reach.1, back.0))
         | inr same ↦
             let product : div_ceil (first + length values) f.most * f.most ≡ div_ceil stop f.most * f.most = ap (λ n. div_ceil n f.most * f.most) (sym same) in
             ceil_from f.most (length (head_of f.most first s ++ (values ++ tail_of f.most stop s))) (first / f.most) (div_ceil (first + length values) f.most)
@@ -106,7 +109,8 @@ module _ (f : Format) (limit first stop : ℕ) (s values : List ℤ) (lawful : I
       }
 
   -- the touched intervals exchanged for these samples: the places exchanged for the values
-  pub recoded-fresh : recoded f (first / f.most) (div_ceil stop f.most) (head_of f.most first s ++ (values ++ tail_of f.most stop s)) s ≡ exchanged first stop values s
+  pub recoded-fresh : recoded f (first / f.most) (div_ceil stop f.most) (head_of f.most first s ++
+      (values ++ tail_of f.most stop s)) s ≡ exchanged first stop values s
   recoded-fresh =
       let begins = begins_before first f.most lawful.some in
       let back = ceil_bounds stop f.most lawful.some in
@@ -125,7 +129,8 @@ module _ (f : Format) (limit first stop : ℕ) (s values : List ℤ) (lawful : I
       ∙ ap (λ l. take first s ++ l) (append_assoc values tail (drop to s) ∙ ap (λ l. values ++ l) rest)
 
   -- an exchange that keeps or takes some sample codes some interval
-  pub codes_some : 0 < first % f.most + (length values + (min (length s) (div_ceil stop f.most * f.most) - stop)) → 0 < exchange_calls f.most first (length values)
+  pub codes_some : 0 < first % f.most + (length values + (min (length s) (div_ceil stop f.most * f.most) - stop))
+      → 0 < exchange_calls f.most first (length values)
   codes_some some =
       elim (cases_lt 0 (exchange_calls f.most first (length values))) [
         | inl codes ↦ codes
@@ -136,5 +141,6 @@ module _ (f : Format) (limit first stop : ℕ) (s values : List ℤ) (lawful : I
             absurd (omega (arith, fresh_len, low, nothing))
       ]
 
-  pub fresh_codes : (fresh : List ℤ) → fresh ≡ head_of f.most first s ++ (values ++ tail_of f.most stop s) → 0 < length fresh → 0 < exchange_calls f.most first (length values)
+  pub fresh_codes : (fresh : List ℤ) → fresh ≡ head_of f.most first s ++ (values ++ tail_of f.most stop s) → 0 < length fresh
+      → 0 < exchange_calls f.most first (length values)
   fresh_codes fresh is some = codes_some (omega (arith, ap length is, fresh_len))

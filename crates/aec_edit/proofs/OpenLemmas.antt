@@ -1,5 +1,6 @@
 -- The intervals at the ends of an exchange that keep a sample.
-use Rattle.std.proofs.Common.{◌≡◌, ℕ, ◌+◌, ◌-◌, ◌*◌, ◌/◌, ◌%◌, ◌<◌, ◌≤◌, min, Bool, true, false, cond, ◌||◌, ◌&&◌, eqb, ltb, List, [], ◌++◌, length, take, drop, ℤ, refl, sym, ap, ◌∙◌, inl, inr, arith, length-append}
+use Rattle.std.proofs.Common.{◌≡◌, ℕ, ◌+◌, ◌-◌, ◌*◌, ◌/◌, ◌%◌, ◌<◌, ◌≤◌, min, Bool, true, false, cond, ◌||◌, ◌&&◌, eqb}
+use Rattle.std.proofs.Common.{ltb, List, [], ◌++◌, length, take, drop, ℤ, refl, sym, ap, ◌∙◌, inl, inr, arith, length-append}
 use Rattle.std.specs.Int.{div_ceil}
 use Rattle.std.proofs.Math.Nat.{mul-le-mul_right}
 use Rattle.std.proofs.lemmas.Bool.{cases_lt}
@@ -14,7 +15,8 @@ use Rattle.aec_edit.proofs.ExchangeLemmas.{begins_before, ends_after}
 pub opens_first-head : (n count first stop : ℕ) → first / n * n < first → opens_first n count first stop ≡ true
 opens_first-head n count first stop h = grind (arith, nat_tests)
 
-pub opens_first-both : (n count first stop : ℕ) → stop < min count (div_ceil stop n * n) → first / n + 1 ≡ div_ceil stop n → opens_first n count first stop ≡ true
+pub opens_first-both : (n count first stop : ℕ) → stop < min count (div_ceil stop n * n) → first / n + 1 ≡ div_ceil stop n
+    → opens_first n count first stop ≡ true
 opens_first-both n count first stop keeps one = grind (arith, nat_tests)
 
 pub opens_last-tail : (n count first stop : ℕ) → stop < min count (div_ceil stop n * n) → first / n + 1 < div_ceil stop n → opens_last n count first stop ≡ true

@@ -1,5 +1,6 @@
 -- What an overwrite codes and decodes, as its definition has it and as the code has it.
-use Rattle.std.proofs.Common.{◌≡◌, ℕ, zero, suc, ◌+◌, ◌-◌, ◌*◌, ◌/◌, ◌<◌, ◌≤◌, min, Bool, true, false, cond, eqb, ltb, None, Ok, Err, Result, List, [], ◌∷◌, ◌++◌, length, drop, take, ℤ, refl, sym, ap, ◌∙◌, inl, inr, subst, arith}
+use Rattle.std.proofs.Common.{◌≡◌, ℕ, zero, suc, ◌+◌, ◌-◌, ◌*◌, ◌/◌, ◌<◌, ◌≤◌, min, Bool, true, false, cond, eqb, ltb, None, Ok}
+use Rattle.std.proofs.Common.{Err, Result, List, [], ◌∷◌, ◌++◌, length, drop, take, ℤ, refl, sym, ap, ◌∙◌, inl, inr, subst, arith}
 use Rattle.std.specs.Result.{MatchResult, OnOk, OnErr}
 use Rattle.std.specs.Int.{div_ceil}
 use Rattle.std.specs.List.{range_with_len, filter}
@@ -120,7 +121,8 @@ last_kept n old first len opened =
     positive behind =
         elim (cases_lt 0 (div_ceil (first + len) n)) [
           | inl more ↦ more
-          | inr none ↦ let nothing : div_ceil (first + len) n * n ≡ 0 * n = ap (λ k. k * n) (let e : div_ceil (first + len) n ≡ 0 = omega arith in e) in absurd (omega arith)
+          | inr none ↦ let nothing : div_ceil (first + len) n * n ≡ 0 * n = ap (λ k. k * n) (let e : div_ceil
+              (first + len) n ≡ 0 = omega arith in e) in absurd (omega arith)
         ]
 
 pub overwrite_opens : (n old first len : ℕ) → 0 < n → 0 < len
@@ -129,7 +131,8 @@ overwrite_opens n old first len h some =
     let last = ceil_last (first + len) n h (omega arith) in
     let later = last_after n first len h some in
     let in_first = one_if_le (opens_first n old first (first + len)) (keeps_a_sample n old first len (first / n)) (first_kept n old first len) in
-    let in_last = one_if_le (opens_last n old first (first + len)) (keeps_a_sample n old first len (div_ceil (first + len) n - 1)) (last_kept n old first len) in
+    let in_last = one_if_le (opens_last n old first (first + len)) (keeps_a_sample n old first len (div_ceil (first + len) n - 1))
+        (last_kept n old first len) in
     let touched = ap (λ l. length (filter (keeps_a_sample n old first len) l)) (touched_intervals-is n first len h some) in
     elim (cases_lt (first / n) ((first + len - 1) / n)) [
       | inl more ↦
@@ -160,7 +163,8 @@ overwrite_opens n old first len h some =
 -- ---- the answer
 
 -- an exchange that is an overwrite
-pub overwritten : (f : Format) (limit calls reads first : ℕ) (s values : List ℤ) (r : Result ℕ Fault) (s' : List ℤ) (calls' reads' : ℕ) → 1 ≤ f.most → 0 < length values
+pub overwritten : (f : Format) (limit calls reads first : ℕ) (s values : List ℤ) (r : Result ℕ Fault) (s' : List ℤ) (calls' reads' : ℕ) → 1 ≤ f.most
+    → 0 < length values
     → AreHeld f values → first + length values ≤ length s
     → MatchResult r (λ coded. IsExchanged (exchange_calls f.most first (length values)) calls coded calls')
     (λ fault. IsNotExchanged (exchange_calls f.most first (length values)) calls fault calls')
@@ -168,6 +172,7 @@ pub overwritten : (f : Format) (limit calls reads first : ℕ) (s values : List 
     → RisesAtMost (opened_by (exchange_calls f.most first (length values)) calls (opened_ends f.most (length s) first (first + length values))) reads reads'
     → Applies f limit s calls reads (Overwrite first values) r s' calls' reads'
 overwritten f limit calls reads first s values r s' calls' reads' h some held within answer ok err rises =
-    from_exchange f limit calls reads s (Overwrite first values) (exchange_calls f.most first (length values)) (opened_ends f.most (length s) first (first + length values))
+    from_exchange f limit calls reads s (Overwrite first values) (exchange_calls f.most first (length values)) (opened_ends f.most (length s) first
+        (first + length values))
     (overwrite_fits f limit first s values held within) (overwrite_calls f.most first (length values) h some)
     (overwrite_opens f.most (length s) first (length values) h some) r s' calls' reads' answer ok err rises

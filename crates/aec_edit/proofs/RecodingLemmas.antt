@@ -1,5 +1,6 @@
 -- Intervals exchanged for the code of fresh samples.
-use Rattle.std.proofs.Common.{◌≡◌, ℕ, ◌+◌, ◌-◌, ◌*◌, ◌<◌, ◌≤◌, Bool, Result, Ok, Err, List, [], ◌++◌, length, map, take, drop, get_or, ℤ, refl, sym, ap, subst, ◌∙◌, inl, inr, arith, length-append}
+use Rattle.std.proofs.Common.{◌≡◌, ℕ, ◌+◌, ◌-◌, ◌*◌, ◌<◌, ◌≤◌, Bool, Result, Ok, Err, List, [], ◌++◌, length}
+use Rattle.std.proofs.Common.{map, take, drop, get_or, ℤ, refl, sym, ap, subst, ◌∙◌, inl, inr, arith, length-append}
 use Rattle.std.specs.Result.{OnOk, OnErr}
 use Rattle.std.proofs.lemmas.List.{append-nil, length-take, length-drop, drop_all}
 use Rattle.aec_bits.specs.Codec.{Format, IsLawful, code_of}
@@ -24,7 +25,8 @@ module _ (f : Format) (limit from to : ℕ) (s fresh : List ℤ) (lawful : IsLaw
         | inr whole ↦ code_of-append f (to - from) fresh (drop (to * f.most) s) lawful.some whole
       ]
 
-  fresh_starts : (place : ℕ) → starts_of f place (fresh ++ drop (to * f.most) s) ≡ starts_of f place fresh ++ starts_of f (place + length (code_of f fresh)) (drop (to * f.most) s)
+  fresh_starts : (place : ℕ) → starts_of f place (fresh ++ drop (to * f.most) s) ≡ starts_of f place fresh ++ starts_of f (place + length
+      (code_of f fresh)) (drop (to * f.most) s)
   fresh_starts place =
       elim fits.fitting [
         | inl past ↦
@@ -49,14 +51,16 @@ module _ (f : Format) (limit from to : ℕ) (s fresh : List ℤ) (lawful : IsLaw
       ∙ ap (λ l. starts_of f 0 (take (from * f.most) s) ++ l) (fresh_starts (start_of f s from))
 
   -- what stands after the bits and the starts of the intervals were replaced by those of the fresh samples
-  pub recoded_kept : {count : ℕ} {bits : List Bool} {starts : List ℕ} (count' fresh_count i j start stop : ℕ) (bits' fresh_bits : List Bool) (starts' fresh_starts : List ℕ)
+  pub recoded_kept : {count : ℕ} {bits : List Bool} {starts : List ℕ} (count' fresh_count i j start stop : ℕ) (bits' fresh_bits : List Bool)
+      (starts' fresh_starts : List ℕ)
       → IsKept f count bits starts s → fresh_bits ≡ code_of f fresh → fresh_starts ≡ starts_of f 0 fresh
       → i ≡ from → j ≡ to → start ≡ start_of f s from → stop ≡ start_of f s to
       → bits' ≡ take start bits ++ (fresh_bits ++ drop stop bits)
       → starts' ≡ take i starts ++ (map (λ x. start + x) fresh_starts ++ map (λ x. x - stop + (start + length fresh_bits)) (drop j starts))
       → count' ≡ from * f.most + length fresh + (length s - to * f.most)
       → IsKept f count' bits' starts' (recoded f from to fresh s)
-  recoded_kept {bits = bits} {starts = starts} count' fresh_count i j start stop bits' fresh_bits starts' fresh_starts kept code_is index_is i_is j_is start_is stop_is bits_is starts_is count_is =
+  recoded_kept {bits = bits} {starts = starts} count' fresh_count i j start stop bits' fresh_bits starts' fresh_starts kept code_is index_is i_is j_is
+      start_is stop_is bits_is starts_is count_is =
       record {
         held = held-append f.holds (take (from * f.most) s) (fresh ++ drop (to * f.most) s) (held-take f.holds (from * f.most) s kept.held)
             (held-append f.holds fresh (drop (to * f.most) s) fits.held (held-drop f.holds (to * f.most) s kept.held));
@@ -82,7 +86,8 @@ module _ (f : Format) (limit from to : ℕ) (s fresh : List ℤ) (lawful : IsLaw
       within : from ≤ interval_count f s
       within = omega (arith, fits.order, fits.within)
 
-      moved : map (λ x. x - stop + (start + length fresh_bits)) (drop j starts) ≡ starts_of f (start_of f s from + length (code_of f fresh)) (drop (to * f.most) s)
+      moved : map (λ x. x - stop + (start + length fresh_bits)) (drop j starts) ≡ starts_of f (start_of f s from + length (code_of f fresh)) (drop
+          (to * f.most) s)
       moved =
           let sum : start + length fresh_bits ≡ start_of f s from + length (code_of f fresh) = omega (arith, start_is, ap length code_is) in
           ap (λ l. map (λ x. x - stop + (start + length fresh_bits)) (drop j l)) kept.starts_are
@@ -131,7 +136,8 @@ same_kept kept bits_are starts_are count_is = record {
   starts_are = starts_are ∙ kept.starts_are;
 }
 
-pub in_format : {f g : Format} {count : ℕ} {bits : List Bool} {starts : List ℕ} {s : List ℤ} → g ≡ f → IsKept f count bits starts s → IsKept g count bits starts s
+pub in_format : {f g : Format} {count : ℕ} {bits : List Bool} {starts : List ℕ} {s : List ℤ} → g ≡ f → IsKept f count bits starts s
+    → IsKept g count bits starts s
 in_format {count = count} {bits = bits} {starts = starts} {s = s} same kept = subst (λ h. IsKept h count bits starts s) (sym same) kept
 
 -- fresh starts are within the fresh bits
@@ -147,7 +153,8 @@ pub starts_later : (f : Format) {count : ℕ} {bits : List Bool} {starts : List 
     → j ≡ to → stop ≡ start_of f s to → (k : ℕ) → j ≤ k → k < length starts → (stop ≤ get_or starts k 0) × (get_or starts k 0 ≤ length bits)
 starts_later f {starts = starts} {s = s} to j stop lawful kept j_is stop_is k later within =
     let all : length starts ≡ interval_count f s = ap length kept.starts_are ∙ length-starts_of f 0 s lawful.some in
-    let here : get_or starts k 0 ≡ start_of f s k = ap (λ l. get_or l k 0) kept.starts_are ∙ get_or-starts_of f 0 s k 0 lawful.some (omega arith) ∙ omega arith in
+    let here : get_or starts k 0 ≡ start_of f s k = ap (λ l. get_or l k 0) kept.starts_are ∙ get_or-starts_of f 0 s k 0 lawful.some (omega arith)
+        ∙ omega arith in
     (omega (arith, start_of-mono f to k s lawful.some (omega arith)), omega (arith, start_of-le f k s lawful.some, ap length kept.bits_are))
 
 -- the new number of samples, as the code counts it

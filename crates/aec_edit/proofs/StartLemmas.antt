@@ -1,5 +1,6 @@
 -- Where the intervals of samples begin in their code.
-use Rattle.std.proofs.Common.{◌≡◌, ℕ, zero, suc, ◌+◌, ◌-◌, ◌*◌, ◌<◌, ◌≤◌, min, Bool, List, [], ◌∷◌, ◌++◌, length, map, take, drop, get_or, ℤ, refl, sym, ap, ◌∙◌, subst, ◌⊎◌, inl, inr, arith, append_assoc, length-append}
+use Rattle.std.proofs.Common.{◌≡◌, ℕ, zero, suc, ◌+◌, ◌-◌, ◌*◌, ◌<◌, ◌≤◌, min, Bool, List, [], ◌∷◌, ◌++◌, length}
+use Rattle.std.proofs.Common.{map, take, drop, get_or, ℤ, refl, sym, ap, ◌∙◌, subst, ◌⊎◌, inl, inr, arith, append_assoc, length-append}
 use Rattle.std.specs.Int.{div_ceil}
 use Rattle.std.specs.List.{list_all, flat_map}
 use Rattle.std.proofs.Math.Nat.{div-eq_of_lt, mod-eq_of_lt, mul-le-mul_right}
@@ -153,10 +154,12 @@ starts_of-cut f place k s h =
 
 -- the code up to an interval and from there on
 pub take-code_of : (f : Format) (k : ℕ) (s : List ℤ) → 1 ≤ f.most → take (start_of f s k) (code_of f s) ≡ code_of f (take (k * f.most) s)
-take-code_of f k s h = ap (take (start_of f s k)) (code_of-cut f k s h) ∙ take_at (code_of f (take (k * f.most) s)) (code_of f (drop (k * f.most) s)) (start_of f s k) refl
+take-code_of f k s h = ap (take (start_of f s k)) (code_of-cut f k s h)
+    ∙ take_at (code_of f (take (k * f.most) s)) (code_of f (drop (k * f.most) s)) (start_of f s k) refl
 
 pub drop-code_of : (f : Format) (k : ℕ) (s : List ℤ) → 1 ≤ f.most → drop (start_of f s k) (code_of f s) ≡ code_of f (drop (k * f.most) s)
-drop-code_of f k s h = ap (drop (start_of f s k)) (code_of-cut f k s h) ∙ drop_at (code_of f (take (k * f.most) s)) (code_of f (drop (k * f.most) s)) (start_of f s k) refl
+drop-code_of f k s h = ap (drop (start_of f s k)) (code_of-cut f k s h)
+    ∙ drop_at (code_of f (take (k * f.most) s)) (code_of f (drop (k * f.most) s)) (start_of f s k) refl
 
 pub start_of-le : (f : Format) (k : ℕ) (s : List ℤ) → 1 ≤ f.most → start_of f s k ≤ length (code_of f s)
 start_of-le f k s h =
@@ -188,7 +191,8 @@ starts_of-front f place k s h within =
             | inl less ↦ absurd (omega (arith, before_end k (length s) f.most h less))
             | inr all ↦ omega arith
           ]
-      | inr inside ↦ ap (λ n. div_ceil n f.most) (let e : length (take (k * f.most) s) ≡ k * f.most = omega (arith, length-take (k * f.most) s) in e) ∙ whole_count f.most k h
+      | inr inside ↦ ap (λ n. div_ceil n f.most) (let e : length (take (k * f.most) s) ≡ k * f.most = omega (arith, length-take (k * f.most) s) in e)
+          ∙ whole_count f.most k h
     ]
 
 pub take-starts_of : (f : Format) (k : ℕ) (s : List ℤ) → 1 ≤ f.most → k ≤ interval_count f s → take k (starts_of f 0 s) ≡ starts_of f 0 (take (k * f.most) s)

@@ -22,7 +22,8 @@ loop-rest-preserved g c =
       format = c.in_ok-code.ensures.same_format ∙ so_far.format;
       held = later_held f split so_far.held;
       bits = bits_more f c.loop-rest.coded.bits.list c.code.new.out.list _ lawful split so_far.bits grown;
-      starts = starts_more f c.loop-rest.coded.bits.list c.code.new.out.list c.loop-rest.coded.starts.items c.push.new.self.items _ c.len.result lawful split so_far.starts
+      starts = starts_more f c.loop-rest.coded.bits.list c.code.new.out.list c.loop-rest.coded.starts.items c.push.new.self.items _ c.len.result lawful
+          split so_far.starts
           c.len.ensures.value pushed grown;
       calls = omega (arith, c.in_ok-code.ensures.counts, so_far.calls, one_call_less f lawful split);
       least = omega (arith, c.in_ok-code.ensures.counts, so_far.least);
