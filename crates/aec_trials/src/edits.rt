@@ -1,6 +1,6 @@
 //! Scripts carried out on streams: what is written, what is refused and named by which line, and what is left untaken.
 
-use crate::devices::{Basin, Pieces};
+use crate::devices::{After, Basin, Pieces};
 use crate::shared::DEFAULTS;
 use aec_bits::{Sink, Source};
 use aec_cli::{EditFault, edit};
@@ -39,9 +39,9 @@ fn edited(
     count: Option<u64>,
 ) -> Result<(Result<(), EditFault>, Vec<u8>, u64), Fail> {
     let params = Params::new(DEFAULTS)?;
-    let mut script = Pieces::whole(text.as_bytes(), 5);
-    let mut source = Pieces::whole(stream, 3);
-    let mut sink = Basin::deep(alloc);
+    let mut script = Pieces::of(text.as_bytes(), 5, After::Ends);
+    let mut source = Pieces::of(stream, 3, After::Ends);
+    let mut sink = Basin::of(alloc, 64, 1 << 20);
     let answer = edit(
         alloc,
         &params,
@@ -193,9 +193,9 @@ fn devices_of_an_edit_fail(rt: HostRuntime) -> Result<(), Fail> {
     let params = Params::new(DEFAULTS)?;
     for k in 0..9usize {
         assert!(rt; k <= 8);
-        let mut script = Pieces::torn(&b"append 1"[..k], 3);
+        let mut script = Pieces::of(&b"append 1"[..k], 3, After::Fails);
         // It would fail too, and isn't asked.
-        let mut source = Pieces::torn(&[], 1);
+        let mut source = Pieces::of(&[], 1, After::Fails);
         let mut sink = Basin::shut(rt.alloc());
         let answer = edit(
             rt.alloc(),
@@ -214,8 +214,8 @@ fn devices_of_an_edit_fail(rt: HostRuntime) -> Result<(), Fail> {
     }
     for k in 0..5usize {
         assert!(rt; k <= 4);
-        let mut script = Pieces::whole(b"append 1", 3);
-        let mut source = Pieces::torn(&RAMP[..k], 1);
+        let mut script = Pieces::of(b"append 1", 3, After::Ends);
+        let mut source = Pieces::of(&RAMP[..k], 1, After::Fails);
         let mut sink = Basin::shut(rt.alloc());
         let answer = edit(
             rt.alloc(),
@@ -234,8 +234,8 @@ fn devices_of_an_edit_fail(rt: HostRuntime) -> Result<(), Fail> {
     }
     for room in 0..7usize {
         assert!(rt; room < 7);
-        let mut script = Pieces::whole(b"overwrite 20 1", 64);
-        let mut source = Pieces::whole(&ZEROS, 64);
+        let mut script = Pieces::of(b"overwrite 20 1", 64, After::Ends);
+        let mut source = Pieces::of(&ZEROS, 64, After::Ends);
         let mut sink = Basin::of(rt.alloc(), 2, room);
         let answer = edit(
             rt.alloc(),
@@ -266,9 +266,9 @@ fn limits_hold_for_scripts_streams_and_edits(rt: HostRuntime) -> Result<(), Fail
             0 => EditFault::Plain(fault),
             line => EditFault::Line { line, fault },
         };
-        let mut script = Pieces::whole(text.as_bytes(), 64);
-        let mut source = Pieces::whole(&RAMP, 64);
-        let mut sink = Basin::deep(rt.alloc());
+        let mut script = Pieces::of(text.as_bytes(), 64, After::Ends);
+        let mut source = Pieces::of(&RAMP, 64, After::Ends);
+        let mut sink = Basin::of(rt.alloc(), 64, 1 << 20);
         let answer = edit(
             rt.alloc(),
             &params,

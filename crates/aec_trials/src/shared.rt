@@ -63,6 +63,8 @@ pub(crate) fn run_engine(
                 &mut sink,
             )
         }
+        // It takes a script too, and no row asks for it: `edits` has its tests.
+        Action::Edit { .. } => Err(Fault::Script { line: 0 }),
     };
     let begins = sink.begins();
     let failures = [source.failures(), sink.failures()];
