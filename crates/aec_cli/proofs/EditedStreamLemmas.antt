@@ -31,7 +31,8 @@ all-held s (x ∷ v) h =
     let parts = and_parts (is_held s x) (list_all (is_held s) v) h in
     (held_from (is_held s x) parts.0, all-held s v parts.1)
 
-is_read : StreamsAreReadBack → RunsLeaveSamples → (s : Settings) (limit : ℕ) (edits : List Edit) (done : List Outcome) (after : ℕ) (bits : List Bool) (count : ℕ)
+is_read : StreamsAreReadBack → RunsLeaveSamples
+    → (s : Settings) (limit : ℕ) (edits : List Edit) (done : List Outcome) (after : ℕ) (bits : List Bool) (count : ℕ)
     → IsWritten s limit edits done after bits count → (IsReading s (Some count) limit bits (all_left [] edits done)) × (count ≤ limit)
 is_read back leave s limit edits done after bits count w =
     let left : List ℤ = all_left [] edits done in
@@ -44,25 +45,29 @@ is_read back leave s limit edits done after bits count w =
       omega (arith, w.count_is, within.1),
     )
 
-pub decoded_left : StreamsAreReadBack → AllBitsAreReadInOneWay → RunsLeaveSamples → (s : Settings) (limit : ℕ) (edits : List Edit) (done : List Outcome) (after : ℕ)
+pub decoded_left : StreamsAreReadBack → AllBitsAreReadInOneWay → RunsLeaveSamples
+    → (s : Settings) (limit : ℕ) (edits : List Edit) (done : List Outcome) (after : ℕ)
     (bits : List Bool) (count : ℕ) (samples : List ℤ)
     → IsWritten s limit edits done after bits count → IsReading s (Some count) limit bits samples → samples ≡ all_left [] edits done
 decoded_left back one leave s limit edits done after bits count samples w read =
     (one s (Some count) limit bits w.allowed).one_reading samples (all_left [] edits done) read (is_read back leave s limit edits done after bits count w).0
 
-unread_memory : (s : Settings) (count limit : ℕ) (bits : List Bool) (left : List ℤ) (fault : Fault) → IsAllowed s → AllBitsAreReadInOneWay → IsReading s (Some count) limit bits left
+unread_memory : (s : Settings) (count limit : ℕ) (bits : List Bool) (left : List ℤ) (fault : Fault) → IsAllowed s → AllBitsAreReadInOneWay
+    → IsReading s (Some count) limit bits left
     → RefusesReading s (Some count) limit bits 0 fault → fault ≡ Memory
 unread_memory s count limit bits left fault a one read (no_memory behind) = refl
 unread_memory s count limit bits left fault a one read (faulty f wrong) = absurd ((one s (Some count) limit bits a).not_both left f read wrong)
 
-undecoded_memory : (s : Settings) (count limit : ℕ) (bits : List Bool) (left : List ℤ) (fault : Fault) → IsAllowed s → AllBitsAreReadInOneWay → IsReading s (Some count) limit bits left
+undecoded_memory : (s : Settings) (count limit : ℕ) (bits : List Bool) (left : List ℤ) (fault : Fault) → IsAllowed s → AllBitsAreReadInOneWay
+    → IsReading s (Some count) limit bits left
     → count ≤ limit → RefusesDecoding s (Some count) limit bits fault → fault ≡ Memory
 undecoded_memory s count limit bits left fault a one read few (above_limit f over) =
     let within = le-ltb limit count few in
     absurd (cc (within, over))
 undecoded_memory s count limit bits left fault a one read few (unread f none refuses) = unread_memory s count limit bits left f a one read refuses
 
-pub decoding_lacks_memory : StreamsAreReadBack → AllBitsAreReadInOneWay → RunsLeaveSamples → (s : Settings) (limit : ℕ) (edits : List Edit) (done : List Outcome) (after : ℕ)
+pub decoding_lacks_memory : StreamsAreReadBack → AllBitsAreReadInOneWay → RunsLeaveSamples
+    → (s : Settings) (limit : ℕ) (edits : List Edit) (done : List Outcome) (after : ℕ)
     (bits : List Bool) (count : ℕ) (fault : Fault)
     → IsWritten s limit edits done after bits count → RefusesDecoding s (Some count) limit bits fault → fault ≡ Memory
 decoding_lacks_memory back one leave s limit edits done after bits count fault w refuses =

@@ -65,9 +65,11 @@ values_no_want (Some i) = λ e. cc
 
 refusal_no_want : (f : Format) (limit : ℕ) (s : List ℤ) (e : Edit) → IsNoWant (refusal_of f limit s e)
 refusal_no_want f limit s (Overwrite first values) =
-    chosen_no_want (ltb (length s) (first + length values)) (Some (OutOfRange (length s))) (values_refusal f values) (λ e. cc) (values_no_want (first_unheld f.holds 0 values))
+    chosen_no_want (ltb (length s) (first + length values)) (Some (OutOfRange (length s))) (values_refusal f values) (λ e. cc) (values_no_want
+    (first_unheld f.holds 0 values))
 refusal_no_want f limit s (Append values) =
-    chosen_no_want (ltb limit (length s + length values)) (Some (TooManySamples limit)) (values_refusal f values) (λ e. cc) (values_no_want (first_unheld f.holds 0 values))
+    chosen_no_want (ltb limit (length s + length values)) (Some (TooManySamples limit)) (values_refusal f values) (λ e. cc) (values_no_want
+    (first_unheld f.holds 0 values))
 refusal_no_want f limit s (Truncate count) = chosen_no_want (ltb (length s) count) (Some (OutOfRange (length s))) None (λ e. cc) tt
 
 -- what is due for an edit is never want of memory
@@ -90,7 +92,8 @@ record IsAnswered (f : Format) (limit : ℕ) (s : List ℤ) (calls : ℕ) (e : E
   had : outcome ≢ Refused Memory
   fits : after < 2 ^ 64
 
-answer_by : (f : Format) (limit : ℕ) (s : List ℤ) (calls : ℕ) (e : Edit) (due : Option Fault) → calls < 2 ^ 64 → due_refusal f limit s calls e ≡ due → IsNoWant due
+answer_by : (f : Format) (limit : ℕ) (s : List ℤ) (calls : ℕ) (e : Edit) (due : Option Fault) → calls < 2 ^ 64
+    → due_refusal f limit s calls e ≡ due → IsNoWant due
     → IsAnswered f limit s calls e
 answer_by f limit s calls e None h is no_want =
     let needed : ℕ = needed_calls f.most (length s) e in
@@ -106,7 +109,8 @@ answer_by f limit s calls e (Some fault) h is no_want =
     record {
       outcome = Refused fault;
       after = calls;
-      answers = subst (λ due. MatchOption due (LacksMemory (needed_calls f.most (length s) e) calls fault calls) (λ d. (fault ≡ d) × (calls ≡ calls))) (sym is) (refl, refl);
+      answers = subst (λ due. MatchOption due (LacksMemory (needed_calls f.most (length s) e) calls fault calls) (λ d. (fault ≡ d) ×
+          (calls ≡ calls))) (sym is) (refl, refl);
       had = λ e. no_want (cc);
       fits = h;
     }
@@ -125,14 +129,16 @@ some_answers f limit s calls (e ∷ edits) h =
     (here.outcome ∷ rest.0, rest.1, (here.after, here.answers, rest.2), (here.had, rest.3), rest.4)
 
 -- what stands against an answer decides it where memory is there
-refused_as : (needed calls : ℕ) (fault : Fault) (after : ℕ) (due : Option Fault) → MatchOption due (LacksMemory needed calls fault after) (λ d. (fault ≡ d) × (after ≡ calls))
+refused_as : (needed calls : ℕ) (fault : Fault) (after : ℕ) (due : Option Fault)
+    → MatchOption due (LacksMemory needed calls fault after) (λ d. (fault ≡ d) × (after ≡ calls))
     → fault ≢ Memory → (due ≡ Some fault) × (after ≡ calls)
 refused_as needed calls fault after None h had = absurd (had h.fault_is)
 refused_as needed calls fault after (Some d) h had = (ap Some (sym h.0), h.1)
 
 one_outcome : (f : Format) (limit : ℕ) (s : List ℤ) (calls : ℕ) (e : Edit) (o p : Outcome) (after last : ℕ)
     → Answers f limit s calls e o after → o ≢ Refused Memory → Answers f limit s calls e p last → p ≢ Refused Memory → (o ≡ p) × (after ≡ last)
-one_outcome f limit s calls e (Done coded) (Done other) after last h had k has = (ap Done (h.coded_is ∙ sym k.coded_is), omega (arith, h.coded_is, k.coded_is, h.calls_are, k.calls_are))
+one_outcome f limit s calls e (Done coded) (Done other) after last h had k has =
+    (ap Done (h.coded_is ∙ sym k.coded_is), omega (arith, h.coded_is, k.coded_is, h.calls_are, k.calls_are))
 one_outcome f limit s calls e (Done coded) (Refused fault) after last h had k has =
     let due = refused_as (needed_calls f.most (length s) e) calls fault last (due_refusal f limit s calls e) k (λ is. has (ap Refused is)) in
     absurd (cc (due.0, h.fits))
@@ -155,7 +161,8 @@ one_answer f limit s calls (e ∷ edits) (o ∷ done) [] after last h had k has 
 one_answer f limit s calls (e ∷ edits) (o ∷ done) (p ∷ other) after last h had k has =
     let here = one_outcome f limit s calls e o p h.0 k.0 h.1 had.0 k.1 has.0 in
     let back : AnswersAll f limit (samples_left s e o) h.0 edits other last =
-    subst (λ n. AnswersAll f limit (samples_left s e o) n edits other last) (sym here.1) (subst (λ x. AnswersAll f limit (samples_left s e x) k.0 edits other last) (sym here.0) k.2) in
+    subst (λ n. AnswersAll f limit (samples_left s e o) n edits other last) (sym here.1) (subst (λ x. AnswersAll f limit
+    (samples_left s e x) k.0 edits other last) (sym here.0) k.2) in
     let rest = one_answer f limit (samples_left s e o) h.0 edits done other after last h.2 had.1 back has.1 in
     (cc (here.0, rest.0), rest.1)
 
@@ -200,12 +207,14 @@ no_refusal : (x y : Option Fault) → option_or x y ≡ None → x ≡ None
 no_refusal None y h = refl
 no_refusal (Some fault) y h = h
 
-pub samples_after-within : (f : Format) (limit : ℕ) (s : List ℤ) (e : Edit) → refusal_of f limit s e ≡ None → AreWithin f limit s → AreWithin f limit (samples_after s e)
+pub samples_after-within : (f : Format) (limit : ℕ) (s : List ℤ) (e : Edit) → refusal_of f limit s e ≡ None → AreWithin f limit s
+    → AreWithin f limit (samples_after s e)
 samples_after-within f limit s (Overwrite first values) h within =
     let fits = fits_by (ltb (length s) (first + length values)) (OutOfRange (length s)) (first_unheld f.holds 0 values) h in
     let few = ltb-false (length s) (first + length values) fits.0 in
     let held = held_joined f.holds (take first s) (values ++ drop (first + length values) s) (held_front f.holds first s within.0)
-    (held_joined f.holds values (drop (first + length values) s) (none_found f.holds 0 values fits.1) (held_rest f.holds (first + length values) s within.0)) in (
+    (held_joined f.holds values (drop (first + length values) s) (none_found f.holds 0 values fits.1) (held_rest f.holds
+    (first + length values) s within.0)) in (
       held,
       omega (
         arith,
@@ -223,7 +232,8 @@ samples_after-within f limit s (Append values) h within =
 samples_after-within f limit s (Truncate count) h within =
     (held_front f.holds count s within.0, omega (arith, within.1, length-take count s))
 
-pub samples_left-within : (f : Format) (limit : ℕ) (s : List ℤ) (calls : ℕ) (e : Edit) (o : Outcome) (after : ℕ) → Answers f limit s calls e o after → AreWithin f limit s → AreWithin f limit (samples_left s e o)
+pub samples_left-within : (f : Format) (limit : ℕ) (s : List ℤ) (calls : ℕ) (e : Edit) (o : Outcome) (after : ℕ)
+    → Answers f limit s calls e o after → AreWithin f limit s → AreWithin f limit (samples_left s e o)
 samples_left-within f limit s calls e (Done coded) after h within =
     samples_after-within f limit s e (no_refusal (refusal_of f limit s e) (want_of_calls calls (needed_calls f.most (length s) e)) h.fits) within
 samples_left-within f limit s calls e (Refused fault) after h within = within

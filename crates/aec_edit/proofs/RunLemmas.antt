@@ -51,32 +51,50 @@ opened_few f limit s calls e (Done coded) after h = rw h.fits (omega arith)
 opened_few f limit s calls e (Refused fault) after h = opened_few_refused f limit s calls e fault after (due_refusal f limit s calls e) h
 
 -- how far a run has come, whose outcomes stand behind those that were there
-pub record HasAdded (f : Format) (limit : ℕ) (s : List ℤ) (calls reads : ℕ) (edits : List Edit) (before outcomes : List Outcome) (left : List ℤ) (calls_after reads_after : ℕ) : Type 0 where
+pub record HasAdded (f : Format) (limit : ℕ) (s : List ℤ) (calls reads : ℕ) (edits : List Edit) (before outcomes : List Outcome) (left : List ℤ)
+    (calls_after reads_after : ℕ) : Type 0 where
   pub done : List Outcome
   pub added : outcomes ≡ before ++ done
   pub has_run : HasRun f limit s calls reads edits done left calls_after reads_after
 
-pub HasAdded-none : (f : Format) (limit : ℕ) (s : List ℤ) (calls reads : ℕ) (before : List Outcome) → HasAdded f limit s calls reads [] before before s calls reads
+pub HasAdded-none : (f : Format) (limit : ℕ) (s : List ℤ) (calls reads : ℕ) (before : List Outcome)
+    → HasAdded f limit s calls reads [] before before s calls reads
 HasAdded-none f limit s calls reads before =
-    record { done = []; added = sym (append-nil before); has_run = record { answers = refl; samples = refl; decoded = record { stays = omega arith; few = omega arith } } }
+    record {
+      done = [];
+      added = sym (append-nil before);
+      has_run = record {
+        answers = refl;
+        samples = refl;
+        decoded = record {
+          stays =
+              omega arith;
+          few = omega arith;
+        };
+      };
+    }
 
 HasRun-more : (f : Format) (limit : ℕ) (s : List ℤ) (calls reads : ℕ) (edits : List Edit) (edit : Edit) (done : List Outcome) (outcome : Outcome)
     (left next : List ℤ) (after last reads_after reads_last : ℕ) → HasRun f limit s calls reads edits done left after reads_after
-    → Answers f limit left after edit outcome last → next ≡ samples_left left edit outcome → RisesAtMost (opened_at_most f limit left after edit) reads_after reads_last
+    → Answers f limit left after edit outcome last → next ≡ samples_left left edit outcome
+    → RisesAtMost (opened_at_most f limit left after edit) reads_after reads_last
     → HasRun f limit s calls reads (edits ++ edit ∷ []) (done ++ outcome ∷ []) next last reads_last
 HasRun-more f limit s calls reads edits edit done outcome left next after last reads_after reads_last h a left_is rises =
     let here : Answers f limit (all_left s edits done) after edit outcome last = subst (λ l. Answers f limit l after edit outcome last) h.samples a in
     let few = opened_few f limit left after edit outcome last a in
-    let same : opened_for f.most (length left) edit outcome ≡ opened_for f.most (length (all_left s edits done)) edit outcome = ap (λ l. opened_for f.most (length l) edit outcome) h.samples in
+    let same : opened_for f.most (length left) edit outcome ≡ opened_for f.most (length (all_left s edits done)) edit outcome =
+    ap (λ l. opened_for f.most (length l) edit outcome) h.samples in
     let opened = all_opened-append f limit f.most s calls after edits (edit ∷ []) done (outcome ∷ []) h.answers in
     record {
       answers = AnswersAll-append f limit s calls after last edits (edit ∷ []) done (outcome ∷ []) h.answers (last, here, refl);
-      samples = left_is ∙ ap (λ l. samples_left l edit outcome) h.samples ∙ sym (all_left-append f limit s calls after edits (edit ∷ []) done (outcome ∷ []) h.answers);
+      samples = left_is ∙ ap (λ l. samples_left l edit outcome) h.samples ∙ sym (all_left-append f limit s calls after edits (edit ∷ []) done
+          (outcome ∷ []) h.answers);
       decoded = record { stays = omega (arith, h.decoded.stays, rises.stays); few = omega (arith, h.decoded.few, rises.few) };
     }
 
 -- the next of a list of edits, after those before place i
-pub run_goes_on : (f : Format) (limit : ℕ) (s : List ℤ) (calls reads : ℕ) (edits : List Edit) (i : ℕ) (edit : Edit) (before outcomes grown : List Outcome) (outcome : Outcome)
+pub run_goes_on : (f : Format) (limit : ℕ) (s : List ℤ) (calls reads : ℕ) (edits : List Edit) (i : ℕ) (edit : Edit)
+    (before outcomes grown : List Outcome) (outcome : Outcome)
     (left next : List ℤ) (after last reads_after reads_last : ℕ) → HasAdded f limit s calls reads (take i edits) before outcomes left after reads_after
     → i < length edits → edit ≡ get_or edits i edit → Answers f limit left after edit outcome last → next ≡ samples_left left edit outcome
     → RisesAtMost (opened_at_most f limit left after edit) reads_after reads_last → grown ≡ outcomes ++ outcome ∷ []

@@ -44,7 +44,8 @@ all_opened n s (e ∷ edits) (outcome ∷ outcomes) = opened_for n (length s) e 
 
 -- what a run of edits has done, from the samples s and the codec's counts of calls and reads: its outcomes, the samples that
 -- are left, and the counts after it
-pub record HasRun (f : Format) (limit : ℕ) (s : List ℤ) (calls reads : ℕ) (edits : List Edit) (done : List Outcome) (left : List ℤ) (calls_after reads_after : ℕ) : Type 0 where
+pub record HasRun (f : Format) (limit : ℕ) (s : List ℤ) (calls reads : ℕ) (edits : List Edit) (done : List Outcome) (left : List ℤ)
+    (calls_after reads_after : ℕ) : Type 0 where
   pub answers : AnswersAll f limit s calls edits done calls_after
   pub samples : left ≡ all_left s edits done
   pub decoded : RisesAtMost (all_opened f.most s edits done) reads reads_after
