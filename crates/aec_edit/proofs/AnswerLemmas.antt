@@ -17,7 +17,7 @@ none_if_refused (Some fault) a b h = omega arith
 
 module _ (f : Format) (limit calls reads : ℕ) (s : List ℤ) (e : Edit) (needed opened : ℕ)
     (fits : refusal_of f limit s e ≡ None) (needed_is : needed ≡ needed_calls f.most (length s) e) (opened_few : opened ≤ opened_intervals f.most
-        (length s) e) where
+    (length s) e) where
   due : due_refusal f limit s calls e ≡ want_of_calls calls needed
   due = ap (λ p. option_or p (want_of_calls calls (needed_calls f.most (length s) e))) fits ∙ ap (want_of_calls calls) (sym needed_is)
 
@@ -40,7 +40,7 @@ module _ (f : Format) (limit calls reads : ℕ) (s : List ℤ) (e : Edit) (neede
     answer =
         rw due
         (subst (λ n. MatchOption (want_of_calls calls needed) (LacksMemory n calls fault calls') (λ refusal. (fault ≡ refusal) ×
-            (calls' ≡ calls))) needed_is answer);
+        (calls' ≡ calls))) needed_is answer);
     samples = err;
     opens = opens reads' rises;
   }

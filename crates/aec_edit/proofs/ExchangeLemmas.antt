@@ -75,7 +75,7 @@ module _ (f : Format) (limit first stop : ℕ) (s values : List ℤ) (lawful : I
         | inl at_end ↦
             ceil_from f.most (length (head_of f.most first s ++ (values ++ tail_of f.most stop s))) (first / f.most) (div_ceil (first + length values) f.most)
             (exchange_calls f.most first (length values)) split (omega (arith, fresh_len, begins.2, reach.0, back.0)) (omega
-                (arith, fresh_len, begins.2, reach.1, back.0))
+            (arith, fresh_len, begins.2, reach.1, back.0))
         | inr same ↦
             let product : div_ceil (first + length values) f.most * f.most ≡ div_ceil stop f.most * f.most = ap (λ n. div_ceil n f.most * f.most) (sym same) in
             ceil_from f.most (length (head_of f.most first s ++ (values ++ tail_of f.most stop s))) (first / f.most) (div_ceil (first + length values) f.most)

@@ -79,8 +79,13 @@ pub replaced : (add move : ℕ → ℕ) (olds with moved written shifted : List 
 replaced add move olds with moved written shifted from to order within moved_is written_is shifted_is =
     let end : ℕ = from + length with in
     let filled : List ℕ = olds ++ replicate (end - to) 0 in
-    let filled_len : length (take end filled) ≡ end = omega (arith, length-take end filled, length-append olds (replicate
-        (end - to) 0), length-replicate {A = ℕ} (end - to) 0) in
+    let filled_len : length (take end filled) ≡ end = omega (
+      arith,
+      length-take end filled,
+      length-append olds (replicate
+          (end - to) 0),
+      length-replicate {A = ℕ} (end - to) 0,
+    ) in
     let front : take from moved ≡ take from olds =
     ap (take from) moved_is ∙ take-append-le from (take end filled) (drop to olds) (omega arith) ∙ take-take from end filled (omega arith)
     ∙ take-append-le from olds (replicate (end - to) 0) (omega arith) in

@@ -26,7 +26,7 @@ no_other {f} {s = s} kept lawful is =
 pub at_view : {C : Type 0} (format : C → Format) {codec : C} {count limit : ℕ} {bits : List Bool} {starts : List ℕ} (kept : KeptSamples
     (format codec) count bits starts)
     (seen : Contents C) → record { samples = kept_samples kept; limit = limit; codec = codec } ≡ seen
-        → IsKept (format seen.codec) count bits starts seen.samples
+    → IsKept (format seen.codec) count bits starts seen.samples
 at_view format {count = count} {bits = bits} {starts = starts} kept seen e = subst (λ w. IsKept (format w.codec) count bits starts w.samples) e (stands kept)
 
 -- under a format that is the same, for a list that is

@@ -132,7 +132,7 @@ overwrite_opens n old first len h some =
     let later = last_after n first len h some in
     let in_first = one_if_le (opens_first n old first (first + len)) (keeps_a_sample n old first len (first / n)) (first_kept n old first len) in
     let in_last = one_if_le (opens_last n old first (first + len)) (keeps_a_sample n old first len (div_ceil (first + len) n - 1))
-        (last_kept n old first len) in
+    (last_kept n old first len) in
     let touched = ap (λ l. length (filter (keeps_a_sample n old first len) l)) (touched_intervals-is n first len h some) in
     elim (cases_lt (first / n) ((first + len - 1) / n)) [
       | inl more ↦
@@ -173,6 +173,6 @@ pub overwritten : (f : Format) (limit calls reads first : ℕ) (s values : List 
     → Applies f limit s calls reads (Overwrite first values) r s' calls' reads'
 overwritten f limit calls reads first s values r s' calls' reads' h some held within answer ok err rises =
     from_exchange f limit calls reads s (Overwrite first values) (exchange_calls f.most first (length values)) (opened_ends f.most (length s) first
-        (first + length values))
+    (first + length values))
     (overwrite_fits f limit first s values held within) (overwrite_calls f.most first (length values) h some)
     (overwrite_opens f.most (length s) first (length values) h some) r s' calls' reads' answer ok err rises

@@ -154,7 +154,7 @@ pub starts_later : (f : Format) {count : ℕ} {bits : List Bool} {starts : List 
 starts_later f {starts = starts} {s = s} to j stop lawful kept j_is stop_is k later within =
     let all : length starts ≡ interval_count f s = ap length kept.starts_are ∙ length-starts_of f 0 s lawful.some in
     let here : get_or starts k 0 ≡ start_of f s k = ap (λ l. get_or l k 0) kept.starts_are ∙ get_or-starts_of f 0 s k 0 lawful.some (omega arith)
-        ∙ omega arith in
+    ∙ omega arith in
     (omega (arith, start_of-mono f to k s lawful.some (omega arith)), omega (arith, start_of-le f k s lawful.some, ap length kept.bits_are))
 
 -- the new number of samples, as the code counts it

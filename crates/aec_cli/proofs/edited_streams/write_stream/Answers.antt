@@ -10,9 +10,9 @@ pub returns-clause-written : goal.returns-clause-written
 returns-clause-written c =
     let edited = c.in_ok-edited.edited in
     let streamed : c.into_inner-stream.result.items ≡ bytes_of (stream_of c.args.params.now (all_left [] c.args.edits.now edited.outcomes.items)) =
-        grind (arith, common_steps) in
+    grind (arith, common_steps) in
     let answers : AnswersAll (interval_format c.args.params.now) c.args.limit [] 0 c.args.edits.now edited.outcomes.items edited.calls =
-        grind (arith, common_steps) in
+    grind (arith, common_steps) in
     record {
       allowed = c.interval_len-len.ensures.allowed;
       answers = answers;

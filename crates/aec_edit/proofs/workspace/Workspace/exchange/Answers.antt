@@ -30,12 +30,12 @@ returns-in_err-coded-clause-answer g c =
     let f : Format = g.C.Codec.format seen.codec in
     let needed = needed_is _ f.most c.args.first (length c.args.values.now) _ c.interval_len-most.ensures.value c.div_ceil.ensures in
     let count = count_at f _ _ _ (exchange_calls f.most c.args.first (length c.args.values.now)) c.in_ok-fresh.ensures.format (c.deref.ensures.value
-        ∙ c.in_ok-fresh.ensures.ok)
+    ∙ c.in_ok-fresh.ensures.ok)
     (fresh_count f seen.limit c.args.first c.args.stop seen.samples c.args.values.now
-        (g.C.Codec.lawful seen.codec) c.interval_len-most.ensures.held c.requires) in
+    (g.C.Codec.lawful seen.codec) c.interval_len-most.ensures.held c.requires) in
     rw p.1
     (lacks_memory (exchange_calls f.most c.args.first (length c.args.values.now)) (g.C.Codec.called seen.codec)
-        (g.C.Codec.called c.code.new.self.codec) p.0 (omega (arith, needed))
+    (g.C.Codec.called c.code.new.self.codec) p.0 (omega (arith, needed))
     (p.2 ∙ c.in_err-coded.ensures.fault.0)
     (fresh_codes f seen.limit c.args.first c.args.stop seen.samples c.args.values.now (g.C.Codec.lawful seen.codec) c.interval_len-most.ensures.held c.requires
     c.deref.result.now (c.deref.ensures.value ∙ c.in_ok-fresh.ensures.ok) c.in_err-coded.ensures.fault.1)
@@ -60,13 +60,13 @@ returns-in_err-put-clause-answer g c =
     let f : Format = g.C.Codec.format seen.codec in
     let needed = needed_is _ f.most c.args.first (length c.args.values.now) _ c.interval_len-most.ensures.value c.div_ceil.ensures in
     let count = count_at f _ _ _ (exchange_calls f.most c.args.first (length c.args.values.now)) c.in_ok-fresh.ensures.format (c.deref.ensures.value
-        ∙ c.in_ok-fresh.ensures.ok)
+    ∙ c.in_ok-fresh.ensures.ok)
     (fresh_count f seen.limit c.args.first c.args.stop seen.samples c.args.values.now
-        (g.C.Codec.lawful seen.codec) c.interval_len-most.ensures.held c.requires) in
+    (g.C.Codec.lawful seen.codec) c.interval_len-most.ensures.held c.requires) in
     let called = ap g.C.Codec.called c.in_err-put.ensures.codec in
     rw p.1
     (lacks_memory (exchange_calls f.most c.args.first (length c.args.values.now)) (g.C.Codec.called seen.codec)
-        (g.C.Codec.called c.put.new.self.codec) p.0 (omega (arith, needed))
+    (g.C.Codec.called c.put.new.self.codec) p.0 (omega (arith, needed))
     (p.2 ∙ c.in_err-put.ensures.fault.0)
     (fresh_codes f seen.limit c.args.first c.args.stop seen.samples c.args.values.now (g.C.Codec.lawful seen.codec) c.interval_len-most.ensures.held c.requires
     c.deref-2.result.now (c.deref-2.ensures.value ∙ c.in_ok-fresh.ensures.ok) c.in_err-put.ensures.fault.1)
@@ -79,9 +79,9 @@ returns-clause-answer g c =
     let f : Format = g.C.Codec.format seen.codec in
     let needed = needed_is _ f.most c.args.first (length c.args.values.now) _ c.interval_len-most.ensures.value c.div_ceil.ensures in
     let count = count_at f _ _ _ (exchange_calls f.most c.args.first (length c.args.values.now)) c.in_ok-fresh.ensures.format (c.deref.ensures.value
-        ∙ c.in_ok-fresh.ensures.ok)
+    ∙ c.in_ok-fresh.ensures.ok)
     (fresh_count f seen.limit c.args.first c.args.stop seen.samples c.args.values.now
-        (g.C.Codec.lawful seen.codec) c.interval_len-most.ensures.held c.requires) in
+    (g.C.Codec.lawful seen.codec) c.interval_len-most.ensures.held c.requires) in
     let called = ap g.C.Codec.called c.in_ok-put.ensures.codec in
     record {
       left = calls_left (g.C.Codec.called seen.codec) (exchange_calls f.most c.args.first (length c.args.values.now)) (omega (arith, needed));
@@ -100,4 +100,4 @@ returns-clause-ok g c =
     (ap (λ n. c.args.first / n) c.interval_len-most.ensures.value) (c.div_ceil-2.ensures ∙ ap (div_ceil c.args.stop) c.interval_len-most.ensures.value)
     (c.in_ok-coded.ensures.samples ∙ c.in_ok-fresh.ensures.samples) (c.deref-2.ensures.value ∙ c.in_ok-fresh.ensures.ok)
     ∙ recoded-fresh f seen.limit c.args.first c.args.stop seen.samples c.args.values.now
-        (g.C.Codec.lawful seen.codec) c.interval_len-most.ensures.held c.requires
+    (g.C.Codec.lawful seen.codec) c.interval_len-most.ensures.held c.requires

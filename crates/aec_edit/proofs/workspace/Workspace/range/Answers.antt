@@ -11,7 +11,7 @@ returns-in_err-decode_intervals-clause-reads g c =
 pub returns-clause-ok : goal.returns-clause-ok
 returns-clause-ok g c =
     range_is (g.C.Codec.format c.args.self.now.codec).most c.args.first c.args.len _ _ _ c.args.self.now.samples _ _
-        (g.C.Codec.lawful c.args.self.now.codec).some
+    (g.C.Codec.lawful c.args.self.now.codec).some
     c.interval_len-most.ensures.value c.div_ceil.ensures refl (rw c.new-out.ensures.items at c.in_ok-decode_intervals.ensures.ok) c.keep_part.ensures
 
 pub returns-clause-reads : goal.returns-clause-reads
