@@ -30,7 +30,10 @@ pub enum Action {
         count: Option<u64>,
     },
     /// It is decoded, and the samples that the edits of the file `script` leave are coded.
-    Edit { script: String, count: Option<u64> },
+    Edit {
+        script: String,
+        count: Option<u64>,
+    },
 }
 
 // What is done, before a name is kept.

@@ -120,8 +120,9 @@ fn run<F: Files>(rt: &F, alloc: Global, job: Job) -> Result<(), Failure>
     match action {
         Action::Edit { script, count } => {
             let mut from = FileSource::new(rt, script);
-            act_by_script(alloc, &params, count, &mut from, &mut source, &mut sink)
-                .map_err(Failure::Edit)?;
+            act_by_script(alloc, &params, count, &mut from, &mut source, &mut sink).map_err(
+                Failure::Edit,
+            )?;
         }
         action => {
             act(alloc, &params, action, &mut source, &mut sink).map_err(Failure::Fault)?;
