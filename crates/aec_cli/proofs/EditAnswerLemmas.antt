@@ -23,7 +23,8 @@ use Rattle.aec_cli.specs.EditingSteps.{GaveScript, RefusesScript, no_memory, no_
 use Rattle.aec_cli.proofs.OutputLemmas.{taking, Keeps-same}
 
 -- the answer of a result that is a refusal
-gives_err : {X : Type 0} (view : X → List ℕ) (r : Result X EditFault) (e fault : EditFault) (s : Settings) (caps : Caps) (count : Option ℕ) (from source : Taking)
+gives_err : {X : Type 0} (view : X → List ℕ) (r : Result X EditFault) (e fault : EditFault) (s : Settings) (caps : Caps) (count : Option ℕ)
+    (from source : Taking)
     → r ≡ Err e → e ≡ fault → GivesEdited s caps count from source (Err fault) → GivesEdited s caps count from source (answer_of view r)
 gives_err view r e fault s caps count from source is same gives =
     subst (λ r. GivesEdited s caps count from source (answer_of view r)) (sym (is ∙ ap Err same)) gives
@@ -35,14 +36,16 @@ no_script_answer : (s : Settings) (caps : Caps) (count : Option ℕ) (from sourc
 no_script_answer s caps count from source fault kept no_memory = lacks_memory
 no_script_answer s caps count from source fault kept (no_edits script f gave is) = script_refused script f gave is kept
 
-pub gives_no_script : {X : Type 0} (view : X → List ℕ) (r : Result X EditFault) (e : EditFault) (f : Fault) (s : Settings) (caps : Caps) (count : Option ℕ) (from : Taking)
+pub gives_no_script : {X : Type 0} (view : X → List ℕ) (r : Result X EditFault) (e : EditFault) (f : Fault) (s : Settings) (caps : Caps)
+    (count : Option ℕ) (from : Taking)
     (left : Option (List ℕ)) (failed : ℕ) → r ≡ Err e → e ≡ Plain f → RefusesScript from caps.bytes f
     → GivesEdited s caps count from (taking left left failed) (answer_of view r)
 gives_no_script view r e f s caps count from left failed is same refuses =
     gives_err view r e (Plain f) s caps count from (taking left left failed) is same
     (no_script_answer s caps count from (taking left left failed) f (Keeps-same left) refuses)
 
-no_source_answer : (s : Settings) (caps : Caps) (count : Option ℕ) (from source : Taking) (edits : List Edit) (lines : List ℕ) (answer : Result (List ℕ) Fault) (fault : Fault)
+no_source_answer : (s : Settings) (caps : Caps) (count : Option ℕ) (from source : Taking) (edits : List Edit) (lines : List ℕ) (answer : Result
+    (List ℕ) Fault) (fault : Fault)
     → answer ≡ Err fault → GaveScript from caps.bytes edits lines → GivesAnswer (IsDecoded s caps count) source caps.bytes answer
     → GivesEdited s caps count from source (Err (Plain fault))
 no_source_answer s caps count from source edits lines answer fault is script (given input a gave is_answer) =
@@ -51,7 +54,8 @@ no_source_answer s caps count from source edits lines answer fault is script (gi
 no_source_answer s caps count from source edits lines answer fault is script transfers.lacks_memory =
     let memory : Memory ≡ fault = cc in subst (λ fault. GivesEdited s caps count from source (Err (Plain fault))) memory lacks_memory
 
-pub gives_no_source : {X : Type 0} (view : X → List ℕ) (r : Result X EditFault) (e : EditFault) (f : Fault) (s : Settings) (caps : Caps) (count : Option ℕ) (from source : Taking)
+pub gives_no_source : {X : Type 0} (view : X → List ℕ) (r : Result X EditFault) (e : EditFault) (f : Fault) (s : Settings) (caps : Caps)
+    (count : Option ℕ) (from source : Taking)
     (edits : List Edit) (lines : List ℕ) → r ≡ Err e → e ≡ Plain f → GaveScript from caps.bytes edits lines
     → GivesAnswer (IsDecoded s caps count) source caps.bytes (Err f) → GivesEdited s caps count from source (answer_of view r)
 gives_no_source view r e f s caps count from source edits lines is same script gives =
@@ -59,7 +63,8 @@ gives_no_source view r e f s caps count from source edits lines is same script g
 
 -- ---- the edits
 
-stopped_answer : (s : Settings) (caps : Caps) (count : Option ℕ) (from source : Taking) (edits : List Edit) (lines : List ℕ) (samples : List ℤ) (fault : EditFault)
+stopped_answer : (s : Settings) (caps : Caps) (count : Option ℕ) (from source : Taking) (edits : List Edit) (lines : List ℕ) (samples : List ℤ)
+    (fault : EditFault)
     → GaveScript from caps.bytes edits lines → GaveSamples s caps count source samples → StopsEditing (interval_format s) caps.samples samples edits lines fault
     → GivesEdited s caps count from source (Err fault)
 stopped_answer s caps count from source edits lines samples fault script gave (misfit f is) =
@@ -72,7 +77,8 @@ stopped_answer s caps count from source edits lines samples fault script gave (s
     (subst (λ es. LacksMemoryOn (interval_format s) caps.samples samples es (listing_of script.script.bytes).lines line) script.edits_are
     (subst (λ ns. LacksMemoryOn (interval_format s) caps.samples samples edits ns line) script.lines_are lacks))
 
-pub gives_stopped : {X : Type 0} (view : X → List ℕ) (r : Result X EditFault) (e fault : EditFault) (s : Settings) (caps : Caps) (count : Option ℕ) (from source : Taking)
+pub gives_stopped : {X : Type 0} (view : X → List ℕ) (r : Result X EditFault) (e fault : EditFault) (s : Settings) (caps : Caps) (count : Option ℕ)
+    (from source : Taking)
     (edits : List Edit) (lines : List ℕ) (samples : List ℤ) (f : Format) (limit : ℕ) → r ≡ Err e → e ≡ fault → f ≡ interval_format s → limit ≡ caps.samples
     → GaveScript from caps.bytes edits lines → GaveSamples s caps count source samples → StopsEditing f limit samples edits lines fault
     → GivesEdited s caps count from source (answer_of view r)
@@ -96,7 +102,8 @@ gives_edited s caps count from source edits lines samples left f after limit for
 
 -- ---- what is left in the sink
 
-pub settles_nothing : {X : Type 0} (view : X → List ℕ) (answer : Result X EditFault) (r : Result (Unit {0}) EditFault) (e fault : EditFault) (before : Option (List ℕ))
+pub settles_nothing : {X : Type 0} (view : X → List ℕ) (answer : Result X EditFault) (r : Result (Unit {0}) EditFault) (e fault : EditFault)
+    (before : Option (List ℕ))
     (begun failures : ℕ) → answer ≡ Err fault → r ≡ Err e → e ≡ fault
     → SettlesEdited (record { before = before; after = before; begun_before = begun; begun_after = begun; failures = failures }) (answer_of view answer) r
 settles_nothing view answer r e fault before begun failures was is same =
@@ -105,7 +112,8 @@ settles_nothing view answer r e fault before begun failures was is same =
     subst (λ r. SettlesEdited sink (answer_of view answer) r) (sym (is ∙ ap Err same))
     (subst (λ answer. SettlesEdited sink (answer_of view answer) (Err fault)) (sym was) refusal)
 
-pub settles_front : {X : Type 0} (view : X → List ℕ) (answer : Result X EditFault) (r : Result (Unit {0}) EditFault) (x : X) (e : EditFault) (fault : Fault) (sink : Putting)
+pub settles_front : {X : Type 0} (view : X → List ℕ) (answer : Result X EditFault) (r : Result (Unit {0}) EditFault) (x : X) (e : EditFault)
+    (fault : Fault) (sink : Putting)
     → answer ≡ Ok x → r ≡ Err e → e ≡ Plain fault → AppendsFront sink.before sink.after (view x) → sink.begun_after ≡ counted sink.begun_before
     → (fault ≡ Write) × (sink.failures ≡ 1) → SettlesEdited sink (answer_of view answer) r
 settles_front view answer r x e fault sink was is same front begun failed =

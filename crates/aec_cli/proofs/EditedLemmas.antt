@@ -67,7 +67,8 @@ refuses_intake {X} r fault f before after failures limit most is same limited re
     (λ found. no_edits found.0 f found.1 (ap (λ t. option_or t (option_map (λ n. Script n) (listing_of found.0.bytes).bad)) found.2))
     (intake_given before after failures limit f refuses)))
 
-pub refuses_script : {X : Type 0} (r : Result X Fault) (before after : Option (List ℕ)) (failures limit most : ℕ) (bytes text : List ℕ) → limit ≡ most → text ≡ bytes
+pub refuses_script : {X : Type 0} (r : Result X Fault) (before after : Option (List ℕ)) (failures limit most : ℕ) (bytes text : List ℕ)
+    → limit ≡ most → text ≡ bytes
     → IsTakenWhole before after failures limit bytes
     → IfErr r (λ e. ((n : ℕ) × ((listing_of text).bad ≡ Some n) × (e ≡ Script n)) ⊎ ((e ≡ Memory) × (0 < length (listing_of text).edits)))
     → IfErr r (λ e. RefusesScript (taking before after failures) most e)
@@ -160,7 +161,8 @@ unheld-none holds i (x ∷ v) held = by_test (holds x) held (λ rest. unheld-non
     by_test false held later = absurd (cc)
 
 -- samples that are held and within the limit are appended to none, or memory was wanting
-pub first-append : {X : Type 0} (r : Result X Fault) (fault f : Fault) (format : Format) (limit : ℕ) (s values : List ℤ) (calls after : ℕ) → r ≡ Err fault → fault ≡ f
+pub first-append : {X : Type 0} (r : Result X Fault) (fault f : Fault) (format : Format) (limit : ℕ) (s values : List ℤ) (calls after : ℕ)
+    → r ≡ Err fault → fault ≡ f
     → s ≡ [] → calls ≡ 0 → 0 < format.most → limit ≤ 2 ^ 32 → length values ≤ limit → AreHeld format values
     → IsRefused format limit s calls (Append values) f after → IfErr r (λ e. e ≡ Memory)
 first-append {X} r fault f format limit s values calls after is same none fresh some low few held refused =
@@ -181,7 +183,8 @@ first-append {X} r fault f format limit s values calls after is same none fresh 
 
     lacks : LacksMemory needed calls f after
     lacks = subst (λ t. MatchOption (option_or t None) (LacksMemory needed calls f after) (λ due. (f ≡ due) × (after ≡ calls))) fits
-        (subst (λ want. MatchOption (option_or (refusal_of format limit s (Append values)) want) (LacksMemory needed calls f after) (λ due. (f ≡ due) × (after ≡ calls))) enough refused)
+        (subst (λ want. MatchOption (option_or (refusal_of format limit s (Append values)) want) (LacksMemory needed calls f after) (λ due.
+        (f ≡ due) × (after ≡ calls))) enough refused)
 
 -- an append calls the coder at most once for each value
 pub append-calls : (format : Format) (limit : ℕ) (s values all : List ℤ) (calls coded after : ℕ) → values ≡ all → calls ≡ 0 → 0 < format.most

@@ -60,7 +60,8 @@ pub carried-on : (f : Format) (limit : ℕ) (s : List ℤ) (edits : List Edit) (
 carried-on f limit s edits lines i reached after e n carried this line fits is = record {
   same = carried.same ∙ (ap (λ es. samples_edited f limit reached es (drop i lines)) this
       ∙ (ap (λ ns. samples_edited f limit reached (e ∷ drop (i + 1) edits) ns) line
-      ∙ (ap (λ t. option_map_or (λ fault. Err (Line n fault)) t (samples_edited f limit (samples_after reached e) (drop (i + 1) edits) (drop (i + 1) lines))) fits
+      ∙ (ap (λ t. option_map_or (λ fault. Err (Line n fault)) t (samples_edited f limit (samples_after reached e) (drop (i + 1) edits) (drop
+      (i + 1) lines))) fits
       ∙ ap (λ s. samples_edited f limit s (drop (i + 1) edits) (drop (i + 1) lines)) (sym is))));
   lacks = λ at lacks.
       let later : LacksMemoryOn f limit (samples_after reached e) (drop (i + 1) edits) (drop (i + 1) lines) at =
@@ -77,7 +78,8 @@ carried-all f limit s edits lines i reached carried none =
     carried.same ∙ ap (λ es. samples_edited f limit reached es (drop i lines)) none
 
 -- the next is refused
-pub carried-stops : (f : Format) (limit : ℕ) (s : List ℤ) (edits : List Edit) (lines : List ℕ) (i : ℕ) (reached : List ℤ) (e : Edit) (n calls after : ℕ) (fault : Fault)
+pub carried-stops : (f : Format) (limit : ℕ) (s : List ℤ) (edits : List Edit) (lines : List ℕ) (i : ℕ) (reached : List ℤ) (e : Edit)
+    (n calls after : ℕ) (fault : Fault)
     → IsCarriedTo f limit s edits lines i reached → drop i edits ≡ e ∷ drop (i + 1) edits → drop i lines ≡ n ∷ drop (i + 1) lines
     → 0 < f.most → calls + most_calls_of e ≤ 2 ^ 64 - 1 → IsRefused f limit reached calls e fault after
     → StopsEditing f limit s edits lines (Line n fault)
@@ -93,7 +95,8 @@ carried-stops f limit s edits lines i reached e n calls after fault carried this
         ≡ option_map_or (λ fault. Err (Line n fault)) t (samples_edited f limit (samples_after reached e) (drop (i + 1) edits) (drop (i + 1) lines))
     turned t is = carried.same ∙ (ap (λ es. samples_edited f limit reached es (drop i lines)) this
         ∙ (ap (λ ns. samples_edited f limit reached (e ∷ drop (i + 1) edits) ns) line
-        ∙ ap (λ t. option_map_or (λ fault. Err (Line n fault)) t (samples_edited f limit (samples_after reached e) (drop (i + 1) edits) (drop (i + 1) lines))) is))
+        ∙ ap (λ t. option_map_or (λ fault. Err (Line n fault)) t (samples_edited f limit (samples_after reached e) (drop (i + 1) edits) (drop
+        (i + 1) lines))) is))
 
     by_refusal : (t : Option Fault) → refusal_of f limit reached e ≡ t
         → MatchOption (option_or t None) (LacksMemory needed calls fault after) (λ due. (fault ≡ due) × (after ≡ calls))
@@ -109,8 +112,10 @@ carried-stops f limit s edits lines i reached e n calls after fault carried this
 -- ---- in the form in which the code has the facts
 
 -- an edit that was made leaves enough calls for the others
-pub step-made : (f g : Format) (limit most : ℕ) (s : List ℤ) (edits : List Edit) (lines : List ℕ) (i : ℕ) (reached left : List ℤ) (e : Edit) (n calls coded after : ℕ)
-    → g ≡ f → most ≡ limit → IsCarriedTo f limit s edits lines i reached → IsNext edits lines i e n → 0 < g.most → calls + most_calls (drop i edits) ≤ 2 ^ 64 - 1 → IsAccepted g most reached calls e coded after → left ≡ samples_after reached e
+pub step-made : (f g : Format) (limit most : ℕ) (s : List ℤ) (edits : List Edit) (lines : List ℕ) (i : ℕ) (reached left : List ℤ) (e : Edit)
+    (n calls coded after : ℕ)
+    → g ≡ f → most ≡ limit → IsCarriedTo f limit s edits lines i reached → IsNext edits lines i e n → 0 < g.most
+    → calls + most_calls (drop i edits) ≤ 2 ^ 64 - 1 → IsAccepted g most reached calls e coded after → left ≡ samples_after reached e
     → IsCarriedTo f limit s edits lines (i + 1) left × (after + most_calls (drop (i + 1) edits) ≤ 2 ^ 64 - 1)
 step-made f g limit most s edits lines i reached left e n calls coded after format limited carried next some few made is = (
   carried-on f limit s edits lines i reached left e n carried next.edit_is next.line_is
@@ -123,8 +128,10 @@ step-made f g limit most s edits lines i reached left e n calls coded after form
     first-none None want none = refl
     first-none (Some due) want none = absurd (cc)
 
-pub step-stops : (f g : Format) (limit most : ℕ) (s : List ℤ) (edits : List Edit) (lines : List ℕ) (i : ℕ) (reached : List ℤ) (e : Edit) (n calls after : ℕ) (fault : Fault)
-    → g ≡ f → most ≡ limit → IsCarriedTo f limit s edits lines i reached → IsNext edits lines i e n → 0 < g.most → calls + most_calls (drop i edits) ≤ 2 ^ 64 - 1 → IsRefused g most reached calls e fault after
+pub step-stops : (f g : Format) (limit most : ℕ) (s : List ℤ) (edits : List Edit) (lines : List ℕ) (i : ℕ) (reached : List ℤ) (e : Edit)
+    (n calls after : ℕ) (fault : Fault)
+    → g ≡ f → most ≡ limit → IsCarriedTo f limit s edits lines i reached → IsNext edits lines i e n → 0 < g.most
+    → calls + most_calls (drop i edits) ≤ 2 ^ 64 - 1 → IsRefused g most reached calls e fault after
     → StopsEditing f limit s edits lines (Line n fault)
 step-stops f g limit most s edits lines i reached e n calls after fault format limited carried next some few refused =
     carried-stops f limit s edits lines i reached e n calls after fault carried next.edit_is next.line_is (subst (λ f. 0 < f.most) format some)

@@ -57,7 +57,8 @@ pub editing_has_one_answer : (s : Settings) (caps : Caps) (count : Option ℕ) (
     → HasOneAnswer (IsEdited s caps count script) input
 editing_has_one_answer s caps count script input allowed = by_script (script_refusal caps.bytes script) refl
   where
-    by_refusal : (fault : Fault) → script_refusal caps.bytes script ≡ None → IsDecoded s caps count input (Err fault) → HasOneAnswer (IsEdited s caps count script) input
+    by_refusal : (fault : Fault) → script_refusal caps.bytes script ≡ None → IsDecoded s caps count input (Err fault)
+        → HasOneAnswer (IsEdited s caps count script) input
     by_refusal fault sound fails = record {
       answer = Err (Plain fault);
       is_answer = not_decoded fault sound fails;

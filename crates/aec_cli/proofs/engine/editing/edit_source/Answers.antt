@@ -16,7 +16,8 @@ returns-in_err-workspace g c =
 pub returns-in_err-carry_out : goal.returns-in_err-carry_out
 returns-in_err-carry_out g c =
     let exit = err_from_is_err_and c.from_residual-in_err-carry_out.result c.from_residual-in_err-carry_out.ensures.1 in
-    gives_stopped _ _ exit.0 c.in_err-carry_out.field-0.0 c.args.params.now c.args.limits c.args.count _ _ _ _ c.in_ok-workspace.workspace.samples _ _ exit.1 exit.2
+    gives_stopped _ _ exit.0 c.in_err-carry_out.field-0.0 c.args.params.now c.args.limits c.args.count _ _ _ _ c.in_ok-workspace.workspace.samples _ _
+    exit.1 exit.2
     c.in_ok-workspace.ensures.format c.in_ok-workspace.ensures.limit c.in_ok-script.ensures.ok c.in_ok-workspace.ensures.ok c.in_err-carry_out.ensures.refuses
 
 pub returns : goal.returns

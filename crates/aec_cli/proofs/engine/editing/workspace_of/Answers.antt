@@ -9,7 +9,11 @@ use Rattle.aec_cli.proofs.engine.editing.workspace_of.Goals as goal
 pub workspace_with-requires-clause-few : goal.workspace_with-requires-clause-few
 workspace_with-requires-clause-few g c =
     let allowed = subst IsAllowed c.new-codec.ensures.params c.new-codec.result.allowed in
-    omega (arith, read-within c.args.params.now c.args.limits c.args.count _ c.in_ok-samples.samples.items allowed c.in_ok-samples.ensures.ok, c.samples.ensures.value)
+    omega (
+      arith,
+      read-within c.args.params.now c.args.limits c.args.count _ c.in_ok-samples.samples.items allowed c.in_ok-samples.ensures.ok,
+      c.samples.ensures.value,
+    )
 
 pub workspace_with-requires-clause-held : goal.workspace_with-requires-clause-held
 workspace_with-requires-clause-held g c =

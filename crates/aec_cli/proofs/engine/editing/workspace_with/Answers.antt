@@ -9,10 +9,12 @@ returns-in_err-apply-clause-fault g c =
     let exit = err_from_is_err_and c.from_residual.result c.from_residual.ensures.1 in
     let codec = c.new-workspace.ensures.codec in
     let low : c.new-workspace.result.limit ≤ 2 ^ 32 = omega (arith, c.new-workspace.ensures.limit, c.requires.limit) in
-    let few : length c.new-values.result ≤ c.new-workspace.result.limit = omega (arith, ap length c.new-values.ensures, c.new-workspace.ensures.limit, c.requires.few) in
+    let few : length c.new-values.result ≤ c.new-workspace.result.limit = omega
+    (arith, ap length c.new-values.ensures, c.new-workspace.ensures.limit, c.requires.few) in
     let held = subst (λ values. AreHeld (g.C.Codec.format c.new-workspace.result.codec) values) (sym c.new-values.ensures)
     (subst (λ codec. AreHeld (g.C.Codec.format codec) c.args.samples.items) (sym codec) c.requires.held) in
-    first-append _ exit.0 c.in_err-apply.field-0.0 (g.C.Codec.format c.new-workspace.result.codec) _ _ c.new-values.result _ _ exit.1 exit.2 c.new-workspace.ensures.samples
+    first-append _ exit.0 c.in_err-apply.field-0.0 (g.C.Codec.format c.new-workspace.result.codec) _ _ c.new-values.result _ _ exit.1 exit.2
+    c.new-workspace.ensures.samples
     (ap g.C.Codec.called codec ∙ c.requires.fresh) (g.C.Codec.lawful c.new-workspace.result.codec).some low few held c.in_err-apply.ensures.answer
 
 pub returns-clause-calls : goal.returns-clause-calls
