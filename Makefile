@@ -21,13 +21,14 @@ OPTIONS ?= -n 16
 sizes: bin/aec
 	@sh examples/sizes.sh bin/aec $(FILE) $(OPTIONS)
 
-# The gate, then coded data that is cut, and the round trips with the client of libaec.
+# The gate, then the tests of the program that it has built.
 test:
 	sh tests/run.sh
 
-# Time and memory beside the client of libaec, as tables; no test.
+# Time and memory beside the client of libaec, and what edits cost, as tables; no test.
 bench: bin/aec
 	python3 bench/bench.py bin/aec
+	python3 bench/edits.py bin/aec
 
 install: bin/aec
 	install -d $(DESTDIR)$(PREFIX)/bin $(DESTDIR)$(PREFIX)/share/man/man1

@@ -17,69 +17,27 @@ not /usr/bin/aec. Without it all checks are skipped, with status 0.
 
 import os
 import random
-import struct
 import subprocess
 import sys
 import tempfile
 from typing import NamedTuple
+
+from program import Program, Tally
+from settings import Settings
 
 WIDTHS = [1, 2, 3, 4, 5, 7, 8, 9, 12, 16, 17, 20, 24, 25, 31, 32]
 BLOCK_SIZES = [8, 16, 32, 64]
 INTERVALS = [1, 2, 3, 63, 64, 65, 128, 200, 4096]
 # Lengths of runs of zero blocks, around the ends of the run codes and of a segment of 64 blocks.
 RUNS = [1, 2, 3, 4, 5, 6, 7, 62, 63, 64, 65, 127, 128, 129]
-SECONDS = 20
 
 
 class Case(NamedTuple):
     """What one round trip is made with."""
 
     kind: str
-    bits: int
-    block_size: int
-    interval: int
-    signed: bool
-    preprocess: bool
-    msb_first: bool
-    three_byte: bool
-    restricted: bool
+    settings: Settings
     cut: int  # samples that the last block lacks
-
-    def options(self):
-        """The words that both programs take for it."""
-        flags = [
-            ("-s", self.signed),
-            ("-N", not self.preprocess),
-            ("-m", self.msb_first),
-            ("-3", self.three_byte),
-            ("-t", self.restricted),
-        ]
-        numbers = ["-n", str(self.bits), "-j", str(self.block_size), "-r", str(self.interval)]
-        return numbers + [letter for letter, is_set in flags if is_set]
-
-    def storage(self):
-        """The bytes of a stored sample."""
-        if self.bits <= 8:
-            return 1
-        if self.bits <= 16:
-            return 2
-        return 3 if self.three_byte and self.bits <= 24 else 4
-
-    def range(self):
-        """The least and the greatest sample."""
-        if self.signed:
-            return -(1 << (self.bits - 1)), (1 << (self.bits - 1)) - 1
-        return 0, (1 << self.bits) - 1
-
-
-def stored(case, samples, used_bits):
-    """The bytes of the samples, of which the lowest `used_bits` bits are written and the others are zero."""
-    size = case.storage()
-    words = struct.pack(f">{len(samples)}I", *(x & ((1 << used_bits) - 1) for x in samples))
-    out = bytearray(size * len(samples))
-    for place in range(size):
-        out[place::size] = words[4 - size + place if case.msb_first else 3 - place :: 4]
-    return bytes(out)
 
 
 # Each kind of samples: a function of the least and greatest sample, the block size and a source of chance.
@@ -180,8 +138,7 @@ def cases(chance):
         for block_size in BLOCK_SIZES:
             for number in range(4):
                 for kind in KINDS:
-                    yield Case(
-                        kind,
+                    settings = Settings(
                         bits,
                         block_size,
                         chance.choice(INTERVALS),
@@ -190,56 +147,8 @@ def cases(chance):
                         msb_first=chance.random() < 0.5,
                         three_byte=17 <= bits <= 24 and chance.random() < 0.5,
                         restricted=bits <= 4 and chance.random() < 0.5,
-                        cut=chance.choice([0, 0, 1, block_size // 2, block_size - 1]),
                     )
-
-
-class Program:
-    """A program, run on files of a folder of its own. An answer is the bytes that it wrote, None where it wrote none."""
-
-    def __init__(self, path, folder):
-        self.path, self.folder = path, folder
-
-    def run(self, words, given):
-        source, dest = os.path.join(self.folder, "source"), os.path.join(self.folder, "dest")
-        with open(source, "wb") as file:
-            file.write(given)
-        if os.path.exists(dest):
-            os.remove(dest)
-        try:
-            ended = subprocess.run([self.path, *words, source, dest], capture_output=True, timeout=SECONDS)
-            self.said = ended.stderr.decode(errors="replace").strip()
-        except subprocess.TimeoutExpired:
-            self.said = f"no answer in {SECONDS} seconds"
-            return None
-        if not os.path.exists(dest):
-            return None
-        with open(dest, "rb") as file:
-            return file.read()
-
-    def code(self, case, given):
-        return self.run(case.options(), given)
-
-    def decode(self, case, stream):
-        return self.run(["-d", *case.options()], stream)
-
-
-class Tally:
-    """Counts checks, and prints those that fail."""
-
-    def __init__(self):
-        self.passed, self.failed = 0, 0
-
-    def check(self, holds, case, what):
-        if holds:
-            self.passed += 1
-        else:
-            self.failed += 1
-            print(f"FAILED: {what}: {' '.join(case.options())}: {case.kind}, {case.cut} short of a block")
-
-    def print(self, skipped=0, reason=""):
-        more = f", {skipped} skipped ({reason})" if skipped else ""
-        print(f"{self.passed} passed, {self.failed} failed{more}")
+                    yield Case(kind, settings, cut=chance.choice([0, 0, 1, block_size // 2, block_size - 1]))
 
 
 def agrees(read, *wanted):
@@ -249,23 +158,27 @@ def agrees(read, *wanted):
 
 def try_case(case, chance, ours, theirs, tally):
     """Both programs on one case."""
-    samples = KINDS[case.kind](*case.range(), case.block_size, chance)
+    settings = case.settings
+    options = settings.options()
+    samples = KINDS[case.kind](settings.least(), settings.most(), settings.block_size, chance)
     samples = samples[: len(samples) - case.cut]
     # unused bits: zero is what both take; in decoding ours writes copies of the sign, theirs that or zeros
-    given = stored(case, samples, case.bits)
-    signed = stored(case, samples, 8 * case.storage()) if case.signed else given
+    given, signed = settings.stored(samples, settings.bits), settings.stored(samples)
 
-    their_stream = theirs.code(case, given)
-    tally.check(their_stream is not None, case, f"theirs codes ({theirs.said})")
-    read = ours.decode(case, their_stream or b"")
-    tally.check(agrees(read, signed), case, f"ours reads theirs ({ours.said})")
+    def check(is_so, what):
+        tally.holds(is_so, f"{what}: {' '.join(options)}: {case.kind}, {case.cut} short of a block")
 
-    our_stream = ours.code(case, given)
-    tally.check(our_stream is not None, case, f"ours codes ({ours.said})")
-    read = theirs.decode(case, our_stream or b"")
-    tally.check(agrees(read, given, signed), case, f"theirs reads ours ({theirs.said})")
+    their_stream = theirs.answer(options, given)
+    check(their_stream is not None, f"theirs codes ({theirs.said})")
+    read = ours.answer(["-d", *options], their_stream or b"")
+    check(agrees(read, signed), f"ours reads theirs ({ours.said})")
+
+    our_stream = ours.answer(options, given)
+    check(our_stream is not None, f"ours codes ({ours.said})")
+    read = theirs.answer(["-d", *options], our_stream or b"")
+    check(agrees(read, given, signed), f"theirs reads ours ({theirs.said})")
     lengths = len(our_stream or b""), len(their_stream or b"")
-    tally.check(lengths[0] <= lengths[1], case, f"ours is no longer ({lengths[0]} and {lengths[1]} bytes)")
+    check(lengths[0] <= lengths[1], f"ours is no longer ({lengths[0]} and {lengths[1]} bytes)")
 
 
 def is_theirs(path):

@@ -1,7 +1,9 @@
 #!/bin/sh
-# Every test: the gate, and then with the program that it has built coded data that is cut, the round trips with the
-# client of libaec, and edits by generated scripts. Fails if one fails. The last line counts what passed and failed: the
-# gate's where all have passed, else that of the first part that failed. Run from the top of the repository by `make test`.
+# Every test: the gate, and then with the program that it has built coded samples, coded data that is cut, damaged streams,
+# refused memory, files that fail, the round trips with the client of libaec, and edits by generated scripts. Fails if one
+# fails. The last line counts what passed and failed: the gate's where all have passed, else that of the first part that
+# failed. Run from the top of the repository by `make test`.
+export PYTHONDONTWRITEBYTECODE=1
 kept=$(mktemp -d)
 trap 'rm -rf "$kept"' EXIT
 
@@ -29,15 +31,23 @@ on_program() {
 }
 
 part gate rt ci
+echo "== coded samples"
+part coded on_program tests/coded.py
 echo "== coded data that is cut"
 part cuts on_program tests/cuts.py
+echo "== damaged streams"
+part damaged on_program tests/damaged.py
+echo "== refused memory"
+part memory on_program tests/refused_memory.py
+echo "== files that fail"
+part files on_program tests/failing_files.py
 echo "== round trips with libaec's client"
 part trips on_program tests/interop.py
 echo "== edits by generated scripts"
 part scripts on_program tests/scripts.py
 
 last=gate
-for name in gate cuts trips scripts; do
+for name in gate coded cuts damaged memory files trips scripts; do
     if ! has_passed "$name"; then
         last=$name
         break

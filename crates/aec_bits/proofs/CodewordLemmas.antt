@@ -1,61 +1,19 @@
 -- Laws of the codewords, and of the bytes that bits fill.
-use Rattle.std.proofs.Common.{◌≡◌, ℕ, zero, suc, ◌+◌, ◌-◌, ◌*◌, ◌/◌, ◌%◌, ◌^◌, ◌<◌, ◌≤◌, Bool, true, false, cond, List, [], ◌∷◌, ◌++◌, length, take, drop, replicate, get_or, refl, sym, ap, ◌∙◌, arith, append_assoc, length-append, div-one, pow-suc, mod-eq_of_lt, inl, inr}
-use Rattle.std.specs.Prelude.{◌==◌, bit_and, min}
-use Rattle.std.proofs.Math.Numerals.{one-add}
-use mir.Val.{bool_byte}
+use Rattle.std.proofs.Common.{◌≡◌, ℕ, zero, suc, ◌+◌, ◌-◌, ◌*◌, ◌^◌, ◌<◌, ◌≤◌, Bool, false, List, [], ◌∷◌, ◌++◌, length, take, drop, replicate, get_or, refl, sym, ap, ◌∙◌, arith, append_assoc, length-append, mod-eq_of_lt, inl, inr}
+use Rattle.std.specs.Prelude.{min}
 use Rattle.std.specs.Int.{div_ceil}
 use Rattle.std.specs.Simd.{first_chunks}
-use Rattle.std.proofs.lemmas.Nat.{and_mask, shr-shr, shl_below}
 use Rattle.std.proofs.lemmas.Bool.{cases_lt}
-use Rattle.std.proofs.lemmas.List.{take_more, append-nil, take_at, drop-append-le, length-replicate, length-map, get_or-map, drop_more, drop-drop, drop_all, take_all, replicate_more}
+use Rattle.std.proofs.lemmas.List.{append-nil, take_at, drop-append-le, length-replicate, length-map, get_or-map, drop-drop, drop_all, take_all}
 use Rattle.aec_params.specs.Codewords.{binary, bits_number, bytes_of, padded_to_byte, bits_of_bytes}
 use Rattle.aec_params.specs.Cutting.{pieces_of, up_to_multiple}
 use Rattle.aec_bits.specs.BitReader.{has_one}
 use Rattle.aec_bits.proofs.CodewordLaws.{length-binary, bits_number-append, bits_number-zeros, bits_number-binary_mod}
 
--- the first bit of a number in bits, and the others
-pub binary_first : (w v : ℕ) → 0 < w → binary w v ≡ (bit_and (v / 2 ^ (w - 1)) 1 == 1) ∷ binary (w - 1) v
-binary_first zero v h = absurd (omega arith)
-binary_first (suc w) v h =
-    let one_less : suc w - 1 ≡ w = omega arith in
-    rw one_less (ap (λ b. (b == 1) ∷ binary w v) (sym (and_mask (v / 2 ^ w) 1)))
-
--- bits written from the left: one more
-pub binary_more : (front whole : List Bool) (w v : ℕ) → 0 < w → front ++ binary w v ≡ whole
-    → (front ++ (bit_and (v / 2 ^ (w - 1)) 1 == 1) ∷ []) ++ binary (w - 1) v ≡ whole
-binary_more front whole w v h e = rw append_assoc (ap (λ l. front ++ l) (sym (binary_first w v h)) ∙ e)
-
 pub bits_of_bytes-append : (xs ys : List ℕ) → bits_of_bytes (xs ++ ys) ≡ bits_of_bytes xs ++ bits_of_bytes ys
 bits_of_bytes-append [] ys = refl
 bits_of_bytes-append (x ∷ xs) ys =
     ap (λ l. binary 8 x ++ l) (bits_of_bytes-append xs ys) ∙ sym (append_assoc (binary 8 x) (bits_of_bytes xs) (bits_of_bytes ys))
-
-pub bits_of_bytes_more : (front : List Bool) (xs : List ℕ) (i d : ℕ) → i < length xs
-    → (front ++ bits_of_bytes (take i xs)) ++ binary 8 (get_or xs i d) ≡ front ++ bits_of_bytes (take (i + 1) xs)
-bits_of_bytes_more front xs i d h =
-    rw (append_assoc, take_more xs i d h, bits_of_bytes-append)
-    (ap (λ l. front ++ (bits_of_bytes (take i xs) ++ l)) (sym (append-nil (binary 8 (get_or xs i d)))))
-
-low_bit : (v : ℕ) (b : Bool) → ((2 * v + cond b 1 0) % 2 == 1) ≡ b
-low_bit v true = let e : (2 * v + 1) % 2 ≡ 1 = omega arith in rw e refl
-low_bit v false = let e : (2 * v + 0) % 2 ≡ 0 = omega arith in rw e refl
-
-high_part : (v : ℕ) (b : Bool) → (2 * v + cond b 1 0) / 2 ≡ v
-high_part v true = omega arith
-high_part v false = omega arith
-
-binary-push_suc : (k v : ℕ) (b : Bool) → binary (suc k) (2 * v + cond b 1 0) ≡ binary k v ++ b ∷ []
-binary-push_suc zero v b =
-    let same : (2 * v + cond b 1 0) / 2 ^ 0 ≡ 2 * v + cond b 1 0 = div-one (2 * v + cond b 1 0) in
-    rw (same, low_bit v b) refl
-binary-push_suc (suc k) v b =
-    let x : ℕ = 2 * v + cond b 1 0 in
-    let shifted : x / 2 ^ suc k ≡ v / 2 ^ k = sym (ap (λ n. x / 2 ^ n) (one-add k)) ∙ sym (shr-shr x 1 k) ∙ ap (λ n. n / 2 ^ k) (high_part v b) in
-    rw shifted (ap (λ l. (v / 2 ^ k % 2 == 1) ∷ l) (binary-push_suc k v b))
-
--- a bit more on the right
-pub binary-push : (k v : ℕ) (b : Bool) → binary (k + 1) (2 * v + cond b 1 0) ≡ binary k v ++ b ∷ []
-binary-push k v b = let e : k + 1 ≡ suc k = omega arith in rw e (binary-push_suc k v b)
 
 -- ---- bytes
 
@@ -84,31 +42,6 @@ length-bytes_of bits =
     ∙ whole_bytes (length bits)
 
 pub ruleset byte_counts = (length-bytes_of)
-
--- ---- a number read from bits
-
--- one more bit of a number
-pub number_more : (bits : List Bool) (start i value c : ℕ) → start ≤ i → i < length bits → c ≡ cond (get_or bits i false) 1 0
-    → drop start bits ≡ binary (i - start) value ++ drop i bits → drop start bits ≡ binary (i + 1 - start) (2 * value + c) ++ drop (i + 1) bits
-number_more bits start i value c below within bit so_far =
-    let width : i + 1 - start ≡ (i - start) + 1 = omega arith in
-    so_far
-    ∙ ap (λ l. binary (i - start) value ++ l) (drop_more bits i false within)
-    ∙ sym (append_assoc (binary (i - start) value) (get_or bits i false ∷ []) (drop (i + 1) bits))
-    ∙ ap (λ l. l ++ drop (i + 1) bits) (sym (binary-push (i - start) value (get_or bits i false)))
-    ∙ ap (λ n. binary n (2 * value + cond (get_or bits i false) 1 0) ++ drop (i + 1) bits) (sym width)
-    ∙ ap (λ n. binary (i + 1 - start) (2 * value + n) ++ drop (i + 1) bits) (sym bit)
-
--- it stays as small as its bits allow
-pub number_more-lt : (start i value c : ℕ) → start ≤ i → c ≤ 1 → value < 2 ^ (i - start) → 2 * value + c < 2 ^ (i + 1 - start)
-number_more-lt start i value c below small fits =
-    let width : i + 1 - start ≡ suc (i - start) = omega arith in
-    rw (width, pow-suc) (omega arith)
-
--- a bit as a number
-pub bit_value : (c : ℕ) (b : Bool) → c ≡ bool_byte b → (c ≤ 1) × (c ≡ cond b 1 0)
-bit_value c true e = (omega arith, e)
-bit_value c false e = (omega arith, e)
 
 -- ---- the bytes that bits fill
 
@@ -149,23 +82,9 @@ byte_at bits i w v within width fits stands =
     ∙ ap bits_number (get_or-first_chunks 8 count i (padded_to_byte bits) (omega arith) ∙ eight_of bits i w v there width stands)
     ∙ spelled)
 
--- the low bits of a byte in its high places
-pub byte_fits : (v w : ℕ) → w ≤ 8 → v < 2 ^ w → v * 2 ^ (8 - w) < 2 ^ 8
-byte_fits v w small fits = let e : w + (8 - w) ≡ 8 = omega arith in let h = shl_below v w (8 - w) fits in rw e at h
-
 -- ---- zeros before a one
 
--- one more zero
-pub zeros_more : (bits : List Bool) (start i : ℕ) → start ≤ i → i < length bits → get_or bits i false ≡ false
-    → drop start bits ≡ replicate (i - start) false ++ drop i bits → drop start bits ≡ replicate (i + 1 - start) false ++ drop (i + 1) bits
-zeros_more bits start i below within zero_there so_far =
-    let count : i + 1 - start ≡ (i - start) + 1 = omega arith in
-    so_far
-    ∙ ap (λ l. replicate (i - start) false ++ l) (drop_more bits i false within ∙ ap (λ b. b ∷ drop (i + 1) bits) zero_there)
-    ∙ sym (append_assoc (replicate (i - start) false) (false ∷ []) (drop (i + 1) bits))
-    ∙ ap (λ l. l ++ drop (i + 1) bits) (replicate_more (i - start) false ∙ ap (λ n. replicate n false) (sym count))
-
-has_one-zeros : (n : ℕ) → has_one (replicate n false) ≡ false
+pub has_one-zeros : (n : ℕ) → has_one (replicate n false) ≡ false
 has_one-zeros zero = refl
 has_one-zeros (suc n) = has_one-zeros n
 

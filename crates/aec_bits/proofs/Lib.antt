@@ -5,3 +5,13 @@ pub mod OctetsLaw
 pub mod CodewordLemmas
 pub mod DeviceLemmas
 pub mod OctetLemmas
+pub mod OverwriteLemmas
+pub mod WordLemmas
+pub mod ZeroLemmas
+pub mod PackedLemmas
+pub mod PushLemmas
+pub mod GrowthLemmas
+pub mod BitBufLemmas
+pub mod ShiftLemmas
+pub mod ByteLemmas
+pub mod LaneLemmas

@@ -5,3 +5,6 @@ pub mod Codec
 pub mod Refusals
 pub mod Octets
 pub mod Laws
+pub mod Words
+pub mod WordBits
+pub mod Packed

@@ -1,5 +1,8 @@
 //! A list of bits that grows.
 
+use crate::octets::words_of;
+use crate::packed::{append_bits, cut, push_number, push_unary, splice_bits};
+use crate::words::{number_at, zeros_at};
 use aec_params::Fault;
 use std::alloc::Global;
 use std::marker::Model;
@@ -13,20 +16,27 @@ const MOST_BITS: u64 = 1 << 62;
 /// Every call that grows answers `Memory` where a growth was refused, and nothing has changed then.
 #[derive(Debug, Drop)]
 pub struct BitBuf {
-    bits: Vec<bool>,
+    words: Vec<u64>,
+    len: u64,
 }
 
 impl Model for BitBuf {
-    ghost use Rattle.std.specs.Prelude.{◌-◌, ◌^◌, ◌≤◌, min, vec_len, vec_capacity};
+    ghost use Rattle.std.specs.Prelude.{◌-◌, ◌*◌, ◌^◌, ◌≤◌, min, take, vec_capacity};
     ghost use Rattle.aec_bits.specs.BitBuf.{Bits};
+    ghost use Rattle.aec_bits.specs.Words.{bits_of_words};
+    ghost use Rattle.aec_bits.specs.Packed.{ArePacked};
 
     ghost Value = { Bits };
 
-    ghost view = { λ b. record { list = b.bits.items; room = min (vec_capacity b.bits) (2 ^ 62) - vec_len b.bits } };
+    ghost view = { λ b. record {
+      list = take b.len (bits_of_words b.words.items);
+      room = min (64 * vec_capacity b.words) (2 ^ 62) - b.len;
+    } };
 
-    ghost invariant = { λ b. vec_len b.bits ≤ 2 ^ 62 };
+    ghost invariant = { λ b. (b.len ≤ 2 ^ 62) × ArePacked b.words.items b.len };
 }
 
+#[tactic(auto, using(crate::proofs::PackedLemmas::packed_lengths))]
 impl BitBuf {
     ghost use Rattle.std.specs.Prelude.{◌≡◌, ◌+◌, ◌-◌, ◌*◌, ◌<◌, ◌≤◌, ◌^◌, [], ◌∷◌, ◌++◌, List, Bool, false, length, take, drop, replicate, slice_index, slice_index_or, IfOk, OnOk, OnErr, IfErr, MatchOption, is_some};
     ghost use Rattle.std.specs.Int.{div_ceil};
@@ -40,7 +50,8 @@ impl BitBuf {
         ensures { result.list ≡ [] }
     {
         BitBuf {
-            bits: Vec::new(alloc),
+            words: Vec::new(alloc),
+            len: 0,
         }
     }
 
@@ -49,7 +60,7 @@ impl BitBuf {
         ensures value { result ≡ length self.now.list }
         ensures bound { length self.now.list ≤ 2 ^ 62 }
     {
-        self.bits.len() as u64
+        self.len
     }
 
     /// The bit at place `i`.
@@ -57,11 +68,11 @@ impl BitBuf {
         requires { i < length self.now.list }
         ensures { result ≡ slice_index_or self.now.list i false }
     {
-        self.bits[i as usize]
+        number_at(&self.words, i, 1) == 1
     }
 
     /// The number of bytes that the bits fill.
-    #[tactic(auto, using(crate::proofs::CodewordLemmas::byte_counts))]
+    #[tactic(auto, using(crate::proofs::CodewordLemmas::byte_counts, crate::proofs::PackedLemmas::packed_lengths))]
     pub fn byte_len(&self) -> u64
         ensures value { result ≡ length (bytes_of self.now.list) }
         ensures bits { result ≡ div_ceil (length self.now.list) 8 }
@@ -70,15 +81,12 @@ impl BitBuf {
     }
 
     /// Byte `i` of the bytes that the bits fill; zeros fill the last one.
-    #[tactic(auto, using(crate::proofs::CodewordLemmas::byte_counts))]
+    #[tactic(auto, using(crate::proofs::CodewordLemmas::byte_counts, crate::proofs::PackedLemmas::packed_lengths))]
     pub fn byte(&self, i: u64) -> u8
         requires { i < length (bytes_of self.now.list) }
         ensures { result ≡ slice_index (bytes_of self.now.list) i }
     {
-        let len = self.len();
-        let start = 8 * i;
-        let width = (len - start).min(8);
-        (number_at(&self.bits, start as usize, width as u32) << (8 - width)) as u8
+        number_at(&self.words, 8 * i, 8) as u8
     }
 
     /// The number that `width` bits spell from place `start` on, the most significant first.
@@ -88,7 +96,7 @@ impl BitBuf {
         ensures fits { result < 2 ^ width }
         ensures bits { drop start self.now.list ≡ binary width result ++ drop (start + width) self.now.list }
     {
-        number_at(&self.bits, start as usize, width)
+        number_at(&self.words, start, width)
     }
 
     /// How many zeros stand from place `start` on before a one; `None` where no one follows.
@@ -100,8 +108,7 @@ impl BitBuf {
         ensures some { is_some result ≡ has_one (drop start self.now.list) }
         ensures bound { length self.now.list ≤ 2 ^ 62 }
     {
-        let _ = &self.bits;
-        zeros_at(&self.bits, start as usize).map(|zeros| zeros as u64)
+        zeros_at(&self.words, start)
     }
 
     /// Makes room for so many more bits.
@@ -113,10 +120,11 @@ impl BitBuf {
         ensures full { OnErr result (self.old.room < bits) }
         ensures fault { IfErr result (λ e. e ≡ Memory) }
     {
-        if bits > MOST_BITS - self.bits.len() as u64 {
+        if bits > MOST_BITS - self.len {
             return Err(Fault::Memory);
         }
-        self.bits.reserve(bits as usize)?;
+        let count = (self.len + bits).div_ceil(64);
+        self.words.reserve(count as usize - self.words.len())?;
         Ok(())
     }
 
@@ -130,8 +138,11 @@ impl BitBuf {
         ensures full { OnErr result (self.old.room < width) }
         ensures fault { IfErr result (λ e. e ≡ Memory) }
     {
-        self.reserve(u64::from(width))?;
-        push_number(&mut self.bits, value, width);
+        if u64::from(width) > MOST_BITS - self.len {
+            return Err(Fault::Memory);
+        }
+        push_number(&mut self.words, self.len, value, width)?;
+        self.len += u64::from(width);
         Ok(())
     }
 
@@ -143,12 +154,15 @@ impl BitBuf {
         ensures full { OnErr result (self.old.room < v + 1) }
         ensures fault { IfErr result (λ e. e ≡ Memory) }
     {
-        if v >= MOST_BITS - self.bits.len() as u64 {
+        if v < 64 {
+            return self.push_bits(1, v as u32 + 1);
+        }
+        if v >= MOST_BITS - self.len {
             return Err(Fault::Memory);
         }
         self.reserve(v + 1)?;
-        push_zeros(&mut self.bits, v as usize);
-        push_bit(&mut self.bits, true);
+        push_unary(&mut self.words, self.len, v);
+        self.len += v + 1;
         Ok(())
     }
 
@@ -160,8 +174,9 @@ impl BitBuf {
         ensures full { OnErr result (self.old.room < length other.now.list) }
         ensures fault { IfErr result (λ e. e ≡ Memory) }
     {
-        self.reserve(other.len())?;
-        self.bits.extend_from_slice(&other.bits).unwrap();
+        self.reserve(other.len)?;
+        append_bits(&mut self.words, self.len, &other.words, other.len);
+        self.len += other.len;
         Ok(())
     }
 
@@ -177,12 +192,10 @@ impl BitBuf {
         ensures fault { IfErr result (λ e. e ≡ Memory) }
     {
         let removed = stop - start;
-        let added = with.len();
-        if added > removed {
-            self.reserve(added - removed)?;
-        }
-        move_tail(&mut self.bits, stop as usize, (start + added) as usize);
-        write_over(self.bits.as_mut_slice(), start as usize, &with.bits);
+        let added = with.len;
+        self.reserve(added.saturating_sub(removed))?;
+        splice_bits(&mut self.words, self.len, start, stop, &with.words, added);
+        self.len = self.len - removed + added;
         Ok(())
     }
 
@@ -194,9 +207,7 @@ impl BitBuf {
         ensures full { OnErr result (self.old.room < up_to_multiple 8 (length self.old.list)) }
         ensures fault { IfErr result (λ e. e ≡ Memory) }
     {
-        let missing = (8 - self.len() % 8) % 8;
-        self.reserve(missing)?;
-        push_zeros(&mut self.bits, missing as usize);
+        self.len += missing_bits(self.len);
         Ok(())
     }
 
@@ -205,13 +216,13 @@ impl BitBuf {
         ensures ok { IfOk result (λ b. b.list ≡ bits_of_bytes bytes.now) }
         ensures fault { IfErr result (λ e. e ≡ Memory) }
     {
-        let mut buf = BitBuf::new(alloc);
         if bytes.len() as u64 > MOST_BITS / 8 {
             return Err(Fault::Memory);
         }
-        buf.reserve(8 * bytes.len() as u64)?;
-        push_bytes(&mut buf.bits, bytes);
-        Ok(buf)
+        Ok(BitBuf {
+            words: words_of(alloc, bytes)?,
+            len: 8 * bytes.len() as u64,
+        })
     }
 
     /// Keeps the first `len` bits. Takes no memory.
@@ -220,110 +231,17 @@ impl BitBuf {
         ensures list { self.new.list ≡ take len self.old.list }
         ensures room { self.old.room + length self.old.list ≤ self.new.room + len }
     {
-        self.bits.truncate(len as usize);
+        cut(&mut self.words, len);
+        self.len = len;
     }
 }
 
-ghost use Rattle.std.specs.Prelude.{◌≡◌, ◌+◌, ◌-◌, ◌<◌, ◌≤◌, ◌^◌, ◌*◌, [], ◌∷◌, ◌++◌, true, false, length, take, drop, replicate, vec_len, vec_capacity, MatchOption, is_some};
-ghost use Rattle.aec_params.specs.Codewords.{fs, binary, bits_of_bytes};
-ghost use Rattle.aec_bits.specs.BitReader.{has_one};
+ghost use Rattle.std.specs.Prelude.{◌≡◌};
+ghost use Rattle.aec_params.specs.Cutting.{up_to_multiple};
 
-/// Appends a bit for which there is room.
-fn push_bit(bits: &mut Vec<bool>, bit: bool)
-    requires { vec_len bits.old < vec_capacity bits.old }
-    ensures items { bits.new.items ≡ bits.old.items ++ bit ∷ [] }
-    ensures len { vec_len bits.new ≡ vec_len bits.old + 1 }
-    ensures capacity { vec_capacity bits.old ≤ vec_capacity bits.new }
+/// How many bits are missing up to a multiple of 8.
+fn missing_bits(len: u64) -> u64
+    ensures { result ≡ up_to_multiple 8 len }
 {
-    bits.push(bit).unwrap();
-}
-
-/// Appends zeros for which there is room.
-fn push_zeros(bits: &mut Vec<bool>, count: usize)
-    requires { vec_len bits.old + count ≤ vec_capacity bits.old }
-    ensures items { bits.new.items ≡ bits.old.items ++ replicate count false }
-    ensures len { vec_len bits.new ≡ vec_len bits.old + count }
-    ensures capacity { vec_capacity bits.old ≤ vec_capacity bits.new }
-{
-    bits.resize(bits.len() + count, false).unwrap();
-}
-
-/// Moves the bits from place `from` on to place `to`, and makes the list longer or shorter by the difference; it has room
-/// for that. Zeros and old bits stand in between.
-fn move_tail(bits: &mut Vec<bool>, from: usize, to: usize)
-    requires within { from ≤ vec_len bits.old }
-    requires room { to + (vec_len bits.old - from) ≤ vec_capacity bits.old }
-    ensures items { bits.new.items ≡ take to (bits.old.items ++ replicate (to - from) false) ++ drop from bits.old.items }
-    ensures len { vec_len bits.new ≡ to + (vec_len bits.old - from) }
-    ensures capacity { vec_capacity bits.old ≤ vec_capacity bits.new }
-{
-    let len = bits.len();
-    push_zeros(bits, to.saturating_sub(from));
-    bits.copy_within(from..len, to);
-    bits.truncate(to + (len - from));
-}
-
-/// Writes bits over those from place `at` on.
-fn write_over(bits: &mut [bool], at: usize, with: &[bool])
-    requires { at + length with.now ≤ length bits.old }
-    ensures { bits.new ≡ take at bits.old ++ (with.now ++ drop (at + length with.now) bits.old) }
-{
-    bits[at..at + with.len()].copy_from_slice(with);
-}
-
-/// The number that `width` bits spell from place `start` on, the most significant first.
-fn number_at(bits: &[bool], start: usize, width: u32) -> u64
-    requires width { width ≤ 64 }
-    requires within { start + width ≤ length bits.now }
-    ensures fits { result < 2 ^ width }
-    ensures bits { drop start bits.now ≡ binary width result ++ drop (start + width) bits.now }
-{
-    let mut value = 0;
-    for i in start..start + width as usize {
-        value = 2 * value + u64::from(bits[i]);
-    }
-    value
-}
-
-/// How many zeros stand from place `start` on before a one; `None` where no one follows.
-fn zeros_at(bits: &[bool], start: usize) -> Option<usize>
-    requires { start ≤ length bits.now }
-    ensures cases { MatchOption result
-        (has_one (drop start bits.now) ≡ false)
-        (λ v. (start + v < length bits.now) × (drop start bits.now ≡ fs v ++ drop (start + v + 1) bits.now)) }
-    ensures some { is_some result ≡ has_one (drop start bits.now) }
-{
-    for i in start..bits.len() {
-        if bits[i] {
-            return Some(i - start);
-        }
-    }
-    None
-}
-
-/// Appends the lowest `width` bits of a number, for which there is room, the most significant first.
-fn push_number(bits: &mut Vec<bool>, value: u64, width: u32)
-    requires width { width ≤ 64 }
-    requires room { vec_len bits.old + width ≤ vec_capacity bits.old }
-    ensures items { bits.new.items ≡ bits.old.items ++ binary width value }
-    ensures len { vec_len bits.new ≡ vec_len bits.old + width }
-    ensures capacity { vec_capacity bits.old ≤ vec_capacity bits.new }
-{
-    let mut left = width;
-    while left > 0 {
-        left -= 1;
-        push_bit(bits, value >> left & 1 == 1);
-    }
-}
-
-/// Appends the bits of bytes, for which there is room.
-fn push_bytes(bits: &mut Vec<bool>, bytes: &[u8])
-    requires { vec_len bits.old + 8 * length bytes.now ≤ vec_capacity bits.old }
-    ensures items { bits.new.items ≡ bits.old.items ++ bits_of_bytes bytes.now }
-    ensures len { vec_len bits.new ≡ vec_len bits.old + 8 * length bytes.now }
-    ensures capacity { vec_capacity bits.old ≤ vec_capacity bits.new }
-{
-    for byte in bytes {
-        push_number(bits, u64::from(*byte), 8);
-    }
+    (8 - len % 8) % 8
 }

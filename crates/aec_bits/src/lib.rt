@@ -5,10 +5,15 @@ mod bit_buf;
 mod bit_reader;
 mod codec;
 mod device;
+mod fours;
 mod io_device;
 pub mod laws;
+mod octets;
+mod packed;
+mod shift;
 #[cfg(test)]
 mod tests;
+mod words;
 mod writing;
 
 pub use bit_buf::BitBuf;

@@ -3,3 +3,5 @@
 mod bits;
 mod codecs;
 mod devices;
+mod packed;
+mod words;

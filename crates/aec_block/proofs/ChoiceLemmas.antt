@@ -1,19 +1,21 @@
--- The best of the options tried so far.
-use Rattle.std.proofs.Common.{◌≡◌, ℕ, ◌+◌, ◌<◌, zero, suc, refl, ap, ◌∙◌, sym, subst, arith, Bool, true, false, cond, List, ◌∷◌, length, map}
+-- The best of the options tried so far, and those that needn't be tried.
+use Rattle.std.proofs.Common.{◌≡◌, ℕ, ◌+◌, ◌-◌, ◌*◌, ◌/◌, ◌^◌, ◌<◌, ◌≤◌, zero, suc, refl, ap, ◌∙◌, sym, subst, arith, Bool, true, false, cond, Option, Some, None, List, [], ◌∷◌, drop, length, map}
 use Rattle.std.specs.List.{best_of, range_with_len}
-use Rattle.std.specs.Prelude.{nat_lt, if◌then◌else◌}
+use Rattle.std.specs.Prelude.{nat_lt, nat_le, ◌&&◌, ◌||◌, if◌then◌else◌}
+use Rattle.std.proofs.lemmas.Bool.{and_parts, leb-true, ltb-true, ltb-false, lt-ltb, le-ltb, cond-true, cond-false, cond_both}
+use Rattle.std.proofs.lemmas.Nat.{mul-le}
 use Rattle.std.proofs.lemmas.List.FromFn.{map-range_with_len_more}
-use Rattle.std.proofs.lemmas.List.Sums.{fold_push}
+use Rattle.std.proofs.lemmas.List.Sums.{fold_push, sum_by-cons}
 use Rattle.aec_params.specs.declared.settings.Settings.{Settings}
-use Rattle.aec_params.specs.Params.{split_count}
+use Rattle.aec_params.specs.Params.{IsAllowed, split_count}
 use Rattle.aec_params.specs.Blocks.{Block}
-use Rattle.aec_params.specs.CodedDataSets.{CodedDataSet, cds_bits}
-use Rattle.aec_params.specs.Spellings.{uncompressed, paired, split, is_shorter}
+use Rattle.aec_params.specs.CodedDataSets.{CodedDataSet, pair_number, cds_bits}
+use Rattle.aec_params.specs.Spellings.{after_reference, written_values, uncompressed, paired, split, is_shorter}
 use Rattle.aec_block.specs.declared.choice.Coding.{Coding}
 use Rattle.aec_block.specs.declared.choice.Choice.{Choice}
-use Rattle.aec_block.specs.Choices.{spelling_by, Names, IsChoice}
+use Rattle.aec_block.specs.Choices.{spelling_by, IsFull, Names, IsChoice}
 use Rattle.aec_block.specs.declared.choice.Coding.TheVariants.{NoCompression, SecondExtension, Split}
-use Rattle.aec_block.specs.Lengths.{uncompressed_length, paired_length, split_length}
+use Rattle.aec_block.specs.Lengths.{sum_of_shifted, pairs_length, split_values_length, IsBestSplit, uncompressed_length, paired_length, split_length}
 use Rattle.aec_block.proofs.LengthLemmas.{length-uncompressed, length-paired, length-split}
 
 -- the first of the shortest among no compression, second extension and the first so many splitting options
@@ -56,18 +58,190 @@ names-first s b plain pairs next at_plain at_pairs is =
     names-shorter s b (paired b) (uncompressed b) SecondExtension pairs (record { coding = NoCompression; bits = plain }) next
     (record { coding = refl; bits = at_plain ∙ sym (length-uncompressed s b) }) refl (at_pairs ∙ sym (length-paired s b)) is
 
-pub names-more : (s : Settings) (b : Block) (k bits : ℕ) (best next : Choice) → Names s b (best_among s b k) best
-    → bits ≡ split_length s b k → next ≡ (if nat_lt bits best.bits then record { coding = Split k; bits = bits } else best)
-    → Names s b (best_among s b (k + 1)) next
-names-more s b k bits best next named len is =
-    let P : CodedDataSet → Type 0 = λ c. Names s b c next in
-    subst P (sym (best_among-more s b k))
-    (names-shorter s b (split b k) (best_among s b k) (Split k) bits best next named refl (len ∙ sym (length-split s b k)) is)
+-- ---- one splitting option stands for all
 
-pub names-last : (s : Settings) (b : Block) (k : ℕ) (best : Choice) → Names s b (best_among s b k) best → k ≡ split_count s → IsChoice s b best
-names-last s b k best named is =
+-- the best so far, or the next where it is shorter
+abbrev pick : {X : Type 0} → (X → ℕ) → X → X → X
+pick f best next = cond (nat_lt (f next) (f best)) next best
+
+pick-next : {X : Type 0} (f : X → ℕ) (best next : X) → f next < f best → pick f best next ≡ next
+pick-next f best next less = cond-true (nat_lt (f next) (f best)) next best (lt-ltb (f next) (f best) less)
+
+pick-best : {X : Type 0} (f : X → ℕ) (best next : X) → f best ≤ f next → pick f best next ≡ best
+pick-best f best next more = cond-false (nat_lt (f next) (f best)) next best (le-ltb (f next) (f best) more)
+
+-- what is longer than the last needn't be tried
+pick-skip : {X : Type 0} (f : X → ℕ) (x y z : X) → f z < f y → pick f (pick f x y) z ≡ pick f x z
+pick-skip f x y z less = cond_both (nat_lt (f y) (f x)) y x (λ w. pick f w z ≡ pick f x z)
+    (λ t. let l = ltb-true (f y) (f x) t in pick-next f y z less ∙ sym (pick-next f x z (omega arith))) (λ t. refl)
+
+-- nor what is no shorter than one that was tried
+pick-keep : {X : Type 0} (f : X → ℕ) (x y z : X) → f y ≤ f z → pick f (pick f x y) z ≡ pick f x y
+pick-keep f x y z more =
+    let within : f (pick f x y) ≤ f y = cond_both (nat_lt (f y) (f x)) y x (λ w. f w ≤ f y) (λ t. omega arith)
+    (λ t. let l = ltb-false (f y) (f x) t in omega arith) in
+    pick-best f (pick f x y) z (omega arith)
+
+abbrev bits_by : Settings → CodedDataSet → ℕ
+bits_by s c = length (cds_bits s c)
+
+split-lt : (s : Settings) (b : Block) (j k : ℕ) → split_values_length j (written_values b) < split_values_length k (written_values b)
+    → bits_by s (split b j) < bits_by s (split b k)
+split-lt s b j k less =
+    let at_j = length-split s b j in
+    let at_k = length-split s b k in
+    omega arith
+
+split-le : (s : Settings) (b : Block) (j k : ℕ) → split_values_length j (written_values b) ≤ split_values_length k (written_values b)
+    → bits_by s (split b j) ≤ bits_by s (split b k)
+split-le s b j k less =
+    let at_j = length-split s b j in
+    let at_k = length-split s b k in
+    omega arith
+
+best_among-before : (s : Settings) (b : Block) (k c : ℕ)
+    → ((j : ℕ) → j < c → split_values_length k (written_values b) < split_values_length j (written_values b))
+    → shorter s (best_among s b c) (split b k) ≡ shorter s (best_among s b 0) (split b k)
+best_among-before s b k zero longer = refl
+best_among-before s b k (suc c) longer =
+    let count : suc c ≡ c + 1 = omega arith in
+    let last = ap (best_among s b) count ∙ best_among-more s b c in
+    ap (λ (best : CodedDataSet). shorter s best (split b k)) last
+    ∙ pick-skip (bits_by s) (best_among s b c) (split b c) (split b k) (split-lt s b k c (longer c (omega arith)))
+    ∙ best_among-before s b k c (λ j h. longer j (omega arith))
+
+best_among-after : (s : Settings) (b : Block) (k d : ℕ)
+    → ((j : ℕ) → k < j → j < k + 1 + d → split_values_length k (written_values b) ≤ split_values_length j (written_values b))
+    → best_among s b (k + 1 + d) ≡ shorter s (best_among s b k) (split b k)
+best_among-after s b k zero longer =
+    let count : k + 1 + zero ≡ k + 1 = omega arith in
+    ap (best_among s b) count ∙ best_among-more s b k
+best_among-after s b k (suc d) longer =
+    let count : k + 1 + suc d ≡ k + 1 + d + 1 = omega arith in
+    let before = best_among-after s b k d (λ j later h. longer j later (omega arith)) in
+    ap (best_among s b) count ∙ best_among-more s b (k + 1 + d) ∙ ap (λ (best : CodedDataSet). shorter s best (split b (k + 1 + d))) before
+    ∙ pick-keep (bits_by s) (best_among s b k) (split b k) (split b (k + 1 + d))
+    (split-le s b k (k + 1 + d) (longer (k + 1 + d) (omega arith) (omega arith)))
+
+best_among-best : (s : Settings) (b : Block) (count k : ℕ) → IsBestSplit count k (written_values b)
+    → best_among s b count ≡ shorter s (best_among s b 0) (split b k)
+best_among-best s b count k best =
+    let within = best.within in
+    let all : count ≡ k + 1 + (count - (k + 1)) = omega arith in
+    ap (best_among s b) all ∙ best_among-after s b k (count - (k + 1)) (λ j later h. best.after j later (omega arith))
+    ∙ best_among-before s b k k best.before
+
+-- ---- the cases of the choice
+
+pub names-unsplit : (s : Settings) (b : Block) (options : ℕ) (best : Choice) → Names s b (best_among s b 0) best → options ≡ split_count s
+    → options ≡ 0 → IsChoice s b best
+names-unsplit s b options best named is none =
     let P : ℕ → Type 0 = λ count. Names s b (best_among s b count) best in
-    subst P is named
+    subst P (sym none ∙ is) named
+
+pub names-split : (s : Settings) (b : Block) (options k : ℕ) (best next : Choice) → Names s b (best_among s b 0) best → options ≡ split_count s
+    → IsBestSplit options k (written_values b)
+    → next ≡ (if nat_lt (split_length s b k) best.bits then record { coding = Split k; bits = split_length s b k } else best)
+    → IsChoice s b next
+names-split s b options k best next named count is_best is =
+    let P : CodedDataSet → Type 0 = λ c. Names s b c next in
+    let Q : ℕ → Type 0 = λ n. Names s b (best_among s b n) next in
+    subst Q count (subst P (sym (best_among-best s b options k is_best))
+    (names-shorter s b (split b k) (best_among s b 0) (Split k) (split_length s b k) best next named refl (sym (length-split s b k)) is))
+
+-- ---- where the second extension can't win
+
+-- beyond the limit it is longer than any choice so far
+pub pairs-too_long : (pairs : ℕ) (best : Choice) (c : Choice) → 2 ^ 31 ≤ pairs → best.bits ≤ 2 ^ 31
+    → best ≡ (if nat_lt pairs best.bits then c else best)
+pairs-too_long pairs best c long short = sym (cond-false (nat_lt pairs best.bits) c best (le-ltb pairs best.bits (omega arith)))
+
+pub ruleset too_long = (pairs-too_long)
+
+-- a pair's codeword has at least twice as many bits as the pair adds up to
+four_times : (t : ℕ) → 4 * t ≤ t * (t + 1) + 2
+four_times zero = omega arith
+four_times (suc zero) = omega arith
+four_times (suc (suc t)) = omega arith
+
+twice : (a b : ℕ) → 2 * (a + b) ≤ pair_number a b + 1
+twice a b = halved ((a + b) * (a + b + 1)) (four_times (a + b))
+  where
+    halved : (n : ℕ) → 4 * (a + b) ≤ n + 2 → 2 * (a + b) ≤ n / 2 + b + 1
+    halved n h = omega arith
+
+pairs_length-twice : (h : ℕ) (values : List ℕ) → length values ≡ 2 * h → 2 * sum_of_shifted 0 values ≤ pairs_length values
+pairs_length-twice h [] even = omega arith
+pairs_length-twice h (a ∷ []) even = absurd (omega arith)
+pairs_length-twice h (a ∷ (b ∷ values)) even =
+    let rest = pairs_length-twice (h - 1) values (omega arith) in
+    let first = sum_by-cons (λ (v : ℕ). v / 2 ^ 0) a (b ∷ values) in
+    let second = sum_by-cons (λ (v : ℕ). v / 2 ^ 0) b values in
+    let pair = twice a b in
+    omega arith
+
+sum_of_shifted-drop : (values : List ℕ) → sum_of_shifted 0 (drop 1 values) ≤ sum_of_shifted 0 values
+sum_of_shifted-drop [] = omega arith
+sum_of_shifted-drop (v ∷ values) = omega (arith, sum_by-cons (λ (u : ℕ). u / 2 ^ 0) v values)
+
+sum_of_written : (reference : Option ℕ) (values : List ℕ) → sum_of_shifted 0 (after_reference reference values) ≤ sum_of_shifted 0 values
+sum_of_written None values = omega arith
+sum_of_written (Some r) values = sum_of_shifted-drop values
+
+-- a great sum of the values, or a k past 0
+sum-great : (values : List ℕ) (options k bits : ℕ) → IsBestSplit options k values → bits ≡ split_values_length k values
+    → (k ≡ 0 → 2 * length values ≤ bits) → (length values ≤ sum_of_shifted 0 values) × (split_values_length k values ≤ split_values_length 0 values)
+sum-great values options zero bits best is many =
+    let enough = many refl in
+    (omega arith, omega arith)
+sum-great values options (suc k) bits best is many =
+    let first = best.before 0 (omega arith) in
+    let once : length values * 1 ≤ length values * (k + 1) = mul-le (length values) 1 (length values) (k + 1) (omega arith) (omega arith) in
+    (omega arith, omega arith)
+
+even_size : (s : Settings) → IsAllowed s → s.block_size ≡ 2 * (s.block_size / 2)
+even_size s a = let b = a.block_size in grind arith
+
+pairs-longer : (s : Settings) (b : Block) (options k bits : ℕ) → IsAllowed s → IsFull s b → IsBestSplit options k (written_values b)
+    → bits ≡ split_values_length k (written_values b) → (k ≡ 0 → 2 * length (written_values b) ≤ bits) → split_length s b k < paired_length s b
+pairs-longer s b options k bits a full best is many =
+    let great = sum-great (written_values b) options k bits best is many in
+    let even = full.len ∙ even_size s a in
+    let pairs = pairs_length-twice (s.block_size / 2) b.values even in
+    let written = sum_of_written b.reference b.values in
+    let enough = great.0 in
+    let first = great.1 in
+    omega arith
+
+-- what the test says
+some_options : (options : ℕ) (rest : Bool) → (nat_lt 0 options && rest) ≡ true → 0 < options
+some_options options rest test = ltb-true 0 options (and_parts (nat_lt 0 options) rest test).0
+
+many_bits : (k least bits : ℕ) → (nat_lt 0 k || nat_le least bits) ≡ true → k ≡ 0 → least ≤ bits
+many_bits zero least bits test is = leb-true least bits test
+many_bits (suc k) least bits test is = absurd (omega arith)
+
+-- the second extension is left out where splitting is shorter
+pub names-unpaired : (s : Settings) (b : Block) (options k bits plain : ℕ) (next : Choice) → IsAllowed s → IsFull s b
+    → plain ≡ uncompressed_length s b → options ≡ split_count s → (0 < options → IsBestSplit options k (written_values b))
+    → bits ≡ split_values_length k (written_values b)
+    → (nat_lt 0 options && (nat_lt 0 k || nat_le (2 * length (written_values b)) bits)) ≡ true
+    → next ≡ (if nat_lt (split_length s b k) plain then record { coding = Split k; bits = split_length s b k }
+    else record { coding = NoCompression; bits = plain })
+    → IsChoice s b next
+names-unpaired s b options k bits plain next a full at_plain count best at_bits test is =
+    let P : CodedDataSet → Type 0 = λ c. Names s b c next in
+    let Q : ℕ → Type 0 = λ n. Names s b (best_among s b n) next in
+    let long = nat_lt 0 k || nat_le (2 * length (written_values b)) bits in
+    let is_best = best (some_options options long test) in
+    let many = many_bits k (2 * length (written_values b)) bits (and_parts (nat_lt 0 options) long test).1 in
+    let longer = pairs-longer s b options k bits a full is_best at_bits many in
+    let at_split = length-split s b k in
+    let at_pairs = length-paired s b in
+    let skipped = pick-skip (bits_by s) (uncompressed b) (paired b) (split b k) (omega arith) in
+    subst Q count (subst P (sym (best_among-best s b options k is_best ∙ skipped))
+    (names-shorter s b (split b k) (uncompressed b) (Split k) (split_length s b k) (record { coding = NoCompression; bits = plain }) next
+    (record { coding = refl; bits = at_plain ∙ sym (length-uncompressed s b) }) refl (sym at_split) is))
 
 -- a splitting option that is the best among so many is one of them
 same-k : (b : Block) (j k : ℕ) → split b j ≡ split b k → j ≡ k

@@ -3,6 +3,7 @@ use Rattle.std.proofs.Common.{◌≡◌, ℕ, zero, suc, ◌+◌, ◌-◌, ◌*�
 use Rattle.std.specs.List.{flat_map}
 use Rattle.std.proofs.lemmas.List.{length-replicate}
 use Rattle.std.proofs.lemmas.List.Sums.{sum_by-cons}
+use Rattle.std.proofs.lemmas.Nat.{mul-le}
 use Rattle.aec_params.specs.declared.settings.Settings.{Settings}
 use Rattle.aec_params.specs.Params.{id_len}
 use Rattle.aec_params.specs.Codewords.{fs, binary}
@@ -95,3 +96,16 @@ pub pairs_length-drop_end : (values : List ℕ) (i : ℕ) → length values ≤ 
 pairs_length-drop_end values i few = pairs_length-short (drop i values) (omega (arith, length-drop i values))
 
 pub ruleset pair_steps = (pairs_length-drop, pairs_length-drop_end)
+
+-- a pair of a great sum has a great number
+pub pair_number-great : (a b : ℕ) → 2 ^ 16 ≤ a + b → 2 ^ 31 ≤ pair_number a b
+pair_number-great a b great = halved ((a + b) * (a + b + 1)) (mul-le (2 ^ 16) (2 ^ 16) (a + b) (a + b + 1) great (omega arith))
+  where
+    halved : (n : ℕ) → 2 ^ 16 * 2 ^ 16 ≤ n → 2 ^ 31 ≤ n / 2 + b
+    halved n h = omega arith
+
+-- and one of a small sum a small number
+pub pair_product-small : (a b : ℕ) → a + b < 2 ^ 16 → (a + b) * (a + b + 1) ≤ 2 ^ 16 * 2 ^ 16
+pair_product-small a b small = mul-le (a + b) (a + b + 1) (2 ^ 16) (2 ^ 16) (omega arith) (omega arith)
+
+pub ruleset great_pairs = (pair_number-great, pair_product-small)

@@ -1,5 +1,7 @@
 pub mod MappingLemmas
 pub mod LengthLemmas
+pub mod LanesLemmas
+pub mod SplittingLemmas
 pub mod BlockLemmas
 pub mod ChoiceLemmas
 pub mod CodewordLemmas
@@ -12,3 +14,4 @@ pub mod CursorLemmas
 pub mod GatheringLemmas
 pub mod ReadCdsLemmas
 pub mod StandingLemmas
+pub mod ShortestLemmas

@@ -1,5 +1,5 @@
 -- The choice of a block's coding: which spelling each names, and the one that is made.
-use Rattle.std.specs.Prelude.{◌≡◌, ℕ, ◌^◌, ◌<◌, Option, is_some, length}
+use Rattle.std.specs.Prelude.{◌≡◌, ℕ, ◌^◌, ◌<◌, nat_lt, if◌then◌else◌, Option, is_some, length}
 use Rattle.std.specs.List.{AllByRecursion}
 use Rattle.aec_params.specs.declared.settings.Settings.{Settings}
 use Rattle.aec_params.specs.Blocks.{Block}
@@ -33,3 +33,7 @@ pub record Names (s : Settings) (b : Block) (c : CodedDataSet) (choice : Choice)
 -- the choice of the shortest spelling, and of equal ones the first
 abbrev pub IsChoice : Settings → Block → Choice → Type 0
 IsChoice s b choice = Names s b (shortest_spelling s b) choice
+
+-- the coding with so many bits, where it is shorter than the best so far, and else that
+abbrev pub shorter_choice : Choice → Coding → ℕ → Choice
+shorter_choice best coding bits = if nat_lt bits best.bits then record { coding = coding; bits = bits } else best

@@ -1,8 +1,11 @@
 -- The laws of coded data sets: in allowed settings their bits and their place tell which they are.
-use Rattle.std.specs.Prelude.{◌≡◌, ℕ, Bool, ◌↔◌, List, ◌++◌}
+use Rattle.std.specs.Prelude.{◌≡◌, ℕ, ◌≤◌, Bool, ◌↔◌, Option, Some, None, List, ◌++◌, length}
 use Rattle.aec_params.specs.declared.settings.Settings.{Settings}
 use Rattle.aec_params.specs.Params.{IsAllowed}
-use Rattle.aec_params.specs.CodedDataSets.{CodedDataSet, cds_bits, HasShape}
+use Rattle.aec_params.specs.Blocks.{Block}
+use Rattle.aec_params.specs.CodedDataSets.{Body, uncompressed_values, value_pairs, split_values, zero_blocks, CodedDataSet, cds_bits, HasShape}
+use Rattle.aec_params.specs.Places.{block_of_values, block_of_members}
+use Rattle.aec_params.specs.Spellings.{shortest_spelling}
 use Rattle.aec_params.specs.Faults.{IsSetAt}
 use Rattle.aec_block.specs.ReadAt.{nothing, taken, cds_at}
 
@@ -30,3 +33,16 @@ NoSetIsAPrefix = (s : Settings) → IsAllowed s → (is_reference : Bool) (c d :
 abbrev pub OneSetStands : Type 0
 OneSetStands = (s : Settings) → IsAllowed s → (is_reference : Bool) (bits : List Bool) (b : ℕ) (c d : CodedDataSet)
     → IsSetAt s is_reference bits b c → IsSetAt s is_reference bits b d → c ≡ d
+
+-- the block that a coded data set of a single option stands for: of pairs in a reference block, whatever the first member is; a
+-- run of zero blocks is none
+abbrev pub single_block_of : Option ℕ → Body → Option Block
+single_block_of reference (uncompressed_values values) = Some (block_of_values reference values)
+single_block_of reference (value_pairs members) = Some (block_of_members reference members)
+single_block_of reference (split_values k values) = Some (block_of_values reference values)
+single_block_of reference (zero_blocks m) = None
+
+-- no coded data set that stands for a block by a single option has fewer bits than the block's shortest spelling
+abbrev pub NoOptionIsShorter : Type 0
+NoOptionIsShorter = (s : Settings) → IsAllowed s → (is_reference : Bool) (c : CodedDataSet) (b : Block) → HasShape s is_reference c
+    → single_block_of c.reference c.body ≡ Some b → length (cds_bits s (shortest_spelling s b)) ≤ length (cds_bits s c)

@@ -1,5 +1,5 @@
 -- What the private functions of `lengths` compute: the length of each spelling of a block, as a sum.
-use Rattle.std.specs.Prelude.{ℕ, ◌+◌, ◌*◌, ◌/◌, ◌^◌, Option, Some, None, List, [], ◌∷◌, length}
+use Rattle.std.specs.Prelude.{ℕ, ◌+◌, ◌*◌, ◌/◌, ◌^◌, ◌<◌, ◌≤◌, Option, Some, None, List, [], ◌∷◌, length}
 use Rattle.std.specs.List.{sum_by}
 use Rattle.aec_params.specs.declared.settings.Settings.{Settings}
 use Rattle.aec_params.specs.Params.{id_len}
@@ -20,6 +20,16 @@ head_length s reference = id_len s + reference_len s reference
 abbrev pub sum_of_shifted : ℕ → List ℕ → ℕ
 sum_of_shifted k values = sum_by (λ v. v / 2 ^ k) values
 
+-- bits of the values that are split with k: the codewords of what is left of them, and their k low bits
+abbrev pub split_values_length : ℕ → List ℕ → ℕ
+split_values_length k values = sum_of_shifted k values + length values * (k + 1)
+
+-- the k below a count with which the values have the fewest bits, and of equal ones the least
+pub record IsBestSplit (count k : ℕ) (values : List ℕ) : Type 0 where
+  pub within : k < count
+  pub before : (j : ℕ) → j < k → split_values_length k values < split_values_length j values
+  pub after : (j : ℕ) → k < j → j < count → split_values_length k values ≤ split_values_length j values
+
 -- bits of the codewords of consecutive pairs
 abbrev pub pairs_length : List ℕ → ℕ
 pairs_length [] = 0
@@ -34,4 +44,4 @@ abbrev pub paired_length : Settings → Block → ℕ
 paired_length s b = head_length s b.reference + 1 + pairs_length b.values
 
 abbrev pub split_length : Settings → Block → ℕ → ℕ
-split_length s b k = head_length s b.reference + (sum_of_shifted k (written_values b) + length (written_values b) * (k + 1))
+split_length s b k = head_length s b.reference + split_values_length k (written_values b)

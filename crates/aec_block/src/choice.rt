@@ -1,11 +1,16 @@
 //! The choice of the shortest option for a block.
 
-ghost use Rattle.std.specs.Prelude.{◌≡◌, nat_lt, if◌then◌else◌};
+ghost use Rattle.std.specs.Prelude.{◌≡◌, ◌*◌, ◌^◌, ◌≤◌, ◌&&◌, ◌||◌, nat_lt, nat_le};
 ghost use Rattle.aec_params.specs.Params.{IsAllowed, split_count};
-ghost use Rattle.aec_block.specs.Choices.{IsFull, IsChoice};
+ghost use Rattle.aec_params.specs.Spellings.{written_values};
+ghost use Rattle.aec_block.specs.declared.choice.Coding.TheVariants.{SecondExtension, Split};
+ghost use Rattle.aec_block.specs.BlockShape.{most_values};
+ghost use Rattle.aec_block.specs.Lengths.{split_values_length, paired_length, split_length};
+ghost use Rattle.aec_block.specs.Choices.{IsFull, IsChoice, shorter_choice};
 
 use crate::block::Block;
-use crate::lengths::{paired_len, split_len, uncompressed_len};
+use crate::lengths::{head_len, paired_len, uncompressed_len};
+use crate::splitting::{Splitting, best_split};
 use aec_params::Params;
 
 /// An option by which a block that is in no run is written.
@@ -28,23 +33,53 @@ pub struct Choice {
 
 /// How many sample-splitting options there are.
 fn split_options(params: &Params) -> u32
-    ensures { result ≡ split_count params.now }
+    ensures count { result ≡ split_count params.now }
+    ensures bound { result ≤ 30 }
+    ensures allowed { IsAllowed params.now }
 {
     (1 << params.id_len()) - 2
 }
 
 /// The option of so many bits, where it is shorter than the best so far, and else that one.
-fn shorter_of(best: Choice, coding: Coding, bits: u128) -> Choice
-    ensures { result ≡ (if nat_lt bits best.bits then record { coding = coding; bits = bits } else best) }
+fn shorter_of(best: Choice, coding: Coding, bits: u64) -> Choice
+    ensures { result ≡ shorter_choice best coding bits }
 {
-    if bits < u128::from(best.bits) {
-        Choice {
-            coding,
-            bits: bits as u64,
-        }
+    if bits < best.bits {
+        Choice { coding, bits }
     } else {
         best
     }
+}
+
+/// The second extension, where it is shorter than the best so far, and else that one.
+#[tactic(auto, using(crate::proofs::ChoiceLemmas::too_long))]
+fn shorter_of_pairs(params: &Params, block: &Block, best: Choice) -> Choice
+    requires { best.bits ≤ 2 ^ 31 }
+    ensures { result ≡ shorter_choice best SecondExtension (paired_length params.now block.now) }
+{
+    match paired_len(params, block) {
+        Some(bits) => shorter_of(best, Coding::SecondExtension, bits),
+        None => best,
+    }
+}
+
+/// Whether the second extension is longer than splitting: where there are splitting options, and k isn't 0 or the values
+/// add up to their number or more, since a pair's codeword has at least twice as many bits as the pair adds up to.
+fn pairs_are_longer(options: u32, split: Splitting, count: u64) -> bool
+    requires { count ≤ most_values }
+    ensures { result ≡ (nat_lt 0 options && (nat_lt 0 split.k || nat_le (2 * count) split.bits)) }
+{
+    0 < options && (0 < split.k || 2 * count <= split.bits)
+}
+
+/// Splitting, where it is shorter than the best so far, and else that one.
+fn shorter_of_split(params: &Params, block: &Block, best: Choice, split: Splitting) -> Choice
+    requires bits { split.bits ≡ split_values_length split.k (written_values block.now) }
+    requires bound { split.bits ≤ 2 ^ 40 }
+    ensures { result ≡ shorter_choice best (Split split.k) (split_length params.now block.now split.k) }
+{
+    let head = head_len(params, block.reference());
+    shorter_of(best, Coding::Split(split.k), u64::from(head) + split.bits)
 }
 
 /// The shortest option for a block of J values below `2^n`, with a reference below `2^n` where it has one. Of equal
@@ -53,13 +88,19 @@ pub fn choose(params: &Params, block: &Block) -> Choice
     requires { IsFull params.now block.now }
     ensures { IsChoice params.now block.now result }
 {
-    let mut best = Choice {
+    let plain = Choice {
         coding: Coding::NoCompression,
         bits: uncompressed_len(params, block),
     };
-    best = shorter_of(best, Coding::SecondExtension, paired_len(params, block));
-    for k in 0..split_options(params) {
-        best = shorter_of(best, Coding::Split(k), split_len(params, block, k));
+    let options = split_options(params);
+    let values = block.written();
+    let split = best_split(values, options);
+    if pairs_are_longer(options, split, values.len() as u64) {
+        return shorter_of_split(params, block, plain, split);
     }
-    best
+    let best = shorter_of_pairs(params, block, plain);
+    if options == 0 {
+        return best;
+    }
+    shorter_of_split(params, block, best, split)
 }

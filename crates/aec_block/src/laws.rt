@@ -1,6 +1,6 @@
 //! Laws of coded data sets: the contract of each function is a law, and its body is empty.
 
-ghost use Rattle.aec_block.specs.Laws.{WhatIsSpelledIsRead, WhatIsReadIsSpelled, NothingIsReadWhereNoneBegins, NoSetIsAPrefix, OneSetStands};
+ghost use Rattle.aec_block.specs.Laws.{WhatIsSpelledIsRead, WhatIsReadIsSpelled, NothingIsReadWhereNoneBegins, NoSetIsAPrefix, OneSetStands, NoOptionIsShorter};
 
 /// A coded data set is read back from its bits, whatever stands behind them.
 pub fn what_is_spelled_is_read()
@@ -25,4 +25,10 @@ pub fn no_set_is_a_prefix()
 /// At most one coded data set of a reference block, and at most one of another, stands at a position.
 pub fn one_set_stands()
     ensures { OneSetStands }
+{}
+
+/// No coded data set that stands for a block by a single option is shorter than the block's shortest spelling, also with
+/// any first member of a reference pair.
+pub fn no_option_is_shorter()
+    ensures { NoOptionIsShorter }
 {}

@@ -5,12 +5,14 @@
 mod block;
 mod cds;
 mod choice;
+mod lanes;
 pub mod laws;
 mod lengths;
 mod mapping;
 mod reading;
 mod reading_codewords;
 mod reading_values;
+mod splitting;
 mod writing;
 
 pub use block::Block;
@@ -22,5 +24,7 @@ pub use writing::{write_block, write_run};
 
 #[cfg(test)]
 mod reading_tests;
+#[cfg(test)]
+mod run_tests;
 #[cfg(test)]
 mod tests;

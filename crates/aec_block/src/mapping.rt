@@ -8,7 +8,8 @@ ghost use Rattle.aec_block.specs.Offsets.{sample_offset, top_offset, mapped_offs
 use aec_params::Params;
 
 /// What is coded for the offset `x` at the prediction `p`: differences within the room on both sides of `p` count in
-/// turn on both sides, those beyond it go on from there.
+/// turn on both sides, those beyond it go on from there. Twice a difference within the room, and one less below `p`; no
+/// branch depends on the sample.
 fn map_offset(top: u32, p: u32, x: u32) -> u32
     requires prediction { p ≤ top }
     requires offset { x ≤ top }
@@ -16,16 +17,12 @@ fn map_offset(top: u32, p: u32, x: u32) -> u32
     ensures fits { result ≤ top }
 {
     let room = p.min(top - p);
-    if p <= x && x - p <= room {
-        2 * (x - p)
-    } else if x < p && p - x <= room {
-        2 * (p - x) - 1
-    } else {
-        room + x.abs_diff(p)
-    }
+    let distance = x.abs_diff(p);
+    distance + distance.min(room) - u32::from((x < p) & (distance <= room))
 }
 
-/// The offset for which `m` is coded at the prediction `p`.
+/// The offset for which `m` is coded at the prediction `p`. What it would be on either side of the room's end is computed
+/// before one is taken, so that no branch depends on the sign or parity.
 fn unmap_offset(top: u32, p: u32, m: u32) -> u32
     requires prediction { p ≤ top }
     requires mapped { m ≤ top }
@@ -34,13 +31,14 @@ fn unmap_offset(top: u32, p: u32, m: u32) -> u32
     ensures only { (x : ℕ) → x ≤ top → mapped_offset top p x ≡ m → x ≡ result }
 {
     let room = p.min(top - p);
-    if m > 2 * room {
-        if p <= top - p { m } else { top - m }
-    } else if m % 2 == 0 {
-        p + m / 2
+    let half = m / 2;
+    let near = if m % 2 == 0 {
+        p.wrapping_add(half)
     } else {
-        p - (m / 2 + 1)
-    }
+        p.wrapping_sub(half + 1)
+    };
+    let far = if p <= top - p { m } else { top - m };
+    if m <= 2 * room { near } else { far }
 }
 
 /// The offset of the greatest sample.

@@ -5,7 +5,7 @@ ghost use Rattle.std.specs.Bool.{OnTrue};
 ghost use Rattle.std.specs.List.{AllByRecursion};
 ghost use Rattle.aec_block.specs.Choices.{FitsReference, IsFull};
 
-use crate::{Block, Cds, Choice, Coding, choose, map, read_cds, unmap, write_block, write_run};
+use crate::{Block, Cds, Choice, Coding, choose, map, read_cds, unmap, write_block};
 use aec_bits::{BitBuf, BitReader};
 use aec_params::{Params, Settings};
 use std::alloc::Global;
@@ -29,7 +29,7 @@ fn all_below(values: &[u32], limit: u64) -> bool
     values.iter().all(|v| u64::from(*v) < limit)
 }
 
-fn fits_reference(params: &Params, reference: Option<u32>) -> bool
+pub(crate) fn fits_reference(params: &Params, reference: Option<u32>) -> bool
     ensures { OnTrue result (FitsReference params.now reference) }
 {
     match reference {
@@ -52,7 +52,7 @@ fn is_full(params: &Params, block: &Block) -> bool
 }
 
 /// Compares bits with those of bytes, of which the last is filled with zeros.
-fn expect_bits(rt: &impl Abort, bits: &BitBuf, len: u64, bytes: &[u8]) {
+pub(crate) fn expect_bits(rt: &impl Abort, bits: &BitBuf, len: u64, bytes: &[u8]) {
     assert_eq!(rt; bits.len(), len);
     assert_eq!(rt; bits.byte_len(), bytes.len() as u64);
     for (i, byte) in bytes.iter().enumerate() {
@@ -166,46 +166,6 @@ fn adds_up_values_of_32_bits(rt: HostRuntime) -> Result<(), Fail> {
     Ok(())
 }
 
-#[test]
-fn writes_runs(rt: HostRuntime) -> Result<(), Fail> {
-    let params = Params::new(Settings::USUAL)?;
-    let mut out = BitBuf::new(rt.alloc());
-    write_run(&params, Some(0), 1, true, &mut out)?;
-    expect_bits(&rt, &out, 13, &[0x00, 0x08]);
-    let mut out = BitBuf::new(rt.alloc());
-    write_run(&params, None, 4, false, &mut out)?;
-    expect_bits(&rt, &out, 8, &[0x01]);
-    let mut out = BitBuf::new(rt.alloc());
-    write_run(&params, None, 5, false, &mut out)?;
-    expect_bits(&rt, &out, 10, &[0x00, 0x40]);
-    let mut out = BitBuf::new(rt.alloc());
-    write_run(&params, None, 64, true, &mut out)?;
-    expect_bits(&rt, &out, 9, &[0x00, 0x80]);
-    Ok(())
-}
-
-#[test]
-fn writes_the_zero_block_of_each_code_set(rt: HostRuntime) -> Result<(), Fail> {
-    // The identifier is zeros, one more than the others have bits, and a run of one block is a single one.
-    for (bits, restricted, len, byte) in [
-        (1, true, 3, 0x20),
-        (3, true, 4, 0x10),
-        (8, false, 5, 0x08),
-        (16, false, 6, 0x04),
-        (32, false, 7, 0x02),
-    ] {
-        let params = Params::new(Settings {
-            bits,
-            restricted,
-            ..Settings::USUAL
-        })?;
-        let mut out = BitBuf::new(rt.alloc());
-        write_run(&params, None, 1, true, &mut out)?;
-        expect_bits(&rt, &out, len, &[byte]);
-    }
-    Ok(())
-}
-
 /// A value of a fixed block: zeros, ones, a ramp, a spike, extremes, or noise of some width.
 fn fixed_value(case: u32, place: u32, most: u32) -> u32 {
     let seed = case.wrapping_mul(0x9E37_79B9) ^ place.wrapping_mul(0x85EB_CA6B);
@@ -315,8 +275,13 @@ fn expect_block(
     Ok(())
 }
 
-fn compare_choices(rt: &impl Abort, alloc: Global, params: &Params) -> Result<(), Fail> {
-    for case in 0..200 {
+fn compare_choices(
+    rt: &impl Abort,
+    alloc: Global,
+    params: &Params,
+    cases: u32,
+) -> Result<(), Fail> {
+    for case in 0..cases {
         let block = fixed_block(alloc, params, case);
         assert!(rt; is_full(params, &block));
         let choice = choose(params, &block);
@@ -340,7 +305,12 @@ fn chooses_as_plain_lengths_say(rt: HostRuntime) -> Result<(), Fail> {
                 block_size,
                 ..Settings::USUAL
             })?;
-            compare_choices(&rt, rt.alloc(), &params)?;
+            let cases = if [1, 8, 16, 32].contains(&bits) {
+                1000
+            } else {
+                200
+            };
+            compare_choices(&rt, rt.alloc(), &params, cases)?;
             if bits <= 4 {
                 let params = Params::new(Settings {
                     bits,
@@ -348,7 +318,7 @@ fn chooses_as_plain_lengths_say(rt: HostRuntime) -> Result<(), Fail> {
                     restricted: true,
                     ..Settings::USUAL
                 })?;
-                compare_choices(&rt, rt.alloc(), &params)?;
+                compare_choices(&rt, rt.alloc(), &params, 200)?;
             }
         }
     }

@@ -6,8 +6,8 @@ use Rattle.clap.specs.Matches.{ReadsOne, one_text}
 use Rattle.clap.specs.Walk.{Text}
 use Rattle.clap.specs.declared.parser.matches.Found.{Found}
 use Rattle.aec_cli.specs.Jobs.{count_of, word_of}
-use Rattle.aec_cli.specs.Numerals.{number_in}
-use Rattle.aec_cli.proofs.NumeralLemmas.{number_in-read}
+use Rattle.aec_engine.specs.Numerals.{number_in}
+use Rattle.aec_engine.proofs.NumeralLemmas.{number_in-read}
 
 -- what `get_one` gives of a text is the number in it
 read_number : {E : Type 0} (gives : Text → Result ℕ E → Type 0) (width : ℕ) → ((t : Text) (x : Result ℕ E) → gives t x → ParsesUnsigned width 10 t x)

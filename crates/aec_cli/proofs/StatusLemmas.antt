@@ -1,5 +1,6 @@
 -- How a run on words with a mistake ends.
-use Rattle.std.proofs.Common.{◌≡◌, ◌∙◌, ℕ, List, [], ◌∷◌, Result, Ok, Err, IfErr, ap, sym, subst, inl, inr}
+use Rattle.std.proofs.Common.{◌≡◌, ◌∙◌, ◌≤◌, ℕ, List, [], ◌∷◌, Result, Ok, Err, IfErr, ap, refl, sym, subst, inl, inr, arith}
+use Rattle.std.specs.Prelude.{IsOk}
 use Rattle.clap.specs.Kinds.{HasKind, IsAmong, Kinds}
 use Rattle.clap.specs.Values.{kind_of}
 use Rattle.clap.specs.declared.error.Error.{Error}
@@ -7,6 +8,7 @@ use Rattle.clap.specs.declared.error.kind.ErrorKind.{ErrorKind}
 use Rattle.clap.specs.Walk.{Text}
 use Rattle.clap.specs.declared.parser.matches.Found.{Found}
 use Rattle.aec_cli.specs.declared.usage.Usage.{Usage}
+use Rattle.aec_cli.specs.declared.usage.Usage.TheVariants.{Memory}
 use Rattle.aec_cli.specs.Jobs.{Task, job_of}
 use Rattle.aec_cli.specs.Statuses.{EndsByMistake, EndsByRefusal, EndsByWords, IsFoundIn, IsStatusAmong, parse_status, usage_status}
 
@@ -33,13 +35,16 @@ ends_by_memory words e status has is = elim has [
 
 -- words that make no job
 pub ends_by_usage : {J : Type 0} (words : List Text) (found : Found) (r : Result J Usage) (usage : Usage) (status : ℕ)
-    → IsFoundIn words found → r ≡ Err usage → IfErr (job_of found) (λ u. r ≡ Err u) → status ≡ usage_status usage → EndsByWords words status
-ends_by_usage words found r usage status finds is refuses ends = inr (found, finds, by_job (job_of found) refuses)
+    → IsFoundIn words found → r ≡ Err usage → IfErr (job_of found) (λ u. r ≡ Err u) → IfErr r (λ u. IsOk (job_of found) → u ≡ Memory)
+    → status ≡ usage_status usage → EndsByWords words status
+ends_by_usage words found r usage status finds is refuses memory ends =
+    inr (found, finds, by_job (job_of found) refuses (subst (λ r. IfErr r (λ u. IsOk (job_of found) → u ≡ Memory)) is memory))
   where
-    by_job : (j : Result Task Usage) → IfErr j (λ u. r ≡ Err u) → EndsByRefusal j status
-    by_job (Ok task) refuses = tt
-    by_job (Err u) refuses = let same : usage ≡ u = cc in ends ∙ ap usage_status same
+    by_job : (j : Result Task Usage) → IfErr j (λ u. r ≡ Err u) → (IsOk j → usage ≡ Memory) → EndsByRefusal j status
+    by_job (Ok task) refuses lacks = let one : status ≡ 1 = ends ∙ ap usage_status (lacks refl) in omega (arith, one)
+    by_job (Err u) refuses lacks = let same : usage ≡ u = cc in ends ∙ ap usage_status same
 
 -- words that make one
-pub ends_by_job : (words : List Text) (found : Found) (task : Task) (status : ℕ) → IsFoundIn words found → job_of found ≡ Ok task → EndsByWords words status
-ends_by_job words found task status finds is = inr (found, finds, subst (λ j. EndsByRefusal j status) (sym is) tt)
+pub ends_by_job : (words : List Text) (found : Found) (task : Task) (status : ℕ) → IsFoundIn words found → job_of found ≡ Ok task → status ≤ 1
+    → EndsByWords words status
+ends_by_job words found task status finds is ends = inr (found, finds, subst (λ j. EndsByRefusal j status) (sym is) ends)

@@ -1,12 +1,12 @@
 -- What a run of the program answers, action by action.
-use Rattle.std.specs.Prelude.{ℕ, ◌^◌, Result, List}
+use Rattle.std.specs.Prelude.{ℕ, ◌^◌, Bool, Result, List}
 use Rattle.aec_params.specs.declared.settings.Settings.{Settings}
 use Rattle.aec_params.specs.declared.fault.Fault.{Fault}
 use Rattle.aec_params.specs.Limits.{Caps}
 use Rattle.aec_cli.specs.declared.job.Action.{Action}
 use Rattle.aec_cli.specs.declared.job.Action.TheVariants.{Encode, Decode, Range, Edit}
-use Rattle.aec_cli.specs.Transfers.{Input}
-use Rattle.aec_cli.specs.Output.{IsEncoded, bytes_within, IsDecoded, IsRanged}
+use Rattle.aec_engine.specs.Transfers.{Input, are_past}
+use Rattle.aec_engine.specs.Output.{IsEncoded, are_refused, IsDecoded, IsRanged}
 
 -- whether an action has no input but its source
 abbrev pub HasNoScript : Action → Type 0
@@ -20,12 +20,12 @@ IsAnswerOf (Decode count) s caps = IsDecoded s caps count
 IsAnswerOf (Range first len count) s caps = IsRanged s caps count first len
 IsAnswerOf (Edit script count) s caps = λ _ _. ⊥
 
--- the bytes of a source behind which it stops: those that the limits allow
-abbrev pub bytes_allowed : Action → Settings → Caps → ℕ
-bytes_allowed Encode s caps = bytes_within s caps.samples
-bytes_allowed (Decode count) s caps = caps.bytes
-bytes_allowed (Range first len count) s caps = caps.bytes
-bytes_allowed (Edit script count) s caps = caps.bytes
+-- bytes of a source that are enough for its answer, whatever follows them: with a sample that is refused, or past the limit
+abbrev pub are_enough : Action → Settings → Caps → List ℕ → Bool
+are_enough Encode s caps = are_refused s caps.samples
+are_enough (Decode count) s caps = are_past caps.bytes
+are_enough (Range first len count) s caps = are_past caps.bytes
+are_enough (Edit script count) s caps = are_past caps.bytes
 
 -- the limits of the program
 abbrev pub program_caps : Caps

@@ -5,7 +5,6 @@ use Rattle.clap.specs.Faults.{fault_of}
 use Rattle.clap.specs.Simple.{matches_of}
 use Rattle.clap.specs.Walk.{Text, first_of, one_of}
 use Rattle.clap.specs.declared.error.kind.ErrorKind.TheVariants.{ArgumentConflict, DisplayVersion, MissingRequiredArgument, ValueValidation}
-use Rattle.aec_cli.specs.Numerals.{range_in}
 use Rattle.aec_cli.specs.Commands.{aec_app, coding_rules, file_rules, number_rules, storage_rules, work_rules}
 
 -- `aec -d -n 20 -3 in out`
@@ -78,35 +77,3 @@ count_too_large = refl
 version_asked : fault_of aec_app (codes "aec" ∷ codes "--version" ∷ []) ≡ DisplayVersion ∷ []
 unfolding aec_app number_rules coding_rules storage_rules work_rules file_rules clap_on_literals
 version_asked = refl
-
--- ---- the text of a range
-
-two_numbers : range_in (codes "2:3") ≡ Some (2, 3)
-two_numbers = refl
-
-leading_zeros : range_in (codes "007:00") ≡ Some (7, 0)
-leading_zeros = refl
-
-one_number : range_in (codes "3") ≡ None
-one_number = refl
-
-no_first : range_in (codes ":3") ≡ None
-no_first = refl
-
-two_colons : range_in (codes "1:2:3") ≡ None
-two_colons = refl
-
-plus_first : range_in (codes "+1:2") ≡ None
-plus_first = refl
-
-blank_inside : range_in (codes "1: 2") ≡ None
-blank_inside = refl
-
-empty_range : range_in [] ≡ None
-empty_range = refl
-
-greatest : range_in (codes "18446744073709551615:0") ≡ Some (18446744073709551615, 0)
-greatest = refl
-
-past_the_greatest : range_in (codes "18446744073709551616:0") ≡ None
-past_the_greatest = refl

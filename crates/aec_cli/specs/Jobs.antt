@@ -14,7 +14,7 @@ use Rattle.aec_cli.specs.declared.usage.Usage.TheVariants.{Jobs, Count, Range, S
 use Rattle.aec_cli.specs.declared.job.Action.{Action}
 use Rattle.aec_cli.specs.declared.job.Action.TheVariants as action
 use Rattle.aec_cli.specs.declared.job.Job.{Job}
-use Rattle.aec_cli.specs.Numerals.{number_in, range_in}
+use Rattle.aec_engine.specs.Numerals.{number_in, range_in}
 
 -- what is done: samples are coded; coded data are decoded, cut to a range, or edited by the script in a file
 pub data Work : Type 0 where

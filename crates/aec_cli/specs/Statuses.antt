@@ -1,5 +1,5 @@
 -- The status that the program ends with where its job is not done.
-use Rattle.std.specs.Prelude.{◌≡◌, ◌⊎◌, ℕ, List, [], ◌∷◌, Result, Ok, Err}
+use Rattle.std.specs.Prelude.{◌≡◌, ◌≤◌, ◌⊎◌, ℕ, List, [], ◌∷◌, Result, Ok, Err}
 use Rattle.clap.specs.Kinds.{Kinds}
 use Rattle.clap.specs.Simple.{matches_of}
 use Rattle.clap.specs.Walk.{Text, rows_of}
@@ -50,11 +50,12 @@ EndsByMistake (k ∷ ks) status = (status ≡ 1) ⊎ IsStatusAmong status (k ∷
 abbrev pub IsFoundIn : List Text → Found → Type 0
 IsFoundIn words found = rows_of found ≡ matches_of aec_app words
 
--- the status of a refused job; nothing is said where there is one
+-- the status of a refused job; where there is a job, it is done or refused, and its words are in order
 abbrev pub EndsByRefusal : Result Task Usage → ℕ → Type 0
-EndsByRefusal (Ok task) status = Unit {0}
+EndsByRefusal (Ok task) status = status ≤ 1
 EndsByRefusal (Err usage) status = status ≡ usage_status usage
 
--- words without a mistake end with the status of the first refusal of their job, where it has one, or with 1 for want of memory
+-- Words without a mistake end with the status of the first refusal of their job, where it has one; where it has none with 0 or 1;
+-- or with 1 for want of memory.
 abbrev pub EndsByWords : List Text → ℕ → Type 0
 EndsByWords words status = (status ≡ 1) ⊎ ((found : Found) × IsFoundIn words found × EndsByRefusal (job_of found) status)

@@ -3,8 +3,8 @@
 ghost use Rattle.std.specs.Prelude.{◌≡◌};
 ghost use Rattle.aec_cli.specs.Statuses.{status_of};
 
-use crate::scripts::EditFault;
 use crate::usage::Usage;
+use aec_engine::EditFault;
 use aec_params::Fault;
 use thiserror::Error;
 

@@ -8,8 +8,8 @@ ghost use Rattle.aec_cli.specs.Jobs.{job_of, task_of, settings_of, is_given, wor
 ghost use Rattle.aec_cli.specs.Jobs.{work_of, work_asked, action_refusal};
 ghost use Rattle.aec_cli.specs.Asked.{work_meant};
 
-use crate::numerals::range_in;
 use crate::usage::Usage;
+use aec_engine::range_in;
 use aec_params::{Params, Settings};
 use clap::ArgMatches;
 use std::alloc::{AllocError, Global};

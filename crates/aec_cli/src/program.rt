@@ -1,24 +1,23 @@
 //! One whole run of the program.
 
-ghost use Rattle.std.specs.Prelude.{◌≡◌, ◌≤◌, IfErr, ℕ, List, [], map};
+ghost use Rattle.std.specs.Prelude.{◌≡◌, ◌≤◌, IfErr, ℕ, Bool, List, [], map};
 ghost use Rattle.std.specs.String.{string_bytes};
 ghost use Rattle.clap.specs.Faults.{fault_of};
 ghost use Rattle.clap.specs.Values.{kind_of};
 ghost use Rattle.clap.specs.Walk.{Text};
-ghost use Rattle.aec_cli.specs.Actions.{HasNoScript, IsAnswerOf, bytes_allowed, program_caps};
+ghost use Rattle.aec_cli.specs.Actions.{HasNoScript, IsAnswerOf, are_enough, program_caps};
 ghost use Rattle.aec_cli.specs.Commands.{aec_app};
-ghost use Rattle.aec_cli.specs.Editing.{LeavesEdited};
+ghost use Rattle.aec_engine.specs.Editing.{LeavesEdited};
 ghost use Rattle.aec_cli.specs.Statuses.{EndsByMistake, EndsByWords, parse_status, status_of};
-ghost use Rattle.aec_cli.specs.Transfers.{Taking, taking_of, Putting, putting_of, Leaves};
+ghost use Rattle.aec_engine.specs.Transfers.{Taking, taking_of, Putting, putting_of, Leaves};
 
-use crate::engine::{decode, edit, encode, range};
 use crate::failure::{Failure, status};
 use crate::files::{DestSink, FileSource};
 use crate::job::{Action, Job, settings};
-use crate::scripts::EditFault;
 use crate::usage::Usage;
 use crate::words::parse;
 use aec_bits::{Sink, Source};
+use aec_engine::{EditFault, decode, edit, encode, range};
 use aec_params::{Fault, Limits, Params};
 use clap::error::ErrorKind;
 use std::alloc::Global;
@@ -48,10 +47,7 @@ pub fn perform<F: Files, O: Write, E: Write>(
         Ok(job) => job,
         Err(usage) => return report(Failure::Usage(usage), err),
     };
-    match run(rt, alloc, job) {
-        Ok(()) => 0,
-        Err(failure) => report(failure, err),
-    }
+    finish(rt, alloc, job, err)
 }
 
 // The limits of the program: 2^32 samples, and 2^35 bytes of coded data.
@@ -75,8 +71,8 @@ fn act<R: Source, W: Sink>(
     requires { HasNoScript action }
     ensures { let took : Taking = taking_of R.left R.failed source.old source.new in
         let put : Putting = putting_of W.taken W.begun W.failed sink.old sink.new in
-        let most : ℕ = bytes_allowed action params.now program_caps in
-        Leaves (IsAnswerOf action params.now program_caps) took most put result }
+        let enough : List ℕ → Bool = are_enough action params.now program_caps in
+        Leaves (IsAnswerOf action params.now program_caps) took enough put result }
 {
     match action {
         Action::Encode => encode(alloc, params, limits(), source, sink),
@@ -129,6 +125,16 @@ fn run<F: Files>(rt: &F, alloc: Global, job: Job) -> Result<(), Failure>
         }
     }
     sink.finish().map_err(Failure::Fault)
+}
+
+// Does a job, and answers the status: 0 where it was done, and 1 where it was refused and its failure printed.
+fn finish<F: Files, E: Write>(rt: &F, alloc: Global, job: Job, err: &mut E) -> u8
+    ensures { result ≤ 1 }
+{
+    match run(rt, alloc, job) {
+        Ok(()) => 0,
+        Err(failure) => report(failure, err),
+    }
 }
 
 // Prints the line of a failure, and answers its status.

@@ -1,6 +1,6 @@
 -- A list of numbers that is written over, one number after the other.
-use Rattle.std.proofs.Common.{◌≡◌, ℕ, ◌+◌, ◌-◌, ◌<◌, ◌≤◌, List, [], ◌∷◌, ◌++◌, length, map, take, drop, replicate, get_or, set, refl, sym, ap, ◌∙◌, arith, append_assoc, length-append}
-use Rattle.std.proofs.lemmas.List.{length-take, length-drop, length-map, length-replicate, drop_more, take_more, take-take, take-append-le, take_at, drop_at, map-append, set_at, get_or_at}
+use Rattle.std.proofs.Common.{◌≡◌, ℕ, suc, ◌+◌, ◌-◌, ◌<◌, ◌≤◌, List, [], ◌∷◌, ◌++◌, length, map, take, drop, replicate, get_or, set, refl, sym, ap, ◌∙◌, arith, append_assoc, length-append}
+use Rattle.std.proofs.lemmas.List.{length-take, length-drop, length-map, length-replicate, drop_more, take_more, take-take, take-append-le, take_at, drop_at, take-append-drop, get_or-drop, map-append, set_at, get_or_at}
 
 -- with the numbers ws written over those from number at on
 abbrev pub written_over : List ℕ → ℕ → List ℕ → List ℕ
@@ -67,6 +67,23 @@ over_read h s xs l at i j d within inside here so_far =
     ∙ ap (λ n. get_or (written_over s at (map h (take i xs))) n d) place
     ∙ get_or-written_over s at (map h (take i xs)) d there
     ∙ ap (λ n. get_or s n d) (sym place)
+
+-- ---- numbers that are moved by nothing
+
+unmoved_all : (e : ℕ) (xs : List ℕ) → ((k : ℕ) → k < length xs → e ≤ get_or xs k 0) → map (λ x. x - e + e) xs ≡ xs
+unmoved_all e [] h = refl
+unmoved_all e (x ∷ xs) h =
+    let low : e ≤ x = h 0 (omega arith) in
+    let same : x - e + e ≡ x = omega arith in
+    ap (λ y. y ∷ map (λ z. z - e + e) xs) same ∙ ap (λ ys. x ∷ ys) (unmoved_all e xs (λ k l. h (suc k) (omega arith)))
+
+pub unmoved : (start end at : ℕ) (xs : List ℕ) → start ≡ end → at ≤ length xs → ((k : ℕ) → at ≤ k → k < length xs → start ≤ get_or xs k 0)
+    → xs ≡ take at xs ++ map (λ x. x - start + end) (drop at xs)
+unmoved start end at xs same within low =
+    let later : (k : ℕ) → k < length (drop at xs) → start ≤ get_or (drop at xs) k 0 =
+    λ k l. omega (arith, low (at + k) (omega arith) (omega (arith, length-drop at xs)), get_or-drop at xs k) in
+    sym (take-append-drop at xs)
+    ∙ ap (λ ys. take at xs ++ ys) (sym (unmoved_all start (drop at xs) later) ∙ ap (λ n. map (λ x. x - start + n) (drop at xs)) same)
 
 -- ---- a part replaced by numbers of another length
 

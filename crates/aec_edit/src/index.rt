@@ -37,6 +37,9 @@ fn move_later(starts: &mut Vec<u64>, from: usize, to: usize)
     ensures items { starts.new.items ≡ take to (starts.old.items ++ replicate (to - from) 0) ++ drop from starts.old.items }
     ensures len { vec_len starts.new ≡ to + (vec_len starts.old - from) }
 {
+    if from == to {
+        return;
+    }
     let len = starts.len();
     starts.resize(len + to.saturating_sub(from), 0).unwrap();
     starts.copy_within(from..len, to);
@@ -57,6 +60,19 @@ fn write_starts(starts: &mut [u64], at: usize, with: &[u64], base: u64)
 
 /// Moves the starts from number `at` on, which are at `old_end` or after it, to as far after `new_end`.
 fn shift_starts(starts: &mut [u64], at: usize, old_end: u64, new_end: u64)
+    requires within { at ≤ length starts.old }
+    requires end { new_end ≤ 2 ^ 63 }
+    requires later { (k : ℕ) → at ≤ k → k < length starts.old
+        → (old_end ≤ slice_index starts.old k) × (slice_index starts.old k ≤ 2 ^ 62) }
+    ensures { starts.new ≡ take at starts.old ++ map (λ x. x - old_end + new_end) (drop at starts.old) }
+{
+    if old_end != new_end {
+        add_difference(starts, at, old_end, new_end);
+    }
+}
+
+/// The same, one after the other.
+fn add_difference(starts: &mut [u64], at: usize, old_end: u64, new_end: u64)
     requires within { at ≤ length starts.old }
     requires end { new_end ≤ 2 ^ 63 }
     requires later { (k : ℕ) → at ≤ k → k < length starts.old

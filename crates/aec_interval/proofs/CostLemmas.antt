@@ -13,11 +13,12 @@ use Rattle.aec_params.specs.Places.{is_reference_block, zero_block, placed_value
 use Rattle.aec_params.specs.Spellings.{shortest_spelling}
 use Rattle.aec_params.specs.Runs.{Group, zero_run, single_block, with_zero_block, groups_of, run_code}
 use Rattle.aec_params.specs.Intervals.{group_sets, is_empty, block_sets}
+use Rattle.aec_block.proofs.ShortestLemmas.{shortest-uncompressed_values, shortest-split_values, shortest-value_pairs, block_size-least}
 use Rattle.aec_interval.proofs.BlockLemmas.{AreDueFrom}
 use Rattle.aec_interval.proofs.GroupLemmas.{AreGroupsFrom, AreGroupsFrom-groups_of}
 use Rattle.aec_interval.proofs.IntervalLemmas.{AreDueFrom_right}
 use Rattle.aec_interval.proofs.PlaceLemmas.{block_count-positive}
-use Rattle.aec_interval.proofs.ShortestLemmas.{run_code-joined, run_code-last, shortest-uncompressed_values, shortest-split_values, shortest-value_pairs, length-run, block_size-least, plain-longer, split-longer, pairs-longer}
+use Rattle.aec_interval.proofs.RunLengthLemmas.{run_code-joined, run_code-last, length-run, plain-longer, split-longer, pairs-longer}
 
 -- the bits that groups are written with, and those of blocks from the start of a segment on
 abbrev pub group_cost : Settings → List Group → ℕ

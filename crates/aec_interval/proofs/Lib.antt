@@ -11,7 +11,7 @@ pub mod WalkLemmas
 pub mod EqualLengthLemmas
 pub mod OutcomeLemmas
 pub mod ReadingLemmas
-pub mod ShortestLemmas
+pub mod RunLengthLemmas
 pub mod CostLemmas
 pub mod OptimalityLemmas
 pub mod PendingLemmas
@@ -32,3 +32,9 @@ pub mod DecodeLemmas
 pub mod ReadNextLemmas
 pub mod IntervalFormatLemmas
 pub mod IntervalReadingLemmas
+pub mod PieceLemmas
+pub mod TakingLemmas
+pub mod FeedingLemmas
+pub mod JoiningLemmas
+pub mod CutLemmas
+pub mod WorkedFeeding

@@ -22,7 +22,7 @@ use Rattle.aec_interval.proofs.StreamLemmas.{interval_len-positive, stream_of-ni
 use Rattle.aec_interval.proofs.BlockLemmas.{all_left, all_right, AreDueFrom, AreDueFrom-blocks_of, blocks-few}
 use Rattle.aec_interval.proofs.IntervalLemmas.{AreDueFrom_left, AreDueFrom_right, block_sets-nil, block_sets-cons}
 use Rattle.aec_interval.proofs.PlaceLemmas.{length-cds_blocks}
-use Rattle.aec_interval.proofs.ShortestLemmas.{length-run}
+use Rattle.aec_interval.proofs.RunLengthLemmas.{length-run}
 use Rattle.aec_interval.proofs.CostLemmas.{group_cost, block_cost, groups_of-zeros, run_set, run_code-at_end, body_step}
 
 -- the bits of the blocks from place p of an interval on: the rest of the segment, and then the other segments

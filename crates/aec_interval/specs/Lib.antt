@@ -5,3 +5,7 @@ pub mod NextBlock
 pub mod Reached
 pub mod NextSet
 pub mod IntervalFormat
+pub mod Taking
+pub mod Feeding
+pub mod Progress
+pub mod CutLaws

@@ -5,7 +5,7 @@ ghost use Rattle.aec_params.specs.Params.{IsAllowed};
 ghost use Rattle.aec_bits.specs.Codec.{IsLawful};
 ghost use Rattle.aec_interval.specs.IntervalFormat.{interval_format};
 
-use crate::interval::write_interval;
+use crate::interval::append_interval;
 use crate::reading::{Wanted, decode_from};
 use aec_bits::{BitBuf, Codec};
 use aec_params::{Fault, Params};
@@ -109,11 +109,7 @@ impl Codec for AecCodec {
         if self.calls == u64::MAX {
             return Err(Fault::Spent);
         }
-        let start = out.len();
-        if let Err(fault) = write_interval(self.alloc, &self.params, samples, out) {
-            out.truncate(start);
-            return Err(fault);
-        }
+        append_interval(self.alloc, &self.params, samples, out)?;
         self.calls += 1;
         Ok(())
     }

@@ -1,6 +1,6 @@
 //! The code of one reference sample interval.
 
-ghost use Rattle.std.specs.Prelude.{◌≡◌, ◌+◌, ◌*◌, ◌<◌, ◌≤◌, ◌++◌, None, length, OnOk, IfErr};
+ghost use Rattle.std.specs.Prelude.{◌≡◌, ◌+◌, ◌*◌, ◌<◌, ◌≤◌, ◌++◌, None, length, OnOk, OnErr, IfErr};
 ghost use Rattle.aec_params.specs.declared.fault.Fault.TheVariants.{Memory};
 ghost use Rattle.aec_params.specs.Runs.{segment_len};
 ghost use Rattle.aec_params.specs.Intervals.{unpadded_bits, interval_bits};
@@ -84,4 +84,26 @@ pub(crate) fn write_interval(
         out.push_bits(0, missing as u32)?;
     }
     Ok(())
+}
+
+/// Appends the code of an interval. `Memory` where a growth was refused; the bits are then as before. Room that was
+/// reserved and not used is still there.
+pub(crate) fn append_interval(
+    alloc: Global,
+    params: &Params,
+    samples: &[i64],
+    out: &mut BitBuf,
+) -> Result<(), Fault>
+    requires { AreOfInterval params.now samples.now }
+    ensures ok { OnOk result (out.new.list ≡ out.old.list ++ interval_bits params.now samples.now) }
+    ensures err { OnErr result (out.new.list ≡ out.old.list) }
+    ensures room { out.old.room + length out.old.list ≤ out.new.room + length out.new.list }
+    ensures fault { IfErr result (λ e. e ≡ Memory) }
+{
+    let start = out.len();
+    let written = write_interval(alloc, params, samples, out);
+    if written.is_err() {
+        out.truncate(start);
+    }
+    written
 }

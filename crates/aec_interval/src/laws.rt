@@ -8,6 +8,7 @@ ghost use Rattle.aec_interval.specs.Laws.{
   AllReadingsAreSamples,
   AllCodesAreShortest,
 };
+ghost use Rattle.aec_interval.specs.CutLaws.{AllCutsMakeNoDifference};
 
 /// The code of an interval is lawful coded data sets for its blocks.
 pub fn intervals_are_read()
@@ -38,4 +39,10 @@ pub fn readings_are_samples()
 /// the code of all samples where nothing is padded.
 pub fn codes_are_shortest()
     ensures { AllCodesAreShortest }
+{}
+
+/// However the input of a `StreamCoder` is cut into pieces, what its calls append is the stream of the samples of all bytes,
+/// and its refusal is the first one of all bytes.
+pub fn cuts_make_no_difference()
+    ensures { AllCutsMakeNoDifference }
 {}

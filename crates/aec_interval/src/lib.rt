@@ -5,9 +5,12 @@ mod chunks;
 mod codec;
 mod filling;
 mod interval;
+mod joining;
 pub mod laws;
 mod reading;
 mod reading_runs;
+mod rest;
+mod stream_coder;
 #[cfg(test)]
 mod tests;
 mod whole;
@@ -15,5 +18,6 @@ mod whole_reading;
 mod writing_runs;
 
 pub use codec::AecCodec;
+pub use stream_coder::StreamCoder;
 pub use whole::encode_all;
 pub use whole_reading::decode_all;

@@ -2,6 +2,7 @@
 
 mod codecs;
 mod coding;
+mod feeding;
 mod reading;
 mod refusals;
 mod streams;

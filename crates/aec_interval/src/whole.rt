@@ -1,12 +1,14 @@
 //! The code of a whole list of samples.
 
-ghost use Rattle.std.specs.Prelude.{◌≡◌, Some, IfOk, IfErr, MatchOption};
-ghost use Rattle.std.specs.List.{AllByRecursion};
+ghost use Rattle.std.specs.Prelude.{◌≡◌, ◌≤◌, Bool, false, List, Some, length, IfOk, IfErr, MatchOption};
+ghost use Rattle.std.specs.List.{AllByRecursion, flat_map};
 ghost use Rattle.std.specs.Result.{result_err};
 ghost use Rattle.aec_params.specs.declared.fault.Fault.TheVariants.{SampleRange, Memory};
-ghost use Rattle.aec_params.specs.Params.{is_held, IsHeld};
+ghost use Rattle.aec_params.specs.Params.{is_held, IsAllowed, IsHeld};
+ghost use Rattle.aec_params.specs.Blocks.{intervals_of};
 ghost use Rattle.aec_params.specs.Streams.{stream_of};
 ghost use Rattle.aec_bits.specs.Refusals.{first_unheld};
+ghost use Rattle.aec_interval.specs.Laws.{ReadsEach};
 
 use crate::interval::write_interval;
 use aec_bits::BitBuf;
@@ -29,6 +31,7 @@ pub(crate) fn unheld_index(params: &Params, samples: &[i64]) -> Option<u64>
 fn code_intervals(alloc: Global, params: &Params, samples: &[i64]) -> Result<BitBuf, Fault>
     requires { AllByRecursion (IsHeld params.now) samples.now }
     ensures ok { IfOk result (λ b. b.list ≡ stream_of params.now samples.now) }
+    ensures allowed { IsAllowed params.now }
     ensures fault { IfErr result (λ e. e ≡ Memory) }
 {
     let mut out = BitBuf::new(alloc);
@@ -40,8 +43,13 @@ fn code_intervals(alloc: Global, params: &Params, samples: &[i64]) -> Result<Bit
 
 /// The code of samples, without the zeros that fill its last byte. `SampleRange` with the index of the first number that
 /// is no sample of the parameters, judged before any memory is taken; then `Memory` where a growth was refused.
+///
+/// Without padding no coded data sets are shorter: take for each interval any bits that the standard reads as its blocks, by
+/// any options and any runs; joined they have at least as many bits.
 pub fn encode_all(alloc: Global, params: &Params, samples: &[i64]) -> Result<BitBuf, Fault>
     ensures ok { IfOk result (λ b. b.list ≡ stream_of params.now samples.now) }
+    ensures shortest { params.now.pad ≡ false → IfOk result (λ b. (codes : List (List Bool))
+        → ReadsEach params.now codes (intervals_of params.now samples.now) → length b.list ≤ length (flat_map (λ code. code) codes)) }
     ensures refuses { MatchOption (first_unheld (is_held params.now) 0 samples.now)
         (IfErr result (λ e. e ≡ Memory)) (λ index. result_err result ≡ Some (SampleRange index)) }
 {

@@ -18,4 +18,4 @@ pub use limits::Limits;
 pub use params::Params;
 pub use samples::Samples;
 pub use settings::Settings;
-pub use stored::{collect_samples, first_bad, put_sample, read_samples};
+pub use stored::{collect_samples, first_bad, put_sample, read_samples, sample_of};

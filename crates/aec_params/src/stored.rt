@@ -1,6 +1,6 @@
 //! Samples as they are stored: bytes into samples, and a sample into its bytes.
 
-ghost use Rattle.std.specs.Prelude.{None, Ok, IfOk, IfErr, ◌≡◌, ◌<◌, ◌≤◌, ◌^◌, ◌*◌, ◌%◌, ◌++◌, drop, length};
+ghost use Rattle.std.specs.Prelude.{None, Ok, IfSome, IfOk, IfErr, ◌≡◌, ◌<◌, ◌≤◌, ◌^◌, ◌*◌, ◌%◌, ◌++◌, drop, length};
 ghost use Rattle.byteorder.specs.Endian.{big_number, little_number, big_bytes, little_bytes};
 ghost use Rattle.aec_params.specs.declared.fault.Fault.TheVariants.{Memory};
 ghost use Rattle.aec_params.specs.Params.{IsHeld, pattern_value, storage_len};
@@ -51,10 +51,12 @@ pub fn first_bad(params: &Params, bytes: &[u8]) -> Option<u64>
     None
 }
 
-/// The sample that the bytes of one sample are; `None` where its unused bits are not what its width allows.
-fn sample_of(params: &Params, group: &[u8]) -> Option<i64>
+/// The sample that the bytes of one sample are; `None` where its unused bits are not what its width allows. Takes no
+/// memory.
+pub fn sample_of(params: &Params, group: &[u8]) -> Option<i64>
     requires { length group.now ≡ storage_len params.now }
-    ensures { result ≡ sample_of_number params.now (number_in params.now group.now) }
+    ensures value { result ≡ sample_of_number params.now (number_in params.now group.now) }
+    ensures held { IfSome result (λ x. IsHeld params.now x) }
 {
     let number = number_of(params, group);
     if number < 1u64 << params.bits() {
@@ -119,7 +121,8 @@ fn has_sign_bits(params: &Params, number: u64) -> bool
 
 /// The sample whose pattern is the low n bits of a number.
 fn low_value(params: &Params, number: u64) -> i64
-    ensures { result ≡ pattern_value params.now (number % 2 ^ params.now.bits) }
+    ensures value { result ≡ pattern_value params.now (number % 2 ^ params.now.bits) }
+    ensures held { IsHeld params.now result }
 {
     params.value((number % (1u64 << params.bits())) as u32)
 }

@@ -20,6 +20,8 @@ pub(crate) struct Pieces<'a> {
     step: usize,
     after: After,
     failed: bool,
+    // How often it was asked.
+    takes: u64,
 }
 
 impl<'a> Pieces<'a> {
@@ -30,7 +32,13 @@ impl<'a> Pieces<'a> {
             step,
             after,
             failed: false,
+            takes: 0,
         }
+    }
+
+    /// How often it was asked for bytes.
+    pub(crate) fn takes(&self) -> u64 {
+        self.takes
     }
 }
 
@@ -42,6 +50,7 @@ impl<'a> Source for Pieces<'a> {
     ghost failed = { λ s. if s.failed then 1 else 0 };
 
     fn take(&mut self, buf: &mut [u8]) -> Result<usize, Fault> {
+        self.takes = self.takes.saturating_add(1);
         if self.failed {
             return Err(Fault::Read);
         }

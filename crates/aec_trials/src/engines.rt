@@ -2,8 +2,8 @@
 
 use crate::devices::{After, Basin, Pieces};
 use crate::shared::{DEFAULTS, Outcome, run_engine};
-use aec_cli::Action;
-use aec_params::{Fault, Limits, Params};
+use aec_cli::{Action, encode};
+use aec_params::{Fault, Limits, Params, Settings};
 use std::alloc::Global;
 use std::process::Abort;
 use std::test::Fail;
@@ -115,6 +115,57 @@ fn failed_sinks_have_a_front(rt: HostRuntime) -> Result<(), Fail> {
             sink,
             (Err(Fault::Write), &[], 1, [0, 1]),
         )?;
+    }
+    Ok(())
+}
+
+// Samples of 5 bits, of which 32 is none: how often the source is asked, what it gives a call and of which bytes, the limit of
+// samples, and the answer.
+const FED: [(u64, usize, &[u8], u64, Result<(), Fault>); 6] = [
+    (
+        1,
+        1,
+        &[32, 0, 0, 0],
+        1 << 32,
+        Err(Fault::SampleRange { index: 0 }),
+    ),
+    (
+        3,
+        1,
+        &[0, 0, 32, 0],
+        1 << 32,
+        Err(Fault::SampleRange { index: 2 }),
+    ),
+    (
+        2,
+        2,
+        &[0, 0, 32, 0],
+        3,
+        Err(Fault::SampleRange { index: 2 }),
+    ),
+    (
+        2,
+        1,
+        &[0, 0, 32, 0],
+        1,
+        Err(Fault::TooManySamples { limit: 1 }),
+    ),
+    (5, 1, &[0, 0, 0, 0], 4, Ok(())),
+    (1, 1, &[], 0, Ok(())),
+];
+
+#[test]
+fn a_refused_sample_is_the_last_that_is_taken(rt: HostRuntime) -> Result<(), Fail> {
+    let params = Params::new(Settings {
+        bits: 5,
+        ..DEFAULTS
+    })?;
+    for (takes, step, bytes, limit, answer) in FED.iter() {
+        let limits = Limits::new(*limit, 0).ok_or("limits")?;
+        let mut source = Pieces::of(bytes, *step, After::Ends);
+        let mut sink = Basin::of(rt.alloc(), 64, 100);
+        let answered = encode(rt.alloc(), &params, limits, &mut source, &mut sink);
+        assert_eq!(rt; (answered, source.takes()), (*answer, *takes));
     }
     Ok(())
 }

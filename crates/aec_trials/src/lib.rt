@@ -27,6 +27,8 @@ mod library_example;
 #[cfg(test)]
 mod limits;
 #[cfg(test)]
+mod mixed_edits;
+#[cfg(test)]
 mod ranges;
 #[cfg(test)]
 mod refused_files;
@@ -44,3 +46,5 @@ mod unsynced_files;
 mod widths;
 #[cfg(test)]
 mod words;
+#[cfg(test)]
+mod workspaces;

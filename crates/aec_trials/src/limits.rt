@@ -7,6 +7,7 @@ use std::test::Fail;
 const LIMITS: &str = "\
  | 20 1099511627776 | .. | more than 20 samples
  | 0 0 | .. | more than 0 samples
+-n 5 | 4294967296 0 | 20 .. | sample 0 is out of range
 -d | 4294967296 1000 | .. | input is longer than 1000 bytes
 -d | 7 8 | 20 09 24 92 | more than 7 samples
 -d | 8 4 | 20 09 24 92 | 00 01 02 03 04 05 06 07

@@ -41,7 +41,7 @@ fn push_fs(buf: &mut BitBuf, v: u64) -> Result<(), Fault> {
 }
 
 /// Whether the bits are those of a slice.
-fn are(buf: &BitBuf, list: &[bool]) -> bool {
+pub fn are(buf: &BitBuf, list: &[bool]) -> bool {
     if buf.len() != list.len() as u64 {
         return false;
     }
@@ -53,10 +53,10 @@ fn are(buf: &BitBuf, list: &[bool]) -> bool {
     true
 }
 
-/// Bits with no simple period.
-fn sample_list(alloc: Global, len: usize, step: usize) -> Result<Vec<bool>, Fault> {
+/// Bits with no simple period, at most 200 of them.
+pub fn sample_list(alloc: Global, len: usize, step: usize) -> Result<Vec<bool>, Fault> {
     let mut list = Vec::new(alloc);
-    for i in 0..len.min(100) {
+    for i in 0..len.min(200) {
         list.push(i * step.min(100) % 7 < 3)?;
     }
     Ok(list)
@@ -179,7 +179,7 @@ fn gives_bytes_back(rt: HostRuntime) -> Result<(), Fail> {
 #[test]
 fn splices_as_a_list(rt: HostRuntime) -> Result<(), Fail> {
     let alloc = rt.alloc();
-    let sizes = [0, 1, 7, 8, 9, 63, 64, 65];
+    let sizes = [0, 1, 7, 8, 9, 63, 64, 65, 127, 128, 129];
     for len in sizes {
         let list = sample_list(alloc, len, 3)?;
         for start in sizes {

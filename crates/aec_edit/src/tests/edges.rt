@@ -227,3 +227,27 @@ fn a_limit_of_no_samples(rt: HostRuntime) -> Result<(), Fail> {
     assert_eq!(rt; work.count(), 0);
     Ok(())
 }
+
+#[test]
+fn no_values_fit_at_every_place(rt: HostRuntime) -> Result<(), Fail> {
+    let alloc = rt.alloc();
+    // The three intervals of nine octets take the last calls; edits of no values need none.
+    let mut work = workspace(alloc, 10, u64::MAX - 3);
+    let nine = append(alloc, &[1, 2, 3, 4, 5, 6, 7, 8, 9])?;
+    assert_eq!(rt; apply(&mut work, &nine), Ok(3));
+    for place in 0..10u64 {
+        let nothing = overwrite(alloc, place, &[])?;
+        assert_eq!(rt; apply(&mut work, &nothing), Ok(0), "at {place}");
+    }
+    for place in [10, u64::MAX] {
+        let nothing = overwrite(alloc, place, &[])?;
+        let fault = Fault::OutOfRange { count: 9 };
+        assert_eq!(rt; apply(&mut work, &nothing), Err(fault), "at {place}");
+    }
+    assert_eq!(rt;
+        bytes(alloc, &work)?.as_slice(),
+        b"\x01\x02\x03\x04\x05\x06\x07\x08\x09".as_slice()
+    );
+    assert_eq!(rt; counts(&work), (9, u64::MAX, 0));
+    Ok(())
+}

@@ -157,27 +157,27 @@ fn mixed_edits_as_on_a_plain_list(rt: HostRuntime) -> Result<(), Fail> {
     Ok(())
 }
 
+/// How many intervals of four octets are overwritten, each once.
+const INTERVALS: u64 = 100_000;
+
 #[test]
 fn many_intervals_each_overwritten(rt: HostRuntime) -> Result<(), Fail> {
     let alloc = rt.alloc();
-    let mut work = workspace(alloc, 20_000, 0);
-    let zeros = vec![in alloc; 0i64; 20_000]?;
+    let mut work = workspace(alloc, 4 * INTERVALS, 0);
     let zeros = Edit::Append {
-        values: Samples::new(zeros),
+        values: Samples::new(vec![in alloc; 0i64; 4 * INTERVALS as usize]?),
     };
-    assert_eq!(rt; apply(&mut work, &zeros), Ok(5_000));
-    for k in 0..5_000u64 {
+    assert_eq!(rt; apply(&mut work, &zeros), Ok(INTERVALS));
+    for k in 0..INTERVALS {
         let edit = Edit::Overwrite {
             first: 4 * k + 1,
             values: Samples::new([1i64].to_vec(alloc)?),
         };
         assert_eq!(rt; apply(&mut work, &edit), Ok(1));
     }
-    assert_eq!(rt; counts(&work), (20_000, 10_000, 5_000));
-    assert_eq!(rt; work.offset(4_999), Some(159_968));
-    assert_eq!(rt;
-        range(&mut work, alloc, 19_996, 4)?.as_slice(),
-        [0, 1, 0, 0].as_slice()
-    );
+    assert_eq!(rt; counts(&work), (4 * INTERVALS, 2 * INTERVALS, INTERVALS));
+    assert_eq!(rt; work.offset(INTERVALS - 1), Some(32 * (INTERVALS - 1)));
+    let last = range(&mut work, alloc, 4 * (INTERVALS - 1), 4)?;
+    assert_eq!(rt; last.as_slice(), [0, 1, 0, 0].as_slice());
     Ok(())
 }

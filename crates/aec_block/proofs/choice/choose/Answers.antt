@@ -1,19 +1,36 @@
-use Rattle.std.proofs.Common.{arith, ◌≡◌}
-use Rattle.aec_params.specs.Params.{split_count}
-use Rattle.aec_block.proofs.ChoiceLemmas.{names-first, names-more, names-last}
+use Rattle.std.proofs.Common.{◌≡◌, ◌*◌, ◌<◌, refl, ◌∙◌, sym, subst, arith, true, length}
+use Rattle.std.specs.Prelude.{nat_lt, nat_le, ◌&&◌, ◌||◌}
+use Rattle.std.proofs.lemmas.Bool.Decides.{nat_tests}
+use Rattle.aec_block.specs.Lengths.{paired_length, split_values_length, IsBestSplit}
+use Rattle.aec_block.proofs.ChoiceLemmas.{names-first, names-split, names-unsplit, names-unpaired}
 use Rattle.aec_block.proofs.choice.choose.Goals as goal
 
-pub loop-k-init : goal.loop-k-init
-loop-k-init c =
-    names-first c.args.params.now c.args.block.now c.uncompressed_len.result c.paired_len.result c.shorter_of-best.result
-    c.uncompressed_len.ensures c.paired_len.ensures c.shorter_of-best.ensures
+pub returns-then-pairs_are_longer : goal.returns-then-pairs_are_longer
+returns-then-pairs_are_longer c =
+    let s = c.args.params.now in
+    let options = c.split_options-options.result in
+    let split = c.best_split-split in
+    let is = c.written-values.ensures.value in
+    let test = subst (λ v. (nat_lt 0 options && (nat_lt 0 split.result.k || nat_le (2 * length v) split.result.bits)) ≡ true) is
+    (sym c.pairs_are_longer.ensures ∙ c.if-pairs_are_longer.true) in
+    names-unpaired s c.args.block.now options split.result.k split.result.bits c.uncompressed_len.result c.shorter_of_split.result
+    c.split_options-options.ensures.allowed c.requires c.uncompressed_len.ensures.len c.split_options-options.ensures.count
+    (subst (λ v. 0 < options → IsBestSplit options split.result.k v) is split.ensures.best)
+    (subst (λ v. split.result.bits ≡ split_values_length split.result.k v) is split.ensures.bits) test c.shorter_of_split.ensures
 
-pub loop-k-preserved : goal.loop-k-preserved
-loop-k-preserved c =
-    names-more c.args.params.now c.args.block.now c.loop-k.k c.split_len.result c.loop-k.best c.shorter_of-best-in-loop-k.result
-    c.loop-k.invariant c.split_len.ensures c.shorter_of-best-in-loop-k.ensures
+pub returns-then-options-eq0 : goal.returns-then-options-eq0
+returns-then-options-eq0 c =
+    names-unsplit c.args.params.now c.args.block.now c.split_options-options.result c.shorter_of_pairs-best.result
+    (names-first c.args.params.now c.args.block.now c.uncompressed_len.result (paired_length c.args.params.now c.args.block.now)
+    c.shorter_of_pairs-best.result c.uncompressed_len.ensures.len refl c.shorter_of_pairs-best.ensures)
+    c.split_options-options.ensures.count (grind (arith, nat_tests))
 
 pub returns : goal.returns
 returns c =
-    let last : c.loop-k.k ≡ split_count c.args.params.now = omega arith in
-    names-last c.args.params.now c.args.block.now c.loop-k.k c.loop-k.best c.loop-k.invariant last
+    let some : 0 < c.split_options-options.result = grind (arith, nat_tests) in
+    let best = subst (λ v. IsBestSplit c.split_options-options.result c.best_split-split.result.k v) c.written-values.ensures.value
+    (c.best_split-split.ensures.best some) in
+    names-split c.args.params.now c.args.block.now c.split_options-options.result c.best_split-split.result.k c.shorter_of_pairs-best.result
+    c.shorter_of_split-2.result (names-first c.args.params.now c.args.block.now c.uncompressed_len.result
+    (paired_length c.args.params.now c.args.block.now) c.shorter_of_pairs-best.result c.uncompressed_len.ensures.len refl
+    c.shorter_of_pairs-best.ensures) c.split_options-options.ensures.count best c.shorter_of_split-2.ensures

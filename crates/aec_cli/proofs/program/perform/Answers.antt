@@ -23,14 +23,10 @@ returns-in-Err-clause-refusals g c sound =
 pub returns-in-Err-settings-clause-refusals : goal.returns-in-Err-settings-clause-refusals
 returns-in-Err-settings-clause-refusals g c sound =
     let finds : IsFoundIn (map string_bytes c.args.words.items) (found_of c.in-Ok.matches) = rw c.as_slice.ensures.value at c.in-Ok.ensures.entries in
-    ends_by_usage _ (found_of c.in-Ok.matches) c.settings.result c.in-Err-settings.usage c.report.result finds c.in-Err-settings.is c.settings.ensures.refuses c.report.ensures
-
-pub returns-in-Ok-run-clause-refusals : goal.returns-in-Ok-run-clause-refusals
-returns-in-Ok-run-clause-refusals g c sound =
-    let finds : IsFoundIn (map string_bytes c.args.words.items) (found_of c.in-Ok.matches) = rw c.as_slice.ensures.value at c.in-Ok.ensures.entries in
-    ends_by_job _ (found_of c.in-Ok.matches) _ _ finds c.in-Ok-settings.ensures.ok
+    ends_by_usage _ (found_of c.in-Ok.matches) c.settings.result c.in-Err-settings.usage c.report.result finds c.in-Err-settings.is c.settings.ensures.refuses
+    c.settings.ensures.memory c.report.ensures
 
 pub returns-clause-refusals : goal.returns-clause-refusals
 returns-clause-refusals g c sound =
     let finds : IsFoundIn (map string_bytes c.args.words.items) (found_of c.in-Ok.matches) = rw c.as_slice.ensures.value at c.in-Ok.ensures.entries in
-    ends_by_job _ (found_of c.in-Ok.matches) _ _ finds c.in-Ok-settings.ensures.ok
+    ends_by_job _ (found_of c.in-Ok.matches) _ _ finds c.in-Ok-settings.ensures.ok c.finish.ensures

@@ -13,7 +13,7 @@ loop-group-preserved c =
     let fits : SFits w64 c.low_value.result = search rules in
     let sample : ℤ = to_z w64 (of_z w64 c.low_value.result) in
     let value : sample ≡ pattern_value c.args.params.now (c.number_of.result % 2 ^ c.args.params.now.bits) =
-    to_z-of_z w64 c.low_value.result fits ∙ c.low_value.ensures in
+    to_z-of_z w64 c.low_value.result fits ∙ c.low_value.ensures.value in
     let low = ap (λ (u : ℕ). pattern_value c.args.params.now (u % 2 ^ c.args.params.now.bits)) c.number_of.ensures in (
       steps.0 ∙ c.loop-group.invariant.0,
       samples-next c.args.params.now c.loop-group.samples.items c.push.new.self.items sample c.in-Some.group.now

@@ -11,7 +11,7 @@ returns-then-is_none c =
     sym (c.loop-index.invariant.1
     ∙ fault-here c.args.params.now c.loop-index.index-iterator.count c.in-Some.group.now
     (chunks_exact_rest c.loop-index.index-iterator.iter) (chunks_exact_rest c.next.new.self.iter) c.sample_of.result
-    c.storage.ensures.allowed steps.0.1.0 (steps.0.1.1 ∙ c.loop-index.invariant.0) c.sample_of.ensures c.if-is_none.ensures
+    c.storage.ensures.allowed steps.0.1.0 (steps.0.1.1 ∙ c.loop-index.invariant.0) c.sample_of.ensures.value c.if-is_none.ensures
     ∙ ap Some (sym steps.1))
 
 pub loop-index-preserved : goal.loop-index-preserved
@@ -21,6 +21,6 @@ loop-index-preserved c =
       c.loop-index.invariant.1
           ∙ fault-later c.args.params.now c.loop-index.index-iterator.count c.in-Some.group.now
           (chunks_exact_rest c.loop-index.index-iterator.iter) (chunks_exact_rest c.next.new.self.iter) c.sample_of.result
-          c.storage.ensures.allowed steps.0.1.0 (steps.0.1.1 ∙ c.loop-index.invariant.0) c.sample_of.ensures c.if-is_none.ensures
+          c.storage.ensures.allowed steps.0.1.0 (steps.0.1.1 ∙ c.loop-index.invariant.0) c.sample_of.ensures.value c.if-is_none.ensures
           ∙ ap (λ i. result_err (samples_of_groups c.args.params.now i (byte_groups c.args.params.now (chunks_exact_rest c.next.new.self.iter)))) (sym steps.2),
     )

@@ -1,0 +1,89 @@
+#!/usr/bin/env python3
+"""What edits of a long coded stream cost: edits.py PATH_OF_AEC
+
+Codes 64 MiB of 16-bit samples (those of a detector in bench.py, J 16, r 128: 16,384 intervals of 2,048 samples), and has
+the program at PATH_OF_AEC edit that stream by scripts: of no line, of 100 lines that each overwrite one sample in the
+middle, of 1,000 that each overwrite one somewhere. The edits themselves cost what a run takes longer than the one of no line, which
+decodes the stream and codes it anew. Beside it the command-line client of libaec (named by the environment variable
+LIBAEC, else /usr/bin/aec) decodes the stream and codes it again. Prints a table in Markdown: seconds of processor time,
+the least of three runs, and peak memory. Each stream that a script leaves is compared with that of the changed samples.
+"""
+
+import os
+import random
+import struct
+import subprocess
+import sys
+import tempfile
+
+from bench import MIB, detector, run
+
+SIZE = 64
+OPTIONS = ["-n", "16", "-j", "16", "-r", "128"]
+SAMPLES = SIZE * MIB // 2
+SCRIPTS = [
+    ("no line", []),
+    ("100 samples in the middle", [(SAMPLES // 2 + 2048 * i, i) for i in range(100)]),
+    ("1,000 samples that lie scattered", [(i * 7919 * 4241 % SAMPLES, i) for i in range(1000)]),
+]
+
+
+def write(path, data):
+    """Writes a file."""
+    with open(path, "wb") as file:
+        file.write(data)
+
+
+def read(path):
+    """The bytes of a file."""
+    with open(path, "rb") as file:
+        return file.read()
+
+
+def changed(raw, places):
+    """The samples after the overwrites."""
+    samples = bytearray(raw)
+    for place, value in places:
+        struct.pack_into("<H", samples, 2 * place, value)
+    return bytes(samples)
+
+
+def edited(ours, folder, raw, places):
+    """Seconds and MiB of a run that edits; fails where its stream is not that of the changed samples."""
+    path = {name: os.path.join(folder, name) for name in ("coded", "script", "dest", "changed", "expected")}
+    write(path["script"], "".join(f"overwrite {place} {value}\n" for place, value in places).encode())
+    told = run([ours, *OPTIONS, "--edit", path["script"], path["coded"], path["dest"]], folder, 3)
+    write(path["changed"], changed(raw, places))
+    subprocess.run([ours, *OPTIONS, path["changed"], path["expected"]], check=True)
+    if read(path["dest"]) != read(path["expected"]):
+        raise SystemExit("the edited stream is not that of the changed samples")
+    return told
+
+
+def line(name, told, more=""):
+    """One line of the table."""
+    print(f"| {name} | {told[0]:.2f} | {told[1]:.0f} | {more} |", flush=True)
+
+
+def main():
+    """Runs all, and prints the table."""
+    ours, theirs = os.path.abspath(sys.argv[1]), os.environ.get("LIBAEC", "/usr/bin/aec")
+    raw = detector(random.Random(16)) * SIZE
+    print("| Job | seconds | MiB | for each edit, ms |\n|---|---|---|---|")
+    with tempfile.TemporaryDirectory() as folder:
+        source, coded, dest = (os.path.join(folder, name) for name in ("raw", "coded", "dest"))
+        write(source, raw)
+        line("coding", run([ours, *OPTIONS, source, coded], folder, 3))
+        line("decoding", run([ours, "-d", *OPTIONS, coded, dest], folder, 3))
+        base = None
+        for name, places in SCRIPTS:
+            told = edited(ours, folder, raw, places)
+            base = base or told[0]
+            each = f"{(told[0] - base) / len(places) * 1000:.1f}" if places else ""
+            line(f"`--edit`, {name}", told, each)
+        line("libaec: decoding", run([theirs, "-d", *OPTIONS, coded, dest], folder, 3))
+        line("libaec: coding", run([theirs, *OPTIONS, source, dest], folder, 3))
+
+
+if __name__ == "__main__":
+    main()

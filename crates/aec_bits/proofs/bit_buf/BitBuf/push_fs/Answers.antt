@@ -1,0 +1,10 @@
+use Rattle.std.proofs.Common.{◌+◌, arith}
+use Rattle.std.proofs.lemmas.Nat.{pow_below}
+use Rattle.aec_bits.proofs.BitBufLemmas.{binary-one}
+use Rattle.aec_bits.proofs.bit_buf.BitBuf.push_fs.Goals as goal
+
+pub push_bits-requires-clause-fits : goal.push_bits-requires-clause-fits
+push_bits-requires-clause-fits c = pow_below 0 (c.args.v + 1) (omega arith)
+
+pub returns-then-v-lt64-clause-ok : goal.returns-then-v-lt64-clause-ok
+returns-then-v-lt64-clause-ok c = rw (binary-one c.args.v) at c.push_bits.ensures.ok

@@ -1,0 +1,132 @@
+//! Numbers and stretches of bits in words of 64, the most significant bit first.
+
+ghost use Rattle.std.specs.Prelude.{◌≡◌, ◌+◌, ◌-◌, ◌*◌, ◌<◌, ◌≤◌, ◌^◌, ◌++◌, false, length, take, drop, replicate, MatchOption, is_some};
+ghost use Rattle.aec_params.specs.Codewords.{fs, binary};
+ghost use Rattle.aec_bits.specs.BitReader.{has_one};
+ghost use Rattle.aec_bits.specs.Words.{bits_of_words};
+ghost use Rattle.aec_bits.specs.WordBits.{word_bits};
+
+/// The number that `width` bits of a word spell from place `at` on.
+#[inline(always)]
+fn part_of(word: u64, at: u32, width: u32) -> u64
+    requires some { 0 < width }
+    requires within { at + width ≤ 64 }
+    ensures fits { result < 2 ^ width }
+    ensures bits { drop at (word_bits word) ≡ binary width result ++ drop (at + width) (word_bits word) }
+{
+    (word << at) >> (64 - width)
+}
+
+/// The word that begins at place `at` of a word, with another one after it.
+#[inline(always)]
+fn joined(first: u64, second: u64, at: u32) -> u64
+    requires some { 0 < at }
+    requires within { at < 64 }
+    ensures bits { word_bits result ≡ drop at (word_bits first) ++ take at (word_bits second) }
+{
+    (first << at) | (second >> (64 - at))
+}
+
+/// The number that `width` bits spell from place `start` on, the most significant first.
+pub(crate) fn number_at(words: &[u64], start: u64, width: u32) -> u64
+    requires width { width ≤ 64 }
+    requires within { start + width ≤ 64 * length words.now }
+    ensures fits { result < 2 ^ width }
+    ensures bits { drop start (bits_of_words words.now) ≡ binary width result ++ drop (start + width) (bits_of_words words.now) }
+{
+    if width == 0 {
+        return 0;
+    }
+    let place = (start / 64) as usize;
+    let at = (start % 64) as u32;
+    if at + width <= 64 {
+        return part_of(words[place], at, width);
+    }
+    part_of(joined(words[place], words[place + 1], at), 0, width)
+}
+
+/// The word whose bits begin at place `start`.
+#[inline(always)]
+pub(crate) fn word_at(words: &[u64], start: u64) -> u64
+    requires { start + 64 ≤ 64 * length words.now }
+    ensures { drop start (bits_of_words words.now) ≡ word_bits result ++ drop (start + 64) (bits_of_words words.now) }
+{
+    let place = (start / 64) as usize;
+    let at = (start % 64) as u32;
+    if at == 0 {
+        return words[place];
+    }
+    joined(words[place], words[place + 1], at)
+}
+
+/// A word of which `width` bits from place `at` on were overwritten by a number.
+#[inline(always)]
+fn put_in_word(word: u64, at: u32, width: u32, value: u64) -> u64
+    requires some { 0 < width }
+    requires within { at + width ≤ 64 }
+    requires fits { value < 2 ^ width }
+    ensures bits { word_bits result ≡ take at (word_bits word) ++ (binary width value ++ drop (at + width) (word_bits word)) }
+{
+    let behind = 64 - at - width;
+    let front = word & !(u64::MAX >> at);
+    let back = word & ((1 << behind) - 1);
+    front | value << behind | back
+}
+
+/// Overwrites `width` bits from place `start` on by a number, the most significant bit first.
+pub(crate) fn put_number(words: &mut [u64], start: u64, width: u32, value: u64)
+    requires width { width ≤ 64 }
+    requires fits { value < 2 ^ width }
+    requires within { start + width ≤ 64 * length words.old }
+    ensures bits { bits_of_words words.new ≡ take start (bits_of_words words.old) ++ (binary width value ++ drop (start + width) (bits_of_words words.old)) }
+    ensures len { length words.new ≡ length words.old }
+{
+    if width == 0 {
+        return;
+    }
+    let place = (start / 64) as usize;
+    let at = (start % 64) as u32;
+    if at + width <= 64 {
+        words[place] = put_in_word(words[place], at, width, value);
+        return;
+    }
+    let over = at + width - 64;
+    let first = put_in_word(words[place], at, width - over, value >> over);
+    let second = put_in_word(words[place + 1], 0, over, value & ((1 << over) - 1));
+    words[place] = first;
+    words[place + 1] = second;
+}
+
+/// How many zeros stand in a word from place `at` on before a one; `None` where no one follows in it.
+#[inline(always)]
+fn zeros_in_word(word: u64, at: u32) -> Option<u32>
+    requires { at < 64 }
+    ensures { MatchOption result
+        (drop at (word_bits word) ≡ replicate (64 - at) false)
+        (λ v. (at + v < 64) × (drop at (word_bits word) ≡ fs v ++ drop (at + v + 1) (word_bits word))) }
+{
+    let rest = word & (u64::MAX >> at);
+    if rest == 0 {
+        return None;
+    }
+    Some(rest.leading_zeros() - at)
+}
+
+/// How many zeros stand from place `start` on before a one; `None` where no one follows.
+pub(crate) fn zeros_at(words: &[u64], start: u64) -> Option<u64>
+    requires within { start ≤ 64 * length words.now }
+    requires bound { 64 * length words.now ≤ 2 ^ 63 }
+    ensures cases { MatchOption result
+        (has_one (drop start (bits_of_words words.now)) ≡ false)
+        (λ v. (start + v < 64 * length words.now) × (drop start (bits_of_words words.now) ≡ fs v ++ drop (start + v + 1) (bits_of_words words.now))) }
+    ensures some { is_some result ≡ has_one (drop start (bits_of_words words.now)) }
+{
+    let mut at = (start % 64) as u32;
+    for i in (start / 64) as usize..words.len() {
+        if let Some(zeros) = zeros_in_word(words[i], at) {
+            return Some(64 * i as u64 + u64::from(at + zeros) - start);
+        }
+        at = 0;
+    }
+    None
+}

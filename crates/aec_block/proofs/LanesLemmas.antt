@@ -1,0 +1,63 @@
+-- Sums in lanes are the sums of the values.
+use Rattle.std.proofs.Common.{◌≡◌, ℕ, ◌+◌, ◌-◌, ◌*◌, ◌/◌, ◌^◌, ◌≤◌, refl, ap, ◌∙◌, sym, subst, arith, List, [], ◌∷◌, length, map, take, drop, get_or}
+use Rattle.std.specs.Simd.Lanes.{sum_l, Each1, zip2, fold_l}
+use mir.Syntax.{add, unsigned, w32, w64}
+use mir.Val.{Fits}
+use borrow.Rule.Simd.Lanes.{act2}
+use borrow.Table.Row.{s_int}
+use Rattle.std.proofs.Math.Seq.{take-add}
+use Rattle.std.proofs.lemmas.List.{take_all, take_rest}
+use Rattle.std.proofs.lemmas.Nat.{shr_le}
+use Rattle.std.proofs.lemmas.Simd.{adds_fit, sum_fits, sum-zip2, fold-sum, length-zip2, zip2_splat, chunk-fits, shifts_fit_splat, widens}
+use Rattle.std.proofs.lemmas.List.Sums.{sum_by-cons, sum_by-append, sum_by-take-drop}
+use Rattle.aec_block.specs.Lengths.{sum_of_shifted}
+
+-- the lanes of shifted values add up to the sum of them
+pub sum_l-shifted : (k : ℕ) (values : List ℕ) → sum_l (map (λ v. v / 2 ^ k) values) ≡ sum_of_shifted k values
+sum_l-shifted k [] = refl
+sum_l-shifted k (v ∷ values) =
+    let rest = sum_l-shifted k values in
+    let added = sum_by-cons (λ (u : ℕ). u / 2 ^ k) v values in
+    omega arith
+
+-- values of 32 bits
+shifted-le : (k : ℕ) (values : List ℕ) → Each1 (Fits w32) values → sum_of_shifted k values ≤ length values * 2 ^ 32
+shifted-le k [] fit = omega arith
+shifted-le k (v ∷ values) fit =
+    let rest = shifted-le k values fit.1 in
+    let added = sum_by-cons (λ (u : ℕ). u / 2 ^ k) v values in
+    let below = shr_le v k in
+    let small = fit.0.fits in
+    omega arith
+
+pub eight_shifted-le : (k : ℕ) (values : List ℕ) → length values ≡ 8 → ((i : ℕ) → Fits w32 (get_or values i 0)) → sum_of_shifted k values ≤ 8 * 2 ^ 32
+eight_shifted-le k values long fit =
+    let P : List ℕ → Type 0 = λ vs. Each1 (Fits w32) vs in
+    let each : Each1 (Fits w32) values = subst P (take_all 8 values (omega arith)) (chunk-fits w32 0 8 values fit) in
+    omega (arith, shifted-le k values each)
+
+pub ruleset shifts = (chunk-fits, shifts_fit_splat, widens, zip2_splat, take_all, sum_l-shifted, eight_shifted-le)
+
+-- what adding lane to lane and adding up the lanes show as
+pub sum_l-added : (xs ys : List ℕ) → length xs ≡ 8 → length ys ≡ 8
+    → sum_l (zip2 (act2 (add unsigned) (s_int w64) (s_int w64) (s_int w64)) xs ys) ≡ sum_l xs + sum_l ys
+sum_l-added xs ys long_x long_y = sum-zip2 xs ys (long_x ∙ sym long_y)
+
+pub fold_l-added : (xs : List ℕ) → fold_l (act2 (add unsigned) (s_int w64) (s_int w64) (s_int w64)) 0 xs ≡ sum_l xs
+fold_l-added xs = omega (arith, fold-sum 0 xs)
+
+pub ruleset additions = (adds_fit, sum_fits, sum_l-added, fold_l-added, length-zip2)
+
+-- eight values more, and the few at the end
+pub eight_more : (k i : ℕ) (values : List ℕ)
+    → sum_of_shifted k (take (8 * (i + 1)) values)
+    ≡ sum_of_shifted k (take (8 * i) values) + sum_of_shifted k (take (8 * i + 8 - 8 * i) (drop (8 * i) values))
+eight_more k i values =
+    let more : 8 * (i + 1) ≡ 8 * i + 8 = omega arith in
+    let eight : 8 * i + 8 - 8 * i ≡ 8 = omega arith in
+    rw (more, eight) (ap (sum_of_shifted k) (take-add (8 * i) 8 values)
+    ∙ sum_by-append (λ (v : ℕ). v / 2 ^ k) (take (8 * i) values) (take 8 (drop (8 * i) values)))
+
+pub whole_and_rest : (k w : ℕ) (values : List ℕ)
+    → sum_of_shifted k (take w values) + sum_of_shifted k (take (length values - w) (drop w values)) ≡ sum_of_shifted k values
+whole_and_rest k w values = rw (take_rest values w) (sum_by-take-drop (λ (v : ℕ). v / 2 ^ k) values w)

@@ -1,0 +1,59 @@
+//! The k with which a block's values are split.
+
+ghost use Rattle.std.specs.Prelude.{◌≡◌, ◌+◌, ◌*◌, ◌^◌, ◌<◌, ◌≤◌, nat_lt, length};
+ghost use Rattle.aec_block.specs.BlockShape.{most_values};
+ghost use Rattle.aec_block.specs.Lengths.{sum_of_shifted, split_values_length, IsBestSplit};
+
+use crate::lanes::shifted_sum;
+
+/// A k, and the bits of the values that are split with it.
+#[derive(Clone, Copy, Debug, PartialEq, Eq)]
+pub(crate) struct Splitting {
+    pub(crate) k: u32,
+    pub(crate) bits: u64,
+}
+
+/// Whether so many values are shorter with one low bit more each, by the sums without the low bits, this time and next.
+fn is_shorter_next(sum: u64, next: u64, count: u64) -> bool
+    requires { next + count < 2 ^ 64 }
+    ensures { result ≡ nat_lt (next + count) sum }
+{
+    next + count < sum
+}
+
+/// The values that are split with `k`, by their sum without the low bits.
+fn with_k(sum: u64, count: usize, k: u32) -> Splitting
+    requires sum { sum ≤ 2 ^ 39 }
+    requires count { count ≤ most_values }
+    requires k { k < 32 }
+    ensures k { result.k ≡ k }
+    ensures bits { result.bits ≡ sum + count * (k + 1) }
+    ensures bound { result.bits ≤ 2 ^ 40 }
+{
+    Splitting {
+        k,
+        bits: sum + count as u64 * u64::from(k + 1),
+    }
+}
+
+/// The k below `options` with which the values have the fewest bits, and of equal ones the least; 0 where there are no
+/// options. The sums fall by half at least with each k, so what one more low bit gains never grows: at the first k that
+/// one more doesn't make shorter, no later one does.
+pub(crate) fn best_split(values: &[u32], options: u32) -> Splitting
+    requires options { options ≤ 32 }
+    requires len { length values.now ≤ most_values }
+    ensures best { 0 < options → IsBestSplit options result.k values.now }
+    ensures bits { result.bits ≡ split_values_length result.k values.now }
+    ensures bound { result.bits ≤ 2 ^ 40 }
+{
+    let mut sum = shifted_sum(values, 0);
+    let last = options.saturating_sub(1);
+    for k in 0..last {
+        let next = shifted_sum(values, k + 1);
+        if !is_shorter_next(sum, next, values.len() as u64) {
+            return with_k(sum, values.len(), k);
+        }
+        sum = next;
+    }
+    with_k(sum, values.len(), last)
+}

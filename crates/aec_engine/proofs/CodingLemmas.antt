@@ -1,0 +1,196 @@
+-- What feeding a source to a coder gives, step by step, and the answers of coding.
+use Rattle.std.proofs.Common.{◌≡◌, ℕ, ◌+◌, ◌-◌, ◌*◌, ◌/◌, ◌<◌, ◌≤◌, Bool, true, false, Option, Some, None, Result, Ok, Err, IfErr, List, [], ◌∷◌, ◌++◌, length, refl, sym, ap, ◌∙◌, subst, arith, append-nil}
+use Rattle.std.specs.Prelude.{is_some, MatchOption}
+use Rattle.std.specs.Option.{option_or}
+use Rattle.std.specs.Io.KnownBytes.{Consumes, IsAtEnd, Keeps}
+use Rattle.std.proofs.KnownBytes.{Consumes-nil, Consumes-trans, Consumes-kept}
+use Rattle.std.proofs.lemmas.List.{length-append, length-drop}
+use Rattle.std.proofs.lemmas.Nat.{div-add-mod', mod_below}
+use Rattle.aec_params.specs.declared.settings.Settings.{Settings}
+use Rattle.aec_params.specs.declared.fault.Fault.{Fault}
+use Rattle.aec_params.specs.declared.fault.Fault.TheVariants.{Read}
+use Rattle.aec_params.specs.Limits.{Caps}
+use Rattle.aec_params.specs.Params.{IsAllowed, storage_len}
+use Rattle.aec_params.specs.Stored.{samples_of_bytes}
+use Rattle.aec_params.specs.Codewords.{bytes_of}
+use Rattle.aec_params.specs.Streams.{stream_of}
+use Rattle.aec_params.proofs.StoredLemmas.{storage-least}
+use Rattle.aec_interval.specs.Taking.{judged_samples}
+use Rattle.aec_interval.specs.Feeding as feeding
+use Rattle.aec_interval.specs.Feeding.{Coding, new_coding, Feeds, StopsFeeding}
+use Rattle.aec_interval.specs.CutLaws.{IsStreamSoFar}
+use Rattle.aec_interval.proofs.CutLemmas.{cuts_make_no_difference}
+use Rattle.aec_interval.proofs.FeedingLemmas.{stops_later}
+use Rattle.aec_engine.specs.Transfers.{input_of, Taking, GivesAnswer, given, lacks_memory}
+use Rattle.aec_engine.specs.Output.{IsEncoded, are_refused, not_coded, encoded}
+use Rattle.aec_engine.specs.CodingSteps.{IsFedSoFar, IsFed, StopsCoding, no_memory, refused, bytes_left}
+use Rattle.aec_engine.proofs.OutputLemmas.{taking}
+use Rattle.aec_engine.proofs.JudgingLemmas.{length-samples_of_bytes}
+
+-- ---- a coder that was fed bytes
+
+-- what bytes are as a whole
+judged_so_far : (s : Settings) (limit : ℕ) (bytes : List ℕ) (bits : List Bool) (coder : Coding) → IsAllowed s
+    → Feeds (new_coding s limit) bytes [] bits coder → judged_samples limit (samples_of_bytes s bytes) ≡ None
+judged_so_far s limit bytes bits coder a feeds = sym ((cuts_make_no_difference s limit a).judged bytes) ∙ feeds.taken
+
+stream_so_far : (s : Settings) (limit : ℕ) (bytes : List ℕ) (bits : List Bool) (coder : Coding) → IsAllowed s
+    → Feeds (new_coding s limit) bytes [] bits coder → IsStreamSoFar s limit bytes [] bits coder
+stream_so_far s limit bytes bits coder a feeds =
+    subst (λ l. IsStreamSoFar s limit l [] bits coder) (append-nil bytes)
+    ((cuts_make_no_difference s limit a).stream (bytes ∷ []) [] bits coder (bits, (coder, (feeds, (refl, refl)))))
+
+-- all bytes are counted: those of whole samples, and those behind them
+counted_so_far : (s : Settings) (limit : ℕ) (bytes : List ℕ) (bits : List Bool) (coder : Coding) → IsAllowed s
+    → Feeds (new_coding s limit) bytes [] bits coder → coder.count * storage_len s + length coder.rest ≡ length bytes
+counted_so_far s limit bytes bits coder a feeds =
+    let n : ℕ = storage_len s in
+    let so = stream_so_far s limit bytes bits coder a feeds in
+    let count : coder.count ≡ length bytes / n = so.counted ∙ length-samples_of_bytes s bytes so.samples so.taken in
+    let whole : coder.count * n ≡ length bytes / n * n = ap (λ k. k * n) count in
+    let rest : length coder.rest ≡ length bytes - length bytes / n * n =
+    ap (λ (c : Coding). length c.rest) feeds.coder ∙ length-drop (length bytes / n * n) bytes in
+    omega (arith, whole, rest, div-add-mod' (length bytes) n)
+
+-- which are fewer than those of more samples than the limit
+within_so_far : (s : Settings) (limit : ℕ) (bytes : List ℕ) (bits : List Bool) (coder : Coding) → IsAllowed s
+    → Feeds (new_coding s limit) bytes [] bits coder → length bytes < (limit + 1) * storage_len s
+within_so_far s limit bytes bits coder a feeds =
+    let n : ℕ = storage_len s in
+    let so = stream_so_far s limit bytes bits coder a feeds in
+    let few : length bytes / n ≤ limit = omega (arith, so.within, length-samples_of_bytes s bytes so.samples so.taken) in
+    let some : 0 < n = omega (arith, storage-least s a) in
+    let below : (length bytes / n + 1) * n ≤ (limit + 1) * n = grind (arith, few) in
+    let next : (length bytes / n + 1) * n ≡ length bytes / n * n + n = grind arith in
+    omega (arith, below, next, div-add-mod' (length bytes) n, mod_below (length bytes) n some)
+
+-- ---- steps
+
+pub fed_begins : (s : Settings) (limit : ℕ) (before : Option (List ℕ)) (bits : List Bool) (coder : Coding) → IsAllowed s → bits ≡ []
+    → coder ≡ new_coding s limit → IsFedSoFar s limit before before bits coder
+fed_begins s limit before bits coder a none new = record {
+  allowed = a;
+  bytes = [];
+  taken = Consumes-nil before;
+  feeds = subst (λ c. Feeds (new_coding s limit) [] [] bits c) (sym new)
+      (subst (λ bits. Feeds (new_coding s limit) [] [] bits (new_coding s limit)) (sym none) ((cuts_make_no_difference s limit a).begun []));
+}
+
+pub fed_goes_on : (s : Settings) (limit : ℕ) (before between after : Option (List ℕ)) (bits more : List Bool) (coder next : Coding) (piece : List ℕ)
+    → IsFedSoFar s limit before between bits coder → Consumes between after piece → Feeds coder piece bits more next
+    → IsFedSoFar s limit before after more next
+fed_goes_on s limit before between after bits more coder next piece so consumes feeds = record {
+  allowed = so.allowed;
+  bytes = so.bytes ++ piece;
+  taken = Consumes-trans before between after so.bytes piece so.taken consumes;
+  feeds = (cuts_make_no_difference s limit so.allowed).more so.bytes piece [] bits more coder next so.feeds feeds;
+}
+
+-- nothing was refused so far
+pub unrefused_so_far : (s : Settings) (limit : ℕ) (before after : Option (List ℕ)) (bits : List Bool) (coder : Coding)
+    → IsFedSoFar s limit before after bits coder → coder.refusal ≡ None
+unrefused_so_far s limit before after bits coder so = ap (λ (c : Coding). c.refusal) so.feeds.coder ∙ so.feeds.taken
+
+-- fewer bytes are left to be taken
+pub fewer_left : (s : Settings) (limit : ℕ) (before after : Option (List ℕ)) (bits more : List Bool) (coder next : Coding) (piece : List ℕ)
+    → IsFedSoFar s limit before after bits coder → Feeds coder piece bits more next → 0 < length piece → bytes_left next < bytes_left coder
+fewer_left s limit before after bits more coder next piece so feeds some =
+    let n : ℕ = storage_len s in
+    let bytes : List ℕ = so.bytes ++ piece in
+    let all_fed : Feeds (new_coding s limit) bytes [] more next =
+    (cuts_make_no_difference s limit so.allowed).more so.bytes piece [] bits more coder next so.feeds feeds in
+    let old = counted_so_far s limit so.bytes bits coder so.allowed so.feeds in
+    let new = counted_so_far s limit bytes more next so.allowed all_fed in
+    let most = within_so_far s limit bytes more next so.allowed all_fed in
+    let all : length bytes ≡ length so.bytes + length piece = length-append so.bytes piece in
+    let old_left : bytes_left coder ≡ (limit + 1) * n - (coder.count * n + length coder.rest) =
+    ap (λ (c : Coding). (c.limit + 1) * storage_len c.settings - (coder.count * storage_len c.settings + length coder.rest)) so.feeds.coder in
+    let new_left : bytes_left next ≡ (limit + 1) * n - (next.count * n + length next.rest) =
+    ap (λ (c : Coding). (c.limit + 1) * storage_len c.settings - (next.count * storage_len c.settings + length next.rest)) all_fed.coder in
+    omega (arith, old, new, most, all, old_left, new_left, some)
+
+pub fed_ends : (s : Settings) (limit : ℕ) (before between after : Option (List ℕ)) (failures : ℕ) (bits : List Bool) (coder : Coding)
+    → IsFedSoFar s limit before between bits coder → Consumes between after [] → IsAtEnd after → failures ≡ 0
+    → IsFed s limit (taking before after failures) bits coder
+fed_ends s limit before between after failures bits coder so consumes end sound = record {
+  bytes = so.bytes;
+  gave = record {
+    taken = subst (Consumes before after) (append-nil so.bytes) (Consumes-trans before between after so.bytes [] so.taken consumes);
+    failed = λ e. absurd (cc);
+    sound = λ e. sound;
+    whole = λ short e. end;
+  };
+  feeds = so.feeds;
+}
+
+-- a refusal that is handed on
+pub hands_on : {X : Type 0} (r : Result X Fault) (fault f : Fault) (s : Settings) (limit : ℕ) (source : Taking) → r ≡ Err fault → fault ≡ f
+    → StopsCoding s limit source f → IfErr r (λ e. StopsCoding s limit source e)
+hands_on {X} r fault f s limit source is same stops =
+    let P : Result X Fault → Type 0 = λ r. IfErr r (λ e. StopsCoding s limit source e) in subst P (sym (is ∙ ap Err same)) stops
+
+-- what is promised to a coder that was not refused anything
+pub unless_refused : (o : Option Fault) (P : Type 0) (Q : Fault → Type 0) → o ≡ None → MatchOption o P Q → P
+unless_refused None P Q none p = p
+unless_refused (Some fault) P Q none q = absurd (cc)
+
+pub fed_fails : (s : Settings) (limit : ℕ) (before between after : Option (List ℕ)) (failures : ℕ) (bits : List Bool) (coder : Coding) (fault : Fault)
+    → IsFedSoFar s limit before between bits coder → Keeps between after → (fault ≡ Read) × (failures ≡ 1)
+    → StopsCoding s limit (taking before after failures) fault
+fed_fails s limit before between after failures bits coder fault so keeps (is, fails) =
+    subst (λ e. StopsCoding s limit (taking before after failures) e) (sym is) (refused (input_of so.bytes true) Read
+    (record {
+      taken = Consumes-kept before between after so.bytes so.taken keeps;
+      failed = λ e. fails;
+      sound = λ e. absurd (cc);
+      whole = λ short e. absurd (cc);
+    })
+    (ap (λ o. option_or o (Some Read)) (judged_so_far s limit so.bytes bits coder so.allowed so.feeds)))
+
+pub fed_stops : (s : Settings) (limit : ℕ) (before between after : Option (List ℕ)) (failures : ℕ) (bits more : List Bool) (coder : Coding)
+    (piece : List ℕ) (fault : Fault) → IsFedSoFar s limit before between bits coder → Consumes between after piece → failures ≡ 0
+    → StopsFeeding coder piece bits more fault → StopsCoding s limit (taking before after failures) fault
+fed_stops s limit before between after failures bits more coder piece fault so consumes sound stops =
+    by_stop fault (stops_later (new_coding s limit) coder so.bytes piece [] bits more fault so.allowed so.feeds stops)
+  where
+    bytes : List ℕ
+    bytes = so.bytes ++ piece
+
+    by_stop : (fault : Fault) → StopsFeeding (new_coding s limit) bytes [] more fault → StopsCoding s limit (taking before after failures) fault
+    by_stop fault (feeding.refused f refusal e) =
+        let judged : judged_samples limit (samples_of_bytes s bytes) ≡ Some f = sym ((cuts_make_no_difference s limit so.allowed).judged bytes) ∙ refusal in
+        let enough : are_refused s limit bytes ≡ true = ap is_some judged in
+        refused (input_of bytes false) f
+        (record {
+          taken = Consumes-trans before between after so.bytes piece so.taken consumes;
+          failed = λ e. absurd (cc);
+          sound = λ e. sound;
+          whole = λ short e. absurd (cc);
+        })
+        (ap (λ o. option_or o None) judged)
+    by_stop fault (feeding.no_memory k front behind cut whole left some e) = no_memory
+
+-- ---- answers
+
+pub stopped_answer : (s : Settings) (caps : Caps) (limit : ℕ) (source : Taking) (fault : Fault) → limit ≡ caps.samples → StopsCoding s limit source fault
+    → GivesAnswer (IsEncoded s caps) source (are_refused s caps.samples) (Err fault)
+stopped_answer s caps limit source fault counted stops = by_stop fault (subst (λ n. StopsCoding s n source fault) counted stops)
+  where
+    by_stop : (fault : Fault) → StopsCoding s caps.samples source fault → GivesAnswer (IsEncoded s caps) source (are_refused s caps.samples) (Err fault)
+    by_stop fault no_memory = lacks_memory
+    by_stop fault (refused input f gave is) = given input (Err f) gave (not_coded f is)
+
+pub unrefused_fed : (s : Settings) (limit : ℕ) (source : Taking) (bits : List Bool) (coder : Coding) → IsFed s limit source bits coder → coder.refusal ≡ None
+unrefused_fed s limit source bits coder fed = ap (λ (c : Coding). c.refusal) fed.feeds.coder ∙ fed.feeds.taken
+
+pub coded_answer : (s : Settings) (caps : Caps) (limit : ℕ) (source : Taking) (bits all : List Bool) (coder : Coding) → IsAllowed s → limit ≡ caps.samples
+    → IsFed s limit source bits coder → all ≡ bits ++ stream_of coder.settings coder.held
+    → GivesAnswer (IsEncoded s caps) source (are_refused s caps.samples) (Ok (bytes_of all))
+coded_answer s caps limit source bits all coder a counted fed_all is =
+    let fed = subst (λ n. IsFed s n source bits coder) counted fed_all in
+    let so = stream_so_far s caps.samples fed.bytes bits coder a fed.feeds in
+    let same : coder.settings ≡ s = ap (λ (c : Coding). c.settings) fed.feeds.coder in
+    let code : all ≡ stream_of s so.samples = is ∙ ap (λ t. bits ++ stream_of t coder.held) same ∙ so.bits in
+    subst (λ all. GivesAnswer (IsEncoded s caps) source (are_refused s caps.samples) (Ok (bytes_of all))) (sym code)
+    (given (input_of fed.bytes false) (Ok (bytes_of (stream_of s so.samples))) fed.gave
+    (encoded so.samples (ap (λ o. option_or o None) (judged_so_far s caps.samples fed.bytes bits coder a fed.feeds)) so.taken))

@@ -1,0 +1,247 @@
+-- Answers of the engines from what their parts answer.
+use Rattle.std.proofs.Common.{◌≡◌, ◌⊎◌, inl, inr, ⊎_elim, ℕ, zero, suc, ◌≤◌, Bool, true, false, if◌then◌else◌, Option, Some, None, Result, Ok, Err, IfOk, IfErr, ℤ, List, [], ◌∷◌, length, take, refl, sym, ap, ◌∙◌, subst, arith}
+use Rattle.std.proofs.lemmas.Bool.{lt-ltb, le-ltb, ltb-false}
+use Rattle.std.proofs.lemmas.Result.{IfOk-weaker, IfErr-weaker}
+use Rattle.std.specs.Io.KnownBytes.{Keeps, Appends}
+use Rattle.std.proofs.Common.{OnOk, OnErr}
+use Rattle.aec_bits.specs.Devices.{counted, AppendsFront}
+use Rattle.std.specs.List.{AllByRecursion}
+use Rattle.aec_params.specs.declared.settings.Settings.{Settings}
+use Rattle.aec_params.specs.declared.fault.Fault.{Fault}
+use Rattle.aec_params.specs.declared.fault.Fault.TheVariants.{Memory, Read, Write, StreamTooLong}
+use Rattle.aec_params.specs.Limits.{Caps}
+use Rattle.aec_params.specs.Params.{IsHeld}
+use Rattle.aec_params.specs.Codewords.{bits_of_bytes}
+use Rattle.aec_params.specs.Reading.{counted_samples, IsReading}
+use Rattle.aec_interval.specs.Reached.{count_refusal, no_memory, faulty, RefusesDecoding, above_limit, unread}
+use Rattle.aec_engine.specs.Transfers as transfers
+use Rattle.aec_engine.specs.Transfers.{Input, Taking, are_past, Gave, IsTakenWhole, RefusesIntake, source_failed, too_many_bytes, GivesAnswer, given, lacks_memory, Leaves, written, refused, no_answer, not_written}
+use Rattle.aec_engine.specs.Transfers.{Putting, WroteNothing, answer_of, Settles, settled, not_begun, stopped}
+use Rattle.aec_engine.specs.Output as output
+use Rattle.aec_engine.specs.Output.{IsRead, GaveSamples, IsDecoded, intake_refusal, all_stored, not_taken, not_counted, decoded}
+
+all-take : (P : ℤ → Type 0) (n : ℕ) (xs : List ℤ) → AllByRecursion P xs → AllByRecursion P (take n xs)
+all-take P zero xs all = tt
+all-take P (suc n) [] all = tt
+all-take P (suc n) (x ∷ xs) all = (all.0, all-take P n xs all.1)
+
+-- samples that are read are held
+pub held-reading : (s : Settings) (count : Option ℕ) (limit : ℕ) (bits : List Bool) (samples : List ℤ) → IsReading s count limit bits samples
+    → AllByRecursion (IsHeld s) samples
+held-reading s count limit bits samples reading = subst (AllByRecursion (IsHeld s)) (sym reading.counted) (by_count count)
+  where
+    by_count : (count : Option ℕ) → AllByRecursion (IsHeld s) (counted_samples count reading.all_samples)
+    by_count None = reading.filled.held
+    by_count (Some n) = all-take (IsHeld s) n reading.all_samples reading.filled.held
+
+-- an input that was taken whole
+abbrev sound_input : List ℕ → Input
+sound_input bytes = record { bytes = bytes; failed = false }
+
+abbrev failed_input : List ℕ → Input
+failed_input bytes = record { bytes = bytes; failed = true }
+
+pub gave_whole : (before after : Option (List ℕ)) (failures limit : ℕ) (bytes : List ℕ) → IsTakenWhole before after failures limit bytes
+    → Gave (record { before = before; after = after; failures = failures }) (are_past limit) (sound_input bytes)
+gave_whole before after failures limit bytes taken = record {
+  taken = taken.taken;
+  failed = λ e. absurd (cc);
+  sound = λ e. taken.sound;
+  whole = λ short e. taken.at_end;
+}
+
+pub none_refused : (limit : ℕ) (bytes : List ℕ) → length bytes ≤ limit → intake_refusal limit (sound_input bytes) ≡ None
+none_refused limit bytes within = ap (λ b. if b then Some (StreamTooLong limit) else None) (le-ltb limit (length bytes) within)
+
+-- a source that was not read whole: for want of memory, or it gave an input that is refused
+pub intake_given : (before after : Option (List ℕ)) (failures limit : ℕ) (fault : Fault) → RefusesIntake before after failures limit fault
+    → (fault ≡ Memory) ⊎ ((input : Input) × Gave (record { before = before; after = after; failures = failures }) (are_past limit) input
+    × (intake_refusal limit input ≡ Some fault))
+intake_given before after failures limit fault transfers.no_memory = inl refl
+intake_given before after failures limit fault (source_failed bytes fails) =
+    inr (
+      failed_input bytes,
+      record { taken = fails.taken; failed = λ e. fails.failed; sound = λ e. absurd (cc); whole = λ short e. absurd (cc) },
+      ap (λ b. if b then Some (StreamTooLong limit) else Some Read) (le-ltb limit (length bytes) fails.within),
+    )
+intake_given before after failures limit fault (too_many_bytes bytes passes) =
+    inr (
+      sound_input bytes,
+      record {
+        taken = passes.taken;
+        failed = λ e. absurd (cc);
+        sound = λ e. passes.sound;
+        whole = λ short e. absurd (omega (arith, passes.past, ltb-false limit (length bytes) short));
+      },
+      ap (λ b. if b then Some (StreamTooLong limit) else None) (lt-ltb limit (length bytes) passes.past),
+    )
+
+pub refused_intake : (s : Settings) (caps : Caps) (count : Option ℕ) (before after : Option (List ℕ)) (failures : ℕ) (fault : Fault)
+    → RefusesIntake before after failures caps.bytes fault
+    → GivesAnswer (IsDecoded s caps count) (record { before = before; after = after; failures = failures }) (are_past caps.bytes) (Err fault)
+refused_intake s caps count before after failures fault refuses =
+    let source : Taking = record { before = before; after = after; failures = failures } in
+    ⊎_elim (λ memory. subst (λ fault. GivesAnswer (IsDecoded s caps count) source (are_past caps.bytes) (Err fault)) (sym memory) lacks_memory)
+    (λ found. given found.0 (Err fault) found.1 (not_taken fault found.2)) (intake_given before after failures caps.bytes fault refuses)
+
+pub refused_decoding : (s : Settings) (caps : Caps) (count : Option ℕ) (before after : Option (List ℕ)) (failures : ℕ) (bytes : List ℕ) (fault : Fault)
+    → IsTakenWhole before after failures caps.bytes bytes
+    → RefusesDecoding s count caps.samples (bits_of_bytes bytes) fault
+    → GivesAnswer (IsDecoded s caps count) (record { before = before; after = after; failures = failures }) (are_past caps.bytes) (Err fault)
+refused_decoding s caps count before after failures bytes fault taken (above_limit f above) =
+    given (sound_input bytes) (Err f) (gave_whole before after failures caps.bytes bytes taken)
+    (not_counted f (none_refused caps.bytes bytes taken.within) above)
+refused_decoding s caps count before after failures bytes fault taken (unread f within (no_memory behind)) = lacks_memory
+refused_decoding s caps count before after failures bytes fault taken (unread f within (faulty g is)) =
+    given (sound_input bytes) (Err g) (gave_whole before after failures caps.bytes bytes taken)
+    (output.faulty g (none_refused caps.bytes bytes taken.within) within is)
+
+pub read_samples : (s : Settings) (caps : Caps) (count : Option ℕ) (before after : Option (List ℕ)) (failures : ℕ) (bytes : List ℕ) (samples : List ℤ)
+    → IsTakenWhole before after failures caps.bytes bytes → count_refusal caps.samples count ≡ None
+    → IsReading s count caps.samples (bits_of_bytes bytes) samples
+    → GaveSamples s caps count (record { before = before; after = after; failures = failures }) samples
+read_samples s caps count before after failures bytes samples taken within reading = record {
+  input = sound_input bytes;
+  gave = gave_whole before after failures caps.bytes bytes taken;
+  read = record { taken = none_refused caps.bytes bytes taken.within; within = within; reading = reading };
+}
+
+-- ---- in the form in which the code has the facts
+
+abbrev pub taking : Option (List ℕ) → Option (List ℕ) → ℕ → Taking
+taking before after failures = record { before = before; after = after; failures = failures }
+
+pub answers_err : {X : Type 0} (r : Result X Fault) (fault f : Fault) (answers : Input → Result (List ℕ) Fault → Type 0) (source : Taking)
+    (enough : List ℕ → Bool)
+    → r ≡ Err fault → fault ≡ f
+    → GivesAnswer answers source enough (Err f) → IfErr r (λ e. GivesAnswer answers source enough (Err e))
+answers_err {X} r fault f answers source enough is same gives =
+    let P : Result X Fault → Type 0 = λ r. IfErr r (λ e. GivesAnswer answers source enough (Err e)) in subst P (sym (is ∙ ap Err same)) gives
+
+pub answers_intake : {X : Type 0} (r : Result X Fault) (fault f : Fault) (s : Settings) (caps : Caps) (count : Option ℕ) (before after : Option (List ℕ))
+    (failures limit : ℕ) → r ≡ Err fault → fault ≡ f
+    → limit ≡ caps.bytes → RefusesIntake before after failures limit f
+    → IfErr r (λ e. GivesAnswer (IsDecoded s caps count) (taking before after failures) (are_past caps.bytes) (Err e))
+answers_intake r fault f s caps count before after failures limit is same limited refuses =
+    answers_err r fault f (IsDecoded s caps count) (taking before after failures) (are_past caps.bytes) is same
+    (refused_intake s caps count before after failures f (subst (λ limit. RefusesIntake before after failures limit f) limited refuses))
+
+pub answers_memory : {X : Type 0} (r : Result X Fault) (fault f : Fault) (answers : Input → Result (List ℕ) Fault → Type 0) (source : Taking)
+    (enough : List ℕ → Bool)
+    → r ≡ Err fault → fault ≡ f → f ≡ Memory
+    → IfErr r (λ e. GivesAnswer answers source enough (Err e))
+answers_memory r fault f answers source enough is same memory = answers_err r fault Memory answers source enough is (same ∙ memory) lacks_memory
+
+pub answers_decoding : {X : Type 0} (r : Result X Fault) (s : Settings) (caps : Caps) (count : Option ℕ) (before after : Option (List ℕ))
+    (failures limit most : ℕ) (bytes : List ℕ) (bits : List Bool) → limit ≡ caps.bytes → most ≡ caps.samples → bits ≡ bits_of_bytes bytes
+    → IsTakenWhole before after failures limit bytes → IfErr r (λ f. RefusesDecoding s count most bits f)
+    → IfErr r (λ f. GivesAnswer (IsDecoded s caps count) (taking before after failures) (are_past caps.bytes) (Err f))
+answers_decoding r s caps count before after failures limit most bytes bits limited counted spelled taken refuses =
+    IfErr-weaker r (λ f. RefusesDecoding s count most bits f)
+    (λ f. GivesAnswer (IsDecoded s caps count) (taking before after failures) (are_past caps.bytes) (Err f))
+    (λ f refused. refused_decoding s caps count before after failures bytes f (subst (λ limit. IsTakenWhole before after failures limit bytes) limited taken)
+    (subst (λ bits. RefusesDecoding s count caps.samples bits f) spelled (subst (λ most. RefusesDecoding s count most bits f) counted refused))) refuses
+
+pub gave_samples : {X : Type 0} (view : X → List ℤ) (r : Result X Fault) (s : Settings) (caps : Caps) (count : Option ℕ) (before after : Option (List ℕ))
+    (failures limit most : ℕ) (bytes : List ℕ) (bits : List Bool) → limit ≡ caps.bytes → most ≡ caps.samples → bits ≡ bits_of_bytes bytes
+    → IsTakenWhole before after failures limit bytes → IfOk r (λ x. (count_refusal most count ≡ None) × IsReading s count most bits (view x))
+    → IfOk r (λ x. GaveSamples s caps count (taking before after failures) (view x))
+gave_samples view r s caps count before after failures limit most bytes bits limited counted spelled taken ok =
+    IfOk-weaker r (λ x. (count_refusal most count ≡ None) × IsReading s count most bits (view x))
+    (λ x. GaveSamples s caps count (taking before after failures) (view x))
+    (λ x read. read_samples s caps count before after failures bytes (view x) (subst (λ limit. IsTakenWhole before after failures limit bytes) limited taken)
+    (subst (λ most. count_refusal most count ≡ None) counted read.0)
+    (subst (λ bits. IsReading s count caps.samples bits (view x)) spelled (subst (λ most. IsReading s count most bits (view x)) counted read.1))) ok
+
+pub held_samples : {X : Type 0} (view : X → List ℤ) (r : Result X Fault) (s : Settings) (count : Option ℕ) (most : ℕ) (bits : List Bool)
+    → IfOk r (λ x. (count_refusal most count ≡ None) × IsReading s count most bits (view x)) → IfOk r (λ x. AllByRecursion (IsHeld s) (view x))
+held_samples view r s count most bits ok =
+    IfOk-weaker r (λ x. (count_refusal most count ≡ None) × IsReading s count most bits (view x)) (λ x. AllByRecursion (IsHeld s) (view x))
+    (λ x read. held-reading s count most bits (view x) read.1) ok
+
+pub decoded_refused : {X : Type 0} (view : X → List ℕ) (r : Result X Fault) (fault f : Fault) (answers : Input → Result (List ℕ) Fault → Type 0)
+    (source : Taking) (enough : List ℕ → Bool) → r ≡ Err fault → fault ≡ f → GivesAnswer answers source enough (Err f)
+    → GivesAnswer answers source enough (answer_of view r)
+decoded_refused {X} view r fault f answers source enough is same gives =
+    subst (λ r. GivesAnswer answers source enough (answer_of view r)) (sym (is ∙ ap Err same)) gives
+
+pub decoded_stored : {X : Type 0} (view : X → List ℕ) (r : Result X Fault) (s : Settings) (caps : Caps) (count : Option ℕ) (source : Taking)
+    (samples all : List ℤ) → all ≡ samples → GaveSamples s caps count source samples → IfOk r (λ x. view x ≡ all_stored s all)
+    → IfErr r (λ e. e ≡ Memory) → GivesAnswer (IsDecoded s caps count) source (are_past caps.bytes) (answer_of view r)
+decoded_stored view (Ok x) s caps count source samples all same gave ok memory =
+    subst (λ bytes. GivesAnswer (IsDecoded s caps count) source (are_past caps.bytes) (Ok bytes)) (sym (ok ∙ ap (all_stored s) same))
+    (given gave.input (Ok (all_stored s samples)) gave.gave (decoded samples gave.read))
+decoded_stored view (Err e) s caps count source samples all same gave ok memory =
+    subst (λ e. GivesAnswer (IsDecoded s caps count) source (are_past caps.bytes) (Err e)) (sym memory) lacks_memory
+
+pub answers_storing : {X : Type 0} (r : Result X Fault) (answers : Input → Result (List ℕ) Fault → Type 0) (source : Taking) (enough : List ℕ → Bool)
+    → IfErr r (λ e. e ≡ Memory) → IfErr r (λ e. GivesAnswer answers source enough (Err e))
+answers_storing r answers source enough memory =
+    IfErr-weaker r (λ e. e ≡ Memory) (λ e. GivesAnswer answers source enough (Err e))
+    (λ e is. subst (λ e. GivesAnswer answers source enough (Err e)) (sym is) lacks_memory) memory
+
+-- an answer from its two halves, and a refused one from the second
+pub whole_answer : {X : Type 0} (view : X → List ℕ) (r : Result X Fault) (answers : Input → Result (List ℕ) Fault → Type 0) (source : Taking)
+    (enough : List ℕ → Bool) → IfOk r (λ x. GivesAnswer answers source enough (Ok (view x))) → IfErr r (λ e. GivesAnswer answers source enough (Err e))
+    → GivesAnswer answers source enough (answer_of view r)
+whole_answer view (Ok x) answers source enough ok refuses = ok
+whole_answer view (Err e) answers source enough ok refuses = refuses
+
+pub refused_answer : {X : Type 0} (view : X → List ℕ) (r : Result X Fault) (fault : Fault) (answers : Input → Result (List ℕ) Fault → Type 0)
+    (source : Taking) (enough : List ℕ → Bool) → r ≡ Err fault → IfErr r (λ e. GivesAnswer answers source enough (Err e))
+    → GivesAnswer answers source enough (answer_of view r)
+refused_answer view (Ok x) fault answers source enough is refuses = absurd (cc)
+refused_answer view (Err e) fault answers source enough is refuses = refuses
+
+-- ---- what is left in the sink
+
+pub Keeps-same : (bytes : Option (List ℕ)) → Keeps bytes bytes
+Keeps-same None = tt
+Keeps-same (Some bytes) = refl
+
+-- ---- an answer that is written
+
+answered_ok : (answers : Input → Result (List ℕ) Fault → Type 0) (source : Taking) (enough : List ℕ → Bool) (answer : Result (List ℕ) Fault) (bytes : List ℕ)
+    → answer ≡ Ok bytes → GivesAnswer answers source enough answer → (input : Input) × Gave source enough input × answers input (Ok bytes)
+answered_ok answers source enough answer bytes is (given input a gave answered) = (input, gave, subst (answers input) is answered)
+answered_ok answers source enough answer bytes is lacks_memory = absurd (cc)
+
+leaves_nothing : (answers : Input → Result (List ℕ) Fault → Type 0) (source : Taking) (enough : List ℕ → Bool) (sink : Putting) (answer : Result (List ℕ) Fault)
+    (fault : Fault) → answer ≡ Err fault → GivesAnswer answers source enough answer → WroteNothing sink → Leaves answers source enough sink (Err fault)
+leaves_nothing answers source enough sink answer fault is (given input a gave answered) nothing =
+    refused input fault gave (subst (answers input) is answered) nothing
+leaves_nothing answers source enough sink answer fault is lacks_memory nothing =
+    let memory : Memory ≡ fault = cc in subst (λ fault. Leaves answers source enough sink (Err fault)) memory (no_answer nothing)
+
+pub leaves_settled : (answers : Input → Result (List ℕ) Fault → Type 0) (source : Taking) (enough : List ℕ → Bool) (sink : Putting)
+    (answer : Result (List ℕ) Fault) (r : Result (Unit {0}) Fault) → GivesAnswer answers source enough answer → Settles sink answer r
+    → Leaves answers source enough sink r
+leaves_settled answers source enough sink answer r gives (settled bytes appends begun) =
+    let answered = answered_ok answers source enough answer bytes refl gives in
+    written answered.0 bytes answered.1 answered.2 appends begun
+leaves_settled answers source enough sink answer r gives (not_begun fault nothing) =
+    leaves_nothing answers source enough sink answer fault refl gives nothing
+leaves_settled answers source enough sink answer r gives (stopped bytes front begun failed) =
+    let answered = answered_ok answers source enough answer bytes refl gives in
+    not_written answered.0 bytes answered.1 answered.2 front begun failed
+
+pub settles_refused : {X : Type 0} (view : X → List ℕ) (answer : Result X Fault) (r : Result (Unit {0}) Fault) (fault f : Fault) (before : Option (List ℕ))
+    (begun failures : ℕ) → answer ≡ Err f → r ≡ Err fault → fault ≡ f
+    → Settles (record { before = before; after = before; begun_before = begun; begun_after = begun; failures = failures }) (answer_of view answer) r
+settles_refused {X} view answer r fault f before begun failures was is same =
+    let sink : Putting = record { before = before; after = before; begun_before = begun; begun_after = begun; failures = failures } in
+    let refusal : Settles sink (Err f) (Err f) = not_begun f (record { kept = Keeps-same before; begun = refl }) in
+    subst (λ r. Settles sink (answer_of view answer) r) (sym (is ∙ ap Err same))
+    (subst (λ answer. Settles sink (answer_of view answer) (Err f)) (sym was) refusal)
+
+pub settles_delivered : {X : Type 0} (view : X → List ℕ) (answer : Result X Fault) (r : Result (Unit {0}) Fault) (x : X) (written_bytes : List ℕ)
+    (sink : Putting) → answer ≡ Ok x → written_bytes ≡ view x → OnOk r (Appends sink.before sink.after written_bytes)
+    → OnErr r (AppendsFront sink.before sink.after written_bytes) → sink.begun_after ≡ counted sink.begun_before
+    → IfErr r (λ e. (e ≡ Write) × (sink.failures ≡ 1)) → Settles sink (answer_of view answer) r
+settles_delivered {X} view answer r x written_bytes sink was same ok front begun fault =
+    subst (λ answer. Settles sink (answer_of view answer) r) (sym was) (subst (λ bytes. Settles sink (Ok bytes) r) same (by_result r ok front fault))
+  where
+    by_result : (r : Result (Unit {0}) Fault) → OnOk r (Appends sink.before sink.after written_bytes)
+        → OnErr r (AppendsFront sink.before sink.after written_bytes) → IfErr r (λ e. (e ≡ Write) × (sink.failures ≡ 1)) → Settles sink (Ok written_bytes) r
+    by_result (Ok done) ok front fault = settled written_bytes ok begun
+    by_result (Err e) ok front fault = subst (λ e. Settles sink (Ok written_bytes) (Err e)) (sym fault.0) (stopped written_bytes front begun fault.1)

@@ -1,0 +1,14 @@
+pub mod Numerals
+pub mod NumeralExamples
+pub mod Scripts
+pub mod ScriptExamples
+pub mod ScriptLines
+pub mod Transfers
+pub mod Output
+pub mod OutputExamples
+pub mod CodingSteps
+pub mod Editing
+pub mod EditingSteps
+pub mod InMemory
+pub mod Laws
+pub mod EditedStreams

@@ -1,0 +1,53 @@
+-- What the private functions that read scripts give: a line before its values are kept.
+use Rattle.std.specs.Prelude.{◌≡◌, ℕ, ℤ, Bool, true, Option, Some, None, is_some, option_map, length, ◌+◌, List, [], ◌++◌, ◌==◌}
+use Rattle.std.specs.List.{slice_split}
+use Rattle.aec_params.specs.declared.edit.Edit.{Edit}
+use Rattle.aec_params.specs.declared.edit.Edit.TheVariants as edit
+use Rattle.aec_engine.specs.Numerals.{Text}
+use Rattle.aec_engine.specs.declared.script_lines.Line.{Line}
+use Rattle.aec_engine.specs.declared.script_lines.Line.TheVariants as line
+use Rattle.aec_engine.specs.Scripts.{Meaning, nothing, change, unknown, change_if, words_of, values_in, Listing}
+
+-- whether each word of a text is a value
+abbrev pub are_values : Text → Bool
+are_values text = is_some (values_in (words_of text))
+
+-- what a judged line says
+abbrev pub said : Line → Meaning
+said line.Nothing = nothing
+said (line.Overwrite first values) = change_if (option_map (λ xs. edit.Overwrite first xs) (values_in (words_of values.now)))
+said (line.Append values) = change_if (option_map (λ xs. edit.Append xs) (values_in (words_of values.now)))
+said (line.Truncate count) = change (edit.Truncate count)
+said line.Unknown = unknown
+
+-- the values of a judged line are values
+abbrev pub IsJudged : Line → Type 0
+IsJudged (line.Overwrite first values) = are_values values.now ≡ true
+IsJudged (line.Append values) = are_values values.now ≡ true
+IsJudged _ = Unit {0}
+
+-- a line that is kept: an edit, or nothing
+abbrev pub kept : Option Edit → Meaning
+kept (Some e) = change e
+kept None = nothing
+
+-- the lines of a text, and of what is left of one
+abbrev pub lines_of : Text → List Text
+lines_of text = slice_split (λ byte. byte == 10) text
+
+abbrev pub lines_left : Option Text → List Text
+lines_left (Some text) = lines_of text
+lines_left None = []
+
+-- how many bytes are left, with one for the end of the last line
+abbrev pub text_left : Option Text → ℕ
+text_left (Some text) = length text + 1
+text_left None = 0
+
+-- a listing after edits on lines before it
+abbrev pub after_listed : List Edit → List ℕ → Listing → Listing
+after_listed edits lines rest = record { edits = edits ++ rest.edits; lines = lines ++ rest.lines; bad = rest.bad }
+
+-- values, after others that were read
+abbrev pub values_after : List ℤ → Option (List ℤ) → Option (List ℤ)
+values_after items rest = option_map (λ xs. items ++ xs) rest

@@ -1,0 +1,108 @@
+-- What an engine takes from a source and leaves in a sink.
+use Rattle.std.specs.Prelude.{◌≡◌, ℕ, ◌<◌, ◌≤◌, nat_lt, Bool, true, false, Option, Result, Ok, Err, List, length}
+use Rattle.std.specs.Io.KnownBytes.{Consumes, IsAtEnd, Appends, Keeps}
+use Rattle.aec_bits.specs.Devices.{counted, AppendsFront}
+use Rattle.aec_params.specs.declared.fault.Fault.{Fault}
+use Rattle.aec_params.specs.declared.fault.Fault.TheVariants.{StreamTooLong, Memory, Read, Write}
+
+-- the bytes of a source up to its end, which are within the limit, from what was left before and after, and from its count of
+-- failures after
+pub record IsTakenWhole (before after : Option (List ℕ)) (failures limit : ℕ) (bytes : List ℕ) : Type 0 where
+  pub taken : Consumes before after bytes
+  pub at_end : IsAtEnd after
+  pub sound : failures ≡ 0
+  pub within : length bytes ≤ limit
+
+-- the bytes of a source that failed behind them, within the limit
+pub record FailsWithin (before after : Option (List ℕ)) (failures limit : ℕ) (bytes : List ℕ) : Type 0 where
+  pub taken : Consumes before after bytes
+  pub failed : failures ≡ 1
+  pub within : length bytes ≤ limit
+
+-- bytes of a source that pass the limit
+pub record PassesLimit (before after : Option (List ℕ)) (failures limit : ℕ) (bytes : List ℕ) : Type 0 where
+  pub taken : Consumes before after bytes
+  pub sound : failures ≡ 0
+  pub past : limit < length bytes
+
+-- why a source was not read whole
+pub data RefusesIntake (before after : Option (List ℕ)) (failures limit : ℕ) : Fault → Type 0 where
+  no_memory : RefusesIntake before after failures limit Memory
+  source_failed : (bytes : List ℕ) → FailsWithin before after failures limit bytes → RefusesIntake before after failures limit Read
+  too_many_bytes : (bytes : List ℕ) → PassesLimit before after failures limit bytes → RefusesIntake before after failures limit (StreamTooLong limit)
+
+-- what a source gave: its bytes in order, and whether it failed behind them
+pub record Input : Type 0 where
+  pub bytes : List ℕ
+  pub failed : Bool
+
+abbrev pub input_of : List ℕ → Bool → Input
+input_of bytes failed = record { bytes = bytes; failed = failed }
+
+-- a source before and after a run
+pub record Taking : Type 0 where
+  pub before : Option (List ℕ)
+  pub after : Option (List ℕ)
+  pub failures : ℕ
+
+-- by what a kind of source tells: the bytes that are left, and how often it has failed
+abbrev pub taking_of : {R : Type 0} → (R → Option (List ℕ)) → (R → ℕ) → R → R → Taking
+taking_of left failed old new = record { before = left old; after = left new; failures = failed new }
+
+-- a sink before and after a run
+pub record Putting : Type 0 where
+  pub before : Option (List ℕ)
+  pub after : Option (List ℕ)
+  pub begun_before : ℕ
+  pub begun_after : ℕ
+  pub failures : ℕ
+
+-- by what a kind of sink tells: the bytes that it has taken, how often it was begun, and how often it has failed
+abbrev pub putting_of : {W : Type 0} → (W → Option (List ℕ)) → (W → ℕ) → (W → ℕ) → W → W → Putting
+putting_of taken begun failed old new =
+    record { before = taken old; after = taken new; begun_before = begun old; begun_after = begun new; failures = failed new }
+
+-- bytes that are more than a limit
+abbrev pub are_past : ℕ → List ℕ → Bool
+are_past limit bytes = nat_lt limit (length bytes)
+
+-- the source gave this input: to its end or its failure, or bytes that are enough for an answer, whatever follows them
+pub record Gave (source : Taking) (enough : List ℕ → Bool) (input : Input) : Type 0 where
+  pub taken : Consumes source.before source.after input.bytes
+  pub failed : input.failed ≡ true → source.failures ≡ 1
+  pub sound : input.failed ≡ false → source.failures ≡ 0
+  pub whole : enough input.bytes ≡ false → input.failed ≡ false → IsAtEnd source.after
+
+-- nothing was written, and begin was not called
+pub record WroteNothing (sink : Putting) : Type 0 where
+  pub kept : Keeps sink.before sink.after
+  pub begun : sink.begun_after ≡ sink.begun_before
+
+-- What an engine leaves whose answers are a function of its input: its answer written and begun once; or its refusal and nothing
+-- written; want of memory and nothing written; or a front of its answer where the sink failed.
+pub data Leaves (answers : Input → Result (List ℕ) Fault → Type 0) (source : Taking) (enough : List ℕ → Bool) (sink : Putting)
+    : Result (Unit {0}) Fault → Type 0 where
+  written : (input : Input) (bytes : List ℕ) → Gave source enough input → answers input (Ok bytes) → Appends sink.before sink.after bytes
+      → sink.begun_after ≡ counted sink.begun_before → Leaves answers source enough sink (Ok tt)
+  refused : (input : Input) (fault : Fault) → Gave source enough input → answers input (Err fault) → WroteNothing sink
+      → Leaves answers source enough sink (Err fault)
+  no_answer : WroteNothing sink → Leaves answers source enough sink (Err Memory)
+  not_written : (input : Input) (bytes : List ℕ) → Gave source enough input → answers input (Ok bytes) → AppendsFront sink.before sink.after bytes
+      → sink.begun_after ≡ counted sink.begun_before → sink.failures ≡ 1 → Leaves answers source enough sink (Err Write)
+
+-- what a run over a source answers before anything is written: the answer to its input, or want of memory
+pub data GivesAnswer (answers : Input → Result (List ℕ) Fault → Type 0) (source : Taking) (enough : List ℕ → Bool) : Result (List ℕ) Fault → Type 0 where
+  given : (input : Input) (answer : Result (List ℕ) Fault) → Gave source enough input → answers input answer → GivesAnswer answers source enough answer
+  lacks_memory : GivesAnswer answers source enough (Err Memory)
+
+-- an answer as its bytes, or its refusal
+abbrev pub answer_of : {X E : Type 0} → (X → List ℕ) → Result X E → Result (List ℕ) E
+answer_of bytes_in (Ok x) = Ok (bytes_in x)
+answer_of bytes_in (Err fault) = Err fault
+
+-- what writing an answer leaves: its bytes, begun once; nothing for a refusal; or a front of its bytes where the sink failed
+pub data Settles (sink : Putting) : Result (List ℕ) Fault → Result (Unit {0}) Fault → Type 0 where
+  settled : (bytes : List ℕ) → Appends sink.before sink.after bytes → sink.begun_after ≡ counted sink.begun_before → Settles sink (Ok bytes) (Ok tt)
+  not_begun : (fault : Fault) → WroteNothing sink → Settles sink (Err fault) (Err fault)
+  stopped : (bytes : List ℕ) → AppendsFront sink.before sink.after bytes → sink.begun_after ≡ counted sink.begun_before → sink.failures ≡ 1
+      → Settles sink (Ok bytes) (Err Write)

@@ -1,0 +1,108 @@
+//! Edits from nothing over the coder of intervals, and the stream that they leave decoded.
+
+ghost use Rattle.std.specs.Prelude.{◌≡◌, ◌≤◌, ◌^◌, [], length, Some, IfOk, IfErr};
+ghost use Rattle.aec_params.specs.declared.fault.Fault.TheVariants.{Memory};
+ghost use Rattle.aec_params.specs.Codewords.{bytes_of, bits_of_bytes};
+ghost use Rattle.aec_params.specs.Reading.{IsReading};
+ghost use Rattle.aec_params.specs.Streams.{stream_of};
+ghost use Rattle.aec_interval.specs.IntervalFormat.{interval_format};
+ghost use Rattle.aec_edit.specs.Runs.{AnswersAll, all_left};
+ghost use Rattle.aec_engine.specs.EditedStreams.{IsWritten};
+
+use crate::in_memory::refusal;
+use aec_bits::{BitBuf, WriteSink};
+use aec_edit::laws::runs_leave_samples;
+use aec_edit::{Outcome, write_edited};
+use aec_interval::laws::{bits_are_read_in_one_way, streams_are_read_back};
+use aec_interval::{AecCodec, decode_all};
+use aec_params::{Edit, Fault, Params};
+use std::alloc::Global;
+
+/// What edits have left, and what their stream is decoded to.
+#[derive(Debug, Drop)]
+pub struct Decoded {
+    /// What became of each edit.
+    pub outcomes: Vec<Outcome>,
+    /// How many intervals were coded.
+    pub calls: u64,
+    /// The bytes of the stream.
+    pub stream: Vec<u8>,
+    /// The samples that the stream is decoded to with their count.
+    pub samples: Vec<i64>,
+}
+
+/// What edits have left: the bytes of their stream, the bits of these, and the number of samples.
+#[derive(Drop)]
+struct Written {
+    outcomes: Vec<Outcome>,
+    calls: u64,
+    stream: Vec<u8>,
+    bits: BitBuf,
+    count: u64,
+}
+
+/// Makes edits, from no samples on, and gives the stream that they leave.
+fn write_stream(
+    alloc: Global,
+    params: &Params,
+    limit: u64,
+    edits: &[Edit],
+) -> Result<Written, Fault>
+    requires { limit ≤ 2 ^ 32 }
+    ensures written { IfOk result (λ w. IsWritten params.now limit edits.now w.outcomes.items w.calls w.bits.list w.count) }
+    ensures stream { IfOk result (λ w. w.stream.items ≡ bytes_of (stream_of params.now (all_left [] edits.now w.outcomes.items))) }
+    ensures refuses { IfErr result (λ fault. fault ≡ Memory) }
+{
+    // What the parameters promise is told by their calls.
+    let _len = params.interval_len();
+    let codec = AecCodec::new(alloc, *params);
+    let mut sink = WriteSink::new(Vec::new(alloc));
+    let edited = match write_edited(alloc, codec, limit, edits, &mut sink) {
+        Ok(edited) => edited,
+        Err(fault) => return Err(refusal(fault)),
+    };
+    let stream = sink.into_inner();
+    let bits = BitBuf::from_bytes(alloc, &stream)?;
+    let count = edited.samples.len() as u64;
+    Ok(Written {
+        outcomes: edited.outcomes,
+        calls: edited.calls,
+        stream,
+        bits,
+        count,
+    })
+}
+
+/// Makes edits, from no samples on, and decodes the bytes of the stream that they leave with the number of samples.
+///
+/// Each edit is answered as the definition says for the samples and the calls that those before it have left. The bytes are
+/// those of the stream of the samples that the accepted edits leave, and these samples are what they are decoded to: the reading
+/// of these bytes with the number of samples. Only want of memory comes in their place.
+pub fn decode_edited(
+    alloc: Global,
+    params: &Params,
+    limit: u64,
+    edits: &[Edit],
+) -> Result<Decoded, Fault>
+    requires { limit ≤ 2 ^ 32 }
+    ensures answers { IfOk result (λ decoded. AnswersAll (interval_format params.now) limit [] 0
+        edits.now decoded.outcomes.items decoded.calls) }
+    ensures stream { IfOk result (λ decoded. decoded.stream.items
+        ≡ bytes_of (stream_of params.now (all_left [] edits.now decoded.outcomes.items))) }
+    ensures samples { IfOk result (λ decoded. decoded.samples.items ≡ all_left [] edits.now decoded.outcomes.items) }
+    ensures reading { IfOk result (λ decoded. IsReading params.now (Some (length decoded.samples.items)) limit
+        (bits_of_bytes decoded.stream.items) decoded.samples.items) }
+    ensures refuses { IfErr result (λ fault. fault ≡ Memory) }
+{
+    streams_are_read_back();
+    bits_are_read_in_one_way();
+    runs_leave_samples();
+    let w = write_stream(alloc, params, limit, edits)?;
+    let samples = decode_all(alloc, params, &w.bits, Some(w.count), limit)?;
+    Ok(Decoded {
+        outcomes: w.outcomes,
+        calls: w.calls,
+        stream: w.stream,
+        samples,
+    })
+}

@@ -1,0 +1,82 @@
+//! Stored samples to coded data.
+
+ghost use Rattle.std.specs.Prelude.{ℕ, List, Bool, [], Result, IfOk, IfErr};
+ghost use Rattle.aec_params.specs.declared.fault.Fault.{Fault};
+ghost use Rattle.aec_params.specs.Codewords.{bytes_of};
+ghost use Rattle.aec_engine.specs.Transfers.{Taking, taking_of, Putting, putting_of, answer_of, GivesAnswer, Leaves};
+ghost use Rattle.aec_engine.specs.Output.{IsEncoded, are_refused};
+ghost use Rattle.aec_engine.specs.CodingSteps.{IsFed, StopsCoding};
+
+use crate::engine::intake::PIECE;
+use crate::engine::outlet::settle_bits;
+use aec_bits::{BitBuf, Sink, Source};
+use aec_interval::StreamCoder;
+use aec_params::{Fault, Limits, Params};
+use std::alloc::Global;
+
+/// A coder that was fed all that a source gives, each piece before the next is taken, and the bits of the intervals that are
+/// complete. The refusals as they are met: of samples those of `StreamCoder::feed`, and `Read` where the source fails.
+fn fed<R: Source>(
+    alloc: Global,
+    params: &Params,
+    limit: u64,
+    source: &mut R,
+) -> Result<(StreamCoder, BitBuf), Fault>
+    ensures ok { let took : Taking = taking_of R.left R.failed source.old source.new in
+        IfOk result (λ made. IsFed params.now limit took made.1.list made.0) }
+    ensures refuses { let took : Taking = taking_of R.left R.failed source.old source.new in
+        IfErr result (λ fault. StopsCoding params.now limit took fault) }
+{
+    // What the parameters promise is told by their calls.
+    let _len = params.interval_len();
+    let mut coder = StreamCoder::new(alloc, *params, limit);
+    let mut bits = BitBuf::new(alloc);
+    let mut piece = [0u8; PIECE];
+    loop {
+        let count = source.take(&mut piece)?;
+        if count == 0 {
+            return Ok((coder, bits));
+        }
+        coder.feed(&piece[..count], &mut bits)?;
+    }
+}
+
+/// What coding a source answers: the code of its samples.
+fn encode_source<R: Source>(
+    alloc: Global,
+    params: &Params,
+    limits: Limits,
+    source: &mut R,
+) -> Result<BitBuf, Fault>
+    ensures { let took : Taking = taking_of R.left R.failed source.old source.new in
+        let enough : List ℕ → Bool = are_refused params.now limits.samples in
+        let answer : Result (List ℕ) Fault = answer_of (λ bits. bytes_of bits.list) result in
+        GivesAnswer (IsEncoded params.now limits) took enough answer }
+{
+    // What the parameters promise is told by their calls.
+    let _len = params.interval_len();
+    let (coder, mut bits) = fed(alloc, params, limits.samples(), source)?;
+    coder.finish(&mut bits)?;
+    Ok(bits)
+}
+
+#[tactic(auto, using(crate::proofs::OutputLemmas::leaves_settled))]
+/// Codes the stored samples of a source, each piece before the next is taken, to the source's end, its failure or the first
+/// sample that is refused, and writes the bytes of their code. The refusals are answered as they are met: at each sample
+/// `TooManySamples`, then `SampleRange`; `Read` where the source fails; `Memory`. Nothing has been written then and `begin`
+/// was not called. After `begin` only `Write` can come, and a front of the answer has been written. `limits.bytes` is not used.
+pub fn encode<R: Source, W: Sink>(
+    alloc: Global,
+    params: &Params,
+    limits: Limits,
+    source: &mut R,
+    sink: &mut W,
+) -> Result<(), Fault>
+    ensures { let took : Taking = taking_of R.left R.failed source.old source.new in
+        let put : Putting = putting_of W.taken W.begun W.failed sink.old sink.new in
+        let enough : List ℕ → Bool = are_refused params.now limits.samples in
+        Leaves (IsEncoded params.now limits) took enough put result }
+{
+    let answer = encode_source(alloc, params, limits, source);
+    settle_bits(answer, sink)
+}

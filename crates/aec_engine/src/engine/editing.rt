@@ -1,0 +1,180 @@
+//! Coded data edited by a script.
+
+ghost use Rattle.std.specs.Prelude.{◌≡◌, ◌+◌, ◌-◌, ◌^◌, ◌<◌, ◌≤◌, length, slice_index, Ok, Err, IfOk, IfErr, OnOk, OnErr};
+ghost use Rattle.std.specs.Io.KnownBytes.{Appends};
+ghost use Rattle.aec_params.specs.declared.fault.Fault.TheVariants.{Memory, Write as WriteFault};
+ghost use Rattle.aec_params.specs.Codewords.{bytes_of};
+ghost use Rattle.aec_bits.specs.Codec.{AreHeld, code_of};
+ghost use Rattle.aec_bits.specs.Devices.{counted, AppendsFront};
+ghost use Rattle.aec_interval.specs.IntervalFormat.{interval_format};
+ghost use Rattle.aec_engine.specs.Transfers.{are_past, Taking, taking_of, Putting, putting_of, answer_of, GivesAnswer};
+ghost use Rattle.aec_engine.specs.Output.{GaveSamples, IsDecoded};
+ghost use Rattle.aec_engine.specs.Editing.{samples_edited, GivesEdited, LeavesEdited};
+ghost use Rattle.aec_engine.specs.EditingSteps.{GaveScript, RefusesScript, StopsEditing, SettlesEdited, most_calls};
+
+use crate::engine::decoding::read_source;
+use crate::engine::intake::read_whole;
+use crate::script_reading::script;
+use crate::scripts::{EditFault, Script};
+use aec_bits::{Codec, Sink, Source};
+use aec_edit::Workspace;
+use aec_interval::AecCodec;
+use aec_params::{Edit, Fault, Limits, Params, Samples};
+use std::alloc::Global;
+
+/// The script that a source gives.
+fn read_script<Q: Source>(alloc: Global, limits: Limits, from: &mut Q) -> Result<Script, Fault>
+    ensures ok { let took : Taking = taking_of Q.left Q.failed from.old from.new in
+        IfOk result (λ s. GaveScript took limits.bytes s.edits.items s.lines.items) }
+    ensures lines { IfOk result (λ s. length s.edits.items ≤ length s.lines.items) }
+    ensures calls { IfOk result (λ s. most_calls s.edits.items ≤ 2 ^ 40) }
+    ensures refuses { let took : Taking = taking_of Q.left Q.failed from.old from.new in
+        IfErr result (λ fault. RefusesScript took limits.bytes fault) }
+{
+    let text = read_whole(alloc, from, limits.bytes())?;
+    script(alloc, &text)
+}
+
+/// A workspace with samples, over a codec that has coded nothing.
+fn workspace_with<C: Codec + Drop>(
+    alloc: Global,
+    codec: C,
+    limit: u64,
+    samples: Vec<i64>,
+) -> Result<Workspace<C>, Fault>
+    requires limit { limit ≤ 2 ^ 32 }
+    requires few { length samples.items ≤ limit }
+    requires held { AreHeld (C.format codec) samples.items }
+    requires fresh { C.called codec ≡ 0 }
+    ensures ok { IfOk result (λ w. w.samples ≡ samples.items) }
+    ensures limit { IfOk result (λ w. w.limit ≡ limit) }
+    ensures format { IfOk result (λ w. C.format w.codec ≡ C.format codec) }
+    ensures calls { IfOk result (λ w. C.called w.codec ≤ length samples.items) }
+    ensures fault { IfErr result (λ e. e ≡ Memory) }
+{
+    let mut workspace = Workspace::new(alloc, codec, limit);
+    let values = Samples::new(samples);
+    workspace.apply(&Edit::Append { values })?;
+    Ok(workspace)
+}
+
+/// A workspace with the samples that a source is read as.
+fn workspace_of<R: Source>(
+    alloc: Global,
+    params: &Params,
+    limits: Limits,
+    count: Option<u64>,
+    source: &mut R,
+) -> Result<Workspace<AecCodec>, Fault>
+    ensures ok { let took : Taking = taking_of R.left R.failed source.old source.new in
+        IfOk result (λ w. GaveSamples params.now limits count took w.samples) }
+    ensures limit { IfOk result (λ w. w.limit ≡ limits.samples) }
+    ensures format { IfOk result (λ w. ⟦<AecCodec as Codec>⟧.format w.codec ≡ interval_format params.now) }
+    ensures calls { IfOk result (λ w. ⟦<AecCodec as Codec>⟧.called w.codec ≤ 2 ^ 32) }
+    ensures refuses { let took : Taking = taking_of R.left R.failed source.old source.new in
+        IfErr result (λ fault. GivesAnswer (IsDecoded params.now limits count) took (are_past limits.bytes) (Err fault)) }
+{
+    let samples = read_source(alloc, params, limits, count, source)?;
+    let codec = AecCodec::new(alloc, *params);
+    workspace_with(alloc, codec, limits.samples(), samples)
+}
+
+/// The line of the edit at a place of a script.
+fn line_of(script: &Script, place: usize) -> u64
+    requires { place < length script.now.lines.items }
+    ensures { result ≡ slice_index script.now.lines.items place }
+{
+    script.lines[place]
+}
+
+/// Makes the edits of a script, up to the first that is refused.
+fn carry_out<C: Codec>(workspace: &mut Workspace<C>, script: &Script) -> Result<(), EditFault>
+    requires lines { length script.now.edits.items ≤ length script.now.lines.items }
+    requires calls { C.called workspace.old.codec + most_calls script.now.edits.items ≤ 2 ^ 64 - 1 }
+    ensures ok { OnOk result (samples_edited (C.format workspace.old.codec) workspace.old.limit workspace.old.samples
+        script.now.edits.items script.now.lines.items ≡ Ok workspace.new.samples) }
+    ensures refuses { IfErr result (λ fault. StopsEditing (C.format workspace.old.codec) workspace.old.limit workspace.old.samples
+        script.now.edits.items script.now.lines.items fault) }
+    ensures format { C.format workspace.new.codec ≡ C.format workspace.old.codec }
+{
+    for (place, edit) in script.edits.iter().enumerate() {
+        let line = line_of(script, place);
+        if let Err(fault) = workspace.apply(edit) {
+            return Err(EditFault::Line { line, fault });
+        }
+    }
+    Ok(())
+}
+
+/// What carrying out a script answers: a workspace with the samples that its edits leave.
+fn edit_source<Q: Source, R: Source>(
+    alloc: Global,
+    params: &Params,
+    limits: Limits,
+    count: Option<u64>,
+    from: &mut Q,
+    source: &mut R,
+) -> Result<Workspace<AecCodec>, EditFault>
+    ensures { let read : Taking = taking_of Q.left Q.failed from.old from.new in
+        let took : Taking = taking_of R.left R.failed source.old source.new in
+        GivesEdited params.now limits count read took
+        (answer_of (λ w. bytes_of (code_of (⟦<AecCodec as Codec>⟧.format w.codec) w.samples)) result) }
+{
+    let script = read_script(alloc, limits, from)?;
+    let mut workspace = workspace_of(alloc, params, limits, count, source)?;
+    carry_out(&mut workspace, &script)?;
+    Ok(workspace)
+}
+
+/// Begins, and writes the bytes of the code of a workspace's samples. `Write` where the sink fails.
+fn deliver_code<C: Codec, W: Sink>(workspace: &Workspace<C>, sink: &mut W) -> Result<(), Fault>
+    ensures ok { OnOk result (Appends (W.taken sink.old) (W.taken sink.new)
+        (bytes_of (code_of (C.format workspace.now.codec) workspace.now.samples))) }
+    ensures front { OnErr result (AppendsFront (W.taken sink.old) (W.taken sink.new)
+        (bytes_of (code_of (C.format workspace.now.codec) workspace.now.samples))) }
+    ensures begun { W.begun sink.new ≡ counted (W.begun sink.old) }
+    ensures fault { IfErr result (λ e. (e ≡ WriteFault) × (W.failed sink.new ≡ 1)) }
+{
+    sink.begin()?;
+    workspace.write_to(sink)
+}
+
+/// Begins, and writes the code of an answer that is ready; or answers its refusal.
+fn settle_code<W: Sink>(
+    answer: Result<Workspace<AecCodec>, EditFault>,
+    sink: &mut W,
+) -> Result<(), EditFault>
+    ensures { let put : Putting = putting_of W.taken W.begun W.failed sink.old sink.new in
+        SettlesEdited put (answer_of (λ w. bytes_of (code_of (⟦<AecCodec as Codec>⟧.format w.codec) w.samples)) answer) result }
+{
+    let workspace = answer?;
+    deliver_code(&workspace, sink)?;
+    Ok(())
+}
+
+#[tactic(auto, using(crate::proofs::EditAnswerLemmas::leaves_edited))]
+/// Reads a script whole, then the source, makes the edits of the script on the samples that the source codes (with a count
+/// the first `count`, without one all), and writes the bytes of the code of the samples that they leave.
+///
+/// The refusals in their order: `Read`, `StreamTooLong` and `Memory` as they are met while the script is read, then
+/// `Script` or `Memory`, and until then nothing is taken of the source; those of `decode`; `Memory`. The first edit that is
+/// refused, for its samples or for want of memory, is named by its line; all other refusals are plain. `Spent` doesn't come.
+/// Nothing has been written then and `begin` was not called. After `begin` only `Write` can come, and a front of the answer
+/// has been written.
+pub fn edit<Q: Source, R: Source, W: Sink>(
+    alloc: Global,
+    params: &Params,
+    limits: Limits,
+    count: Option<u64>,
+    from: &mut Q,
+    source: &mut R,
+    sink: &mut W,
+) -> Result<(), EditFault>
+    ensures { let read : Taking = taking_of Q.left Q.failed from.old from.new in
+        let took : Taking = taking_of R.left R.failed source.old source.new in
+        let put : Putting = putting_of W.taken W.begun W.failed sink.old sink.new in
+        LeavesEdited params.now limits count read took put result }
+{
+    let answer = edit_source(alloc, params, limits, count, from, source);
+    settle_code(answer, sink)
+}

@@ -1,0 +1,91 @@
+//! Coding and decoding of bytes in memory.
+
+ghost use Rattle.std.specs.Prelude.{◌≡◌, ◌⊎◌, Some, IfOk, IfErr};
+ghost use Rattle.aec_params.specs.declared.fault.Fault.TheVariants.{Memory, Write as WriteFault};
+ghost use Rattle.aec_engine.specs.InMemory.{IsCodeOf, bytes_refusal, IsStoredReadingOf, RefusesCoded};
+
+use crate::engine::{decode, encode};
+use aec_bits::{Source, WriteSink};
+use aec_params::{Fault, Limits, Params};
+use std::alloc::Global;
+use std::io::Read;
+
+// Bytes in memory as a source, which never fails.
+#[derive(Drop)]
+struct SliceSource<'a> {
+    rest: &'a [u8],
+}
+
+impl<'a> SliceSource<'a> {
+    fn new(bytes: &'a [u8]) -> SliceSource<'a>
+        ensures { ⟦<SliceSource<'a> as Source>⟧.left result ≡ Some bytes.now }
+    {
+        SliceSource { rest: bytes }
+    }
+}
+
+impl<'a> Source for SliceSource<'a> {
+    ghost left = { λ s. Some s.rest.now };
+
+    ghost failed = { λ _. 0 };
+
+    fn take(&mut self, buf: &mut [u8]) -> Result<usize, Fault> {
+        Ok(self.rest.read(buf).unwrap_or(0))
+    }
+
+    fn failures(&self) -> u64 {
+        0
+    }
+}
+
+// A vector takes all bytes, so that want of memory is all that a failed write can mean.
+pub(crate) fn refusal(fault: Fault) -> Fault
+    ensures memory { fault ≡ WriteFault → result ≡ Memory }
+    ensures other { (result ≡ fault) ⊎ (result ≡ Memory) }
+{
+    match fault {
+        Fault::Write => Fault::Memory,
+        other => other,
+    }
+}
+
+/// The bytes of the code of stored samples. The refusals in their order: at each sample `TooManySamples`, then
+/// `SampleRange`. `Memory` can come at any time. `limits.bytes` is not used.
+#[tactic(auto, using(crate::proofs::InMemoryLemmas::coded))]
+pub fn encode_bytes(
+    alloc: Global,
+    params: &Params,
+    limits: Limits,
+    bytes: &[u8],
+) -> Result<Vec<u8>, Fault>
+    ensures ok { IfOk result (λ coded. IsCodeOf params.now limits.samples bytes.now coded.items) }
+    ensures refuses { IfErr result (λ fault. (fault ≡ Memory) ⊎ (bytes_refusal params.now limits.samples bytes.now ≡ Some fault)) }
+{
+    // What the parameters promise is told by their calls.
+    prove!(params.storage() > 0);
+    let mut source = SliceSource::new(bytes);
+    let mut sink = WriteSink::new(Vec::new(alloc));
+    match encode(alloc, params, limits, &mut source, &mut sink) {
+        Ok(()) => Ok(sink.into_inner()),
+        Err(fault) => Err(refusal(fault)),
+    }
+}
+
+/// The stored bytes of the samples that coded bytes are read as: with a count the first `count`, without one all.
+pub fn decode_bytes(
+    alloc: Global,
+    params: &Params,
+    limits: Limits,
+    count: Option<u64>,
+    coded: &[u8],
+) -> Result<Vec<u8>, Fault>
+    ensures ok { IfOk result (λ bytes. IsStoredReadingOf params.now limits count coded.now bytes.items) }
+    ensures refuses { IfErr result (λ fault. (fault ≡ Memory) ⊎ RefusesCoded params.now limits count coded.now fault) }
+{
+    let mut source = SliceSource::new(coded);
+    let mut sink = WriteSink::new(Vec::new(alloc));
+    match decode(alloc, params, limits, count, &mut source, &mut sink) {
+        Ok(()) => Ok(sink.into_inner()),
+        Err(fault) => Err(refusal(fault)),
+    }
+}

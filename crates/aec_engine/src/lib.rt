@@ -1,0 +1,20 @@
+//! What the program does with bytes, without a word of its command line and without a file: the engines over any source and
+//! sink, coding and decoding in memory, edits from nothing, and scripts of edits.
+#![tactic(auto)]
+
+mod edited_streams;
+mod engine;
+mod in_memory;
+pub mod laws;
+mod numerals;
+mod script_lines;
+mod script_reading;
+mod script_words;
+mod scripts;
+
+pub use edited_streams::{Decoded, decode_edited};
+pub use engine::{decode, edit, encode, range};
+pub use in_memory::{decode_bytes, encode_bytes};
+pub use numerals::range_in;
+pub use script_reading::script;
+pub use scripts::{EditFault, Script};

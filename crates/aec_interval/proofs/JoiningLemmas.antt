@@ -1,0 +1,248 @@
+-- A sample more, and the bytes of samples joined to those before them.
+use Rattle.std.proofs.Common.{w64, to_z, of_z, ◌≡◌, ℕ, zero, suc, ◌+◌, ◌-◌, ◌*◌, ◌/◌, ◌%◌, ◌<◌, ◌≤◌, Bool, None, ℤ, List, [], ◌∷◌, ◌++◌, length, take, drop, refl, sym, ap, ◌∙◌, subst, arith, append-nil, append_assoc}
+use Rattle.std.specs.Prelude.{Result, Ok, Err, IfErr}
+use Rattle.std.proofs.lemmas.List.{length-append, nil_from_length, take-append-drop}
+use Rattle.std.proofs.lemmas.Nat.{div-add-mod', mod_below}
+use Rattle.std.proofs.lemmas.Int.{to_z-of_z}
+use mir.Val.{SFits}
+use Rattle.aec_params.specs.declared.settings.Settings.{Settings}
+use Rattle.aec_params.specs.declared.fault.Fault.{Fault}
+use Rattle.aec_params.specs.declared.fault.Fault.TheVariants.{Memory}
+use Rattle.aec_params.specs.Params.{IsAllowed, interval_len, storage_len}
+use Rattle.aec_params.specs.Intervals.{interval_bits}
+use Rattle.aec_params.specs.Stored.{byte_groups}
+use Rattle.aec_params.specs.Streams.{stream_of}
+use Rattle.aec_params.proofs.StoredLemmas.{storage-least, byte_groups-short}
+use Rattle.aec_params.proofs.SampleLaws.{interval_len-positive}
+use Rattle.aec_bits.proofs.CodeLaws.{code_of_interval}
+use Rattle.aec_interval.specs.IntervalFormat.{interval_format}
+use Rattle.aec_interval.specs.Taking.{Taken, none_taken, judged_sample, taken_before, taken_groups}
+use Rattle.aec_interval.specs.Feeding.{Coding, whole_front, left_behind, taken_of, samples_with, fed, Feeds, StopsFeeding, refused, no_memory}
+use Rattle.aec_interval.specs.Progress.{AreHeldFew, IsProgress, CompletesRest, coding_at}
+use Rattle.aec_interval.specs.declared.joining.Progress.{Progress}
+use Rattle.aec_interval.proofs.PieceLemmas.{whole_front-few, left_behind-few_all, whole_front-all, left_behind-none, stream_of-none, byte_groups-one}
+use Rattle.aec_interval.proofs.FeedingLemmas.{coding_of, same_coding, feeds_both, stops_later, stops_before}
+
+-- ---- one sample more
+
+pub pushed : (held more : List ℤ) (x : ℤ) → SFits w64 x → more ≡ held ++ to_z w64 (of_z w64 x) ∷ [] → more ≡ held ++ x ∷ []
+pushed held more x fits e = e ∙ ap (λ y. held ++ y ∷ []) (to_z-of_z w64 x fits)
+
+-- the interval isn't complete yet
+pub some_held : (s : Settings) (held more : List ℤ) (x : ℤ) → more ≡ held ++ x ∷ [] → length more < interval_len s
+    → more ≡ left_behind (interval_len s) (held ++ x ∷ [])
+some_held s held more x e few = sym (ap (left_behind (interval_len s)) (sym e) ∙ left_behind-few_all (interval_len s) more few) ∙ refl
+
+-- no bits more where fewer samples are there than an interval has
+no_bits : (s : Settings) (bits : List Bool) (held : List ℤ) → IsAllowed s → length held < interval_len s
+    → bits ≡ bits ++ stream_of s (whole_front (interval_len s) held)
+no_bits s bits held a few =
+    sym (append-nil bits)
+    ∙ ap (λ l. bits ++ l) (sym (ap (stream_of s) (whole_front-few (interval_len s) held few) ∙ stream_of-none s a))
+
+pub no_more_bits : (s : Settings) (bits : List Bool) (held more : List ℤ) (x : ℤ) → AreHeldFew s held → more ≡ held ++ x ∷ [] → length more < interval_len s
+    → bits ≡ bits ++ stream_of s (whole_front (interval_len s) (held ++ x ∷ []))
+no_more_bits s bits held more x h e few =
+    no_bits s bits more h.allowed few ∙ ap (λ l. bits ++ stream_of s (whole_front (interval_len s) l)) e
+
+-- it is complete
+pub none_held : (s : Settings) (held : List ℤ) (x : ℤ) → AreHeldFew s held → interval_len s ≤ length (held ++ x ∷ [])
+    → [] ≡ left_behind (interval_len s) (held ++ x ∷ [])
+none_held s held x h full =
+    let n : length (held ++ x ∷ []) ≡ 1 * interval_len s = omega (arith, length-append held (x ∷ []), full, h.few) in
+    sym (left_behind-none (interval_len s) 1 (held ++ x ∷ []) (interval_len-positive s h.allowed) n)
+
+pub complete_bits : (s : Settings) (bits : List Bool) (held more : List ℤ) (x : ℤ) → AreHeldFew s held → more ≡ held ++ x ∷ []
+    → interval_len s ≤ length (held ++ x ∷ []) → bits ++ interval_bits s more ≡ bits ++ stream_of s (whole_front (interval_len s) (held ++ x ∷ []))
+complete_bits s bits held more x h e full =
+    let xs = held ++ x ∷ [] in
+    let n : length xs ≡ 1 * interval_len s = omega (arith, length-append held (x ∷ []), full, h.few) in
+    ap (λ l. bits ++ interval_bits s l) e
+    ∙ ap (λ l. bits ++ l) (sym (ap (stream_of s) (whole_front-all (interval_len s) 1 xs (interval_len-positive s h.allowed) n)
+    ∙ code_of_interval (interval_format s) xs (omega (arith, n, interval_len-positive s h.allowed)) (omega (arith, n))))
+
+-- ---- the bytes of one sample
+
+-- what they are taken as
+taken_one : (s : Settings) (limit count : ℕ) (g : List ℕ) (r : Result ℤ Fault) → IsAllowed s → length g ≡ storage_len s
+    → r ≡ judged_sample s limit count g → taken_groups s limit count (byte_groups s g) ≡ taken_before r (none_taken None)
+taken_one s limit count g r a whole e =
+    ap (taken_groups s limit count) (byte_groups-one s g a whole) ∙ ap (λ r. taken_before r (none_taken None)) (sym e)
+
+-- it is refused
+pub one_refused : (s : Settings) (limit : ℕ) (p : Progress) (g : List ℕ) (bits : List Bool) (r : Result ℤ Fault) (fault : Fault) → IsProgress s limit p
+    → length g ≡ storage_len s → r ≡ judged_sample s limit p.count g → r ≡ Err fault → StopsFeeding (coding_at s limit p []) g bits bits fault
+one_refused s limit p g bits r fault h whole e is =
+    let none = taken_one s limit p.count g (Err fault) h.held.allowed whole (sym is ∙ e) in
+    refused fault (ap (λ (t : Taken). t.refusal) none)
+    (no_bits s bits p.held.items h.held.allowed h.held.few
+    ∙ ap (λ l. bits ++ stream_of s (whole_front (interval_len s) l)) (sym (ap (λ (t : Taken). p.held.items ++ t.samples) none ∙ append-nil p.held.items)))
+
+-- want of memory at a sample that is not refused, and nothing was appended
+pub no_memory_one : (s : Settings) (limit : ℕ) (p : Progress) (g : List ℕ) (before after : List Bool) (r : Result ℤ Fault) (x : ℤ) (fault : Fault)
+    → IsProgress s limit p → length g ≡ storage_len s → r ≡ judged_sample s limit p.count g → r ≡ Ok x → fault ≡ Memory → after ≡ before
+    → StopsFeeding (coding_at s limit p []) g before after fault
+no_memory_one s limit p g before after r x fault h whole e is memory same =
+    let c : Coding = coding_at s limit p [] in
+    let one = ap (λ (t : Taken). length t.samples) (taken_one s limit p.count g (Ok x) h.held.allowed whole (sym is ∙ e)) in
+    subst (StopsFeeding c g before after) (sym memory)
+    (no_memory 0 [] (samples_with c g) refl (omega arith) (omega (arith, one, length-append p.held.items (taken_of c g).samples)) (omega (arith, one))
+    (same ∙ sym (append-nil before) ∙ ap (λ l. before ++ l) (sym (stream_of-none s h.held.allowed))))
+
+-- what holds of the refusal of a call holds of the answer that hands it on
+pub of_refusal : {X : Type 0} (result : Result X Fault) (P : Fault → Type 0) (fault e : Fault) → result ≡ Err fault → fault ≡ e → P e → IfErr result P
+of_refusal result P fault e err same h = subst (λ r. IfErr r P) (sym err) (subst P (sym same) h)
+
+-- it is taken
+pub one_fed : (s : Settings) (limit : ℕ) (p : Progress) (kept : List ℤ) (many : ℕ) (g : List ℕ) (before after : List Bool) (r : Result ℤ Fault) (x y : ℤ)
+    → IsProgress s limit p → length g ≡ storage_len s → r ≡ judged_sample s limit p.count g → r ≡ Ok x → y ≡ x
+    → kept ≡ left_behind (interval_len s) (p.held.items ++ y ∷ []) → many ≡ p.count + 1
+    → after ≡ before ++ stream_of s (whole_front (interval_len s) (p.held.items ++ y ∷ []))
+    → Feeds (coding_at s limit p []) g before after (coding_of s limit kept [] many None)
+one_fed s limit p kept many g before after r x y h whole e is same held count bits =
+    let taken = taken_one s limit p.count g (Ok y) h.held.allowed whole (ap Ok same ∙ sym is ∙ e) in
+    let n : length g ≡ 1 * storage_len s = omega arith in
+    let c : Coding = coding_at s limit p [] in
+    record {
+      taken = ap (λ (t : Taken). t.refusal) taken;
+      bits = bits ∙ ap (λ (t : Taken). before ++ stream_of s (whole_front (interval_len s) (p.held.items ++ t.samples))) (sym taken);
+      coder = same_coding s limit kept (fed c g).held [] (fed c g).rest many (fed c g).count None (fed c g).refusal
+          (held ∙ ap (λ (t : Taken). left_behind (interval_len s) (p.held.items ++ t.samples)) (sym taken))
+          (sym (left_behind-none (storage_len s) 1 g (omega (arith, storage-least s h.held.allowed)) n))
+          (count ∙ ap (λ (t : Taken). p.count + length t.samples) (sym taken)) (sym (ap (λ (t : Taken). t.refusal) taken));
+    }
+
+-- ---- the bytes of whole samples
+
+-- the front of bytes is taken, and the others, of whole samples, are left
+pub record JoinedSoFar (c : Coding) (bytes left : List ℕ) (before after : List Bool) (d : Coding) : Type 0 where
+  pub front : List ℕ
+  pub cut : bytes ≡ front ++ left
+  pub samples : ℕ
+  pub whole : length left ≡ samples * storage_len c.settings
+  pub feeds : Feeds c front before after d
+
+-- no sample is complete
+pub short_fed : (s : Settings) (limit : ℕ) (p : Progress) (rest piece longer : List ℕ) (bits : List Bool) → IsProgress s limit p
+    → longer ≡ rest ++ piece → length rest + length piece < storage_len s
+    → Feeds (coding_at s limit p rest) piece bits bits (coding_at s limit p longer)
+short_fed s limit p rest piece longer bits h longer_is few =
+    let short : length (rest ++ piece) < storage_len s = omega (arith, length-append rest piece, few) in
+    let c : Coding = coding_at s limit p rest in
+    let none : taken_groups s limit p.count (byte_groups s (rest ++ piece)) ≡ none_taken None =
+    ap (taken_groups s limit p.count) (byte_groups-short s (rest ++ piece) short) in
+    let same : p.held.items ≡ samples_with c piece = sym (ap (λ (t : Taken). p.held.items ++ t.samples) none ∙ append-nil p.held.items) in
+    record {
+      taken = ap (λ (t : Taken). t.refusal) none;
+      bits = no_bits s bits p.held.items h.held.allowed h.held.few ∙ ap (λ l. bits ++ stream_of s (whole_front (interval_len s) l)) same;
+      coder = same_coding s limit p.held.items (fed c piece).held longer (fed c piece).rest p.count (fed c piece).count None (fed c piece).refusal
+          (sym (left_behind-few_all (interval_len s) p.held.items h.held.few) ∙ ap (left_behind (interval_len s)) same)
+          (longer_is ∙ sym (left_behind-few_all (storage_len s) (rest ++ piece) short))
+          (omega (arith, ap (λ (t : Taken). length t.samples) none)) (sym (ap (λ (t : Taken). t.refusal) none));
+    }
+
+-- nothing is taken yet
+nothing_fed : (s : Settings) (limit : ℕ) (p : Progress) (bits : List Bool) → IsProgress s limit p
+    → Feeds (coding_at s limit p []) [] bits bits (coding_at s limit p [])
+nothing_fed s limit p bits h = short_fed s limit p [] [] [] bits h refl (omega (arith, storage-least s h.held.allowed))
+
+pub joined-begun : (s : Settings) (limit : ℕ) (p : Progress) (bytes left : List ℕ) (bits : List Bool) → IsProgress s limit p
+    → length bytes % storage_len s ≡ 0 → left ≡ bytes
+    → JoinedSoFar (coding_at s limit p []) bytes left bits bits (coding_at s limit p [])
+joined-begun s limit p bytes left bits h whole e =
+    record {
+      front = [];
+      cut = sym e;
+      samples = length bytes / storage_len s;
+      whole = omega (arith, ap length e, div-add-mod' (length bytes) (storage_len s));
+      feeds = nothing_fed s limit p bits h;
+    }
+
+pub joined-more : (c d e : Coding) (bytes left g later : List ℕ) (b0 b1 b2 : List Bool) → IsAllowed c.settings → JoinedSoFar c bytes left b0 b1 d
+    → left ≡ g ++ later → length g ≡ storage_len c.settings → Feeds d g b1 b2 e → JoinedSoFar c bytes later b0 b2 e
+joined-more c d e bytes left g later b0 b1 b2 a h cut whole feeds =
+    record {
+      front = h.front ++ g;
+      cut = h.cut ∙ ap (λ l. h.front ++ l) cut ∙ sym (append_assoc h.front g later);
+      samples = h.samples - 1;
+      whole = less h.samples (h.whole);
+      feeds = feeds_both c d e h.front g b0 b1 b2 a h.feeds feeds;
+    }
+  where
+    less : (k : ℕ) → length left ≡ k * storage_len c.settings → length later ≡ (k - 1) * storage_len c.settings
+    less zero e = omega (arith, ap length cut, length-append g later, storage-least c.settings a)
+    less (suc k) e =
+        let z : suc k - 1 ≡ k = omega arith in
+        omega (arith, ap length cut, length-append g later, ap (λ j. j * storage_len c.settings) z)
+
+-- nothing is left
+pub joined-end : (c d : Coding) (bytes left : List ℕ) (b0 b1 : List Bool) → JoinedSoFar c bytes left b0 b1 d → length left < storage_len c.settings
+    → Feeds c bytes b0 b1 d
+joined-end c d bytes left b0 b1 h short =
+    subst (λ l. Feeds c l b0 b1 d) (sym (h.cut ∙ ap (λ l. h.front ++ l) (nil_from_length left (none h.samples h.whole)) ∙ append-nil h.front)) h.feeds
+  where
+    none : (k : ℕ) → length left ≡ k * storage_len c.settings → length left ≡ 0
+    none zero e = omega arith
+    none (suc k) e = omega arith
+
+-- a refusal of the next bytes is one of all
+pub joined-stops : (c d : Coding) (bytes left g later : List ℕ) (b0 b1 b2 : List Bool) (fault : Fault) → IsAllowed c.settings
+    → JoinedSoFar c bytes left b0 b1 d → left ≡ g ++ later → StopsFeeding d g b1 b2 fault → StopsFeeding c bytes b0 b2 fault
+joined-stops c d bytes left g later b0 b1 b2 fault a h cut stops =
+    subst (λ l. StopsFeeding c l b0 b2 fault)
+    (append_assoc h.front g later ∙ ap (λ l. h.front ++ l) (sym cut) ∙ sym h.cut)
+    (stops_before c (h.front ++ g) later b0 b2 fault a (stops_later c d h.front g b0 b1 b2 fault a h.feeds stops))
+
+-- ---- a piece
+
+pub cut_at : (n : ℕ) (xs front behind : List ℕ) → front ≡ take n xs → behind ≡ drop n xs → xs ≡ front ++ behind
+cut_at n xs front behind e f = sym (take-append-drop n xs) ∙ ap (λ l. l ++ drop n xs) (sym e) ∙ ap (λ l. front ++ l) (sym f)
+
+-- the bytes that were left and those of the piece make a sample together
+rest_stops : (s : Settings) (limit : ℕ) (p : Progress) (rest front : List ℕ) (before after : List Bool) (fault : Fault)
+    → StopsFeeding (coding_at s limit p []) (rest ++ front) before after fault → StopsFeeding (coding_at s limit p rest) front before after fault
+rest_stops s limit p rest front before after fault (refused f refusal bits) = refused f refusal bits
+rest_stops s limit p rest front before after fault (no_memory k whole behind cut len left some bits) = no_memory k whole behind cut len left some bits
+
+pub no_rest : (s : Settings) (limit : ℕ) (p : Progress) (rest piece : List ℕ) (bits : List Bool) → IsProgress s limit p → length rest ≡ 0
+    → CompletesRest (coding_at s limit p rest) piece piece bits bits (coding_at s limit p [])
+no_rest s limit p rest piece bits h none =
+    subst (λ r. CompletesRest (coding_at s limit p r) piece piece bits bits (coding_at s limit p [])) (sym (nil_from_length rest none))
+    (record { front = []; cut = refl; feeds = nothing_fed s limit p bits h })
+
+pub rest_refused : (s : Settings) (limit : ℕ) (p : Progress) (rest g piece front behind : List ℕ) (before after : List Bool) (fault : Fault)
+    → IsAllowed s → g ≡ rest ++ front → piece ≡ front ++ behind → StopsFeeding (coding_at s limit p []) g before after fault
+    → StopsFeeding (coding_at s limit p rest) piece before after fault
+rest_refused s limit p rest g piece front behind before after fault a e cut stops =
+    subst (λ l. StopsFeeding (coding_at s limit p rest) l before after fault) (sym cut)
+    (stops_before (coding_at s limit p rest) front behind before after fault a
+    (rest_stops s limit p rest front before after fault (subst (λ l. StopsFeeding (coding_at s limit p []) l before after fault) e stops)))
+
+pub left_few : (w v m k : ℕ) → 1 ≤ w → v ≡ w → k + (m - m % v) ≡ m → k < w
+left_few w v m k some same e = omega (arith, mod_below m v (omega (arith, some, same)))
+
+-- the sample that was begun, all whole samples, and the bytes that are left
+pub piece_fed : (c d e f : Coding) (piece bytes whole left : List ℕ) (b0 b1 b2 : List Bool) → IsAllowed c.settings → CompletesRest c piece bytes b0 b1 d
+    → bytes ≡ whole ++ left → Feeds d whole b1 b2 e → Feeds e left b2 b2 f → Feeds c piece b0 b2 f
+piece_fed c d e f piece bytes whole left b0 b1 b2 a first cut second third =
+    subst (λ l. Feeds c l b0 b2 f)
+    (append_assoc first.front whole left ∙ ap (λ l. first.front ++ l) (sym cut) ∙ sym first.cut)
+    (feeds_both c e f (first.front ++ whole) left b0 b2 b2 a (feeds_both c d e first.front whole b0 b1 b2 a first.feeds second) third)
+
+pub piece_refused : (c d : Coding) (piece bytes whole left : List ℕ) (b0 b1 b2 : List Bool) (fault : Fault) → IsAllowed c.settings
+    → CompletesRest c piece bytes b0 b1 d → bytes ≡ whole ++ left → StopsFeeding d whole b1 b2 fault → StopsFeeding c piece b0 b2 fault
+piece_refused c d piece bytes whole left b0 b1 b2 fault a first cut stops =
+    subst (λ l. StopsFeeding c l b0 b2 fault)
+    (append_assoc first.front whole left ∙ ap (λ l. first.front ++ l) (sym cut) ∙ sym first.cut)
+    (stops_before c (first.front ++ whole) left b0 b2 fault a (stops_later c d first.front whole b0 b1 b2 fault a first.feeds stops))
+
+-- ---- the end
+
+-- the samples that are held, at least one, are an interval's
+pub finished_bits : (c d : Coding) (samples : List ℤ) (before after : List Bool) → c ≡ d → samples ≡ c.held → 0 < length c.held
+    → IsAllowed c.settings → length c.held < interval_len c.settings → after ≡ before ++ interval_bits c.settings samples
+    → after ≡ before ++ stream_of d.settings d.held
+finished_bits c d samples before after same held some a few bits =
+    bits ∙ ap (λ l. before ++ interval_bits c.settings l) held
+    ∙ ap (λ l. before ++ l) (sym (code_of_interval (interval_format c.settings) c.held (omega arith) (omega arith)))
+    ∙ ap (λ (x : Coding). before ++ stream_of x.settings x.held) same

@@ -1,0 +1,156 @@
+-- Samples taken behind others, and what bytes are as a whole.
+use Rattle.std.proofs.Common.{◌≡◌, ℕ, ◌+◌, ◌≤◌, ◌<◌, Bool, true, false, Option, Some, None, Result, Ok, Err, ℤ, List, [], ◌∷◌, ◌++◌, length, refl, sym, ap, ◌∙◌, arith, ⊎_elim}
+use Rattle.std.proofs.lemmas.Bool.{cases_lt, cond-true, cond-false, lt-ltb, le-ltb}
+use Rattle.std.specs.Prelude.{nat_lt, if◌then◌else◌}
+use Rattle.aec_params.specs.declared.settings.Settings.{Settings}
+use Rattle.aec_params.specs.declared.fault.Fault.{Fault}
+use Rattle.aec_params.specs.declared.fault.Fault.TheVariants.{SampleRange, TooManySamples}
+use Rattle.aec_params.specs.Stored.{number_in, sample_of_number, sample_before, samples_of_groups}
+use Rattle.aec_interval.specs.Taking.{Taken, in_range, judged_sample, taken_before, taken_groups, judged_samples}
+
+-- what is taken behind samples of which none was refused
+abbrev pub taken_behind : Taken → Taken → Taken
+taken_behind first later = record { samples = first.samples ++ later.samples; refusal = later.refusal }
+
+behind_step : (o : Result ℤ Fault) (i j : ℕ) (later all more : Taken) → (taken_before o later).refusal ≡ None
+    → j ≡ i + length (taken_before o later).samples → (later.refusal ≡ None → j ≡ i + 1 + length later.samples → all ≡ taken_behind later more)
+    → taken_before o all ≡ taken_behind (taken_before o later) more
+behind_step (Ok x) i j later all more none count ih = ap (taken_before (Ok x)) (ih none (omega arith))
+behind_step (Err fault) i j later all more none count ih = absurd (cc)
+
+pub taken_groups-append : (s : Settings) (limit i j : ℕ) (gs hs : List (List ℕ)) → (taken_groups s limit i gs).refusal ≡ None
+    → j ≡ i + length (taken_groups s limit i gs).samples
+    → taken_groups s limit i (gs ++ hs) ≡ taken_behind (taken_groups s limit i gs) (taken_groups s limit j hs)
+taken_groups-append s limit i j [] hs none count = ap (λ k. taken_groups s limit k hs) (omega arith)
+taken_groups-append s limit i j (g ∷ gs) hs none count =
+    behind_step (judged_sample s limit i g) i j (taken_groups s limit (i + 1) gs) (taken_groups s limit (i + 1) (gs ++ hs)) (taken_groups s limit j hs) none
+    count (λ later n. taken_groups-append s limit (i + 1) j gs hs later n)
+
+refused_step : (o : Result ℤ Fault) (fault : Fault) (later all : Taken) → (taken_before o later).refusal ≡ Some fault
+    → (later.refusal ≡ Some fault → all ≡ later) → taken_before o all ≡ taken_before o later
+refused_step (Ok x) fault later all refusal ih = ap (taken_before (Ok x)) (ih refusal)
+refused_step (Err e) fault later all refusal ih = refl
+
+-- nothing is taken behind a refusal
+pub taken_groups-refused : (s : Settings) (limit i : ℕ) (gs hs : List (List ℕ)) (fault : Fault) → (taken_groups s limit i gs).refusal ≡ Some fault
+    → taken_groups s limit i (gs ++ hs) ≡ taken_groups s limit i gs
+taken_groups-refused s limit i [] hs fault refusal = absurd (cc)
+taken_groups-refused s limit i (g ∷ gs) hs fault refusal =
+    refused_step (judged_sample s limit i g) fault (taken_groups s limit (i + 1) gs) (taken_groups s limit (i + 1) (gs ++ hs)) refusal
+    (λ later. taken_groups-refused s limit (i + 1) gs hs fault later)
+
+-- ---- all samples
+
+all_step : (t : Bool) (o : Option ℤ) (i : ℕ) (f : Fault) (later : Taken) (all : Result (List ℤ) ℕ)
+    → (taken_before (if t then in_range i o else Err f) later).refusal ≡ None → (later.refusal ≡ None → all ≡ Ok later.samples)
+    → sample_before o i all ≡ Ok (taken_before (if t then in_range i o else Err f) later).samples
+all_step true (Some x) i f later all none ih = ap (sample_before (Some x) i) (ih none)
+all_step true None i f later all none ih = absurd (cc)
+all_step false o i f later all none ih = absurd (cc)
+
+-- where none is refused, the samples that are taken are those that the groups are
+pub taken_groups-all : (s : Settings) (limit i : ℕ) (gs : List (List ℕ)) → (taken_groups s limit i gs).refusal ≡ None
+    → samples_of_groups s i gs ≡ Ok (taken_groups s limit i gs).samples
+taken_groups-all s limit i [] none = refl
+taken_groups-all s limit i (g ∷ gs) none =
+    all_step (nat_lt i limit) (sample_of_number s (number_in s g)) i (TooManySamples limit) (taken_groups s limit (i + 1) gs)
+    (samples_of_groups s (i + 1) gs) none (λ later. taken_groups-all s limit (i + 1) gs later)
+
+-- ---- the refusal
+
+-- the number of a bad sample, if there is one
+abbrev bad_of : Result (List ℤ) ℕ → ℕ
+bad_of (Ok xs) = 0
+bad_of (Err k) = k
+
+bad_step : (o : Option ℤ) (i k : ℕ) (later : Result (List ℤ) ℕ) → ((m : ℕ) → later ≡ Err m → i + 1 ≤ m) → sample_before o i later ≡ Err k → i ≤ k
+bad_step None i k later ih e =
+    let same : i ≡ k = ap bad_of e in
+    omega arith
+bad_step (Some x) i k (Ok xs) ih e = absurd (cc)
+bad_step (Some x) i k (Err m) ih e =
+    let same : m ≡ k = ap bad_of e in
+    omega (arith, ih m refl)
+
+-- a bad sample is none before the first
+bad_behind : (s : Settings) (i k : ℕ) (gs : List (List ℕ)) → samples_of_groups s i gs ≡ Err k → i ≤ k
+bad_behind s i k [] e = absurd (cc)
+bad_behind s i k (g ∷ gs) e =
+    bad_step (sample_of_number s (number_in s g)) i k (samples_of_groups s (i + 1) gs) (λ m f. bad_behind s (i + 1) m gs f) e
+
+-- the refusal of samples of which the first is sample i
+abbrev pub judged_from : ℕ → ℕ → Result (List ℤ) ℕ → Option Fault
+judged_from limit i (Ok samples) = if nat_lt limit (i + length samples) then Some (TooManySamples limit) else None
+judged_from limit i (Err bad) = Some (if nat_lt bad limit then SampleRange bad else TooManySamples limit)
+
+-- sample i stands below the limit
+judged_below : (o : Option ℤ) (limit i : ℕ) (later : Result (List ℤ) ℕ) (taken : Taken) → i < limit
+    → taken.refusal ≡ judged_from limit (i + 1) later
+    → (taken_before (in_range i o) taken).refusal ≡ judged_from limit i (sample_before o i later)
+judged_below None limit i later taken below ih =
+    ap Some (sym (cond-true (nat_lt i limit) (SampleRange i) (TooManySamples limit) (lt-ltb i limit below)))
+judged_below (Some x) limit i (Ok xs) taken below ih =
+    ih ∙ ap (λ n. if nat_lt limit n then Some (TooManySamples limit) else None) (omega arith)
+judged_below (Some x) limit i (Err k) taken below ih = ih
+
+-- it stands at the limit
+judged_above : (o : Option ℤ) (limit i : ℕ) (later : Result (List ℤ) ℕ) → i ≡ limit → ((k : ℕ) → later ≡ Err k → i + 1 ≤ k)
+    → Some (TooManySamples limit) ≡ judged_from limit i (sample_before o i later)
+judged_above None limit i later at bad =
+    ap Some (sym (cond-false (nat_lt i limit) (SampleRange i) (TooManySamples limit) (le-ltb i limit (omega arith))))
+judged_above (Some x) limit i (Ok xs) at bad =
+    let past : limit < i + length (x ∷ xs) = omega arith in
+    sym (cond-true (nat_lt limit (i + length (x ∷ xs))) (Some (TooManySamples limit)) None (lt-ltb limit (i + length (x ∷ xs)) past))
+judged_above (Some x) limit i (Err k) at bad =
+    ap Some (sym (cond-false (nat_lt k limit) (SampleRange k) (TooManySamples limit) (le-ltb k limit (omega (arith, bad k refl)))))
+
+judged_step : (s : Settings) (limit i : ℕ) (g : List ℕ) (gs : List (List ℕ))
+    → (i + 1 ≤ limit → (taken_groups s limit (i + 1) gs).refusal ≡ judged_from limit (i + 1) (samples_of_groups s (i + 1) gs)) → i ≤ limit
+    → (taken_groups s limit i (g ∷ gs)).refusal ≡ judged_from limit i (samples_of_groups s i (g ∷ gs))
+judged_step s limit i g gs ih h = ⊎_elim below above (cases_lt i limit)
+  where
+    o : Option ℤ
+    o = sample_of_number s (number_in s g)
+
+    below : i < limit → (taken_groups s limit i (g ∷ gs)).refusal ≡ judged_from limit i (samples_of_groups s i (g ∷ gs))
+    below l =
+        ap (λ r. (taken_before r (taken_groups s limit (i + 1) gs)).refusal)
+        (cond-true (nat_lt i limit) (in_range i o) (Err (TooManySamples limit)) (lt-ltb i limit l))
+        ∙ judged_below o limit i (samples_of_groups s (i + 1) gs) (taken_groups s limit (i + 1) gs) l (ih (omega arith))
+
+    above : limit ≤ i → (taken_groups s limit i (g ∷ gs)).refusal ≡ judged_from limit i (samples_of_groups s i (g ∷ gs))
+    above l =
+        ap (λ r. (taken_before r (taken_groups s limit (i + 1) gs)).refusal)
+        (cond-false (nat_lt i limit) (in_range i o) (Err (TooManySamples limit)) (le-ltb i limit l))
+        ∙ judged_above o limit i (samples_of_groups s (i + 1) gs) (omega arith) (λ k e. bad_behind s (i + 1) k gs e)
+
+judged_groups : (s : Settings) (limit i : ℕ) (gs : List (List ℕ)) → i ≤ limit
+    → (taken_groups s limit i gs).refusal ≡ judged_from limit i (samples_of_groups s i gs)
+judged_groups s limit i [] h =
+    let n : ℕ = i + length {A = ℤ} [] in
+    sym (cond-false (nat_lt limit n) (Some (TooManySamples limit)) None (le-ltb limit n (omega arith)))
+judged_groups s limit i (g ∷ gs) h = judged_step s limit i g gs (λ k. judged_groups s limit (i + 1) gs k) h
+
+judged_at_start : (limit : ℕ) (all : Result (List ℤ) ℕ) → judged_from limit 0 all ≡ judged_samples limit all
+judged_at_start limit (Ok xs) = ap (λ n. if nat_lt limit n then Some (TooManySamples limit) else None) (omega arith)
+judged_at_start limit (Err k) = refl
+
+-- the refusal by what the groups are as a whole
+pub judged_all : (s : Settings) (limit : ℕ) (gs : List (List ℕ)) → (taken_groups s limit 0 gs).refusal ≡ judged_samples limit (samples_of_groups s 0 gs)
+judged_all s limit gs = judged_groups s limit 0 gs (omega arith) ∙ judged_at_start limit (samples_of_groups s 0 gs)
+
+-- samples that are not refused are no more than the limit
+pub taken_within : (s : Settings) (limit : ℕ) (gs : List (List ℕ)) → (taken_groups s limit 0 gs).refusal ≡ None
+    → length (taken_groups s limit 0 gs).samples ≤ limit
+taken_within s limit gs none =
+    few (length (taken_groups s limit 0 gs).samples)
+    (sym (judged_all s limit gs ∙ ap (judged_samples limit) (taken_groups-all s limit 0 gs none)) ∙ none)
+  where
+    few : (n : ℕ) → (if nat_lt limit n then Some (TooManySamples limit) else None) ≡ None → n ≤ limit
+    few n e = ⊎_elim (λ l. absurd (past n l e)) (λ l. l) (cases_lt limit n)
+      where
+        past : (n : ℕ) → limit < n → (if nat_lt limit n then Some (TooManySamples limit) else None) ≡ None → ⊥
+        past n l e =
+            let some : (if nat_lt limit n then Some (TooManySamples limit) else None) ≡ Some (TooManySamples limit) =
+            cond-true (nat_lt limit n) (Some (TooManySamples limit)) None (lt-ltb limit n l) in
+            absurd (cc)

@@ -1,0 +1,32 @@
+-- What the private functions of `joining` keep: a coder that was not refused anything, by its parts.
+use Rattle.std.specs.Prelude.{◌≡◌, ℕ, ◌<◌, ◌≤◌, Bool, Option, None, ℤ, List, ◌++◌, length}
+use Rattle.std.specs.List.{AllByRecursion}
+use Rattle.aec_params.specs.declared.settings.Settings.{Settings}
+use Rattle.aec_params.specs.declared.fault.Fault.{Fault}
+use Rattle.aec_params.specs.Params.{IsAllowed, IsHeld, interval_len}
+use Rattle.aec_interval.specs.Feeding.{Coding, Feeds}
+use Rattle.aec_interval.specs.declared.joining.Progress.{Progress}
+
+abbrev pub coding_with : Settings → ℕ → Progress → List ℕ → Option Fault → Coding
+coding_with s limit progress rest refusal =
+    record { settings = s; limit = limit; held = progress.held.items; rest = rest; count = progress.count; refusal = refusal }
+
+abbrev pub coding_at : Settings → ℕ → Progress → List ℕ → Coding
+coding_at s limit progress rest = coding_with s limit progress rest None
+
+-- samples of an interval that isn't complete
+pub record AreHeldFew (s : Settings) (held : List ℤ) : Type 0 where
+  pub allowed : IsAllowed s
+  pub samples : AllByRecursion (IsHeld s) held
+  pub few : length held < interval_len s
+
+-- samples of an interval that isn't complete, no more of them so far than the limit
+pub record IsProgress (s : Settings) (limit : ℕ) (progress : Progress) : Type 0 where
+  pub held : AreHeldFew s progress.held.items
+  pub within : progress.count ≤ limit
+
+-- a piece completes a sample that was begun, if one was: what it completes comes before `behind`
+pub record CompletesRest (c : Coding) (piece behind : List ℕ) (before after : List Bool) (d : Coding) : Type 0 where
+  pub front : List ℕ
+  pub cut : piece ≡ front ++ behind
+  pub feeds : Feeds c front before after d

@@ -1,0 +1,40 @@
+-- Stored samples as they are taken one after the other: each is judged by the limit, and then by its range. The first that is
+-- refused ends it.
+use Rattle.std.specs.Prelude.{ℕ, ◌+◌, nat_lt, if◌then◌else◌, Option, Some, None, Result, Ok, Err, ℤ, List, [], ◌∷◌, length}
+use Rattle.aec_params.specs.declared.settings.Settings.{Settings}
+use Rattle.aec_params.specs.declared.fault.Fault.{Fault}
+use Rattle.aec_params.specs.declared.fault.Fault.TheVariants.{SampleRange, TooManySamples}
+use Rattle.aec_params.specs.Stored.{number_in, sample_of_number}
+
+-- the samples that were taken, and why no more were, if one was refused
+pub record Taken : Type 0 where
+  pub samples : List ℤ
+  pub refusal : Option Fault
+
+abbrev pub none_taken : Option Fault → Taken
+none_taken refusal = record { samples = []; refusal = refusal }
+
+-- sample i, which is out of range where its bytes are no sample
+abbrev pub in_range : ℕ → Option ℤ → Result ℤ Fault
+in_range i None = Err (SampleRange i)
+in_range i (Some x) = Ok x
+
+-- the bytes of sample i are judged: first by the limit, then by its range
+abbrev pub judged_sample : Settings → ℕ → ℕ → List ℕ → Result ℤ Fault
+judged_sample s limit i g = if nat_lt i limit then in_range i (sample_of_number s (number_in s g)) else Err (TooManySamples limit)
+
+-- a sample before those that are taken behind it, or its refusal
+abbrev pub taken_before : Result ℤ Fault → Taken → Taken
+taken_before (Ok x) later = record { samples = x ∷ later.samples; refusal = later.refusal }
+taken_before (Err fault) later = none_taken (Some fault)
+
+-- the samples in groups of bytes, of which the first is sample i
+abbrev pub taken_groups : Settings → ℕ → ℕ → List (List ℕ) → Taken
+taken_groups s limit i [] = none_taken None
+taken_groups s limit i (g ∷ gs) = taken_before (judged_sample s limit i g) (taken_groups s limit (i + 1) gs)
+
+-- the same refusal by what bytes are as a whole: samples past the limit are too many, whatever they hold; before it the first
+-- that is none of the settings is out of range
+abbrev pub judged_samples : ℕ → Result (List ℤ) ℕ → Option Fault
+judged_samples limit (Ok samples) = if nat_lt limit (length samples) then Some (TooManySamples limit) else None
+judged_samples limit (Err bad) = Some (if nat_lt bad limit then SampleRange bad else TooManySamples limit)

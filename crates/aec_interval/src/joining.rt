@@ -1,0 +1,167 @@
+//! Stored samples joined to those of an interval that is not complete, which is coded once it is.
+
+ghost use Rattle.std.specs.Prelude.{◌≡◌, ◌+◌, ◌<◌, ◌≤◌, ◌%◌, [], ◌∷◌, ◌++◌, length, OnOk, OnErr, IfOk, IfErr};
+ghost use Rattle.aec_params.specs.declared.fault.Fault.TheVariants.{Memory};
+ghost use Rattle.aec_params.specs.Params.{IsHeld, interval_len, storage_len};
+ghost use Rattle.aec_params.specs.Streams.{stream_of};
+ghost use Rattle.aec_interval.specs.Taking.{judged_sample};
+ghost use Rattle.aec_interval.specs.Feeding.{Feeds, StopsFeeding, whole_front, left_behind};
+ghost use Rattle.aec_interval.specs.Progress.{IsProgress, AreHeldFew, CompletesRest, coding_at};
+
+use crate::interval::append_interval;
+use crate::rest::Rest;
+use aec_bits::BitBuf;
+use aec_params::{Fault, Params, sample_of};
+use std::alloc::Global;
+
+/// The samples of the interval that is not complete, and how many samples there were so far.
+#[derive(Debug, Drop)]
+pub(crate) struct Progress {
+    pub(crate) held: Vec<i64>,
+    pub(crate) count: u64,
+}
+
+/// Holds a sample more. With the last sample of an interval its code is appended, and none are held. `Memory` where a
+/// growth was refused; nothing is appended then.
+fn push_sample(
+    alloc: Global,
+    params: &Params,
+    held: &mut Vec<i64>,
+    x: i64,
+    out: &mut BitBuf,
+) -> Result<(), Fault>
+    requires few { AreHeldFew params.now held.old.items }
+    requires sample { IsHeld params.now x }
+    ensures ok { OnOk result (held.new.items ≡ left_behind (interval_len params.now) (held.old.items ++ x ∷ [])) }
+    ensures bits { OnOk result
+        (out.new.list ≡ out.old.list ++ stream_of params.now (whole_front (interval_len params.now) (held.old.items ++ x ∷ []))) }
+    ensures few { AreHeldFew params.now held.new.items }
+    ensures err { OnErr result (out.new.list ≡ out.old.list) }
+    ensures fault { IfErr result (λ e. e ≡ Memory) }
+{
+    held.push(x)?;
+    if (held.len() as u64) < params.interval_len() {
+        return Ok(());
+    }
+    let coded = append_interval(alloc, params, held, out);
+    held.clear();
+    coded
+}
+
+/// The sample of the bytes of one, behind `count` others. `TooManySamples` where the limit is reached, then `SampleRange`.
+fn judge(params: &Params, limit: u64, count: u64, group: &[u8]) -> Result<i64, Fault>
+    requires { length group.now ≡ storage_len params.now }
+    ensures value { result ≡ judged_sample params.now limit count group.now }
+    ensures held { IfOk result (λ x. IsHeld params.now x) }
+    ensures within { OnOk result (count < limit) }
+{
+    if count >= limit {
+        return Err(Fault::TooManySamples { limit });
+    }
+    sample_of(params, group).ok_or(Fault::SampleRange { index: count })
+}
+
+/// Takes the bytes of one sample. The refusals of `judge`, then `Memory`.
+fn join(
+    alloc: Global,
+    params: &Params,
+    limit: u64,
+    progress: &mut Progress,
+    group: &[u8],
+    out: &mut BitBuf,
+) -> Result<(), Fault>
+    requires progress { IsProgress params.now limit progress.old }
+    requires whole { length group.now ≡ storage_len params.now }
+    ensures ok { OnOk result
+        (Feeds (coding_at params.now limit progress.old []) group.now out.old.list out.new.list (coding_at params.now limit progress.new [])) }
+    ensures stops { IfErr result (λ fault. StopsFeeding (coding_at params.now limit progress.old []) group.now out.old.list out.new.list fault) }
+    ensures progress { IsProgress params.now limit progress.new }
+{
+    let x = judge(params, limit, progress.count, group)?;
+    push_sample(alloc, params, &mut progress.held, x, out)?;
+    progress.count += 1;
+    Ok(())
+}
+
+/// Takes the bytes of whole samples, up to the first that is refused.
+fn join_all(
+    alloc: Global,
+    params: &Params,
+    limit: u64,
+    progress: &mut Progress,
+    bytes: &[u8],
+    out: &mut BitBuf,
+) -> Result<(), Fault>
+    requires progress { IsProgress params.now limit progress.old }
+    requires whole { length bytes.now % storage_len params.now ≡ 0 }
+    ensures ok { OnOk result
+        (Feeds (coding_at params.now limit progress.old []) bytes.now out.old.list out.new.list (coding_at params.now limit progress.new [])) }
+    ensures stops { IfErr result (λ fault. StopsFeeding (coding_at params.now limit progress.old []) bytes.now out.old.list out.new.list fault) }
+    ensures progress { IsProgress params.now limit progress.new }
+{
+    for group in bytes.chunks_exact(params.storage()) {
+        join(alloc, params, limit, progress, group, out)?;
+    }
+    Ok(())
+}
+
+/// Completes the sample of which bytes are there, with the front of a piece that is long enough. The bytes of the piece
+/// behind it.
+fn complete_rest<'a>(
+    alloc: Global,
+    params: &Params,
+    limit: u64,
+    progress: &mut Progress,
+    rest: &mut Rest,
+    piece: &'a [u8],
+    out: &mut BitBuf,
+) -> Result<&'a [u8], Fault>
+    requires progress { IsProgress params.now limit progress.old }
+    requires short { length rest.old < storage_len params.now }
+    requires enough { storage_len params.now ≤ length rest.old + length piece.now }
+    ensures ok { IfOk result (λ behind.
+        CompletesRest (coding_at params.now limit progress.old rest.old) piece.now behind.now out.old.list out.new.list (coding_at params.now limit progress.new [])) }
+    ensures stops { IfErr result (λ fault. StopsFeeding (coding_at params.now limit progress.old rest.old) piece.now out.old.list out.new.list fault) }
+    ensures progress { IsProgress params.now limit progress.new }
+    ensures empty { rest.new ≡ [] }
+{
+    if rest.len() == 0 {
+        return Ok(piece);
+    }
+    let (front, behind) = piece.split_at(params.storage() - rest.len());
+    rest.extend(front);
+    let joined = join(alloc, params, limit, progress, rest.as_slice(), out);
+    rest.clear();
+    joined?;
+    Ok(behind)
+}
+
+/// Takes a piece: completes the sample that was begun, takes all whole samples, and keeps the bytes that are left.
+pub(crate) fn take_piece(
+    alloc: Global,
+    params: &Params,
+    limit: u64,
+    progress: &mut Progress,
+    rest: &mut Rest,
+    piece: &[u8],
+    out: &mut BitBuf,
+) -> Result<(), Fault>
+    requires progress { IsProgress params.now limit progress.old }
+    requires short { length rest.old < storage_len params.now }
+    ensures ok { OnOk result
+        (Feeds (coding_at params.now limit progress.old rest.old) piece.now out.old.list out.new.list (coding_at params.now limit progress.new rest.new)) }
+    ensures stops { IfErr result (λ fault. StopsFeeding (coding_at params.now limit progress.old rest.old) piece.now out.old.list out.new.list fault) }
+    ensures progress { IsProgress params.now limit progress.new }
+    ensures short { length rest.new < storage_len params.now }
+{
+    let width = params.storage();
+    if piece.len() < width - rest.len() {
+        rest.extend(piece);
+        return Ok(());
+    }
+    let bytes = complete_rest(alloc, params, limit, progress, rest, piece, out)?;
+    let (whole, left) = bytes.split_at(bytes.len() - bytes.len() % width);
+    join_all(alloc, params, limit, progress, whole, out)?;
+    rest.extend(left);
+    Ok(())
+}

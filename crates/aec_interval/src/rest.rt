@@ -1,0 +1,65 @@
+//! The bytes of a sample that is not complete.
+
+use std::marker::Model;
+
+/// At most four bytes, seen as their list.
+#[derive(Debug, Drop)]
+pub(crate) struct Rest {
+    bytes: [u8; 4],
+    len: usize,
+}
+
+impl Model for Rest {
+    ghost use Rattle.std.specs.Prelude.{ℕ, ◌≤◌, List, take};
+
+    ghost Value = { List ℕ };
+
+    ghost view = { λ r. take r.len r.bytes };
+
+    ghost invariant = { λ r. r.len ≤ 4 };
+}
+
+impl Rest {
+    ghost use Rattle.std.specs.Prelude.{◌≡◌, ◌+◌, ◌≤◌, [], ◌++◌, length};
+
+    /// No bytes.
+    pub(crate) fn new() -> Rest
+        ensures { result ≡ [] }
+    {
+        Rest {
+            bytes: [0; 4],
+            len: 0,
+        }
+    }
+
+    /// The number of bytes.
+    pub(crate) fn len(&self) -> usize
+        ensures { result ≡ length self.now }
+    {
+        self.len
+    }
+
+    /// The bytes.
+    pub(crate) fn as_slice(&self) -> &[u8]
+        ensures { result.now ≡ self.now }
+    {
+        &self.bytes[..self.len]
+    }
+
+    /// Puts bytes behind these.
+    pub(crate) fn extend(&mut self, more: &[u8])
+        requires { length self.old + length more.now ≤ 4 }
+        ensures { self.new ≡ self.old ++ more.now }
+    {
+        let end = self.len + more.len();
+        self.bytes[self.len..end].copy_from_slice(more);
+        self.len = end;
+    }
+
+    /// Drops the bytes.
+    pub(crate) fn clear(&mut self)
+        ensures { self.new ≡ [] }
+    {
+        self.len = 0;
+    }
+}

@@ -1,0 +1,118 @@
+//! A coder of samples that come in pieces.
+
+use crate::interval::append_interval;
+use crate::joining::{Progress, take_piece};
+use crate::rest::Rest;
+use aec_bits::BitBuf;
+use aec_params::{Fault, Params};
+use std::alloc::Global;
+use std::marker::Model;
+
+/// Codes stored samples that come in pieces, cut anywhere: each interval as soon as it is complete. Of the input it keeps,
+/// beside the number of samples so far and its refusal, fewer samples than an interval has and fewer bytes than a sample
+/// has. It answers its first refusal for good.
+#[derive(Debug, Drop)]
+pub struct StreamCoder {
+    params: Params,
+    limit: u64,
+    progress: Progress,
+    rest: Rest,
+    refusal: Option<Fault>,
+    alloc: Global,
+}
+
+impl Model for StreamCoder {
+    ghost use Rattle.std.specs.Prelude.{◌<◌, length};
+    ghost use Rattle.aec_params.specs.Params.{IsAllowed, storage_len};
+    ghost use Rattle.aec_interval.specs.Feeding.{Coding};
+    ghost use Rattle.aec_interval.specs.Progress.{IsProgress, coding_with};
+
+    ghost Value = { Coding };
+
+    ghost view = { λ c. coding_with c.params c.limit c.progress c.rest c.refusal };
+
+    ghost invariant = { λ c. (length c.rest < storage_len c.params) × IsProgress c.params c.limit c.progress };
+}
+
+impl StreamCoder {
+    ghost use Rattle.std.specs.Prelude.{◌≡◌, ◌<◌, ◌++◌, Err, length, OnOk, OnErr, IfErr, MatchOption};
+    ghost use Rattle.std.specs.Result.{result_err};
+    ghost use Rattle.aec_params.specs.declared.fault.Fault.TheVariants.{Memory};
+    ghost use Rattle.aec_params.specs.Params.{interval_len};
+    ghost use Rattle.aec_params.specs.Streams.{stream_of};
+    ghost use Rattle.aec_interval.specs.Feeding.{new_coding, Feeds, StopsFeeding};
+
+    /// A coder that was fed nothing. It takes at most `limit` samples. Takes no memory.
+    pub fn new(alloc: Global, params: Params, limit: u64) -> StreamCoder
+        ensures { result ≡ new_coding params limit }
+    {
+        // What the parameters promise is told by their calls.
+        let _len = params.interval_len();
+        StreamCoder {
+            params,
+            limit,
+            progress: Progress {
+                held: Vec::new(alloc),
+                count: 0,
+            },
+            rest: Rest::new(),
+            refusal: None,
+            alloc,
+        }
+    }
+
+    /// The number of whole samples that are not coded yet, fewer than an interval has. Takes no memory.
+    pub fn held(&self) -> u64
+        ensures value { result ≡ length self.now.held }
+        ensures few { result < interval_len self.now.settings }
+    {
+        self.progress.held.len() as u64
+    }
+
+    /// Takes the samples that a piece completes, and appends the code of the intervals that are complete with it.
+    ///
+    /// The refusals, sample by sample: `TooManySamples` past the limit, `SampleRange` with the sample's index counted from
+    /// the first of all pieces, `Memory` at a sample that is neither. What was appended is the code of the intervals that were
+    /// complete before it, for `Memory` of the first ones of them. From then on each call answers that refusal and appends nothing.
+    pub fn feed(&mut self, piece: &[u8], out: &mut BitBuf) -> Result<(), Fault>
+        ensures ok { OnOk result (Feeds self.old piece.now out.old.list out.new.list self.new) }
+        ensures refuses { MatchOption self.old.refusal
+            (IfErr result (λ fault. StopsFeeding self.old piece.now out.old.list out.new.list fault))
+            (λ fault. (result ≡ Err fault) × (out.new.list ≡ out.old.list)) }
+        ensures refusal { self.new.refusal ≡ result_err result }
+        ensures settings { self.new.settings ≡ self.old.settings }
+        ensures limit { self.new.limit ≡ self.old.limit }
+        ensures few { length self.new.held < interval_len self.new.settings }
+    {
+        if let Some(fault) = self.refusal {
+            return Err(fault);
+        }
+        let taken = take_piece(
+            self.alloc,
+            &self.params,
+            self.limit,
+            &mut self.progress,
+            &mut self.rest,
+            piece,
+            out,
+        );
+        self.refusal = taken.err();
+        taken
+    }
+
+    /// Appends the code of the samples that are held; the bytes of a sample that is not complete are ignored. The refusal
+    /// that there was, or `Memory`; nothing is appended then.
+    pub fn finish(self, out: &mut BitBuf) -> Result<(), Fault>
+        ensures ok { OnOk result (out.new.list ≡ out.old.list ++ stream_of self.settings self.held) }
+        ensures refuses { MatchOption self.refusal (IfErr result (λ e. e ≡ Memory)) (λ fault. result ≡ Err fault) }
+        ensures err { OnErr result (out.new.list ≡ out.old.list) }
+    {
+        if let Some(refusal) = self.refusal {
+            return Err(refusal);
+        }
+        if self.progress.held.is_empty() {
+            return Ok(());
+        }
+        append_interval(self.alloc, &self.params, &self.progress.held, out)
+    }
+}

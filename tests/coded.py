@@ -1,0 +1,94 @@
+#!/usr/bin/env python3
+"""Coded samples: coded.py PATH_OF_AEC [--seed N] [--cases N] [--only N]
+
+Has the program at PATH_OF_AEC code samples, and compares each byte with the plain coder of plain_coder.py. In turn
+  - the worked examples, whose bytes are known by hand: the plain coder has to give them too;
+  - samples by chance, with settings by chance: coded from a file whose unused bits are lawful ones, or aren't and are refused,
+    and as the stream of another coder's choices that an empty script edits, which has to become the same bytes.
+
+The seed of the last part is printed and can be given; a case of it can be tried alone by its number. Prints the checks that
+fail and, last, how many passed. Ends with 1 where one failed.
+"""
+
+import argparse
+import random
+import sys
+import tempfile
+
+import foreign_writer
+import plain_coder
+from damaged_cases import some_samples, some_settings
+from program import Program, Tally, on_each_core, said
+from worked_streams import EXAMPLES
+
+
+def try_worked(program, tally):
+    """The results by hand: of the program, and of the plain coder."""
+    for stream, settings, _, samples, _ in EXAMPLES:
+        what = f"{' '.join(settings.options())} on {settings.stored(samples).hex(' ')}"
+        tally.check(f"{what}: the plain coder", plain_coder.stream(samples, settings), stream)
+        tally.check(what, program.answer(settings.options(), settings.stored(samples)), stream)
+
+
+def some_stored(settings, samples, chance):
+    """The bytes of the samples, with any lawful unused bits or, seldom, others, and then a part of a sample. And the place of
+    the first sample whose unused bits aren't lawful, None where there is none."""
+    unused, words, bad = 8 * settings.storage() - settings.bits, [], None
+    for i, x in enumerate(samples):
+        is_negative = settings.signed and x < 0
+        lawful = [0, 2**unused - 1] if is_negative else [0]
+        high = chance.choice(lawful)
+        if chance.random() * len(samples) < 0.5:
+            high = chance.randrange(2**unused)
+        if high not in lawful and bad is None:
+            bad = i
+        words.append(high * 2**settings.bits + x % 2**settings.bits)
+    return settings.stored(words) + chance.randbytes(chance.randrange(settings.storage())), bad
+
+
+def try_case(seed, number, program, tally):
+    """Samples by chance."""
+    chance = random.Random(f"{seed} {number}")
+    settings, before = some_settings(chance), tally.failed
+    samples = some_samples(settings, chance)
+    options, wanted = settings.options(), plain_coder.stream(samples, settings)
+    foreign = foreign_writer.stream(samples, settings, chance)
+    given, bad = some_stored(settings, samples, chance)
+    refusal = None if bad is None else f"sample {bad} is out of range"
+    coded = program.answer(options, given)
+    what = f"{' '.join(options)} on {len(samples)} samples"
+    tally.check(what, (program.said, coded), (said(refusal)[1], None if refusal else wanted))
+    program.write("script", b"")
+    words = ["--edit", "script", "--count", str(len(samples)), *options]
+    tally.check(f"{' '.join(words)} on {foreign.hex(' ')}", program.answer(words, foreign), wanted)
+    if tally.failed > before:
+        print(f"  that was --seed {seed} --only {number}", flush=True)
+
+
+def try_part(program, numbers, seed):
+    tally = Tally()
+    for number in numbers:
+        try_case(seed, number, program, tally)
+    return tally
+
+
+def main():
+    words = argparse.ArgumentParser(description="Codes samples, and compares with a plain coder.")
+    words.add_argument("program")
+    words.add_argument("--seed", type=int, default=121)
+    words.add_argument("--cases", type=int, default=2000)
+    words.add_argument("--only", type=int)
+    asked = words.parse_args()
+    tally = Tally()
+    with tempfile.TemporaryDirectory() as folder:
+        try_worked(Program(asked.program, folder), tally)
+    print(f"seed {asked.seed}, {asked.cases} cases", flush=True)
+    numbers = range(asked.cases) if asked.only is None else [asked.only]
+    for part in on_each_core(try_part, asked.program, numbers, asked.seed):
+        tally.add(part)
+    tally.print()
+    return 1 if tally.failed else 0
+
+
+if __name__ == "__main__":
+    sys.exit(main())

@@ -1,0 +1,147 @@
+#!/usr/bin/env python3
+"""Damaged streams: damaged.py PATH_OF_AEC [--seed N] [--streams N] [--only N]
+
+Has the program at PATH_OF_AEC decode streams that another coder might have written and that were damaged, and compares status,
+message and DEST with what the plain reader of plain_reader.py says: the very samples, or the very fault with its bit. In turn
+  - results that were worked out by hand, which the reader has to give too;
+  - the streams of worked examples: each front of them in bytes, and each with a single bit turned, with and without the count;
+  - streams of random settings and samples, written by any lawful choices, or with one block written unlawfully, and then
+    damaged: bits turned, bytes cut off, lost, replaced or added, or plain random bytes. Each is decoded without a count and
+    with one, and some are cut to a range. Each undamaged stream has to be read as its samples.
+
+The seed of the last part is printed and can be given; a stream of it can be tried alone by its number. Prints the checks that
+fail and, last, how many passed. Ends with 1 where one failed.
+"""
+
+import argparse
+import random
+import sys
+import tempfile
+from collections import Counter
+
+from damaged_cases import some_count, some_damaged
+from plain_reader import Fault, reading
+from program import Program, Tally, on_each_core, said
+from worked_streams import EXAMPLES, READINGS
+
+OLD = b"what DEST held before"
+
+
+def read_by_reader(stream, settings, count):
+    """The samples, or the fault's text in their place."""
+    try:
+        return reading(stream, settings, count), None
+    except Fault as fault:
+        return None, str(fault)
+
+
+def try_decoding(program, tally, stream, settings, count, wanted, more=()):
+    """A run of decoding, beside the samples or the fault that are wanted. After a fault DEST has to be as it was."""
+    samples, fault = wanted
+    words = [*(more or ["-d"]), *settings.options(), *([] if count is None else ["--count", str(count)])]
+    old = OLD if len(stream) % 2 else None
+    program.write("source", stream)
+    program.write("dest", old)
+    answer = (*program.run(*words, "source", "dest"), program.read("dest"))
+    dest = old if fault else settings.stored(samples)
+    what = f"{' '.join(words)} on {stream.hex(' ') or 'no bytes'}"
+    tally.check(what, answer, (*said(fault), dest))
+
+
+def try_worked(program, tally):
+    """The results by hand: of the program, and of the reader."""
+    for worked in EXAMPLES + READINGS:
+        stream, settings, count, *wanted = worked
+        tally.check(f"the reader on {worked}", read_by_reader(stream, settings, count), tuple(wanted))
+        try_decoding(program, tally, stream, settings, count, wanted)
+
+
+def fronts_and_turned_bits(stream):
+    """Each front of a stream, and the stream with each of its bits turned."""
+    yield from (stream[:length] for length in range(len(stream) + 1))
+    for place in range(8 * len(stream)):
+        turned = bytearray(stream)
+        turned[place // 8] ^= 128 >> place % 8
+        yield bytes(turned)
+
+
+def try_examples(program, tally):
+    """The damaged examples."""
+    for worked in EXAMPLES:
+        for stream in fronts_and_turned_bits(worked.stream):
+            for count in (None, worked.count):
+                wanted = read_by_reader(stream, worked.settings, count)
+                try_decoding(program, tally, stream, worked.settings, count, wanted)
+
+
+def some_range(wanted, chance):
+    """The words for a range of what a stream is read as, and the samples or the refusal that are wanted for them."""
+    samples, fault = wanted
+    present = len(samples or [])
+    first = chance.choice([0, present, present + 1, chance.randint(0, present)])
+    length = chance.choice([0, 1, max(present - first, 0), 2**64 - 1])
+    words = ["--range", f"{first}:{length}"]
+    if fault is None and first + length > present:
+        return words, (None, f"position outside the {present} samples")
+    return words, (samples and samples[first : first + length], fault)
+
+
+def try_damaged(seed, number, program, tally, answers):
+    """One stream by chance."""
+    chance = random.Random(f"{seed} {number}")
+    damaged = some_damaged(chance)
+    settings, stream, before = damaged.settings, damaged.stream, tally.failed
+    whole = read_by_reader(damaged.whole, settings, len(damaged.samples))
+    tally.check(f"stream {number}: the reader on the lawful stream", whole, (damaged.samples, None))
+    for count in (None, some_count(damaged, chance)):
+        wanted = read_by_reader(stream, settings, count)
+        answers[(wanted[1] or "samples").split(" at ")[0]] += 1
+        try_decoding(program, tally, stream, settings, count, wanted)
+        if chance.random() < 0.1:
+            words, wanted = some_range(wanted, chance)
+            try_decoding(program, tally, stream, settings, count, wanted, words)
+    if tally.failed > before:
+        print(f"  that was --seed {seed} --only {number}: {damaged.kind}", flush=True)
+
+
+def try_part(program, numbers, seed):
+    """The streams of these numbers: the tally, and how often each answer was wanted."""
+    tally, answers = Tally(), Counter()
+    for number in numbers:
+        try_damaged(seed, number, program, tally, answers)
+    return tally, answers
+
+
+def try_all(path, seed, numbers, tally):
+    """The streams of these numbers, on all cores. No kind of answer may be missing where they are many."""
+    answers = Counter()
+    for its_tally, its_answers in on_each_core(try_part, path, numbers, seed):
+        tally.add(its_tally)
+        answers += its_answers
+    print("the damaged streams are read as: " + ", ".join(f"{text} {times}" for text, times in answers.most_common()))
+    if len(numbers) >= 1000:
+        tally.check("kinds of answers", len(answers), 5)
+
+
+def main():
+    words = argparse.ArgumentParser(description="Decodes damaged streams, and compares with a plain reader.")
+    words.add_argument("program")
+    words.add_argument("--seed", type=int, default=121)
+    words.add_argument("--streams", type=int, default=5000)
+    words.add_argument("--only", type=int)
+    asked = words.parse_args()
+    tally = Tally()
+    if asked.only is None:
+        with tempfile.TemporaryDirectory() as folder:
+            program = Program(asked.program, folder)
+            try_worked(program, tally)
+            try_examples(program, tally)
+    print(f"seed {asked.seed}, {asked.streams} streams", flush=True)
+    numbers = range(asked.streams) if asked.only is None else [asked.only]
+    try_all(asked.program, asked.seed, numbers, tally)
+    tally.print()
+    return 1 if tally.failed else 0
+
+
+if __name__ == "__main__":
+    sys.exit(main())

@@ -1,0 +1,237 @@
+#!/usr/bin/env python3
+"""Files and devices that fail: failing_files.py PATH_OF_AEC
+
+Runs the program at PATH_OF_AEC on files that can't be opened, read, created or written, and compares status, what is printed
+and DEST with docs/COMMAND.md: a full device, a pipe whose reader goes away, a limit of a file's size, files without permission
+(as another user where the test runs as root), folders in the place of files, folders that aren't there or go away, one file as
+SOURCE and DEST, and standard streams that can't be written. Where DEST may hold a front of the answer, it has to be one.
+
+Prints the checks that fail and, last, how many passed. Ends with 1 where one failed.
+"""
+
+import os
+import resource
+import shutil
+import signal
+import subprocess
+import sys
+import tempfile
+
+from jobs import CHANGED, CHANGED_STREAM, JOBS, LARGE_JOBS, STILL_STREAM
+from program import SECONDS, Program, Tally, said
+
+OLD = b"what DEST held before"
+NOBODY = 65534
+MOST_SECONDS = 300  # of the whole test, should a pipe wait for a program that doesn't open it
+DONE, UNREAD, UNWRITTEN = said(None), said("read failed"), said("write failed")
+
+
+def prepare(program, job, old=None):
+    """The files of a job."""
+    program.write("source", job.source)
+    program.write("script", job.script or b"# nothing\n")
+    program.write("dest", old)
+
+
+def end(run):
+    """The status of a run that was begun, and all that it prints."""
+    try:
+        printed = run.communicate(timeout=SECONDS)[0].decode()
+    except subprocess.TimeoutExpired:
+        run.kill()
+        return None, f"no answer in {SECONDS} seconds"
+    return run.returncode, printed
+
+
+def try_devices(program, tally):
+    """DEST is a full device, or one that takes everything; SOURCE is a device that can't be read from its start."""
+    for job in JOBS + LARGE_JOBS:
+        prepare(program, job)
+        tally.check(f"{job.what} to a full device", program.run(*job.words, "source", "/dev/full"), UNWRITTEN)
+        tally.check(f"{job.what} to /dev/null", program.run(*job.words, "source", "/dev/null"), DONE)
+        program.write("dest", OLD)
+        tally.check(f"{job.what} from /proc/self/mem", program.run(*job.words, "/proc/self/mem", "dest"), UNREAD)
+        tally.check(f"{job.what} from /proc/self/mem: DEST", program.read("dest"), OLD)
+    program.write("source", b"")
+    tally.check("no bytes to a full device", program.run("source", "/dev/full"), DONE)
+
+
+def try_pipes(program, tally):
+    """DEST is a pipe that holds less than the answer, and its reader goes away after some bytes."""
+    for job in LARGE_JOBS:
+        for taken in (0, 1, 1000):
+            prepare(program, job)
+            os.mkfifo(program.file("pipe"))
+            words = [program.path, *job.words, "source", "pipe"]
+            run = subprocess.Popen(words, cwd=program.folder, stdout=subprocess.PIPE, stderr=subprocess.STDOUT)
+            with open(program.file("pipe"), "rb", buffering=0) as pipe:
+                got = b""
+                while len(got) < taken:
+                    got += pipe.read(taken - len(got))
+            what = f"{job.what} to a pipe whose reader goes after {taken} bytes"
+            tally.check(what, end(run), UNWRITTEN)
+            tally.check(f"{what}: what was read", got, job.answer[:taken])
+            os.remove(program.file("pipe"))
+
+
+def limit_files(most):
+    """Lets no file of a process to come be longer. What is written past that fails, as it does where a disk is full."""
+
+    def limit():
+        signal.signal(signal.SIGXFSZ, signal.SIG_IGN)
+        resource.setrlimit(resource.RLIMIT_FSIZE, (most, most))
+
+    return limit
+
+
+def try_limits(program, tally):
+    """No file can be longer than so many bytes: where the answer is, DEST holds a front of it."""
+    for job in JOBS + LARGE_JOBS:
+        for most in (0, 1, 5, 5000):
+            prepare(program, job, OLD)
+            what = f"{job.what} to a file of at most {most} bytes"
+            fits = len(job.answer) <= most
+            answer = program.run(*job.words, "source", "dest", preexec_fn=limit_files(most))
+            tally.check(what, answer, DONE if fits else UNWRITTEN)
+            held = program.read("dest")
+            is_front = job.answer.startswith(held) and (held == job.answer or not fits)
+            tally.holds(is_front, f"{what}: DEST is no front of the answer: {held[:60]}")
+
+
+def unprivileged():
+    """What has a program run as a user who may not do everything; None where there is no such user."""
+    if os.geteuid() != 0:
+        return {}
+    user = {"user": NOBODY, "group": NOBODY, "extra_groups": []}
+    try:
+        subprocess.run(["true"], check=True, **user)
+    except (OSError, ValueError, subprocess.SubprocessError):
+        return None
+    return user
+
+
+def try_permissions(program, tally):
+    """Files that this user may not read or write. Root may all, so another user runs the program then."""
+    user = unprivileged()
+    if user is None:
+        print("skipped: files without permission, since root can't become another user here")
+        return
+    os.chmod(program.folder, 0o777)
+    for job in JOBS:
+        uses_script = "--edit" in job.words
+        for closed, answer in (("source", UNREAD), ("script", UNREAD if uses_script else DONE), ("dest", UNWRITTEN)):
+            prepare(program, job, OLD)
+            for name in ("source", "script", "dest"):
+                os.chmod(program.file(name), 0o000 if name == closed else 0o666)
+            what = f"{job.what}, {closed} without permission"
+            tally.check(what, program.run(*job.words, "source", "dest", **user), answer)
+            for name in ("source", "script", "dest"):
+                os.chmod(program.file(name), 0o666)
+            tally.check(f"{what}: DEST", program.read("dest"), job.answer if answer == DONE else OLD)
+        prepare(program, job)
+        os.makedirs(program.file("closed"), exist_ok=True)
+        os.chmod(program.file("closed"), 0o555)
+        tally.check(f"{job.what}, a closed folder", program.run(*job.words, "source", "closed/dest", **user), UNWRITTEN)
+        tally.check(f"{job.what}, a closed folder: its files", os.listdir(program.file("closed")), [])
+
+
+def try_folders(program, tally):
+    """Folders in the place of files, files in the place of folders, names that lead nowhere."""
+    os.mkdir(program.file("folder"))
+    os.symlink("nowhere", program.file("astray"))
+    os.symlink("round", program.file("round"))
+    nothing = ["folder", "nowhere", "nowhere/file", "source/file", "astray", "round", "", "x" * 300]
+    nowhere = ["folder", "folder/", "nowhere/file", "source/file", "round", "", "x" * 300]
+    for job in JOBS:
+        for name in nothing:
+            prepare(program, job, OLD)
+            tally.check(f"{job.what} from {name[:20]!r}", program.run(*job.words, name, "dest"), UNREAD)
+            tally.check(f"{job.what} from {name[:20]!r}: DEST", program.read("dest"), OLD)
+        for name in nowhere:
+            prepare(program, job)
+            names = sorted(os.listdir(program.folder))
+            tally.check(f"{job.what} to {name[:20]!r}", program.run(*job.words, "source", name), UNWRITTEN)
+            tally.check(f"{job.what} to {name[:20]!r}: files", sorted(os.listdir(program.folder)), names)
+    for name in nothing:
+        prepare(program, JOBS[0], OLD)
+        tally.check(f"a script {name[:20]!r}", program.run("--edit", name, "source", "dest"), UNREAD)
+        tally.check(f"a script {name[:20]!r}: DEST", program.read("dest"), OLD)
+    for name in ("astray", "round"):
+        os.remove(program.file(name))
+    os.rmdir(program.file("folder"))
+
+
+def try_going_folders(program, tally):
+    """The folder of DEST, or the one that the program runs in, goes away while SOURCE is read."""
+    for job in JOBS:
+        for gone, dest in (("gone", "gone/dest"), ("here", "dest")):
+            prepare(program, job)
+            os.mkdir(program.file(gone))
+            os.mkfifo(program.file("pipe"))
+            words = [program.file(word) if word == "script" else word for word in job.words]
+            words = [program.path, *words, program.file("pipe"), dest]
+            folder = program.file(gone) if gone == "here" else program.folder
+            run = subprocess.Popen(words, cwd=folder, stdout=subprocess.PIPE, stderr=subprocess.STDOUT)
+            with open(program.file("pipe"), "wb") as pipe:
+                os.rmdir(program.file(gone))
+                pipe.write(job.source)
+            tally.check(f"{job.what}, the folder {gone!r} goes away", end(run), UNWRITTEN)
+            tally.check(f"{job.what}, the folder {gone!r} goes away: it", os.path.exists(program.file(gone)), False)
+            os.remove(program.file("pipe"))
+
+
+def try_one_file(program, tally):
+    """One file as SOURCE and DEST, by one name and by two."""
+    os.symlink("source", program.file("other"))
+    for job in JOBS + LARGE_JOBS:
+        for dest in ("source", "./source", "other"):
+            prepare(program, job)
+            tally.check(f"{job.what} from source to {dest}", program.run(*job.words, "source", dest), DONE)
+            tally.check(f"{job.what} from source to {dest}: DEST", program.read("source"), job.answer)
+    os.remove(program.file("other"))
+    os.link(program.file("source"), program.file("other"))
+    program.write("source", CHANGED)
+    tally.check("coding from source to a second name of it", program.run("source", "other"), DONE)
+    tally.check("coding from source to a second name of it: DEST", program.read("other"), CHANGED_STREAM)
+    os.remove(program.file("other"))
+    cut = STILL_STREAM[:2]
+    program.write("source", cut)
+    refused = program.run("-d", "--count", "48", "source", "source")
+    tally.check("a refused stream as SOURCE and DEST", refused, said("coded data is cut short at bit 14"))
+    tally.check("a refused stream as SOURCE and DEST: it", program.read("source"), cut)
+
+
+def try_standard_streams(program, tally):
+    """Standard output and standard error that can't be written don't change the status."""
+    program.write("source", CHANGED)
+    runs = [(["--help"], 0), (["--version"], 0), (["-x"], 2), (["-n", "40", "source", "dest"], 2), (["nowhere", "dest"], 1)]
+    runs.append((["source", "dest"], 0))
+    for words, status in runs:
+        for device in ("/dev/full", "/dev/null"):
+            program.write("dest", None)
+            with open(device, "wb") as full:
+                ended = subprocess.run([program.path, *words], cwd=program.folder, stdout=full, stderr=full, timeout=SECONDS)
+            what = f"{' '.join(words)} with {device} as standard streams"
+            tally.check(what, ended.returncode, status)
+            tally.check(f"{what}: DEST", program.read("dest"), CHANGED_STREAM if words == ["source", "dest"] else None)
+
+
+def main():
+    signal.alarm(MOST_SECONDS)
+    tally = Tally()
+    with tempfile.TemporaryDirectory() as folder:
+        own = os.path.join(folder, "aec")  # where another user may run it
+        shutil.copy(sys.argv[1], own)
+        os.chmod(own, 0o755)
+        os.chmod(folder, 0o755)
+        os.mkdir(os.path.join(folder, "files"))
+        program = Program(own, os.path.join(folder, "files"))
+        groups = [try_devices, try_pipes, try_limits, try_permissions, try_folders, try_going_folders, try_one_file]
+        for group in [*groups, try_standard_streams]:
+            group(program, tally)
+    tally.print()
+    return 1 if tally.failed else 0
+
+
+if __name__ == "__main__":
+    sys.exit(main())

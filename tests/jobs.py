@@ -1,0 +1,47 @@
+"""Whole runs with answers that are known: each thing that the program does, on small and on large data."""
+
+from typing import NamedTuple
+
+from spelling import bytes_of_bits
+
+
+class Job(NamedTuple):
+    """What a run does: its words before SOURCE and DEST, the bytes of SOURCE, and those that DEST gets."""
+
+    what: str
+    words: list
+    source: bytes
+    answer: bytes
+    script: bytes = b""
+
+
+# 48 samples, all zero, and with a 1 at place 20; and their streams.
+STILL, CHANGED = bytes(48), bytes(20) + b"\1" + bytes(27)
+STILL_STREAM, CHANGED_STREAM = bytes.fromhex("00 04 00 10 00 40"), bytes.fromhex("00 04 40 30 C2 00 08")
+SCRIPT = b"truncate 32\noverwrite 20 1\n# sixteen zeros more\nappend 0 0 0 0 0 0 0 0 0 0 0 0 0 0 0 0\n"
+EDIT_LINES = [1, 2, 4]
+
+JOBS = [
+    Job("coding", [], CHANGED, CHANGED_STREAM),
+    Job("decoding with a count", ["-d", "--count", "48"], CHANGED_STREAM, CHANGED),
+    Job("decoding without a count", ["-d"], CHANGED_STREAM, CHANGED),
+    Job("a range", ["--range", "19:3", "--count", "48"], CHANGED_STREAM, b"\0\1\0"),
+    Job("an edit", ["--edit", "script", "--count", "48"], STILL_STREAM, CHANGED_STREAM, SCRIPT),
+]
+
+# One interval of zeros, as long as can be: 64 segments of 64 blocks of 64 samples. Each segment is a run to its end, the
+# identifier and the number 4, and the first has the reference sample.
+LONGEST = ["-j", "64", "-r", "4096"]
+ZEROS, ZEROS_STREAM = bytes(64 * 64 * 64), bytes_of_bits("0000" + "0" * 8 + "00001" + "000000001" * 63)
+
+# Bytes whose blocks no other option writes in fewer bits than no compression: three ones and the bytes as they are.
+NOISE = bytes(255 - 101 * i % 256 for i in range(100_000))
+NOISE_STREAM = bytes_of_bits("".join("111" + "".join(f"{x:08b}" for x in NOISE[i : i + 8]) for i in range(0, len(NOISE), 8)))
+
+# Answers that no pipe holds at once.
+LARGE_JOBS = [
+    Job("coding of noise", ["-N"], NOISE, NOISE_STREAM),
+    Job("decoding of many zeros", ["-d", *LONGEST], ZEROS_STREAM, ZEROS),
+    Job("a range of many zeros", ["--range", "7:200000", *LONGEST], ZEROS_STREAM, bytes(200_000)),
+    Job("an edit of noise", ["-N", "--edit", "script"], NOISE_STREAM, NOISE_STREAM, b"overwrite 1 154\n"),
+]

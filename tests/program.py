@@ -1,0 +1,100 @@
+"""A program under test, the files that it works on, and the count of what was checked."""
+
+import os
+import subprocess
+import tempfile
+from concurrent.futures import ProcessPoolExecutor
+
+SECONDS = 20
+
+
+class Program:
+    """A program, and the files of the folder that it runs in."""
+
+    def __init__(self, path, folder):
+        self.path, self.folder = os.path.abspath(path), folder
+
+    def file(self, name):
+        return os.path.join(self.folder, name)
+
+    def write(self, name, data):
+        """Puts a file there, or sees that there is none."""
+        if data is not None:
+            with open(self.file(name), "wb") as file:
+                file.write(data)
+        elif os.path.exists(self.file(name)):
+            os.remove(self.file(name))
+
+    def read(self, name):
+        """What a file holds, None where there is none."""
+        if not os.path.exists(self.file(name)):
+            return None
+        with open(self.file(name), "rb") as file:
+            return file.read()
+
+    def run(self, *words, **more):
+        """The status, and all that is printed. What is given by name goes to `subprocess.run`."""
+        try:
+            ended = subprocess.run([self.path, *words], cwd=self.folder, capture_output=True, timeout=SECONDS, **more)
+            return ended.returncode, (ended.stdout + ended.stderr).decode(errors="replace")
+        except subprocess.TimeoutExpired:
+            return None, f"no answer in {SECONDS} seconds"
+
+    def answer(self, words, given):
+        """What a run on these bytes writes, None where it writes nothing or doesn't end. What it prints is kept in `said`."""
+        self.write("source", given)
+        self.write("dest", None)
+        status, self.said = self.run(*words, "source", "dest")
+        return None if status is None else self.read("dest")
+
+
+def on_one_core(work, path, numbers, *more):
+    with tempfile.TemporaryDirectory() as folder:
+        return work(Program(path, folder), numbers, *more)
+
+
+def on_each_core(work, path, numbers, *more):
+    """Does `work(program, numbers, *more)` on all cores at once, each with a part of the numbers and a folder of its own.
+    What these answer, one after another."""
+    cores = os.cpu_count() or 1
+    with ProcessPoolExecutor(cores) as pool:
+        parts = [pool.submit(on_one_core, work, path, numbers[i::cores], *more) for i in range(cores)]
+        return [part.result() for part in parts]
+
+
+class Tally:
+    """Counts checks, and prints those that fail."""
+
+    def __init__(self):
+        self.passed, self.failed = 0, 0
+
+    def holds(self, is_so, failure):
+        """One check, and what to print where it fails."""
+        if is_so:
+            self.passed += 1
+        else:
+            self.failed += 1
+            print(f"FAILED: {failure}", flush=True)
+
+    def check(self, what, got, wanted):
+        """One check of what came out."""
+        self.holds(got == wanted, f"{what}: {short(got)} in place of {short(wanted)}")
+
+    def add(self, other):
+        """Counts what another one counted."""
+        self.passed, self.failed = self.passed + other.passed, self.failed + other.failed
+
+    def print(self, skipped=0, reason=""):
+        more = f", {skipped} skipped ({reason})" if skipped else ""
+        print(f"{self.passed} passed, {self.failed} failed{more}")
+
+
+def short(it):
+    """A text for what was found or wanted, cut where it is long."""
+    text = it.hex(" ") if isinstance(it, bytes) else repr(it)
+    return text if len(text) <= 200 else f"{text[:200]}.. ({len(text)} characters)"
+
+
+def said(message):
+    """What a run is to answer: status and print of a refusal, or of none."""
+    return (0, "") if message is None else (1, f"aec: {message}\n")

@@ -1,0 +1,215 @@
+#!/usr/bin/env python3
+"""Refused memory: refused_memory.py PATH_OF_AEC
+
+Runs the program at PATH_OF_AEC with a small library loaded before the C library, which refuses growths (calls of malloc, calloc
+and realloc): the k-th and all after it, and the k-th alone, for each k until a run meets no refusal. Each refused run has to
+end with status 1, with the one line for want of memory on standard error, and has to leave DEST as it was, or absent. The
+run that meets no refusal has to give the right bytes. Where the k-th alone is refused, a run may also go on without that
+growth, and then has to give the right bytes too.
+
+Beside that a short stream of very many samples is decoded, cut to a range and edited with little memory, without the library.
+
+The library is built by `cc`; without that command its runs are skipped. Prints a table, the checks that fail and, last, how
+many passed. Ends with 1 where one failed.
+"""
+
+import os
+import resource
+import shutil
+import struct
+import subprocess
+import sys
+import tempfile
+from concurrent.futures import ProcessPoolExecutor
+from functools import partial
+from typing import NamedTuple, Optional
+
+from jobs import CHANGED_STREAM, EDIT_LINES, JOBS, LARGE_JOBS, LONGEST, ZEROS, ZEROS_STREAM, Job
+from program import Program, Tally
+
+OLD = b"what DEST held before"
+MOST_GROWTHS = 2000
+LITTLE = 2**28
+WANT = "aec: out of memory\n"
+WANT_OF_AN_EDIT = [f"aec: line {line}: out of memory\n" for line in EDIT_LINES]
+
+LIBRARY = """
+#include <fcntl.h>
+#include <stdlib.h>
+#include <sys/mman.h>
+#include <unistd.h>
+
+extern void *__libc_malloc(size_t), *__libc_calloc(size_t, size_t), *__libc_realloc(void *, size_t);
+
+/* In the file that GROWTHS names: how many growths there were, and how many were refused; the first and the last to refuse. */
+static long *counts;
+
+__attribute__((constructor)) static void begin(void) {
+    const char *name = getenv("GROWTHS");
+    int file = name ? open(name, O_RDWR) : -1;
+    void *place = file < 0 ? MAP_FAILED : mmap(0, 4 * sizeof(long), PROT_READ | PROT_WRITE, MAP_SHARED, file, 0);
+    if (file >= 0) close(file);
+    if (place != MAP_FAILED) counts = place;
+}
+
+static int is_refused(void) {
+    if (!counts || ++counts[0] < counts[2] || counts[0] > counts[3]) return 0;
+    counts[1]++;
+    return 1;
+}
+
+void *malloc(size_t size) { return is_refused() ? 0 : __libc_malloc(size); }
+void *calloc(size_t number, size_t size) { return is_refused() ? 0 : __libc_calloc(number, size); }
+void *realloc(void *old, size_t size) { return is_refused() ? 0 : __libc_realloc(old, size); }
+"""
+
+
+class Run(NamedTuple):
+    """A run, and what it has to answer where no growth is refused: status, print (None: not judged here) and DEST."""
+
+    what: str
+    words: list
+    source: bytes
+    script: bytes
+    status: int
+    printed: Optional[str]
+    dest: Optional[bytes]
+
+
+def succeeding(job):
+    return Run(job.what, [*job.words, "source", "dest"], job.source, job.script, 0, "", job.answer)
+
+
+RUNS = [
+    *map(succeeding, JOBS),
+    succeeding(Job("coding of many zeros", LONGEST, ZEROS, ZEROS_STREAM)),
+    *map(succeeding, LARGE_JOBS[1:]),
+    Run("help", ["--help"], b"", b"", 0, None, None),
+    Run("a fault of the words", ["-x", "source", "dest"], b"", b"", 2, None, None),
+    Run("a wrong range", ["--range", "3", "source", "dest"], b"", b"", 2, "aec: --range needs FIRST:LEN\n", None),
+    Run("no SOURCE", ["nowhere", "dest"], b"", b"", 1, "aec: read failed\n", None),
+    Run("no folder of DEST", ["source", "nowhere/dest"], b"", b"", 1, "aec: write failed\n", None),
+]
+
+
+class Refusing:
+    """The program with the library that refuses growths, on the files of a run."""
+
+    def __init__(self, path, library, folder, run):
+        self.program, self.run = Program(path, folder), run
+        self.counts = self.program.file("growths")
+        self.environment = {**os.environ, "LD_PRELOAD": library, "GROWTHS": self.counts}
+        self.program.write("source", run.source)
+        self.program.write("script", run.script)
+
+    def answer(self, old, first, last):
+        """What a run answers of whose growths the first to the last are refused, and the numbers of growths and refusals. DEST
+        holds the old bytes before it, or isn't there."""
+        self.program.write("dest", old)
+        self.program.write("growths", struct.pack("4l", 0, 0, first, last))
+        answer = (*self.program.run(*self.run.words, env=self.environment), self.program.read("dest"))
+        return (answer, *struct.unpack("4l", self.program.read("growths"))[:2])
+
+    def is_complete(self, answer, old):
+        """Whether that is what a run with ample memory answers."""
+        status, printed, dest = answer
+        wanted = old if self.run.dest is None else self.run.dest
+        return status == self.run.status and dest == wanted and self.run.printed in (None, printed)
+
+    def is_want_of_memory(self, answer, old):
+        wants = [WANT, *(WANT_OF_AN_EDIT if "--edit" in self.run.words else [])]
+        return answer[0] == 1 and answer[1] in wants and answer[2] == old
+
+
+class Row(NamedTuple):
+    """What is seen of a run whose growths are refused in turn."""
+
+    growths: int
+    runs: int
+    spared: set  # the growths without which a run goes on where they alone are refused
+    tally: Tally
+
+
+def refuse_in_turn(refusing, alone, old, tally):
+    """A run with each growth refused in turn: how many runs that took, and the growths without which it went on."""
+    what, spared = refusing.run.what, set()
+    for first in range(1, MOST_GROWTHS):
+        answer, _, refused = refusing.answer(old, first, first if alone else 2**62)
+        way = f"{what}: growth {first} {'alone' if alone else 'and all after it'}: {answer}"
+        complete = refusing.is_complete(answer, old)
+        if refused == 0:
+            tally.holds(complete, f"{way}, with none refused")
+            return first, spared
+        if alone and complete:
+            spared.add(first)
+        tally.holds(refusing.is_want_of_memory(answer, old) or alone and complete, way)
+    tally.holds(False, f"{what}: more than {MOST_GROWTHS} growths")
+    return MOST_GROWTHS, spared
+
+
+def try_run(path, library, run):
+    """A run with each growth refused in turn, in both ways, with a DEST before it and without."""
+    with tempfile.TemporaryDirectory() as folder:
+        refusing, tally = Refusing(path, library, folder, run), Tally()
+        answer, growths, _ = refusing.answer(None, 0, -1)
+        tally.holds(refusing.is_complete(answer, None), f"{run.what}, with ample memory: {answer}")
+        tally.holds(growths > 0, f"{run.what}: no growth is counted, so the library sees none")
+        runs, spared = 1, set()
+        for alone in (False, True):
+            for old in (None, OLD):
+                more, without = refuse_in_turn(refusing, alone, old, tally)
+                runs, spared = runs + more, spared | without
+        return Row(growths, runs, spared, tally)
+
+
+def build(folder):
+    """Builds the library, and gives its name."""
+    source, library = os.path.join(folder, "refusing.c"), os.path.join(folder, "refusing.so")
+    with open(source, "w", encoding="utf-8") as file:
+        file.write(LIBRARY)
+    subprocess.run(["cc", "-O1", "-shared", "-fPIC", "-o", library, source], check=True)
+    return library
+
+
+def refuse_all_in_turn(path, tally):
+    """All runs with each growth refused in turn, as a table."""
+    print("| Run | Growths | Runs | Growths that it goes on without |\n|---|---|---|---|")
+    with tempfile.TemporaryDirectory() as folder, ProcessPoolExecutor() as pool:
+        rows = pool.map(partial(try_run, path, build(folder)), RUNS)
+        for run, row in zip(RUNS, rows):
+            tally.add(row.tally)
+            spared = ", ".join(map(str, sorted(row.spared))) or "none"
+            print(f"| {run.what} | {row.growths:,} | {row.runs:,} | {spared} |", flush=True)
+
+
+def try_little_memory(path, tally):
+    """Runs on a stream of some 18,000 bytes that stands for 67 million samples, with little memory."""
+
+    def limit():
+        resource.setrlimit(resource.RLIMIT_AS, (LITTLE, LITTLE))
+
+    with tempfile.TemporaryDirectory() as folder:
+        program = Program(path, folder)
+        program.write("source", ZEROS_STREAM * 256)  # whole bytes, so that the next interval begins with a byte
+        program.write("script", b"append 1")
+        for words in (["-d"], ["-d", "--count", "67108864"], ["--range", "5:1"], ["--edit", "script"]):
+            for old in (None, OLD):
+                program.write("dest", old)
+                what = f"{' '.join(words)} with {LITTLE >> 20} MB"
+                tally.check(what, program.run(*words, *LONGEST, "source", "dest", preexec_fn=limit), (1, WANT))
+                tally.check(f"{what}: DEST", program.read("dest"), old)
+
+
+def main():
+    path, tally = os.path.abspath(sys.argv[1]), Tally()
+    try_little_memory(path, tally)
+    if shutil.which("cc") is None:
+        tally.print(len(RUNS), "no C compiler: no command 'cc'")
+    else:
+        refuse_all_in_turn(path, tally)
+        tally.print()
+    return 1 if tally.failed else 0
+
+
+if __name__ == "__main__":
+    sys.exit(main())

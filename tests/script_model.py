@@ -1,0 +1,105 @@
+"""The model of edits by scripts: reads a script by the rules of docs/COMMAND.md and makes its edits on a list."""
+
+import re
+from typing import NamedTuple
+
+
+class Refused(Exception):
+    """Why nothing is written, as the program prints it after `aec: `."""
+
+
+class Edit(NamedTuple):
+    line: int
+    name: bytes
+    place: int  # FIRST of an overwrite, COUNT of a truncate
+    values: list
+
+
+def whole_number(word):
+    """What FIRST and COUNT may be; None for anything else."""
+    if re.fullmatch(rb"[0-9]+", word) and int(word) < 2**64:
+        return int(word)
+    return None
+
+
+def value(word):
+    """What V may be; None for anything else."""
+    if re.fullmatch(rb"-?[0-9]+", word) and -(2**63) <= int(word) < 2**63:
+        return int(word)
+    return None
+
+
+def edit_of(number, words):
+    """The edit that the words of a line say; None where they say none."""
+    name, rest = words[0], words[1:]
+    place = 0
+    if name in (b"overwrite", b"truncate"):
+        if not rest:
+            return None
+        place, rest = whole_number(rest[0]), rest[1:]
+    elif name != b"append":
+        return None
+    if name == b"truncate" and rest:
+        return None
+    values = [value(word) for word in rest]
+    return None if place is None or None in values else Edit(number, name, place, values)
+
+
+def edits_of(script):
+    """The edits of a script. The first line that is none refuses it."""
+    edits = []
+    for number, line in enumerate(script.split(b"\n"), 1):
+        if line.endswith(b"\r"):
+            line = line[:-1]
+        words = [word for word in re.split(rb"[ \t]", line) if word]
+        if not words or words[0].startswith(b"#"):
+            continue
+        edit = edit_of(number, words)
+        if edit is None:
+            raise Refused(f"script line {number} is not an edit")
+        edits.append(edit)
+    return edits
+
+
+def edited(settings, samples, edits):
+    """The samples that the edits leave. The first edit that doesn't fit refuses all."""
+    for edit in edits:
+        reach = edit.place + len(edit.values)
+        if edit.name != b"append" and reach > len(samples):
+            raise Refused(f"line {edit.line}: position outside the {len(samples)} samples")
+        for i, x in enumerate(edit.values):
+            if not settings.holds(x):
+                raise Refused(f"line {edit.line}: sample {i} is out of range")
+        if edit.name == b"overwrite":
+            samples = samples[: edit.place] + edit.values + samples[reach:]
+        elif edit.name == b"append":
+            samples = samples + edit.values
+        else:
+            samples = samples[: edit.place]
+    return samples
+
+
+def is_zero_block(settings, samples, first):
+    """Whether all values of the block from that place on are coded as 0."""
+    block = samples[first : first + settings.block_size]
+    if not settings.preprocess:
+        return not any(block)
+    before = block[0] if first % settings.interval_len() == 0 else samples[first - 1]
+    return all(x == before for x in block)
+
+
+def decoded_without_count(settings, samples):
+    """What the stream of samples is read as without their count: the filler comes too, and where five or more blocks of
+    zeros end the stream, all blocks that are left of their segment."""
+    if not samples:
+        return []
+    size = settings.block_size
+    samples = samples + [samples[-1]] * (-len(samples) % size)
+    blocks = len(samples) // size
+    begin = (blocks - 1) // settings.interval * settings.interval
+    begin += (blocks - 1 - begin) // 64 * 64
+    end = min(begin + 64, (begin // settings.interval + 1) * settings.interval)
+    run = 0
+    while blocks - run > begin and is_zero_block(settings, samples, (blocks - run - 1) * size):
+        run += 1
+    return samples + [samples[-1]] * ((end - blocks) * size) if run >= 5 else samples

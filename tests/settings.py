@@ -1,0 +1,62 @@
+"""How samples are coded and stored: what the tests of the built program give it as options."""
+
+import struct
+from typing import NamedTuple
+
+
+class Settings(NamedTuple):
+    """How samples are coded and stored. What isn't given is as the program has it where no option is given."""
+
+    bits: int = 8
+    block_size: int = 8
+    interval: int = 2
+    signed: bool = False
+    preprocess: bool = True
+    msb_first: bool = False
+    three_byte: bool = False
+    pad: bool = False
+    restricted: bool = False
+
+    def options(self):
+        """The words that a program takes for them."""
+        flags = {
+            "-s": self.signed,
+            "-N": not self.preprocess,
+            "-m": self.msb_first,
+            "-3": self.three_byte,
+            "-p": self.pad,
+            "-t": self.restricted,
+        }
+        numbers = ["-n", str(self.bits), "-j", str(self.block_size), "-r", str(self.interval)]
+        return numbers + [letter for letter, is_set in flags.items() if is_set]
+
+    def least(self):
+        return -(1 << (self.bits - 1)) if self.signed else 0
+
+    def most(self):
+        return (1 << (self.bits - 1)) - 1 if self.signed else (1 << self.bits) - 1
+
+    def holds(self, x):
+        return self.least() <= x <= self.most()
+
+    def interval_len(self):
+        return self.block_size * self.interval
+
+    def storage(self):
+        """The bytes of a stored sample."""
+        if self.bits <= 8:
+            return 1
+        if self.bits <= 16:
+            return 2
+        return 3 if self.three_byte and self.bits <= 24 else 4
+
+    def stored(self, samples, used_bits=None):
+        """The bytes of a file of these samples: all bits of the stored numbers, copies of the sign too, or so many of the
+        lowest bits and zeros above them."""
+        size = self.storage()
+        mask = (1 << (8 * size if used_bits is None else used_bits)) - 1
+        words = struct.pack(f">{len(samples)}I", *(x & mask for x in samples))
+        out = bytearray(size * len(samples))
+        for place in range(size):
+            out[place::size] = words[4 - size + place if self.msb_first else 3 - place :: 4]
+        return bytes(out)
