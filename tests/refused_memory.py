@@ -15,9 +15,6 @@ many passed. Ends with 1 where one failed.
 
 import os
 import resource
-import shutil
-import struct
-import subprocess
 import sys
 import tempfile
 from concurrent.futures import ProcessPoolExecutor
@@ -26,43 +23,12 @@ from typing import NamedTuple, Optional
 
 from jobs import CHANGED_STREAM, EDIT_LINES, JOBS, LARGE_JOBS, LONGEST, ZEROS, ZEROS_STREAM, Job
 from program import Program, Tally
+from refusing import MOST_GROWTHS, NO_COMPILER, Growths, build, has_compiler, ways
 
 OLD = b"what DEST held before"
-MOST_GROWTHS = 2000
 LITTLE = 2**28
 WANT = "aec: out of memory\n"
 WANT_OF_AN_EDIT = [f"aec: line {line}: out of memory\n" for line in EDIT_LINES]
-
-LIBRARY = """
-#include <fcntl.h>
-#include <stdlib.h>
-#include <sys/mman.h>
-#include <unistd.h>
-
-extern void *__libc_malloc(size_t), *__libc_calloc(size_t, size_t), *__libc_realloc(void *, size_t);
-
-/* In the file that GROWTHS names: how many growths there were, and how many were refused; the first and the last to refuse. */
-static long *counts;
-
-__attribute__((constructor)) static void begin(void) {
-    const char *name = getenv("GROWTHS");
-    int file = name ? open(name, O_RDWR) : -1;
-    void *place = file < 0 ? MAP_FAILED : mmap(0, 4 * sizeof(long), PROT_READ | PROT_WRITE, MAP_SHARED, file, 0);
-    if (file >= 0) close(file);
-    if (place != MAP_FAILED) counts = place;
-}
-
-static int is_refused(void) {
-    if (!counts || ++counts[0] < counts[2] || counts[0] > counts[3]) return 0;
-    counts[1]++;
-    return 1;
-}
-
-void *malloc(size_t size) { return is_refused() ? 0 : __libc_malloc(size); }
-void *calloc(size_t number, size_t size) { return is_refused() ? 0 : __libc_calloc(number, size); }
-void *realloc(void *old, size_t size) { return is_refused() ? 0 : __libc_realloc(old, size); }
-"""
-
 
 class Run(NamedTuple):
     """A run, and what it has to answer where no growth is refused: status, print (None: not judged here) and DEST."""
@@ -97,8 +63,7 @@ class Refusing:
 
     def __init__(self, path, library, folder, run):
         self.program, self.run = Program(path, folder), run
-        self.counts = self.program.file("growths")
-        self.environment = {**os.environ, "LD_PRELOAD": library, "GROWTHS": self.counts}
+        self.growths = Growths(self.program, library)
         self.program.write("source", run.source)
         self.program.write("script", run.script)
 
@@ -106,9 +71,8 @@ class Refusing:
         """What a run answers of whose growths the first to the last are refused, and the numbers of growths and refusals. DEST
         holds the old bytes before it, or isn't there."""
         self.program.write("dest", old)
-        self.program.write("growths", struct.pack("4l", 0, 0, first, last))
-        answer = (*self.program.run(*self.run.words, env=self.environment), self.program.read("dest"))
-        return (answer, *struct.unpack("4l", self.program.read("growths"))[:2])
+        answer, growths, refused = self.growths.refuse(first, last, self.program.run, *self.run.words)
+        return (*answer, self.program.read("dest")), growths, refused
 
     def is_complete(self, answer, old):
         """Whether that is what a run with ample memory answers."""
@@ -133,8 +97,8 @@ class Row(NamedTuple):
 def refuse_in_turn(refusing, alone, old, tally):
     """A run with each growth refused in turn: how many runs that took, and the growths without which it went on."""
     what, spared = refusing.run.what, set()
-    for first in range(1, MOST_GROWTHS):
-        answer, _, refused = refusing.answer(old, first, first if alone else 2**62)
+    for first, last in ways(alone):
+        answer, _, refused = refusing.answer(old, first, last)
         way = f"{what}: growth {first} {'alone' if alone else 'and all after it'}: {answer}"
         complete = refusing.is_complete(answer, old)
         if refused == 0:
@@ -160,15 +124,6 @@ def try_run(path, library, run):
                 more, without = refuse_in_turn(refusing, alone, old, tally)
                 runs, spared = runs + more, spared | without
         return Row(growths, runs, spared, tally)
-
-
-def build(folder):
-    """Builds the library, and gives its name."""
-    source, library = os.path.join(folder, "refusing.c"), os.path.join(folder, "refusing.so")
-    with open(source, "w", encoding="utf-8") as file:
-        file.write(LIBRARY)
-    subprocess.run(["cc", "-O1", "-shared", "-fPIC", "-o", library, source], check=True)
-    return library
 
 
 def refuse_all_in_turn(path, tally):
@@ -203,8 +158,8 @@ def try_little_memory(path, tally):
 def main():
     path, tally = os.path.abspath(sys.argv[1]), Tally()
     try_little_memory(path, tally)
-    if shutil.which("cc") is None:
-        tally.print(len(RUNS), "no C compiler: no command 'cc'")
+    if not has_compiler():
+        tally.print(len(RUNS), NO_COMPILER)
     else:
         refuse_all_in_turn(path, tally)
         tally.print()

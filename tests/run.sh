@@ -1,8 +1,8 @@
 #!/bin/sh
-# Every test: the gate, and then with the program that it has built coded samples, coded data that is cut, damaged streams,
-# refused memory, files that fail, the round trips with the client of libaec, and edits by generated scripts. Fails if one
-# fails. The last line counts what passed and failed: the gate's where all have passed, else that of the first part that
-# failed. Run from the top of the repository by `make test`.
+# Every test: the gate, and then with the programs that it has built coded samples, coded data that is cut, damaged streams,
+# refused memory in whole runs and in calls of the libraries, files that fail, the round trips with the client of libaec, and
+# edits by generated scripts. Fails if one fails. The last line counts what passed and failed: the gate's where all have passed,
+# else that of the first part that failed. Run from the top of the repository by `make test`.
 export PYTHONDONTWRITEBYTECODE=1
 kept=$(mktemp -d)
 trap 'rm -rf "$kept"' EXIT
@@ -18,13 +18,13 @@ has_passed() {
     [ "$(cat "$kept/$1.status")" = 0 ]
 }
 
-# Runs a test on the program that the gate has built.
+# Runs a test on a program that the gate has built: `aec`, or the one that is named.
 on_program() {
-    program=crates/aec/out/aec
+    program=crates/${2:-aec}/out/${2:-aec}
     if [ -x "$program" ]; then
         python3 "$1" "$program"
     else
-        echo "the gate has built no program"
+        echo "the gate has built no program $program"
         echo "0 passed, 1 failed"
         return 1
     fi
@@ -39,6 +39,8 @@ echo "== damaged streams"
 part damaged on_program tests/damaged.py
 echo "== refused memory"
 part memory on_program tests/refused_memory.py
+echo "== refused memory in calls of the libraries"
+part calls on_program tests/refused_calls.py aec_calls
 echo "== files that fail"
 part files on_program tests/failing_files.py
 echo "== round trips with libaec's client"
@@ -47,7 +49,7 @@ echo "== edits by generated scripts"
 part scripts on_program tests/scripts.py
 
 last=gate
-for name in gate coded cuts damaged memory files trips scripts; do
+for name in gate coded cuts damaged memory calls files trips scripts; do
     if ! has_passed "$name"; then
         last=$name
         break

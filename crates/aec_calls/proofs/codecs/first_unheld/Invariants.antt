@@ -1,0 +1,9 @@
+use Rattle.std.proofs.Common.{◌≡◌, drop}
+use Rattle.aec_bits.specs.Refusals.{first_unheld}
+use Rattle.aec_calls.proofs.codecs.first_unheld.Given as goal
+
+-- every number so far is a sample, so the first that is none is among those that are left
+abbrev pub invariant-loop-index : goal.invariant-loop-index
+invariant-loop-index g l =
+    let holds = (g.C.Codec.format l.codec).holds in
+    first_unheld holds l.index (drop l.index l.samples) ≡ first_unheld holds 0 l.samples

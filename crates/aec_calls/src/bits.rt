@@ -1,0 +1,113 @@
+//! Lists of bits, and stored samples.
+
+use crate::trial::{Trial, print_bits, print_samples, try_calls};
+use aec_bits::BitBuf;
+use aec_params::{Fault, Params, Settings, read_samples};
+use std::alloc::Global;
+
+// A list of bits, and the bits 11 and 0110 that it is given.
+#[derive(Drop)]
+struct Bits {
+    list: BitBuf,
+    ones: BitBuf,
+    middle: BitBuf,
+    alloc: Global,
+}
+
+impl Bits {
+    fn new(alloc: Global) -> Result<Bits, Fault> {
+        let mut ones = BitBuf::new(alloc);
+        ones.push_bits(3, 2)?;
+        let mut middle = BitBuf::new(alloc);
+        middle.push_bits(6, 4)?;
+        Ok(Bits {
+            list: BitBuf::new(alloc),
+            ones,
+            middle,
+            alloc,
+        })
+    }
+
+    // Puts the bits 0110 in the place of the third to the seventh bit, as far as there are so many.
+    fn splice(&mut self) -> Result<(), Fault> {
+        let stop = self.list.len().min(7);
+        self.list.splice(stop.min(2), stop, &self.middle)
+    }
+
+    // Fills up the first five bits.
+    fn fill_up(&mut self) -> Result<(), Fault> {
+        let len = self.list.len().min(5);
+        self.list.truncate(len);
+        self.list.pad_to_byte()
+    }
+
+    fn read_back(&mut self) -> Result<(), Fault> {
+        self.list = BitBuf::from_bytes(self.alloc, &[0x98])?;
+        Ok(())
+    }
+}
+
+impl Trial for Bits {
+    fn call(&mut self, number: usize) -> Result<(), Fault> {
+        match number {
+            0 => self.list.reserve(100),
+            1 => self.list.push_bits(5, 3),
+            2 => self.list.push_fs(4),
+            3 => self.list.append(&self.ones),
+            4 => self.splice(),
+            5 => self.fill_up(),
+            _ => self.read_back(),
+        }
+    }
+
+    fn show<R: Print>(&self, rt: &R) {
+        print_bits(rt, &self.list);
+    }
+}
+
+const WITH_ROOM: [(usize, &str); 7] = [
+    (0, "BitBuf::reserve"),
+    (1, "BitBuf::push_bits"),
+    (2, "BitBuf::push_fs"),
+    (3, "BitBuf::append"),
+    (4, "BitBuf::splice"),
+    (5, "BitBuf::pad_to_byte"),
+    (6, "BitBuf::from_bytes"),
+];
+
+// Signed samples of five bits.
+#[derive(Drop)]
+struct Stored {
+    samples: Vec<i64>,
+    alloc: Global,
+}
+
+impl Trial for Stored {
+    fn call(&mut self, _number: usize) -> Result<(), Fault> {
+        let params = Params::new(Settings {
+            bits: 5,
+            signed: true,
+            ..Settings::USUAL
+        })?;
+        self.samples = read_samples(self.alloc, &params, &[0x1F, 0xFF, 0xF0, 0x0F])?;
+        Ok(())
+    }
+
+    fn show<R: Print>(&self, rt: &R) {
+        print_samples(rt, &self.samples);
+    }
+}
+
+/// Lists of bits with room that was reserved and with none, and samples from bytes.
+pub fn try_bits<R: Print + Eprint>(rt: &R, alloc: Global) -> Result<(), Fault> {
+    try_calls(rt, &WITH_ROOM, &mut Bits::new(alloc)?);
+    for call in &WITH_ROOM[1..5] {
+        try_calls(rt, &[*call], &mut Bits::new(alloc)?);
+    }
+    let mut stored = Stored {
+        samples: Vec::new(alloc),
+        alloc,
+    };
+    try_calls(rt, &[(0, "read_samples")], &mut stored);
+    Ok(())
+}

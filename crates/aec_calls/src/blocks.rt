@@ -1,0 +1,79 @@
+//! A block and a run of zero blocks, each written by itself.
+
+ghost use Rattle.std.specs.Prelude.{◌<◌, ◌^◌};
+ghost use Rattle.std.specs.Bool.{OnTrue};
+ghost use Rattle.std.specs.List.{AllByRecursion};
+ghost use Rattle.aec_block.specs.Choices.{IsFull};
+
+use crate::trial::{Trial, print_bits, try_calls};
+use aec_bits::BitBuf;
+use aec_block::{Block, choose, write_block, write_run};
+use aec_params::{Fault, Params, Settings};
+use std::alloc::Global;
+
+#[derive(Drop)]
+struct Written {
+    params: Params,
+    block: Block,
+    bits: BitBuf,
+}
+
+fn all_below(values: &[u32], limit: u64) -> bool
+    ensures { OnTrue result (AllByRecursion (λ v. v < limit) values.now) }
+{
+    values.iter().all(|v| u64::from(*v) < limit)
+}
+
+// Whether the settings have a block with a reference sample.
+fn is_full(params: &Params, block: &Block) -> bool
+    ensures { OnTrue result (IsFull params.now block.now) }
+{
+    let limit = 1 << params.bits();
+    match block.reference() {
+        Some(r) if u64::from(r) < limit => {
+            block.len() == params.block_size() as usize && all_below(block.values(), limit)
+        }
+        _ => false,
+    }
+}
+
+impl Trial for Written {
+    fn call(&mut self, number: usize) -> Result<(), Fault> {
+        if number == 1 {
+            return write_run(&self.params, Some(0), 1, true, &mut self.bits);
+        }
+        if !is_full(&self.params, &self.block) {
+            return Ok(());
+        }
+        let choice = choose(&self.params, &self.block);
+        write_block(&self.params, &self.block, choice, &mut self.bits)
+    }
+
+    fn show<R: Print>(&self, rt: &R) {
+        print_bits(rt, &self.bits);
+    }
+}
+
+// The block of the samples 0 to 7, of which the first is the reference sample.
+fn ramp(alloc: Global) -> Block {
+    let mut block = Block::new(alloc, Some(0));
+    for value in [1, 2, 2, 2, 2, 2, 2] {
+        if block.len() < 64 {
+            block.push(value);
+        }
+    }
+    block
+}
+
+/// Each of them into a list with no room.
+pub fn try_blocks<R: Print + Eprint>(rt: &R, alloc: Global) -> Result<(), Fault> {
+    for call in [(0, "write_block"), (1, "write_run")] {
+        let mut written = Written {
+            params: Params::new(Settings::USUAL)?,
+            block: ramp(alloc),
+            bits: BitBuf::new(alloc),
+        };
+        try_calls(rt, &[call], &mut written);
+    }
+    Ok(())
+}

@@ -1,0 +1,36 @@
+//! Makes each call of the libraries that can lack memory, and prints what it answers and what it leaves.
+#![tactic(auto)]
+
+mod bits;
+mod blocks;
+mod codecs;
+mod edits;
+mod engines;
+mod pieces;
+mod streams;
+mod trial;
+
+use aec_params::Fault;
+use std::process::ExitCode;
+
+fn main(rt: HostRuntime) -> ExitCode {
+    match try_all(&rt) {
+        Ok(()) => ExitCode::SUCCESS,
+        Err(fault) => {
+            let _ = eprintln!(rt; "aec_calls: {fault}");
+            ExitCode::FAILURE
+        }
+    }
+}
+
+// Want of memory where something is made ready for the calls.
+fn try_all(rt: &HostRuntime) -> Result<(), Fault> {
+    let alloc = rt.alloc();
+    bits::try_bits(rt, alloc)?;
+    codecs::try_codecs(rt, alloc)?;
+    blocks::try_blocks(rt, alloc)?;
+    streams::try_streams(rt, alloc)?;
+    pieces::try_pieces(rt, alloc)?;
+    edits::try_edits(rt, alloc)?;
+    engines::try_engines(rt, alloc)
+}

@@ -1,0 +1,87 @@
+"""A library that is loaded before the C library, and refuses growths of a program: calls of malloc, calloc and realloc."""
+
+import os
+import shutil
+import struct
+import subprocess
+
+MOST_GROWTHS = 2000
+ALL_AFTER = 2**62
+NO_COMPILER = "no C compiler: no command 'cc'"
+
+LIBRARY = """
+#include <fcntl.h>
+#include <stdlib.h>
+#include <string.h>
+#include <sys/mman.h>
+#include <sys/syscall.h>
+#include <unistd.h>
+
+extern void *__libc_malloc(size_t), *__libc_calloc(size_t, size_t), *__libc_realloc(void *, size_t);
+
+/* In the file that GROWTHS names: how many growths there were, and how many were refused; the first and the last to refuse;
+   whether growths count now. */
+static struct { long growths, refused, first, last, counting; } *counts;
+
+__attribute__((constructor)) static void begin(void) {
+    const char *name = getenv("GROWTHS");
+    int file = name ? open(name, O_RDWR) : -1;
+    void *place = file < 0 ? MAP_FAILED : mmap(0, sizeof *counts, PROT_READ | PROT_WRITE, MAP_SHARED, file, 0);
+    if (file >= 0) close(file);
+    if (place != MAP_FAILED) counts = place;
+}
+
+static int is_refused(void) {
+    if (!counts || !counts->counting || ++counts->growths < counts->first || counts->growths > counts->last) return 0;
+    counts->refused++;
+    return 1;
+}
+
+void *malloc(size_t size) { return is_refused() ? 0 : __libc_malloc(size); }
+void *calloc(size_t number, size_t size) { return is_refused() ? 0 : __libc_calloc(number, size); }
+void *realloc(void *old, size_t size) { return is_refused() ? 0 : __libc_realloc(old, size); }
+
+/* On standard error a program may say from where to where growths count. Behind the part with the first that is refused all are
+   granted. */
+ssize_t write(int file, const void *bytes, size_t size) {
+    if (counts && file == 2 && size >= 6 && !memcmp(bytes, "refuse", 6)) counts->counting = 1;
+    if (counts && file == 2 && size >= 5 && !memcmp(bytes, "grant", 5)) {
+        counts->counting = 0;
+        if (counts->refused) counts->last = 0;
+    }
+    return syscall(SYS_write, file, bytes, size);
+}
+"""
+
+
+def has_compiler():
+    return shutil.which("cc") is not None
+
+
+def build(folder):
+    """Builds the library, and gives its name."""
+    source, library = os.path.join(folder, "refusing.c"), os.path.join(folder, "refusing.so")
+    with open(source, "w", encoding="utf-8") as file:
+        file.write(LIBRARY)
+    subprocess.run(["cc", "-O1", "-shared", "-fPIC", "-o", library, source], check=True)
+    return library
+
+
+class Growths:
+    """Runs of a program with the library. The growths that count are all, or those of the parts that the program names."""
+
+    def __init__(self, program, library, in_parts=False):
+        self.program, self.at_first = program, 0 if in_parts else 1
+        self.environment = {**os.environ, "LD_PRELOAD": library, "GROWTHS": program.file("growths")}
+
+    def refuse(self, first, last, run, *words):
+        """What a run answers of whose growths the first to the last are refused, and the numbers of growths and refusals.
+        `run` is a way to run the program."""
+        self.program.write("growths", struct.pack("5l", 0, 0, first, last, self.at_first))
+        answer = run(*words, env=self.environment)
+        return (answer, *struct.unpack("5l", self.program.read("growths"))[:2])
+
+
+def ways(alone):
+    """For each growth in turn, the first and the last to refuse: that one alone, or all after it too."""
+    return ((first, first if alone else ALL_AFTER) for first in range(1, MOST_GROWTHS))
