@@ -80,14 +80,9 @@ struct Coding {
     alloc: Global,
 }
 
-// Its contract stays out of the other proofs.
-fn coded(alloc: Global, params: &Params, samples: &[i64]) -> Result<BitBuf, Fault> {
-    encode_all(alloc, params, samples)
-}
-
 impl Trial for Coding {
     fn call(&mut self, _number: usize) -> Result<(), Fault> {
-        self.bits = coded(self.alloc, &self.params, &self.samples)?;
+        self.bits = encode_all(self.alloc, &self.params, &self.samples)?;
         Ok(())
     }
 
@@ -142,29 +137,52 @@ impl Trial for Decoding {
     }
 }
 
+fn try_coding<R: Print + Eprint>(
+    rt: &R,
+    alloc: Global,
+    settings: Settings,
+    zeros: usize,
+    rest: &[i64],
+) -> Result<(), Fault> {
+    let mut samples = vec![in alloc; 0i64; zeros]?;
+    samples.extend_from_slice(rest)?;
+    let mut coding = Coding {
+        params: Params::new(settings)?,
+        samples,
+        bits: BitBuf::new(alloc),
+        alloc,
+    };
+    try_calls(rt, &[(0, "encode_all")], &mut coding);
+    Ok(())
+}
+
+fn try_decoding<R: Print + Eprint>(
+    rt: &R,
+    alloc: Global,
+    settings: Settings,
+    bytes: &[u8],
+    count: Option<u64>,
+    limit: u64,
+) -> Result<(), Fault> {
+    let mut decoding = Decoding {
+        params: Params::new(settings)?,
+        bits: BitBuf::from_bytes(alloc, bytes)?,
+        count,
+        limit,
+        samples: Vec::new(alloc),
+        alloc,
+    };
+    try_calls(rt, &[(0, "decode_all")], &mut decoding);
+    Ok(())
+}
+
 /// Each row of the tables.
 pub fn try_streams<R: Print + Eprint>(rt: &R, alloc: Global) -> Result<(), Fault> {
-    for (settings, zeros, rest) in CODED {
-        let mut samples = vec![in alloc; 0i64; zeros]?;
-        samples.extend_from_slice(rest)?;
-        let mut coding = Coding {
-            params: Params::new(settings)?,
-            samples,
-            bits: BitBuf::new(alloc),
-            alloc,
-        };
-        try_calls(rt, &[(0, "encode_all")], &mut coding);
+    for (settings, zeros, rest) in CODED.iter() {
+        try_coding(rt, alloc, *settings, *zeros, rest)?;
     }
-    for (settings, bytes, count, limit) in DECODED {
-        let mut decoding = Decoding {
-            params: Params::new(settings)?,
-            bits: BitBuf::from_bytes(alloc, bytes)?,
-            count,
-            limit,
-            samples: Vec::new(alloc),
-            alloc,
-        };
-        try_calls(rt, &[(0, "decode_all")], &mut decoding);
+    for (settings, bytes, count, limit) in DECODED.iter() {
+        try_decoding(rt, alloc, *settings, bytes, *count, *limit)?;
     }
     Ok(())
 }
