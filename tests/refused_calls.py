@@ -160,8 +160,8 @@ def refuse_in_turn(path, library, rows, alone, tally):
         for first, last in ways(alone):
             lines, _, refused = program.lines(first, last)
             way = f"growth {first} {'alone' if alone else 'and those after it'}"
-            if lines is None:
-                tally.holds(False, f"{way}: the program ends with a fault")
+            if lines is None or len(lines) < len(rows):
+                tally.holds(False, f"{way}: the program ends with a fault, or too early")
                 return seen
             if refused == 0:
                 tally.holds(lines == rows, f"{way}, with none refused: {lines}")

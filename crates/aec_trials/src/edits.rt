@@ -232,11 +232,15 @@ fn devices_of_an_edit_fail(rt: HostRuntime) -> Result<(), Fail> {
             (0, 1, 0)
         );
     }
-    for room in 0..7usize {
-        assert!(rt; room < 7);
+    // It takes so many of the seven bytes, one a call; the last one fails when it is begun.
+    for room in [0usize, 1, 2, 3, 4, 5, 6, 8] {
+        let front = ONE_CHANGED.get(..room);
         let mut script = Pieces::of(b"overwrite 20 1", 64, After::Ends);
         let mut source = Pieces::of(&ZEROS, 64, After::Ends);
-        let mut sink = Basin::of(rt.alloc(), 2, room);
+        let mut sink = match front {
+            Some(_) => Basin::of(rt.alloc(), 1, room),
+            None => Basin::shut(rt.alloc()),
+        };
         let answer = edit(
             rt.alloc(),
             &params,
@@ -247,7 +251,7 @@ fn devices_of_an_edit_fail(rt: HostRuntime) -> Result<(), Fail> {
             &mut sink,
         );
         assert_eq!(rt; answer, Err(EditFault::Plain(Fault::Write)));
-        assert_eq!(rt; sink.bytes.as_slice(), &ONE_CHANGED[..room]);
+        assert_eq!(rt; sink.bytes.as_slice(), front.unwrap_or(&[]));
         assert_eq!(rt; (sink.begins(), sink.failures()), (1, 1));
     }
     Ok(())
