@@ -11,8 +11,6 @@ pub mod laws;
 mod outcome;
 mod ranging;
 mod running;
-#[cfg(test)]
-mod tests;
 mod workspace;
 
 pub use edited::{Edited, write_edited};

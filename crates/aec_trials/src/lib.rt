@@ -1,5 +1,5 @@
-//! Tests alone: what no clause of `aec_cli` says, and values from outside for it and the crates below. They stand here
-//! because a crate with tests is proved twice, and the must-fail edits of `aec_cli` wait for its proof.
+//! Tests alone: what no clause of `aec_edit`, `aec_engine` and `aec_cli` says, and values from outside. They stand here
+//! because a crate with tests is proved twice, and its must-fail edits wait for both proofs.
 #![tactic(auto)]
 
 #[cfg(test)]
@@ -29,6 +29,8 @@ mod limits;
 #[cfg(test)]
 mod mixed_edits;
 #[cfg(test)]
+mod octets;
+#[cfg(test)]
 mod ranges;
 #[cfg(test)]
 mod refused_files;
@@ -38,6 +40,8 @@ mod runs;
 mod scripts;
 #[cfg(test)]
 mod shared;
+#[cfg(test)]
+mod steps;
 #[cfg(test)]
 mod tables;
 #[cfg(test)]

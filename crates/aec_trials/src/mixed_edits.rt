@@ -1,8 +1,9 @@
 //! Many edits over the coder itself, by a fixed rule. After each one the stream is the code of the samples that a plain list
 //! holds by then.
 
-use crate::workspaces::{apply, calls, counts, range, start_of, stream, workspace};
-use aec_bits::WriteSink;
+use crate::steps::{apply, calls, counts, range, start_of, stream};
+use crate::workspaces::workspace;
+use aec_bits::{Codec, WriteSink};
 use aec_edit::Workspace;
 use aec_interval::{AecCodec, encode_all};
 use aec_params::{Edit, Fault, Params, Samples, Settings};
@@ -12,16 +13,16 @@ use std::test::Fail;
 
 /// Settings, and what they say of lists.
 #[derive(Clone, Copy)]
-struct Row {
-    settings: Settings,
+pub(crate) struct Row {
+    pub(crate) settings: Settings,
     // The least sample and the greatest.
-    low: i64,
-    high: i64,
+    pub(crate) low: i64,
+    pub(crate) high: i64,
     // The samples of an interval.
-    most: u64,
+    pub(crate) most: u64,
     // How many samples there are before the first edit, and at most.
-    start: u64,
-    limit: u64,
+    pub(crate) start: u64,
+    pub(crate) limit: u64,
 }
 
 const SHORT: Row = Row {
@@ -208,7 +209,12 @@ fn some_place(seed: &mut u64, row: &Row, count: u64) -> u64 {
     place
 }
 
-fn some_edit(alloc: Global, seed: &mut u64, row: &Row, count: u64) -> Result<Edit, AllocError> {
+pub(crate) fn some_edit(
+    alloc: Global,
+    seed: &mut u64,
+    row: &Row,
+    count: u64,
+) -> Result<Edit, AllocError> {
     let kind = below(seed, 16);
     let place = some_place(seed, row, count);
     if kind < 2 {
@@ -332,10 +338,10 @@ fn expect_code<R: Abort>(
 
 /// Makes an edit of both, and answers a number with a one in the byte of what became of it: made, or refused as out of
 /// range, as too many, as no samples.
-fn expect_edit<R: Abort>(
+pub(crate) fn expect_edit<R: Abort, C: Codec>(
     rt: &R,
     row: &Row,
-    work: &mut Workspace<AecCodec>,
+    work: &mut Workspace<C>,
     list: &mut Vec<i64>,
     edit: &Edit,
 ) -> Result<u32, Fail> {

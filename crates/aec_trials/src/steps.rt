@@ -1,0 +1,238 @@
+//! Edits of a workspace as a table, a step a line: what each one answers, and the stream after it.
+
+use crate::tables::{cell, spelled};
+use aec_bits::{Codec, WriteSink};
+use aec_edit::{Outcome, Workspace};
+use aec_params::{Edit, Fault, Samples};
+use std::alloc::Global;
+use std::process::Abort;
+use std::test::Fail;
+
+// The tests reach a workspace through these, so that its contracts stay out of their proofs.
+
+pub(crate) fn apply<C: Codec>(work: &mut Workspace<C>, edit: &Edit) -> Result<u64, Fault> {
+    work.apply(edit)
+}
+
+pub(crate) fn range<C: Codec>(
+    work: &mut Workspace<C>,
+    alloc: Global,
+    first: u64,
+    len: u64,
+) -> Result<Vec<i64>, Fault> {
+    work.range(alloc, first, len)
+}
+
+/// The bytes of the stream.
+pub(crate) fn stream<C: Codec>(alloc: Global, work: &Workspace<C>) -> Result<Vec<u8>, Fault> {
+    let mut sink = WriteSink::new(Vec::new(alloc));
+    work.write_to(&mut sink)?;
+    Ok(sink.into_inner())
+}
+
+/// How many intervals have been coded.
+pub(crate) fn calls<C: Codec>(work: &Workspace<C>) -> u64 {
+    work.calls()
+}
+
+/// How often an interval has been decoded.
+pub(crate) fn reads<C: Codec>(work: &Workspace<C>) -> u64 {
+    work.reads()
+}
+
+/// The numbers of samples, of intervals, and of bits in the stream.
+pub(crate) fn counts<C: Codec>(work: &Workspace<C>) -> (u64, u64, u64) {
+    (work.count(), work.intervals(), work.stream_bits())
+}
+
+/// Where an interval begins.
+pub(crate) fn start_of<C: Codec>(work: &Workspace<C>, i: u64) -> Option<u64> {
+    work.offset(i)
+}
+
+// The values of a row. `0*48` is forty-eight of them.
+fn values_of(alloc: Global, text: &str) -> Result<Samples, Fail> {
+    let mut values = Vec::new(alloc);
+    for word in text.split_whitespace() {
+        let (value, times) = word.split_once('*').unwrap_or((word, "1"));
+        let value = value.parse::<i64>()?;
+        for _ in 0..times.parse::<u32>()? {
+            values.push(value)?;
+        }
+    }
+    Ok(Samples::new(values))
+}
+
+fn edit_of(alloc: Global, text: &str) -> Result<Edit, Fail> {
+    let (kind, rest) = text.split_once(' ').unwrap_or((text, ""));
+    let (first, values) = rest.split_once(' ').unwrap_or((rest, ""));
+    match kind {
+        "overwrite" => Ok(Edit::Overwrite {
+            first: first.parse::<u64>()?,
+            values: values_of(alloc, values)?,
+        }),
+        "append" => Ok(Edit::Append {
+            values: values_of(alloc, rest)?,
+        }),
+        _ => Ok(Edit::Truncate {
+            count: rest.parse::<u64>()?,
+        }),
+    }
+}
+
+// What became of an edit, as a row says it.
+fn answer_text(alloc: Global, answer: Result<u64, Fault>) -> Result<String, Fail> {
+    match answer {
+        Ok(coded) => Ok(format!(in alloc; "{coded}")?),
+        Err(fault) => Ok(fault.to_string(alloc)?),
+    }
+}
+
+// What the samples of a range are, or why it is refused, as a row says it.
+fn range_text<C: Codec>(
+    alloc: Global,
+    work: &mut Workspace<C>,
+    places: &str,
+) -> Result<String, Fail> {
+    let (first, len) = places.split_once(' ').ok_or("two places")?;
+    let mut text = String::new(alloc);
+    match range(work, alloc, first.parse::<u64>()?, len.parse::<u64>()?) {
+        Ok(samples) => {
+            for x in samples.iter() {
+                text = format!(in alloc; "{text} {x}")?;
+            }
+        }
+        Err(fault) => text = fault.to_string(alloc)?,
+    }
+    Ok(text)
+}
+
+// What a step answers, as a row says it. The calls rise by what an edit has coded.
+fn step_text<R: Abort, C: Codec>(
+    rt: &R,
+    alloc: Global,
+    work: &mut Workspace<C>,
+    step: &str,
+) -> Result<String, Fail> {
+    let before = calls(work);
+    if let Some(places) = step.strip_prefix("range ") {
+        let text = range_text(alloc, work, places)?;
+        assert_eq!(rt; calls(work), before);
+        return Ok(text);
+    }
+    let answer = apply(work, &edit_of(alloc, step)?);
+    let coded = answer.ok().unwrap_or(0);
+    assert_eq!(rt; calls(work), before.saturating_add(coded));
+    answer_text(alloc, answer)
+}
+
+// The bits of the stream, and where its intervals begin.
+fn places_text<C: Codec>(alloc: Global, work: &Workspace<C>) -> Result<String, Fail> {
+    let mut text = format!(in alloc; "{}", work.stream_bits())?;
+    for i in 0..40u64 {
+        if let Some(start) = start_of(work, i) {
+            text = format!(in alloc; "{text} {start}")?;
+        }
+    }
+    Ok(text)
+}
+
+// A row: an edit or a range; its answer; the stream after it; the bits of that, and where its intervals begin; how many
+// intervals the step decodes.
+fn expect_step<R: Abort, C: Codec>(
+    rt: &R,
+    alloc: Global,
+    work: &mut Workspace<C>,
+    row: &str,
+) -> Result<(), Fail> {
+    let (step, rest) = cell(row);
+    let (answer, rest) = cell(rest);
+    let (bytes, rest) = cell(rest);
+    let (places, decoded) = cell(rest);
+    let before = reads(work);
+    let text = step_text(rt, alloc, work, step.trim())?;
+    assert_eq!(rt; text.as_str().trim(), answer.trim(), "at {row}");
+    assert_eq!(rt; stream(alloc, work)?, spelled(alloc, bytes)?, "at {row}");
+    assert_eq!(rt;
+        places_text(alloc, work)?.as_str(),
+        places.trim(),
+        "at {row}"
+    );
+    let decoded = decoded.trim().parse::<u64>()?;
+    assert_eq!(rt; reads(work), before.saturating_add(decoded), "at {row}");
+    Ok(())
+}
+
+/// The steps of a table, one after the other.
+pub(crate) fn expect_steps<R: Abort, C: Codec>(
+    rt: &R,
+    alloc: Global,
+    work: &mut Workspace<C>,
+    table: &str,
+) -> Result<(), Fail> {
+    for row in table.lines() {
+        expect_step(rt, alloc, work, row)?;
+    }
+    assert_eq!(rt; start_of(work, u64::MAX), None);
+    Ok(())
+}
+
+// The edits of a table, and the lines of their answers.
+fn edits_of(alloc: Global, table: &str) -> Result<(Vec<Edit>, String), Fail> {
+    let (mut edits, mut answers) = (Vec::new(alloc), String::new(alloc));
+    for row in table.lines() {
+        let (step, rest) = cell(row);
+        if !step.starts_with("range ") {
+            edits.push(edit_of(alloc, step.trim())?)?;
+            answers = format!(in alloc; "{answers}{}\n", cell(rest).0.trim())?;
+        }
+    }
+    Ok((edits, answers))
+}
+
+// The stream after the last step of a table.
+fn last_stream(table: &str) -> &str {
+    let row = table.lines().last().unwrap_or("");
+    cell(cell(cell(row).1).1).0
+}
+
+// The lines of what became of the edits of a run, which stand behind an outcome that was there.
+fn run_text<C: Codec>(
+    alloc: Global,
+    work: &mut Workspace<C>,
+    edits: &[Edit],
+) -> Result<String, Fail> {
+    let mut outcomes = Vec::new(alloc);
+    outcomes.push(Outcome::Done { coded: 77 })?;
+    work.run(edits, &mut outcomes)?;
+    let mut text = String::new(alloc);
+    for outcome in &outcomes {
+        let line = answer_text(
+            alloc,
+            match outcome {
+                Outcome::Done { coded } => Ok(*coded),
+                Outcome::Refused { fault } => Err(*fault),
+            },
+        )?;
+        text = format!(in alloc; "{text}{line}\n")?;
+    }
+    Ok(text)
+}
+
+/// The edits of a table in one run.
+pub(crate) fn expect_run<R: Abort, C: Codec>(
+    rt: &R,
+    alloc: Global,
+    work: &mut Workspace<C>,
+    table: &str,
+) -> Result<(), Fail> {
+    let (edits, answers) = edits_of(alloc, table)?;
+    let text = run_text(alloc, work, &edits)?;
+    assert_eq!(rt; text, format!(in alloc; "77\n{answers}")?);
+    assert_eq!(rt;
+        stream(alloc, work)?,
+        spelled(alloc, last_stream(table))?,
+        "after {table}"
+    );
+    Ok(())
+}
