@@ -211,10 +211,11 @@ impl BitBuf {
         Ok(())
     }
 
-    /// The bits of bytes, the most significant bit of each first. `Memory` where a growth was refused.
+    /// The bits of bytes, the most significant bit of each first. `Memory` where a growth was refused; for no bytes
+    /// none is asked for.
     pub fn from_bytes(alloc: Global, bytes: &[u8]) -> Result<BitBuf, Fault>
         ensures ok { IfOk result (λ b. b.list ≡ bits_of_bytes bytes.now) }
-        ensures fault { IfErr result (λ e. e ≡ Memory) }
+        ensures fault { IfErr result (λ e. (e ≡ Memory) × (0 < length bytes.now)) }
     {
         if bytes.len() as u64 > MOST_BITS / 8 {
             return Err(Fault::Memory);

@@ -1,6 +1,6 @@
 //! Bytes as words, eight to a word, the first at the top.
 
-ghost use Rattle.std.specs.Prelude.{◌≡◌, ◌+◌, ◌*◌, ◌≤◌, ◌^◌, ◌++◌, length, take, drop, replicate, IfOk, IfErr};
+ghost use Rattle.std.specs.Prelude.{◌≡◌, ◌+◌, ◌*◌, ◌<◌, ◌≤◌, ◌^◌, ◌++◌, length, take, drop, replicate, IfOk, IfErr};
 ghost use Rattle.aec_params.specs.declared.fault.Fault.TheVariants.{Memory};
 ghost use Rattle.aec_params.specs.Codewords.{binary, bits_of_bytes};
 ghost use Rattle.aec_bits.specs.Packed.{Keep};
@@ -12,7 +12,7 @@ use std::alloc::Global;
 pub(crate) fn words_of(alloc: Global, bytes: &[u8]) -> Result<Vec<u64>, Fault>
     requires { 8 * length bytes.now ≤ 2 ^ 62 }
     ensures ok { IfOk result (λ words. Keep words.items (8 * length bytes.now) (bits_of_bytes bytes.now)) }
-    ensures fault { IfErr result (λ e. e ≡ Memory) }
+    ensures fault { IfErr result (λ e. (e ≡ Memory) × (0 < length bytes.now)) }
 {
     let count = bytes.len().div_ceil(8);
     let mut words = Vec::with_capacity(alloc, count)?;

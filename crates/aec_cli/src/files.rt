@@ -1,6 +1,6 @@
 //! Files as devices: a source that is opened by its first call, and a sink that is created by `begin`.
 
-ghost use Rattle.std.specs.Prelude.{◌≡◌, ◌≤◌, ◌<◌, false, IfOk, IfErr, IsErr, length};
+ghost use Rattle.std.specs.Prelude.{◌≡◌, ◌≤◌, ◌<◌, false, IfOk, IfErr, IsOk, IsErr, length};
 ghost use Rattle.std.specs.Io.KnownBytes.{WriteAppends};
 ghost use Rattle.aec_params.specs.declared.fault.Fault.TheVariants.{Write as WriteFault};
 ghost use Rattle.aec_bits.specs.Devices.{FailsOnce};
@@ -133,6 +133,8 @@ impl<'a, F: Files> DestSink<'a, F> {
     /// was not begun.
     pub fn finish(self) -> Result<(), Fault>
         ensures failed { ⟦<DestSink<'a, F> as Sink>⟧.failed self.entry ≡ 1 → IsErr result }
+        ensures unbegun { ⟦<DestSink<'a, F> as Sink>⟧.begun self.entry ≡ 0 → ⟦<DestSink<'a, F> as Sink>⟧.failed self.entry ≡ 0
+            → IsOk result }
         ensures fault { IfErr result (λ e. e ≡ WriteFault) }
     {
         let DestSink { file, .. } = self;

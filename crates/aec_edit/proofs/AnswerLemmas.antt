@@ -1,5 +1,5 @@
 -- What an exchange answers is what the edit that it makes answers.
-use Rattle.std.proofs.Common.{◌≡◌, ℕ, ◌+◌, ◌≤◌, cond, Some, None, Ok, Err, Option, Result, List, length, ℤ, sym, ap, ◌∙◌, subst, arith}
+use Rattle.std.proofs.Common.{◌≡◌, ℕ, ◌≤◌, cond, Some, None, Ok, Err, Option, Result, List, length, ℤ, sym, ap, ◌∙◌, subst, arith}
 use Rattle.std.specs.Option.{MatchOption, option_or, is_some}
 use Rattle.std.specs.Result.{MatchResult, OnOk, OnErr}
 use Rattle.aec_params.specs.declared.fault.Fault.{Fault}

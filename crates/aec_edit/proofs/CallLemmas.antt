@@ -1,12 +1,12 @@
 -- Calls that are left, and what an exchange answers.
-use Rattle.std.proofs.Common.{◌≡◌, ℕ, ◌+◌, ◌-◌, ◌/◌, ◌^◌, ◌<◌, ◌≤◌, Some, None, List, length, ℤ, refl, ap, arith}
+use Rattle.std.proofs.Common.{◌≡◌, ℕ, ◌+◌, ◌-◌, ◌/◌, ◌^◌, ◌<◌, ◌≤◌, Some, None, List, length, ℤ, refl, arith}
 use Rattle.std.specs.Int.{div_ceil}
 use Rattle.std.proofs.lemmas.Bool.Decides.{nat_tests}
 use Rattle.aec_params.specs.declared.fault.Fault.{Fault}
 use Rattle.aec_params.specs.declared.fault.Fault.TheVariants.{Memory, Spent}
 use Rattle.aec_bits.specs.Codec.{Format}
-use Rattle.aec_edit.specs.Calls.{want_of_calls, RisesAtMost}
-use Rattle.aec_edit.specs.Changes.{IsRecoding, IsExchanged, IsNotExchanged, recoded, exchange_calls}
+use Rattle.aec_edit.specs.Calls.{want_of_calls}
+use Rattle.aec_edit.specs.Changes.{IsRecoding, IsNotExchanged, recoded, exchange_calls}
 
 pub calls_left : (calls needed : ℕ) → needed ≤ 2 ^ 64 - 1 - calls → want_of_calls calls needed ≡ None
 calls_left calls needed enough = grind (arith, nat_tests)

@@ -1,14 +1,13 @@
 -- Places exchanged for values: the samples of the touched intervals, and how many intervals they fill.
-use Rattle.std.proofs.Common.{◌≡◌, ℕ, ◌+◌, ◌-◌, ◌*◌, ◌/◌, ◌%◌, ◌<◌, ◌≤◌, ◌⊎◌, min, List, []}
+use Rattle.std.proofs.Common.{◌≡◌, ℕ, ◌+◌, ◌-◌, ◌*◌, ◌/◌, ◌%◌, ◌<◌, ◌≤◌, min, List}
 use Rattle.std.proofs.Common.{◌++◌, length, take, drop, ℤ, sym, ap, ◌∙◌, inl, inr, arith, append_assoc, length-append}
 use Rattle.std.specs.Int.{div_ceil}
 use Rattle.std.proofs.lemmas.Bool.{cases_lt}
 use Rattle.std.proofs.lemmas.Nat.{div-add-mod', mod_below}
 use Rattle.std.proofs.lemmas.List.{length-take, length-drop, take-take, take-append-drop, drop-append-le}
 use Rattle.aec_bits.specs.Codec.{Format, AreHeld, IsLawful}
-use Rattle.aec_edit.specs.Workspace.{interval_count}
 use Rattle.aec_edit.specs.Changes.{IsExchange, IsRecoding, exchanged, exchange_calls, recoded, head_of, tail_of}
-use Rattle.aec_edit.proofs.CountLemmas.{ceil_bounds, ceil_unique, row_below, before_end, past_end}
+use Rattle.aec_edit.proofs.CountLemmas.{ceil_bounds, ceil_unique, row_below, before_end}
 use Rattle.aec_edit.proofs.HeldLemmas.{held-take, held-drop, held-append}
 
 -- ---- numbers

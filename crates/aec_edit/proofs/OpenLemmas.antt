@@ -1,13 +1,13 @@
 -- The intervals at the ends of an exchange that keep a sample.
-use Rattle.std.proofs.Common.{◌≡◌, ℕ, ◌+◌, ◌-◌, ◌*◌, ◌/◌, ◌%◌, ◌<◌, ◌≤◌, min, Bool, true, false, cond, ◌||◌, ◌&&◌, eqb}
-use Rattle.std.proofs.Common.{ltb, List, [], ◌++◌, length, take, drop, ℤ, refl, sym, ap, ◌∙◌, inl, inr, arith, length-append}
+use Rattle.std.proofs.Common.{◌≡◌, ℕ, ◌+◌, ◌-◌, ◌*◌, ◌/◌, ◌%◌, ◌<◌, ◌≤◌, min, true, false}
+use Rattle.std.proofs.Common.{List, [], ◌++◌, length, take, drop, ℤ, refl, sym, ap, ◌∙◌, inl, inr, arith, length-append}
 use Rattle.std.specs.Int.{div_ceil}
 use Rattle.std.proofs.Math.Nat.{mul-le-mul_right}
 use Rattle.std.proofs.lemmas.Bool.{cases_lt}
 use Rattle.std.proofs.lemmas.Bool.Decides.{nat_tests}
 use Rattle.std.proofs.lemmas.List.{append-nil, length-take, length-drop, drop_all, drop-drop, drop-take, drop_at, take-take, take-append-le}
 use Rattle.aec_edit.specs.Changes.{head_of, tail_of, opens_first, opens_last, one_if, opened_ends, first_samples, last_samples, end_samples}
-use Rattle.aec_edit.proofs.CountLemmas.{ceil_bounds, row_below}
+use Rattle.aec_edit.proofs.CountLemmas.{ceil_bounds}
 use Rattle.aec_edit.proofs.ExchangeLemmas.{begins_before, ends_after}
 
 -- ---- the tests

@@ -1,24 +1,23 @@
 -- What an overwrite codes and decodes, as its definition has it and as the code has it.
-use Rattle.std.proofs.Common.{◌≡◌, ℕ, zero, suc, ◌+◌, ◌-◌, ◌*◌, ◌/◌, ◌<◌, ◌≤◌, min, Bool, true, false, cond, eqb, ltb, None, Ok}
-use Rattle.std.proofs.Common.{Err, Result, List, [], ◌∷◌, ◌++◌, length, drop, take, ℤ, refl, sym, ap, ◌∙◌, inl, inr, subst, arith}
+use Rattle.std.proofs.Common.{◌≡◌, ℕ, zero, suc, ◌+◌, ◌-◌, ◌*◌, ◌/◌, ◌<◌, ◌≤◌, min, Bool, true, false, cond}
+use Rattle.std.proofs.Common.{Result, List, [], ◌∷◌, length, ℤ, refl, sym, ap, ◌∙◌, inl, inr, subst, arith}
 use Rattle.std.specs.Result.{MatchResult, OnOk, OnErr}
 use Rattle.std.specs.Int.{div_ceil}
 use Rattle.std.specs.List.{range_with_len, filter}
-use Rattle.std.proofs.lemmas.Bool.{cases_lt, cases_eq, le-ltb}
+use Rattle.std.proofs.lemmas.Bool.{cases_lt, cases_eq}
 use Rattle.std.proofs.lemmas.Bool.Decides.{nat_tests}
 use Rattle.aec_params.specs.declared.fault.Fault.{Fault}
 use Rattle.aec_params.specs.declared.edit.Edit.TheVariants.{Overwrite}
-use Rattle.aec_params.specs.Edits.{touched_intervals, keeps_a_sample, needed_calls, opened_intervals, samples_after}
+use Rattle.aec_params.specs.Edits.{touched_intervals, keeps_a_sample}
 use Rattle.std.proofs.lemmas.Nat.{le-div}
 use Rattle.aec_params.proofs.EditLaws.{touched_intervals-is, length-touched_intervals}
 use Rattle.aec_bits.specs.Codec.{Format, AreHeld}
-use Rattle.aec_bits.specs.Refusals.{refusal_of}
 use Rattle.aec_bits.proofs.RefusalLaws.{overwrite_fits}
-use Rattle.aec_edit.specs.Calls.{want_of_calls, RisesAtMost}
+use Rattle.aec_edit.specs.Calls.{RisesAtMost}
 use Rattle.aec_edit.specs.Steps.{Applies}
 use Rattle.aec_edit.specs.Changes.{IsExchanged, IsNotExchanged, exchanged, exchange_calls, opens_first, opens_last, one_if, opened_ends, opened_by}
 use Rattle.aec_edit.proofs.CountLemmas.{ceil_unique}
-use Rattle.aec_edit.proofs.ExchangeLemmas.{begins_before, ceil_mono}
+use Rattle.aec_edit.proofs.ExchangeLemmas.{begins_before}
 use Rattle.aec_edit.proofs.AnswerLemmas.{from_exchange}
 use Rattle.aec_edit.proofs.OpenLemmas.{nothing_first, nothing_last, opens_last-one}
 

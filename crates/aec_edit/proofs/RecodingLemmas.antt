@@ -1,6 +1,6 @@
 -- Intervals exchanged for the code of fresh samples.
-use Rattle.std.proofs.Common.{◌≡◌, ℕ, ◌+◌, ◌-◌, ◌*◌, ◌<◌, ◌≤◌, Bool, Result, Ok, Err, List, [], ◌++◌, length}
-use Rattle.std.proofs.Common.{map, take, drop, get_or, ℤ, refl, sym, ap, subst, ◌∙◌, inl, inr, arith, length-append}
+use Rattle.std.proofs.Common.{◌≡◌, ℕ, ◌+◌, ◌-◌, ◌*◌, ◌<◌, ◌≤◌, Bool, Result, Ok, Err, List, ◌++◌, length}
+use Rattle.std.proofs.Common.{map, take, drop, get_or, ℤ, sym, ap, subst, ◌∙◌, inl, inr, arith, length-append}
 use Rattle.std.specs.Result.{OnOk, OnErr}
 use Rattle.std.proofs.lemmas.List.{append-nil, length-take, length-drop, drop_all}
 use Rattle.aec_bits.specs.Codec.{Format, IsLawful, code_of}

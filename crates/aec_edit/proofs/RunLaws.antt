@@ -1,6 +1,5 @@
 -- The laws of runs.
 use Rattle.std.proofs.Common.{◌≡◌, ◌≢◌, ℕ, zero, suc, ◌+◌, ◌^◌, ◌<◌, ◌≤◌, ltb, ◌-◌, Bool, ◌&&◌, true, false, cond, Option, Some, None, MatchOption, List, [], ◌∷◌, ◌++◌, length, take, drop, ℤ, refl, sym, ap, ◌∙◌, subst, arith, length-append}
-use Rattle.std.proofs.lemmas.Bool.Decides.{nat_tests}
 use Rattle.std.specs.List.{list_all}
 use Rattle.std.specs.Option.{option_or, option_map}
 use Rattle.std.proofs.lemmas.Bool.{and_parts, ltb-false}
@@ -16,8 +15,8 @@ use Rattle.aec_bits.specs.Refusals.{refusal_of, first_unheld, values_refusal}
 use Rattle.aec_edit.specs.declared.outcome.Outcome.{Outcome}
 use Rattle.aec_edit.specs.declared.outcome.Outcome.TheVariants.{Done, Refused}
 use Rattle.aec_edit.specs.Calls.{due_refusal, want_of_calls}
-use Rattle.aec_edit.specs.Steps.{Answers, IsAccepted, LacksMemory, samples_left}
-use Rattle.aec_edit.specs.Runs.{AnswersAll, all_left, all_coded}
+use Rattle.aec_edit.specs.Steps.{Answers, LacksMemory, samples_left}
+use Rattle.aec_edit.specs.Runs.{AnswersAll, all_coded}
 use Rattle.aec_edit.specs.Laws.{HadMemory, RunsCountTheirCalls, RunsLeaveSamples}
 
 -- ---- calls

@@ -3,7 +3,6 @@ use Rattle.std.proofs.Common.{◌≡◌, ℕ, ◌+◌, ◌<◌, ◌≤◌, List,
 use Rattle.std.proofs.lemmas.List.{append-nil, take_more}
 use Rattle.aec_params.specs.declared.edit.Edit.{Edit}
 use Rattle.aec_bits.specs.Codec.{Format}
-use Rattle.aec_params.specs.declared.fault.Fault.TheVariants.{Memory}
 use Rattle.aec_params.specs.declared.fault.Fault.{Fault}
 use Rattle.aec_params.specs.Edits.{needed_calls, opened_intervals}
 use Rattle.aec_edit.specs.Calls.{RisesAtMost, due_refusal, opened_at_most}

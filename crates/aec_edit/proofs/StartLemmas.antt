@@ -1,15 +1,15 @@
 -- Where the intervals of samples begin in their code.
-use Rattle.std.proofs.Common.{◌≡◌, ℕ, zero, suc, ◌+◌, ◌-◌, ◌*◌, ◌<◌, ◌≤◌, min, Bool, List, [], ◌∷◌, ◌++◌, length}
-use Rattle.std.proofs.Common.{map, take, drop, get_or, ℤ, refl, sym, ap, ◌∙◌, subst, ◌⊎◌, inl, inr, arith, append_assoc, length-append}
+use Rattle.std.proofs.Common.{◌≡◌, ℕ, zero, suc, ◌+◌, ◌-◌, ◌*◌, ◌<◌, ◌≤◌, Bool, List, [], ◌∷◌, ◌++◌, length}
+use Rattle.std.proofs.Common.{map, take, drop, get_or, ℤ, refl, sym, ap, ◌∙◌, ◌⊎◌, inl, inr, arith, length-append}
 use Rattle.std.specs.Int.{div_ceil}
-use Rattle.std.specs.List.{list_all, flat_map}
-use Rattle.std.proofs.Math.Nat.{div-eq_of_lt, mod-eq_of_lt, mul-le-mul_right}
-use Rattle.std.proofs.lemmas.Bool.{cases_lt, and_parts}
-use Rattle.std.proofs.lemmas.List.{append-nil, nil_from_length, length-take, length-drop, take_at, drop_at, take_all, drop_all, take-append-drop, take-take, drop-drop, drop-take}
+use Rattle.std.specs.List.{flat_map}
+use Rattle.std.proofs.Math.Nat.{mul-le-mul_right}
+use Rattle.std.proofs.lemmas.Bool.{cases_lt}
+use Rattle.std.proofs.lemmas.List.{append-nil, nil_from_length, length-take, take_at, drop_at, take_all, drop_all, take-append-drop, take-take, drop-take}
 use Rattle.aec_params.specs.Cutting.{pieces_of}
 use Rattle.aec_params.proofs.CuttingLaws.{length-pieces_of, div_ceil-zero, div_ceil-step}
 use Rattle.aec_bits.specs.Codec.{Format, code_of}
-use Rattle.aec_bits.proofs.CodeLaws.{pieces_of-step, pieces_of-nil, pieces_of-append, code_of-nil, code_of-append, code_of_split}
+use Rattle.aec_bits.proofs.CodeLaws.{pieces_of-step, pieces_of-nil, pieces_of-append, code_of-nil, code_of_split}
 use Rattle.aec_edit.specs.Workspace.{interval_count, start_of}
 use Rattle.aec_edit.proofs.CountLemmas.{before_end}
 use Rattle.aec_edit.specs.Index.{piece_starts, starts_of}

@@ -1,5 +1,5 @@
 -- What the private functions do to the samples: places are exchanged for values, and for that intervals for fresh samples.
-use Rattle.std.specs.Prelude.{◌≡◌, ℕ, ◌+◌, ◌-◌, ◌*◌, ◌/◌, ◌≤◌, ◌<◌, ◌⊎◌, min, Bool, ◌||◌, ◌&&◌}
+use Rattle.std.specs.Prelude.{◌≡◌, ℕ, ◌+◌, ◌-◌, ◌*◌, ◌/◌, ◌≤◌, ◌⊎◌, min, Bool, ◌||◌, ◌&&◌}
 use Rattle.std.specs.Prelude.{nat_lt, ◌==◌, if◌then◌else◌, None, MatchOption, is_some, List, [], ◌++◌, length, take, drop, ℤ}
 use Rattle.std.specs.Int.{div_ceil}
 use Rattle.aec_bits.specs.Codec.{Format, AreHeld}

@@ -1,6 +1,6 @@
 //! The whole of it: edits from nothing, and the stream and the samples that they leave.
 
-ghost use Rattle.std.specs.Prelude.{◌≡◌, ◌≤◌, ◌^◌, ◌⊎◌, ℕ, List, [], length, Err, IfOk, IfErr};
+ghost use Rattle.std.specs.Prelude.{◌≡◌, ◌<◌, ◌≤◌, ◌^◌, ◌⊎◌, ℕ, List, [], length, Err, IfOk, IfErr};
 ghost use Rattle.std.specs.Io.KnownBytes.{Appends, Keeps};
 ghost use Rattle.aec_params.specs.declared.fault.Fault.TheVariants.{Memory, Write as WriteFault};
 ghost use Rattle.aec_params.specs.Codewords.{bytes_of};
@@ -50,7 +50,7 @@ pub fn write_edited<C: Codec + Drop, W: Sink>(
         edited.bits ≡ length (code_of (C.format codec) left)) }
     ensures samples { IfOk result (λ edited. edited.samples.items ≡ all_left [] edits.now edited.outcomes.items) }
     ensures refuses { IfErr result (λ fault. (fault ≡ Memory) ⊎ (fault ≡ WriteFault)) }
-    ensures memory { result ≡ Err Memory → Keeps (W.taken sink.old) (W.taken sink.new) }
+    ensures memory { result ≡ Err Memory → (0 < length edits.now) × Keeps (W.taken sink.old) (W.taken sink.new) }
     ensures front { result ≡ Err WriteFault → (W.failed sink.new ≡ 1) × ((done : List OutcomeOf) × (calls : ℕ)
         × AnswersAll (C.format codec) limit [] (C.called codec) edits.now done calls
         × AppendsFront (W.taken sink.old) (W.taken sink.new)

@@ -6,18 +6,19 @@ use aec_params::Fault;
 use std::alloc::Global;
 
 impl<C: Codec> Workspace<C> {
-    ghost use Rattle.std.specs.Prelude.{◌≡◌, ◌-◌, ◌*◌, ◌≤◌, ◌++◌, None, length, take, drop, IfOk, OnOk, IfErr};
+    ghost use Rattle.std.specs.Prelude.{◌≡◌, ◌-◌, ◌*◌, ◌<◌, ◌≤◌, ◌++◌, None, Err, length, take, drop, IfOk, OnOk, IfErr};
     ghost use Rattle.aec_params.specs.Edits.{touched_intervals};
     ghost use Rattle.aec_params.specs.declared.fault.Fault.TheVariants.{Memory};
     ghost use Rattle.aec_edit.specs.Workspace.{interval_count};
     ghost use Rattle.aec_edit.specs.Calls.{RisesAtMost, range_refusal, IsDue};
 
     /// The `len` samples from place `first` on. `OutOfRange` exactly where one of them is past the samples, then `Memory`
-    /// where a growth was refused. Only the intervals that hold one of them are decoded.
+    /// where a growth was refused; a range of no samples takes no memory. Only the intervals that hold one of them are decoded.
     pub fn range(&mut self, alloc: Global, first: u64, len: u64) -> Result<Vec<i64>, Fault>
         ensures ok { IfOk result (λ v. v.items ≡ take len (drop first self.old.samples)) }
         ensures within { OnOk result (range_refusal (length self.old.samples) first len ≡ None) }
         ensures refuses { IfErr result (λ e. IsDue (range_refusal (length self.old.samples) first len) e) }
+        ensures memory { result ≡ Err Memory → 0 < len }
         ensures samples { self.new.samples ≡ self.old.samples }
         ensures limit { self.new.limit ≡ self.old.limit }
         ensures calls { C.called self.new.codec ≡ C.called self.old.codec }

@@ -1,6 +1,6 @@
 //! Many edits in a row.
 
-ghost use Rattle.std.specs.Prelude.{◌≡◌, List, ◌++◌, OnOk, OnErr, IfErr};
+ghost use Rattle.std.specs.Prelude.{◌≡◌, ◌+◌, ◌<◌, List, ◌++◌, length, vec_len, vec_capacity, OnOk, OnErr, IfErr};
 ghost use Rattle.aec_params.specs.declared.fault.Fault.TheVariants.{Memory};
 ghost use Rattle.aec_edit.specs.Steps.{outcome_of};
 ghost use Rattle.aec_edit.specs.Runs.{HasRun};
@@ -24,6 +24,7 @@ impl<C: Codec> Workspace<C> {
         ensures format { C.format self.new.codec ≡ C.format self.old.codec }
         ensures err { OnErr result (self.new ≡ self.old) }
         ensures outcomes_err { OnErr result (outcomes.new.items ≡ outcomes.old.items) }
+        ensures full { OnErr result (vec_capacity outcomes.old < vec_len outcomes.old + length edits.now) }
         ensures fault { IfErr result (λ e. e ≡ Memory) }
     {
         outcomes.reserve(edits.len())?;

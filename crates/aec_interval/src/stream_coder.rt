@@ -101,10 +101,11 @@ impl StreamCoder {
     }
 
     /// Appends the code of the samples that are held; the bytes of a sample that is not complete are ignored. The refusal
-    /// that there was, or `Memory`; nothing is appended then.
+    /// that there was, or `Memory` where samples are held; nothing is appended then.
     pub fn finish(self, out: &mut BitBuf) -> Result<(), Fault>
         ensures ok { OnOk result (out.new.list ≡ out.old.list ++ stream_of self.settings self.held) }
-        ensures refuses { MatchOption self.refusal (IfErr result (λ e. e ≡ Memory)) (λ fault. result ≡ Err fault) }
+        ensures refuses { MatchOption self.refusal
+            (IfErr result (λ e. (e ≡ Memory) × (0 < length self.held))) (λ fault. result ≡ Err fault) }
         ensures err { OnErr result (out.new.list ≡ out.old.list) }
     {
         if let Some(refusal) = self.refusal {

@@ -1,4 +1,4 @@
-use Rattle.std.proofs.Common.{◌≡◌, ◌*◌, ◌-◌, ◌<◌, ℕ, List, ℤ, min, length, take, drop, ap, sym, arith}
+use Rattle.std.proofs.Common.{◌≡◌, ◌*◌, List, ℤ, length, take, drop, ap, arith}
 use Rattle.aec_bits.specs.Codec.{Format}
 use Rattle.aec_edit.proofs.CountLemmas.{before_end}
 use Rattle.aec_edit.proofs.KeptLemmas.{at_view, no_other, kept_again, begins_for}

@@ -1,4 +1,4 @@
-use Rattle.std.proofs.Common.{◌≡◌, ◌+◌, ◌*◌, ◌++◌, ℤ, List, take, drop, arith, ap, ◌∙◌}
+use Rattle.std.proofs.Common.{◌≡◌, ◌*◌, ◌++◌, ℤ, List, take, drop, arith, ◌∙◌}
 use Rattle.aec_bits.specs.Codec.{Format}
 use Rattle.aec_edit.proofs.RangeLemmas.{intervals_more}
 use Rattle.aec_edit.proofs.workspace.Workspace.decode_intervals.Goals as goal

@@ -1,6 +1,5 @@
-use Rattle.std.proofs.Common.{◌≡◌, ◌≤◌, ℕ, List, ℤ, ◌+◌, ◌-◌, ◌*◌, length, arith, ap, ◌∙◌}
+use Rattle.std.proofs.Common.{length, arith, ap}
 use Rattle.aec_bits.specs.Codec.{Format}
-use Rattle.aec_edit.specs.Workspace.{start_of}
 use Rattle.aec_edit.specs.Changes.{recoded}
 use Rattle.aec_edit.proofs.StartLemmas.{length-starts_of, start_of-mono, start_of-le}
 use Rattle.aec_edit.proofs.KeptLemmas.{at_view, no_other}

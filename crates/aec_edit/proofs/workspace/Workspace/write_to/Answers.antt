@@ -1,4 +1,3 @@
-use Rattle.std.proofs.Common.{length, subst}
 use Rattle.aec_edit.proofs.KeptLemmas.{at_view}
 use Rattle.aec_edit.proofs.workspace.Workspace.write_to.Goals as goal
 

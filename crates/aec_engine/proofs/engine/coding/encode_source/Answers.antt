@@ -16,7 +16,7 @@ returns-in_err-finish g c =
     let none = unrefused_fed c.args.params.now c.samples.result _ c.in_ok-coder.bits.list c.in_ok-coder.coder c.in_ok-coder.ensures.ok in
     refused_answer (λ bits. bytes_of bits.list) _ exit.0 _ _ _ exit.1
     (answers_memory _ exit.0 c.in_err-finish.field-0.0 _ _ _ exit.1 exit.2
-    (unless_refused c.in_ok-coder.coder.refusal _ _ none c.in_err-finish.ensures.refuses))
+    (unless_refused c.in_ok-coder.coder.refusal _ _ none c.in_err-finish.ensures.refuses).0)
 
 pub returns : goal.returns
 returns g c =

@@ -13,7 +13,7 @@ returns-in_err-coded-clause-refuses g c =
 pub returns-in_err-bits-clause-refuses : goal.returns-in_err-bits-clause-refuses
 returns-in_err-bits-clause-refuses g c =
     let exit = err_from_is_err_and c.from_residual-in_err-bits.result c.from_residual-in_err-bits.ensures.1 in
-    answers_memory _ exit.0 c.in_err-bits.field-0.0 _ _ _ exit.1 exit.2 c.in_err-bits.ensures.fault
+    answers_memory _ exit.0 c.in_err-bits.field-0.0 _ _ _ exit.1 exit.2 c.in_err-bits.ensures.fault.0
 
 pub returns-clause-ok : goal.returns-clause-ok
 returns-clause-ok g c =
