@@ -286,6 +286,28 @@ has_read_front p xs samples a read begins whole =
           ∙ sym (append-nil xs),
     )) (cases_Bool (is_wanted_at p))
 
+-- they are no more than the blocks up to the place hold
+pub has_read_few : (p : Place) (xs : List ℤ) → IsAllowed p.settings → HasRead p xs → length xs ≤ p.block * p.settings.block_size
+has_read_few p xs a read = omega (arith, asked p.count read.counted, read.filled.whole, most)
+  where
+    before : List Block
+    before = stream_blocks p.settings 0 read.sets
+
+    kept : (count : Option ℕ) → length (kept_blocks p.settings count 0 before) ≤ length before
+    kept None = omega arith
+    kept (Some n) = omega (arith, length-take (div_ceil n p.settings.block_size - 0) before)
+
+    most : length (kept_blocks p.settings p.count 0 before) * p.settings.block_size ≤ p.block * p.settings.block_size
+    most = mul-le-mul_right p.settings.block_size (omega (
+      arith,
+      kept p.count,
+      length-stream_blocks p.settings p.count p.limit p.bits 0 0 read.sets p.block p.bit (interval-positive p.settings a) read.leads,
+    ))
+
+    asked : (count : Option ℕ) → xs ≡ counted_from p.settings count 0 read.all_samples → length xs ≤ length read.all_samples
+    asked None is = omega (arith, ap length is)
+    asked (Some n) is = omega (arith, ap length is, length-take (n - 0 * p.settings.block_size) read.all_samples)
+
 -- the samples of a step are samples of the settings
 pub piece_is_held : (p q : Place) (xs : List ℤ) → ReadsPiece p xs q → AllByRecursion (IsHeld p.settings) xs
 piece_is_held p q xs piece = subst (AllByRecursion (IsHeld p.settings)) (sym piece.counted) (asked p.count)

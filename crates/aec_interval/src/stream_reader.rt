@@ -30,7 +30,7 @@ impl<'a> Model for StreamReader<'a> {
 }
 
 impl<'a> StreamReader<'a> {
-    ghost use Rattle.std.specs.Prelude.{◌≡◌, ◌<◌, ◌≤◌, ◌^◌, true, false, [], vec_capacity, IfOk, IfErr};
+    ghost use Rattle.std.specs.Prelude.{◌≡◌, ◌<◌, ◌≤◌, ◌%◌, ◌^◌, true, false, [], vec_capacity, IfOk, IfErr};
     ghost use Rattle.std.specs.Result.{result_err};
     ghost use Rattle.std.specs.List.{AllByRecursion};
     ghost use Rattle.aec_params.specs.declared.fault.Fault.TheVariants.{Memory};
@@ -62,6 +62,16 @@ impl<'a> StreamReader<'a> {
         })
     }
 
+    /// Goes back to the first bit.
+    pub fn restart(&mut self)
+        ensures { self.new ≡ place_at self.old.settings self.old.count self.old.limit self.old.bits 0 0 }
+    {
+        // What the parameters promise is told by their calls.
+        let _len = self.params.interval_len();
+        self.reader.seek(0);
+        self.block = 0;
+    }
+
     /// Puts the samples of the next interval in the place of those that were handed in; false where none are left.
     ///
     /// The refusals are those of `decode_all`, each as soon as it is met. `Memory` comes only where the vector had no room
@@ -74,6 +84,7 @@ impl<'a> StreamReader<'a> {
         ensures full { IfErr result (λ fault. fault ≡ Memory → vec_capacity samples.old < interval_len self.old.settings) }
         ensures capacity { vec_capacity samples.old ≤ vec_capacity samples.new }
         ensures few { self.new.block < 2 ^ 34 }
+        ensures ends { is_wanted_at self.new ≡ true → self.new.block % self.new.settings.interval ≡ 0 }
     {
         samples.clear();
         let wanted = Wanted {
