@@ -7,7 +7,8 @@ end with status 1, with the one line for want of memory on standard error, and h
 run that meets no refusal has to give the right bytes. Where the k-th alone is refused, a run may also go on without that
 growth, and then has to give the right bytes too.
 
-Beside that a short stream of very many samples is decoded, cut to a range and edited with little memory, without the library.
+Beside that a short stream of very many samples is decoded and cut to a range with little memory, without the library; to edit
+it there is too little.
 
 The library is built by `cc`; without that command its runs are skipped. Prints a table, the checks that fail and, last, how
 many passed. Ends with 1 where one failed.
@@ -26,7 +27,7 @@ from program import Program, Tally
 from refusing import MOST_GROWTHS, NO_COMPILER, Growths, build, has_compiler, ways
 
 OLD = b"what DEST held before"
-LITTLE = 2**28
+LITTLE = 2**25
 WANT = "aec: out of memory\n"
 WANT_OF_AN_EDIT = [f"aec: line {line}: out of memory\n" for line in EDIT_LINES]
 
@@ -147,12 +148,12 @@ def try_little_memory(path, tally):
         program = Program(path, folder)
         program.write("source", ZEROS_STREAM * 256)  # whole bytes, so that the next interval begins with a byte
         program.write("script", b"append 1")
-        for words in (["-d"], ["-d", "--count", "67108864"], ["--range", "5:1"], ["--edit", "script"]):
-            for old in (None, OLD):
-                program.write("dest", old)
-                what = f"{' '.join(words)} with {LITTLE >> 20} MB"
-                tally.check(what, program.run(*words, *LONGEST, "source", "dest", preexec_fn=limit), (1, WANT))
-                tally.check(f"{what}: DEST", program.read("dest"), old)
+        for words, size in ((["-d"], 2**26), (["--range", "5:1", "--count", str(2**26)], 1), (["--edit", "script"], None)):
+            program.write("dest", OLD)
+            what = f"{' '.join(words)} with {LITTLE >> 20} MB"
+            answer = (0, "") if size else (1, WANT)
+            tally.check(what, program.run(*words, *LONGEST, "source", "dest", preexec_fn=limit), answer)
+            tally.check(f"{what}: DEST", program.read("dest"), bytes(size) if size else OLD)
 
 
 def main():

@@ -54,7 +54,7 @@ decoded_left back one leave s limit edits done after bits count samples w read =
 
 unread_memory : (s : Settings) (count limit : ℕ) (bits : List Bool) (left : List ℤ) (fault : Fault) → IsAllowed s → AllBitsAreReadInOneWay
     → IsReading s (Some count) limit bits left
-    → RefusesReading s (Some count) limit bits 0 fault → fault ≡ Memory
+    → RefusesReading s (Some count) limit bits 0 0 fault → fault ≡ Memory
 unread_memory s count limit bits left fault a one read (no_memory behind) = refl
 unread_memory s count limit bits left fault a one read (faulty f wrong) = absurd ((one s (Some count) limit bits a).not_both left f read wrong)
 

@@ -1,5 +1,9 @@
 pub mod NumeralLemmas
 pub mod DeviceLemmas
+pub mod IntakeLemmas
+pub mod ReadTwiceLemmas
+pub mod PutRangeLemmas
+pub mod SettlingLemmas
 pub mod OutputLemmas
 pub mod RangingLemmas
 pub mod JudgingLemmas

@@ -165,28 +165,13 @@ pub decoded_refused : {X : Type 0} (view : X → List ℕ) (r : Result X Fault) 
 decoded_refused {X} view r fault f answers source enough is same gives =
     subst (λ r. GivesAnswer answers source enough (answer_of view r)) (sym (is ∙ ap Err same)) gives
 
-pub decoded_stored : {X : Type 0} (view : X → List ℕ) (r : Result X Fault) (s : Settings) (caps : Caps) (count : Option ℕ) (source : Taking)
-    (samples all : List ℤ) → all ≡ samples → GaveSamples s caps count source samples → IfOk r (λ x. view x ≡ all_stored s all)
-    → IfErr r (λ e. e ≡ Memory) → GivesAnswer (IsDecoded s caps count) source (are_past caps.bytes) (answer_of view r)
-decoded_stored view (Ok x) s caps count source samples all same gave ok memory =
-    subst (λ bytes. GivesAnswer (IsDecoded s caps count) source (are_past caps.bytes) (Ok bytes)) (sym (ok ∙ ap (all_stored s) same))
-    (given gave.input (Ok (all_stored s samples)) gave.gave (decoded samples gave.read))
-decoded_stored view (Err e) s caps count source samples all same gave ok memory =
-    subst (λ e. GivesAnswer (IsDecoded s caps count) source (are_past caps.bytes) (Err e)) (sym memory) lacks_memory
-
 pub answers_storing : {X : Type 0} (r : Result X Fault) (answers : Input → Result (List ℕ) Fault → Type 0) (source : Taking) (enough : List ℕ → Bool)
     → IfErr r (λ e. e ≡ Memory) → IfErr r (λ e. GivesAnswer answers source enough (Err e))
 answers_storing r answers source enough memory =
     IfErr-weaker r (λ e. e ≡ Memory) (λ e. GivesAnswer answers source enough (Err e))
     (λ e is. subst (λ e. GivesAnswer answers source enough (Err e)) (sym is) lacks_memory) memory
 
--- an answer from its two halves, and a refused one from the second
-pub whole_answer : {X : Type 0} (view : X → List ℕ) (r : Result X Fault) (answers : Input → Result (List ℕ) Fault → Type 0) (source : Taking)
-    (enough : List ℕ → Bool) → IfOk r (λ x. GivesAnswer answers source enough (Ok (view x))) → IfErr r (λ e. GivesAnswer answers source enough (Err e))
-    → GivesAnswer answers source enough (answer_of view r)
-whole_answer view (Ok x) answers source enough ok refuses = ok
-whole_answer view (Err e) answers source enough ok refuses = refuses
-
+-- a refused answer
 pub refused_answer : {X : Type 0} (view : X → List ℕ) (r : Result X Fault) (fault : Fault) (answers : Input → Result (List ℕ) Fault → Type 0)
     (source : Taking) (enough : List ℕ → Bool) → r ≡ Err fault → IfErr r (λ e. GivesAnswer answers source enough (Err e))
     → GivesAnswer answers source enough (answer_of view r)

@@ -7,6 +7,7 @@ pub mod Transfers
 pub mod Output
 pub mod OutputExamples
 pub mod CodingSteps
+pub mod ReadingTwice
 pub mod Editing
 pub mod EditingSteps
 pub mod InMemory

@@ -96,17 +96,17 @@ front-answer_of s count bits i b reference (zero_blocks m) some wanted = kept_ru
 
 -- ---- faults
 
-module _ (s : Settings) (count : Option ℕ) (limit : ℕ) (bits : List Bool) (start i b : ℕ) (samples : List ℤ) (reached : IsReached s count limit bits start i b samples) (wanted : is_wanted s count bits i b ≡ true) where
-  wrong_here : (fault : Fault) → IsWrongAt s count limit bits i b fault → RefusesReading s count limit bits start fault
+module _ (s : Settings) (count : Option ℕ) (limit : ℕ) (bits : List Bool) (first start i b : ℕ) (samples : List ℤ) (reached : IsReached s count limit bits first start i b samples) (wanted : is_wanted s count bits i b ≡ true) where
+  wrong_here : (fault : Fault) → IsWrongAt s count limit bits i b fault → RefusesReading s count limit bits first start fault
   wrong_here fault wrong = faulty fault (record { sets = reached.sets; block = i; bit = b; leads = reached.leads; wanted = wanted; wrong = wrong })
 
-  pub refuses_unread : (fault : Fault) → IsNotRead s (is_reference_block s (i % s.interval)) bits b fault → RefusesReading s count limit bits start fault
+  pub refuses_unread : (fault : Fault) → IsNotRead s (is_reference_block s (i % s.interval)) bits b fault → RefusesReading s count limit bits first start fault
   refuses_unread fault none = wrong_here fault (not_read fault none)
 
   pub refuses_long : (c : CodedDataSet) → IsSetAt s (is_reference_block s (i % s.interval)) bits b c → has_small_values s c ≡ true → stays_in_segment s (i % s.interval) c ≡ false
-      → RefusesReading s count limit bits start (RunTooLong b)
+      → RefusesReading s count limit bits first start (RunTooLong b)
   refuses_long c at small long = wrong_here _ (too_long c at small long)
 
   pub refuses_many : (c : CodedDataSet) → IsSetAt s (is_reference_block s (i % s.interval)) bits b c → IsLawfulAt s (i % s.interval) c → keeps_limit s count limit (next_block s i c) ≡ false
-      → RefusesReading s count limit bits start (TooManySamples limit)
+      → RefusesReading s count limit bits first start (TooManySamples limit)
   refuses_many c at lawful many = wrong_here _ (too_many c at lawful many)

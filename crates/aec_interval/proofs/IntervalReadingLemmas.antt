@@ -62,13 +62,13 @@ read-interval s limit bits start count samples v a read begins =
 
 -- and it is refused for want of memory alone
 pub memory-alone : (s : Settings) (limit : ℕ) (bits : List Bool) (start count : ℕ) (v : List ℤ) (fault : Fault) → IsAllowed s
-    → RefusesReading s (Some count) limit bits start fault → BeginsAt (interval_format s) bits start count v → fault ≡ Memory
+    → RefusesReading s (Some count) limit bits 0 start fault → BeginsAt (interval_format s) bits start count v → fault ≡ Memory
 memory-alone s limit bits start count v fault a (no_memory behind) begins = refl
 memory-alone s limit bits start count v fault a (faulty f wrong) begins =
     absurd (no_reading_and_fault s a (Some count) limit bits 0 start (all_blocks_of s v) f (IsBlockReading-interval s limit bits start count v a begins) wrong)
 
 pub memory-refuses : {X : Type 0} (s : Settings) (limit : ℕ) (bits : List Bool) (start count : ℕ) (r : Result X Fault) (fault other : Fault) → IsAllowed s
-    → r ≡ Err fault → fault ≡ other → RefusesReading s (Some count) limit bits start other
+    → r ≡ Err fault → fault ≡ other → RefusesReading s (Some count) limit bits 0 start other
     → (v : List ℤ) × BeginsAt (interval_format s) bits start count v → IfErr r (λ e. e ≡ Memory)
 memory-refuses {X} s limit bits start count r fault other a is same refuses begins =
     let P : Result X Fault → Type 0 = λ r. IfErr r (λ e. e ≡ Memory) in

@@ -30,6 +30,8 @@ pub mod ZeroRunLemmas
 pub mod NextSetLemmas
 pub mod DecodeLemmas
 pub mod ReadNextLemmas
+pub mod ReadIntervalLemmas
+pub mod PieceReadingLemmas
 pub mod IntervalFormatLemmas
 pub mod IntervalReadingLemmas
 pub mod PieceLemmas

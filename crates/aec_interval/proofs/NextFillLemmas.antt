@@ -1,9 +1,6 @@
 -- Samples taken back from the values of a block fill that block behind the blocks before.
-use Rattle.std.proofs.Common.{◌≡◌, ℕ, zero, suc, ◌%◌, ◌<◌, ◌^◌, ◌==◌, ◌&&◌, if◌then◌else◌, Bool, true, false, Option, Some, None, ℤ, pos, List, [], ◌∷◌, ◌++◌, length, take, drop, unwrap_or, refl, sym, ap, ap₂, ◌∙◌, subst, append_assoc, arith, ◌-◌, neg_ℤ, int_le}
+use Rattle.std.proofs.Common.{◌≡◌, ℕ, zero, suc, ◌%◌, ◌<◌, ◌^◌, ◌==◌, ◌&&◌, if◌then◌else◌, Bool, true, false, Option, Some, None, ℤ, pos, List, [], ◌∷◌, ◌++◌, length, drop, unwrap_or, refl, sym, ap, ap₂, ◌∙◌, subst, append_assoc, arith, ◌-◌, neg_ℤ, int_le}
 use Rattle.std.proofs.lemmas.Bool.{le-leb}
-use Rattle.std.proofs.lemmas.Result.{IfOk-weaker}
-use Rattle.std.proofs.Common.{Result, IfOk}
-use Rattle.aec_params.specs.declared.fault.Fault.{Fault}
 use Rattle.std.specs.List.{AllByRecursion, last_or}
 use Rattle.aec_params.specs.declared.settings.Settings.{Settings}
 use Rattle.aec_params.specs.Params.{IsAllowed, IsHeld, interval_len, sample_pattern}
@@ -100,23 +97,21 @@ pub all-tail : {X : Type 0} (P : X → Type 0) (xs : List X) → AllByRecursion 
 all-tail P [] all = tt
 all-tail P (x ∷ xs) all = all.1
 
-pub fills_block_plain : {X : Type 0} (r : Result X Fault) (s : Settings) (old new : List ℤ) (b : Block) (p : ℤ) (values : List ℕ) → IsAllowed s → IsNextBlock s old b → b.reference ≡ None
-    → p ≡ last_sample old → values ≡ b.values → IfOk r (λ _. Unmaps s p values old new) → IfOk r (λ _. FillsNext s old new (b ∷ []))
-fills_block_plain r s old new b p values allowed next none previous is_values ok =
-    IfOk-weaker r (λ _. Unmaps s p values old new) (λ _. FillsNext s old new (b ∷ [])) (λ _ unmaps. by_reference b.reference none next
-    (subst (λ q. Unmaps s q b.values old new) previous (subst (λ vs. Unmaps s p vs old new) is_values unmaps))) ok
+pub fills_block_plain : (s : Settings) (old new : List ℤ) (b : Block) (p : ℤ) (values : List ℕ) → IsAllowed s → IsNextBlock s old b → b.reference ≡ None
+    → p ≡ last_sample old → values ≡ b.values → Unmaps s p values old new → FillsNext s old new (b ∷ [])
+fills_block_plain s old new b p values allowed next none previous is_values unmaps =
+    by_reference b.reference none next (subst (λ q. Unmaps s q b.values old new) previous (subst (λ vs. Unmaps s p vs old new) is_values unmaps))
   where
     by_reference : (reference : Option ℕ) → reference ≡ None → IsNextBlock s old (block_of reference b.values) → Unmaps s (last_sample old) b.values old new
         → FillsNext s old new (block_of reference b.values ∷ [])
     by_reference None e next unmaps = fills_plain s old new b.values allowed next unmaps
     by_reference (Some q) e next unmaps = absurd (cc)
 
-pub fills_block_reference : {X : Type 0} (r : Result X Fault) (s : Settings) (old mid new : List ℤ) (b : Block) (q : ℕ) (x : ℤ) (values : List ℕ) → IsAllowed s → IsNextBlock s old b
+pub fills_block_reference : (s : Settings) (old mid new : List ℤ) (b : Block) (q : ℕ) (x : ℤ) (values : List ℕ) → IsAllowed s → IsNextBlock s old b
     → b.reference ≡ Some q → IsHeld s x → sample_pattern s x ≡ q → values ≡ drop 1 b.values → mid ≡ old ++ x ∷ []
-    → IfOk r (λ _. Unmaps s x values mid new) → IfOk r (λ _. FillsNext s old new (b ∷ []))
-fills_block_reference r s old mid new b q x values allowed next some held pattern is_values pushed ok =
-    IfOk-weaker r (λ _. Unmaps s x values mid new) (λ _. FillsNext s old new (b ∷ [])) (λ _ unmaps. by_reference b.reference some next
-    (subst (λ mid. Unmaps s x (drop 1 b.values) mid new) pushed (subst (λ vs. Unmaps s x vs mid new) is_values unmaps))) ok
+    → Unmaps s x values mid new → FillsNext s old new (b ∷ [])
+fills_block_reference s old mid new b q x values allowed next some held pattern is_values pushed unmaps =
+    by_reference b.reference some next (subst (λ mid. Unmaps s x (drop 1 b.values) mid new) pushed (subst (λ vs. Unmaps s x vs mid new) is_values unmaps))
   where
     by_reference : (reference : Option ℕ) → reference ≡ Some q → IsNextBlock s old (block_of reference b.values) → Unmaps s x (drop 1 b.values) (old ++ x ∷ []) new
         → FillsNext s old new (block_of reference b.values ∷ [])

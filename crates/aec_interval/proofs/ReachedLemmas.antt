@@ -1,6 +1,6 @@
 -- A reading that has come so far comes one coded data set further.
 use Rattle.std.proofs.Common.{◌≡◌, ℕ, zero, suc, ◌+◌, ◌-◌, ◌%◌, ◌<◌, ◌≤◌, Bool, true, Option, Some, None, ℤ, List, [], ◌∷◌, ◌++◌, length, take, refl, sym, ap, ◌∙◌, subst, arith}
-use Rattle.std.proofs.Math.Nat.{mod-lt, mul-pos, sub-zero, suc-sub-suc}
+use Rattle.std.proofs.Math.Nat.{mod-lt, sub-zero, suc-sub-suc}
 use Rattle.std.proofs.lemmas.List.{length-append, take_all}
 use Rattle.std.proofs.lemmas.Bool.{ltb-true}
 use Rattle.std.specs.Int.{div_ceil}
@@ -12,8 +12,8 @@ use Rattle.aec_params.specs.Places.{block_count, cds_blocks, IsLawfulAt}
 use Rattle.aec_params.specs.Reading.{StandsAt, next_block, next_begin, is_wanted, keeps_limit, LeadsTo, stream_blocks, kept_blocks, FillBlocks}
 use Rattle.aec_interval.specs.NextBlock.{FillsNext}
 use Rattle.aec_interval.specs.Reached.{AreFilled, IsReached}
-use Rattle.aec_params.proofs.SettingLaws.{block_size-positive, interval-positive}
-use Rattle.aec_interval.proofs.ReadingSteps.{LeadsTo-push, stream_blocks-push, FillBlocks-nil}
+use Rattle.aec_params.proofs.SettingLaws.{interval-positive}
+use Rattle.aec_interval.proofs.ReadingSteps.{LeadsTo-push, stream_blocks-push}
 use Rattle.aec_params.proofs.StreamLaws.{length-cds_blocks}
 
 -- as many blocks as the coded data sets lead through
@@ -32,51 +32,46 @@ take-append-past (suc n) (x ∷ xs) ys within =
     ap (λ rest. x ∷ rest) (take-append-past n xs ys (omega arith) ∙ ap (λ k. xs ++ take k ys) (sym (suc-sub-suc n (length xs))))
 
 -- blocks that are wanted are all kept, and of those behind them what is still needed
-pub kept_blocks-append : (s : Settings) (count : Option ℕ) (bits : List Bool) (i b : ℕ) (blocks more : List Block) → length blocks ≡ i → is_wanted s count bits i b ≡ true
-    → kept_blocks s count 0 (blocks ++ more) ≡ blocks ++ kept_blocks s count i more
-kept_blocks-append s None bits i b blocks more len wanted = refl
-kept_blocks-append s (Some count) bits i b blocks more len wanted =
+pub kept_blocks-append : (s : Settings) (count : Option ℕ) (bits : List Bool) (first i b : ℕ) (blocks more : List Block) → first + length blocks ≡ i
+    → is_wanted s count bits i b ≡ true → kept_blocks s count first (blocks ++ more) ≡ blocks ++ kept_blocks s count i more
+kept_blocks-append s None bits first i b blocks more len wanted = refl
+kept_blocks-append s (Some count) bits first i b blocks more len wanted =
     let below = ltb-true i (div_ceil count s.block_size) wanted in
-    ap (λ n. take n (blocks ++ more)) (sub-zero (div_ceil count s.block_size))
-    ∙ (take-append-past (div_ceil count s.block_size) blocks more (omega arith) ∙ ap (λ k. blocks ++ take (div_ceil count s.block_size - k) more) len)
+    take-append-past (div_ceil count s.block_size - first) blocks more (omega arith)
+    ∙ ap (λ k. blocks ++ take k more) (omega (arith, len))
 
-pub kept_blocks-wanted : (s : Settings) (count : Option ℕ) (bits : List Bool) (i b : ℕ) (blocks : List Block) → length blocks ≡ i → is_wanted s count bits i b ≡ true
-    → kept_blocks s count 0 blocks ≡ blocks
-kept_blocks-wanted s None bits i b blocks len wanted = refl
-kept_blocks-wanted s (Some count) bits i b blocks len wanted =
+pub kept_blocks-wanted : (s : Settings) (count : Option ℕ) (bits : List Bool) (first i b : ℕ) (blocks : List Block) → first + length blocks ≡ i
+    → is_wanted s count bits i b ≡ true → kept_blocks s count first blocks ≡ blocks
+kept_blocks-wanted s None bits first i b blocks len wanted = refl
+kept_blocks-wanted s (Some count) bits first i b blocks len wanted =
     let below = ltb-true i (div_ceil count s.block_size) wanted in
-    take_all (div_ceil count s.block_size - 0) blocks (omega arith)
-
-pub IsReached-start : (s : Settings) (count : Option ℕ) (limit : ℕ) (bits : List Bool) (start : ℕ) → IsAllowed s → IsReached s count limit bits start 0 start []
-IsReached-start s count limit bits start allowed = record {
-  sets = [];
-  leads = (refl, refl);
-  filled = subst (λ blocks. FillBlocks s [] blocks) (sym (nothing_kept count)) (FillBlocks-nil s (mul-pos (block_size-positive s allowed) (interval-positive s allowed)));
-}
-  where
-    nothing_kept : (count : Option ℕ) → kept_blocks s count 0 [] ≡ []
-    nothing_kept None = refl
-    nothing_kept (Some count) = take_all (div_ceil count s.block_size - 0) [] (omega arith)
+    take_all (div_ceil count s.block_size - first) blocks (omega arith)
 
 -- where more is wanted, the samples fill as many blocks as were read
-pub AreFilled-reached : (s : Settings) (count : Option ℕ) (limit : ℕ) (bits : List Bool) (start i b : ℕ) (samples : List ℤ) → IsAllowed s → IsReached s count limit bits start i b samples
-    → is_wanted s count bits i b ≡ true → AreFilled s i samples
-AreFilled-reached s count limit bits start i b samples allowed reached wanted =
-    let len : length (stream_blocks s 0 reached.sets) ≡ i = omega (arith, length-stream_blocks s count limit bits 0 start reached.sets i b (interval-positive s allowed) reached.leads) in
-    record { blocks = stream_blocks s 0 reached.sets; filled = subst (FillBlocks s samples) (kept_blocks-wanted s count bits i b (stream_blocks s 0 reached.sets) len wanted) reached.filled; count_is = len }
+pub AreFilled-reached : (s : Settings) (count : Option ℕ) (limit : ℕ) (bits : List Bool) (first start i b : ℕ) (samples : List ℤ) → IsAllowed s
+    → IsReached s count limit bits first start i b samples → is_wanted s count bits i b ≡ true → AreFilled s (i - first) samples
+AreFilled-reached s count limit bits first start i b samples allowed reached wanted =
+    let len : first + length (stream_blocks s first reached.sets) ≡ i =
+    length-stream_blocks s count limit bits first start reached.sets i b (interval-positive s allowed) reached.leads in
+    record {
+      blocks = stream_blocks s first reached.sets;
+      filled = subst (FillBlocks s samples) (kept_blocks-wanted s count bits first i b (stream_blocks s first reached.sets) len wanted) reached.filled;
+      count_is = omega (arith, len);
+    }
 
-pub IsReached-more : (s : Settings) (count : Option ℕ) (limit : ℕ) (bits : List Bool) (start i b : ℕ) (old new : List ℤ) (c : CodedDataSet) → IsAllowed s
-    → IsReached s count limit bits start i b old → is_wanted s count bits i b ≡ true → StandsAt s bits b c → IsLawfulAt s (i % s.interval) c → keeps_limit s count limit (next_block s i c) ≡ true
-    → FillsNext s old new (kept_blocks s count i (cds_blocks s (i % s.interval) c))
-    → IsReached s count limit bits start (next_block s i c) (next_begin s bits i b c) new
-IsReached-more s count limit bits start i b old new c allowed reached wanted stands lawful within fills =
-    let blocks : List Block = stream_blocks s 0 reached.sets in
-    let len : length blocks ≡ i = omega (arith, length-stream_blocks s count limit bits 0 start reached.sets i b (interval-positive s allowed) reached.leads) in
+pub IsReached-more : (s : Settings) (count : Option ℕ) (limit : ℕ) (bits : List Bool) (first start i b : ℕ) (old new : List ℤ) (c : CodedDataSet) → IsAllowed s
+    → IsReached s count limit bits first start i b old → is_wanted s count bits i b ≡ true → StandsAt s bits b c → IsLawfulAt s (i % s.interval) c
+    → keeps_limit s count limit (next_block s i c) ≡ true → FillsNext s old new (kept_blocks s count i (cds_blocks s (i % s.interval) c))
+    → IsReached s count limit bits first start (next_block s i c) (next_begin s bits i b c) new
+IsReached-more s count limit bits first start i b old new c allowed reached wanted stands lawful within fills =
+    let blocks : List Block = stream_blocks s first reached.sets in
+    let len : first + length blocks ≡ i =
+    length-stream_blocks s count limit bits first start reached.sets i b (interval-positive s allowed) reached.leads in
     record {
       sets = reached.sets ++ c ∷ [];
-      leads = LeadsTo-push s count limit bits 0 start reached.sets i b c reached.leads wanted stands lawful within;
+      leads = LeadsTo-push s count limit bits first start reached.sets i b c reached.leads wanted stands lawful within;
       filled = subst (FillBlocks s new)
-          (sym (ap (kept_blocks s count 0) (stream_blocks-push s count limit bits 0 start reached.sets i b c reached.leads)
-          ∙ kept_blocks-append s count bits i b blocks (cds_blocks s (i % s.interval) c) len wanted))
-          (fills blocks (subst (FillBlocks s old) (kept_blocks-wanted s count bits i b blocks len wanted) reached.filled));
+          (sym (ap (kept_blocks s count first) (stream_blocks-push s count limit bits first start reached.sets i b c reached.leads)
+          ∙ kept_blocks-append s count bits first i b blocks (cds_blocks s (i % s.interval) c) len wanted))
+          (fills blocks (subst (FillBlocks s old) (kept_blocks-wanted s count bits first i b blocks len wanted) reached.filled));
     }

@@ -3,9 +3,11 @@ pub mod Laws
 pub mod Pending
 pub mod NextBlock
 pub mod Reached
+pub mod Pieces
 pub mod NextSet
 pub mod IntervalFormat
 pub mod Taking
 pub mod Feeding
 pub mod Progress
 pub mod CutLaws
+pub mod PieceLaws

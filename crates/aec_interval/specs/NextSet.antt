@@ -25,6 +25,10 @@ abbrev pub kept_count : Settings → Option ℕ → ℕ → ℕ → ℕ
 kept_count s None i z = z
 kept_count s (Some count) i z = min z (div_ceil count s.block_size - i)
 
+-- how many blocks an interval has from block i of the stream on
+abbrev pub blocks_before_end : Settings → ℕ → ℕ
+blocks_before_end s i = s.interval - i % s.interval
+
 -- it can come behind samples of i blocks, and so many of its blocks are in their interval
 abbrev pub IsNextCds : Settings → ℕ → List ℤ → ℕ → Cds → Type 0
 IsNextCds s i samples kept (Single b) = IsNextBlock s samples b

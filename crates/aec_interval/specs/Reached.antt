@@ -14,12 +14,12 @@ pub record AreFilled (s : Settings) (count : ℕ) (samples : List ℤ) : Type 0 
   pub filled : FillBlocks s samples blocks
   pub count_is : length blocks ≡ count
 
--- from position `start` on, where an interval begins, coded data sets lead to block i at position b, and the samples fill the
--- blocks that are kept of them
-pub record IsReached (s : Settings) (count : Option ℕ) (limit : ℕ) (bits : List Bool) (start i b : ℕ) (samples : List ℤ) : Type 0 where
+-- from block `first` at position `start` on, coded data sets lead to block i at position b, and the samples fill the blocks
+-- that are kept of them
+pub record IsReached (s : Settings) (count : Option ℕ) (limit : ℕ) (bits : List Bool) (first start i b : ℕ) (samples : List ℤ) : Type 0 where
   pub sets : List CodedDataSet
-  pub leads : LeadsTo s count limit bits 0 start sets i b
-  pub filled : FillBlocks s samples (kept_blocks s count 0 (stream_blocks s 0 sets))
+  pub leads : LeadsTo s count limit bits first start sets i b
+  pub filled : FillBlocks s samples (kept_blocks s count first (stream_blocks s first sets))
 
 -- the bits from position `start` on, where an interval begins, are read as these samples
 pub record IsReadFrom (s : Settings) (count : Option ℕ) (limit : ℕ) (bits : List Bool) (start : ℕ) (samples : List ℤ) : Type 0 where
@@ -29,20 +29,20 @@ pub record IsReadFrom (s : Settings) (count : Option ℕ) (limit : ℕ) (bits : 
   pub filled : FillBlocks s all_samples blocks
   pub counted : samples ≡ counted_samples count all_samples
 
--- at least one coded data set was read that no fault refuses: from position `start` on, where an interval begins, wanted and
--- lawful coded data sets within the limit lead behind a last one
-pub record LeadsBehindOne (s : Settings) (count : Option ℕ) (limit : ℕ) (bits : List Bool) (start : ℕ) : Type 0 where
+-- at least one coded data set was read that no fault refuses: from block `first` at position `start` on, wanted and lawful
+-- coded data sets within the limit lead behind a last one
+pub record LeadsBehindOne (s : Settings) (count : Option ℕ) (limit : ℕ) (bits : List Bool) (first start : ℕ) : Type 0 where
   pub sets : List CodedDataSet
   pub last : CodedDataSet
   pub block : ℕ
   pub bit : ℕ
-  pub leads : LeadsTo s count limit bits 0 start (sets ++ (last ∷ [])) block bit
+  pub leads : LeadsTo s count limit bits first start (sets ++ (last ∷ [])) block bit
 
--- why a reading from position `start` on answers no samples: its fault, or want of memory for those of a coded data set that
--- was read
-pub data RefusesReading (s : Settings) (count : Option ℕ) (limit : ℕ) (bits : List Bool) (start : ℕ) : Fault → Type 0 where
-  no_memory : LeadsBehindOne s count limit bits start → RefusesReading s count limit bits start Memory
-  faulty : (fault : Fault) → IsFault s count limit bits 0 start fault → RefusesReading s count limit bits start fault
+-- why a reading from block `first` at position `start` on answers no samples: its fault, or want of memory for those of a
+-- coded data set that was read
+pub data RefusesReading (s : Settings) (count : Option ℕ) (limit : ℕ) (bits : List Bool) (first start : ℕ) : Fault → Type 0 where
+  no_memory : LeadsBehindOne s count limit bits first start → RefusesReading s count limit bits first start Memory
+  faulty : (fault : Fault) → IsFault s count limit bits first start fault → RefusesReading s count limit bits first start fault
 
 -- the refusal of a sample count that is above the limit
 abbrev pub count_refusal : ℕ → Option ℕ → Option Fault
@@ -52,4 +52,4 @@ count_refusal limit None = None
 -- why bits are not decoded: a count above the limit, and else what the reading meets
 pub data RefusesDecoding (s : Settings) (count : Option ℕ) (limit : ℕ) (bits : List Bool) : Fault → Type 0 where
   above_limit : (fault : Fault) → count_refusal limit count ≡ Some fault → RefusesDecoding s count limit bits fault
-  unread : (fault : Fault) → count_refusal limit count ≡ None → RefusesReading s count limit bits 0 fault → RefusesDecoding s count limit bits fault
+  unread : (fault : Fault) → count_refusal limit count ≡ None → RefusesReading s count limit bits 0 0 fault → RefusesDecoding s count limit bits fault

@@ -134,6 +134,7 @@ impl Codec for AecCodec {
     {
         self.reads = self.reads.saturating_add(1);
         let wanted = Wanted {
+            first: 0,
             start: pos,
             count: Some(count),
             limit: count,

@@ -9,6 +9,7 @@ ghost use Rattle.aec_interval.specs.Laws.{
   AllCodesAreShortest,
 };
 ghost use Rattle.aec_interval.specs.CutLaws.{AllCutsMakeNoDifference};
+ghost use Rattle.aec_interval.specs.PieceLaws.{AllStepsAreTheReading};
 
 /// The code of an interval is lawful coded data sets for its blocks.
 pub fn intervals_are_read()
@@ -45,4 +46,9 @@ pub fn codes_are_shortest()
 /// and its refusal is the first one of all bytes.
 pub fn cuts_make_no_difference()
     ensures { AllCutsMakeNoDifference }
+{}
+
+/// What a `StreamReader` hands out step by step is what the bits are read as, and its refusal is that of all bits.
+pub fn steps_are_the_reading()
+    ensures { AllStepsAreTheReading }
 {}

@@ -11,6 +11,7 @@ mod reading;
 mod reading_runs;
 mod rest;
 mod stream_coder;
+mod stream_reader;
 #[cfg(test)]
 mod tests;
 mod whole;
@@ -19,5 +20,6 @@ mod writing_runs;
 
 pub use codec::AecCodec;
 pub use stream_coder::StreamCoder;
+pub use stream_reader::StreamReader;
 pub use whole::encode_all;
 pub use whole_reading::decode_all;

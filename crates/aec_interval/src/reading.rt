@@ -1,13 +1,14 @@
 //! Samples read from coded bits, one coded data set after another, from where an interval begins.
 
-ghost use Rattle.std.specs.Prelude.{◌≡◌, ◌≤◌, ◌<◌, ◌+◌, ◌*◌, ◌%◌, ◌^◌, ℕ, List, ℤ, [], true, false, length, take, Some, None, OnOk, IfSome, IfOk, IfErr, min};
+ghost use Rattle.std.specs.Prelude.{◌≡◌, ◌≤◌, ◌<◌, ◌+◌, ◌-◌, ◌*◌, ◌%◌, ◌^◌, ℕ, List, ℤ, [], true, false, length, take, vec_len, vec_capacity, Some, None, OnOk, OnErr, IfSome, IfOk, IfErr, min};
 ghost use Rattle.std.specs.Int.{div_ceil};
 ghost use Rattle.aec_params.specs.declared.fault.Fault.TheVariants.{Memory};
-ghost use Rattle.aec_params.specs.Params.{IsAllowed};
+ghost use Rattle.aec_params.specs.Params.{IsAllowed, interval_len};
 ghost use Rattle.aec_params.specs.Places.{segment_left, is_reference_block};
 ghost use Rattle.aec_params.specs.Reading.{is_wanted, keeps_limit, begin_of};
 ghost use Rattle.aec_interval.specs.NextBlock.{FillsNext};
-ghost use Rattle.aec_interval.specs.NextSet.{cds_count, kept_count, IsNextCds, cds_front};
+ghost use Rattle.aec_interval.specs.NextSet.{cds_count, kept_count, IsNextCds, cds_front, blocks_before_end};
+ghost use Rattle.aec_interval.specs.Pieces.{counted_from};
 ghost use Rattle.aec_interval.specs.Reached.{AreFilled, IsReached, IsReadFrom, RefusesReading};
 
 use crate::filling::push_block;
@@ -18,9 +19,11 @@ use aec_block::{Cds, RunLen, read_cds};
 use aec_params::{Fault, Params};
 use std::alloc::Global;
 
-/// The bit where an interval begins, how many samples are asked for from there on, if that is said, and how many may come.
+/// The block and the bit where an interval begins, how many samples are asked for from block 0 on, if that is said, and how
+/// many may come.
 #[derive(Clone, Copy)]
 pub(crate) struct Wanted {
+    pub(crate) first: u64,
     pub(crate) start: u64,
     pub(crate) count: Option<u64>,
     pub(crate) limit: u64,
@@ -28,7 +31,7 @@ pub(crate) struct Wanted {
 
 /// Whether a coded data set is wanted at this block: with a count while blocks are needed, without one while the rest is
 /// not all zeros.
-fn wants_more(params: &Params, wanted: Wanted, reader: &BitReader, block: u64) -> bool
+pub(crate) fn wants_more(params: &Params, wanted: Wanted, reader: &BitReader, block: u64) -> bool
     ensures { result ≡ is_wanted params.now wanted.count reader.now.list block reader.now.pos }
 {
     match wanted.count {
@@ -102,7 +105,7 @@ fn blocks_kept(params: &Params, wanted: Wanted, block: u64, blocks: u64) -> u64
     }
 }
 
-/// Appends the samples of the first blocks of a coded data set that come next, behind `block` others.
+/// Appends the samples of the first blocks of a coded data set that come next, behind `block` others. Takes no memory.
 fn push_cds(
     alloc: Global,
     params: &Params,
@@ -110,12 +113,15 @@ fn push_cds(
     kept: u64,
     block: u64,
     samples: &mut Vec<i64>,
-) -> Result<(), Fault>
+)
     requires allowed { IsAllowed params.now }
+    requires some { 1 ≤ kept }
     requires filled { AreFilled params.now block samples.old.items }
     requires next { IsNextCds params.now block samples.old.items kept cds.now }
-    ensures ok { IfOk result (λ _. FillsNext params.now samples.old.items samples.new.items (cds_front params.now kept cds.now)) }
-    ensures fault { IfErr result (λ e. e ≡ Memory) }
+    requires room { vec_len samples.old + kept * params.now.block_size ≤ vec_capacity samples.old }
+    ensures items { FillsNext params.now samples.old.items samples.new.items (cds_front params.now kept cds.now) }
+    ensures len { vec_len samples.new ≤ vec_len samples.old + kept * params.now.block_size }
+    ensures capacity { vec_capacity samples.old ≤ vec_capacity samples.new }
 {
     match cds {
         Cds::Single(values) => push_block(params, values, samples),
@@ -125,7 +131,23 @@ fn push_cds(
     }
 }
 
+/// Makes room for the samples of so many blocks more.
+fn reserve_blocks(params: &Params, blocks: u64, samples: &mut Vec<i64>) -> Result<(), Fault>
+    requires { blocks ≤ params.now.interval }
+    ensures items { samples.new.items ≡ samples.old.items }
+    ensures len { vec_len samples.new ≡ vec_len samples.old }
+    ensures ok { OnOk result (vec_len samples.new + blocks * params.now.block_size ≤ vec_capacity samples.new) }
+    ensures capacity { vec_capacity samples.old ≤ vec_capacity samples.new }
+    ensures full { OnErr result (vec_capacity samples.old < vec_len samples.old + blocks * params.now.block_size) }
+    ensures fault { IfErr result (λ e. e ≡ Memory) }
+{
+    let more = blocks * u64::from(params.block_size());
+    samples.reserve(more as usize)?;
+    Ok(())
+}
+
 /// Reads the coded data set of a block that is wanted, and appends its samples. The number of the block that comes then.
+/// `Memory` comes only where there was no room for the samples that the interval has left.
 fn read_next(
     alloc: Global,
     params: &Params,
@@ -134,16 +156,24 @@ fn read_next(
     block: u64,
     samples: &mut Vec<i64>,
 ) -> Result<u64, Fault>
-    requires reached { IsReached params.now wanted.count wanted.limit reader.old.list wanted.start block reader.old.pos samples.old.items }
+    requires reached { IsReached params.now wanted.count wanted.limit reader.old.list wanted.first wanted.start block reader.old.pos samples.old.items }
+    requires aligned { wanted.first % params.now.interval ≡ 0 }
+    requires after { wanted.first ≤ block }
     requires wanted { is_wanted params.now wanted.count reader.old.list block reader.old.pos ≡ true }
     requires few { block < 2 ^ 34 }
     requires limit { wanted.limit ≤ 2 ^ 32 }
     requires counted { IfSome wanted.count (λ count. count ≤ 2 ^ 32) }
-    ensures ok { IfOk result (λ next. IsReached params.now wanted.count wanted.limit reader.new.list wanted.start next reader.new.pos samples.new.items) }
-    ensures refuses { IfErr result (λ fault. RefusesReading params.now wanted.count wanted.limit reader.old.list wanted.start fault) }
+    ensures ok { IfOk result (λ next.
+        IsReached params.now wanted.count wanted.limit reader.new.list wanted.first wanted.start next reader.new.pos samples.new.items) }
+    ensures refuses { IfErr result (λ fault. RefusesReading params.now wanted.count wanted.limit reader.old.list wanted.first wanted.start fault) }
     ensures list { reader.new.list ≡ reader.old.list }
     ensures forward { IfOk result (λ next. block < next) }
     ensures few { IfOk result (λ next. next < 2 ^ 34) }
+    ensures within { IfOk result (λ next. next ≤ block + blocks_before_end params.now block) }
+    ensures len { IfOk result (λ next. vec_len samples.new ≤ vec_len samples.old + (next - block) * params.now.block_size) }
+    ensures capacity { vec_capacity samples.old ≤ vec_capacity samples.new }
+    ensures full { IfErr result (λ fault. fault ≡ Memory
+        → vec_capacity samples.old < vec_len samples.old + blocks_before_end params.now block * params.now.block_size) }
 {
     let place = block % u64::from(params.interval());
     let bit = reader.pos();
@@ -159,9 +189,60 @@ fn read_next(
         });
     }
     let kept = blocks_kept(params, wanted, block, blocks);
-    push_cds(alloc, params, &cds, kept, block, samples)?;
+    reserve_blocks(params, kept, samples)?;
+    push_cds(alloc, params, &cds, kept, block - wanted.first, samples);
     skip_padding(params, reader, next);
     Ok(next)
+}
+
+/// Reads the interval that begins at a block that is wanted, up to its end or as far as blocks are wanted, and appends its
+/// samples. The number of the block that comes then.
+pub(crate) fn read_interval(
+    alloc: Global,
+    params: &Params,
+    wanted: Wanted,
+    reader: &mut BitReader,
+    samples: &mut Vec<i64>,
+) -> Result<u64, Fault>
+    requires begins { reader.old.pos ≡ wanted.start }
+    requires empty { samples.old.items ≡ [] }
+    requires aligned { wanted.first % params.now.interval ≡ 0 }
+    requires wanted { is_wanted params.now wanted.count reader.old.list wanted.first reader.old.pos ≡ true }
+    requires few { wanted.first < 2 ^ 34 }
+    requires limit { wanted.limit ≤ 2 ^ 32 }
+    requires counted { IfSome wanted.count (λ count. count ≤ 2 ^ 32) }
+    ensures ok { IfOk result (λ next.
+        IsReached params.now wanted.count wanted.limit reader.new.list wanted.first wanted.start next reader.new.pos samples.new.items) }
+    ensures refuses { IfErr result (λ fault. RefusesReading params.now wanted.count wanted.limit reader.old.list wanted.first wanted.start fault) }
+    ensures list { reader.new.list ≡ reader.old.list }
+    ensures forward { IfOk result (λ next. wanted.first < next) }
+    ensures few { IfOk result (λ next. next < 2 ^ 34) }
+    ensures ends { IfOk result (λ next.
+        is_wanted params.now wanted.count reader.new.list next reader.new.pos ≡ true → next % params.now.interval ≡ 0) }
+    ensures len { IfOk result (λ _. vec_len samples.new ≤ interval_len params.now) }
+    ensures capacity { vec_capacity samples.old ≤ vec_capacity samples.new }
+    ensures full { IfErr result (λ fault. fault ≡ Memory → vec_capacity samples.old < interval_len params.now) }
+{
+    let end = wanted.first + u64::from(params.interval());
+    let mut block = wanted.first;
+    loop {
+        block = read_next(alloc, params, wanted, reader, block, samples)?;
+        if block >= end || !wants_more(params, wanted, reader, block) {
+            return Ok(block);
+        }
+    }
+}
+
+/// Keeps of the samples from `wanted.first` on those that are asked for.
+pub(crate) fn cut_to_count(params: &Params, wanted: Wanted, samples: &mut Vec<i64>)
+    requires { wanted.first < 2 ^ 34 }
+    ensures items { samples.new.items ≡ counted_from params.now wanted.count wanted.first samples.old.items }
+    ensures capacity { vec_capacity samples.new ≡ vec_capacity samples.old }
+{
+    if let Some(count) = wanted.count {
+        let before = wanted.first * u64::from(params.block_size());
+        samples.truncate(count.saturating_sub(before) as usize);
+    }
 }
 
 /// The samples that the bits from `wanted.start` on stand for: with a count the first `count`, and without one all
@@ -175,13 +256,14 @@ pub(crate) fn decode_from(
     requires within { wanted.start ≤ length bits.now.list }
     requires limit { wanted.limit ≤ 2 ^ 32 }
     requires counted { IfSome wanted.count (λ count. count ≤ 2 ^ 32) }
+    requires first { wanted.first ≡ 0 }
     ensures ok { IfOk result (λ samples. IsReadFrom params.now wanted.count wanted.limit bits.now.list wanted.start samples.items) }
-    ensures refuses { IfErr result (λ fault. RefusesReading params.now wanted.count wanted.limit bits.now.list wanted.start fault) }
+    ensures refuses { IfErr result (λ fault. RefusesReading params.now wanted.count wanted.limit bits.now.list 0 wanted.start fault) }
 {
     let mut reader = BitReader::new(bits);
     reader.seek(wanted.start);
     let mut samples = Vec::new(alloc);
-    let mut block = 0;
+    let mut block = wanted.first;
     while wants_more(params, wanted, &reader, block) {
         block = read_next(alloc, params, wanted, &mut reader, block, &mut samples)?;
     }

@@ -11,7 +11,7 @@ use aec_params::{Fault, Params};
 use std::alloc::Global;
 
 /// Refuses a sample count that is above the limit.
-fn judge_count(count: Option<u64>, limit: u64) -> Result<(), Fault>
+pub(crate) fn judge_count(count: Option<u64>, limit: u64) -> Result<(), Fault>
     ensures { result_err result ≡ count_refusal limit count }
 {
     match count {
@@ -44,6 +44,7 @@ pub fn decode_all(
         params,
         bits,
         Wanted {
+            first: 0,
             start: 0,
             count,
             limit,

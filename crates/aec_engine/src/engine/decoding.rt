@@ -4,13 +4,14 @@ ghost use Rattle.std.specs.Prelude.{ℕ, List, Result, Err, IfOk, IfErr};
 ghost use Rattle.std.specs.List.{AllByRecursion};
 ghost use Rattle.aec_params.specs.declared.fault.Fault.{Fault};
 ghost use Rattle.aec_params.specs.Params.{IsHeld};
-ghost use Rattle.aec_engine.specs.Transfers.{are_past, Taking, taking_of, Putting, putting_of, answer_of, GivesAnswer, Leaves};
+ghost use Rattle.aec_engine.specs.Transfers.{are_past, Taking, taking_of, Putting, putting_of, GivesAnswer, Leaves};
 ghost use Rattle.aec_engine.specs.Output.{GaveSamples, IsDecoded};
+ghost use Rattle.aec_engine.specs.ReadingTwice.{DecodesBits, SettlesOne};
 
-use crate::engine::intake::read_whole;
-use crate::engine::outlet::{settle, stored};
+use crate::engine::bit_intake::read_bits;
+use crate::engine::two_readings::{count_samples, write_range};
 use aec_bits::{BitBuf, Sink, Source};
-use aec_interval::decode_all;
+use aec_interval::{StreamReader, decode_all};
 use aec_params::{Fault, Limits, Params};
 use std::alloc::Global;
 
@@ -28,32 +29,36 @@ pub(crate) fn read_source<R: Source>(
     ensures refuses { let took : Taking = taking_of R.left R.failed source.old source.new in
         IfErr result (λ fault. GivesAnswer (IsDecoded params.now limits count) took (are_past limits.bytes) (Err fault)) }
 {
-    let coded = read_whole(alloc, source, limits.bytes())?;
-    let bits = BitBuf::from_bytes(alloc, &coded)?;
+    let bits = read_bits(alloc, source, limits.bytes())?;
     decode_all(alloc, params, &bits, count, limits.samples())
 }
 
-/// What decoding a source answers: the bytes of its samples.
-fn decode_source<R: Source>(
+/// Reads coded bits twice: judges them first, then begins and writes the bytes of their samples. The refusals are those of
+/// `decode_all`, and `Memory`; nothing was begun then.
+fn decode_bits<W: Sink>(
     alloc: Global,
     params: &Params,
     limits: Limits,
     count: Option<u64>,
-    source: &mut R,
-) -> Result<Vec<u8>, Fault>
-    ensures { let took : Taking = taking_of R.left R.failed source.old source.new in
-        let answer : Result (List ℕ) Fault = answer_of (λ bytes. bytes.items) result in
-        GivesAnswer (IsDecoded params.now limits count) took (are_past limits.bytes) answer }
+    bits: &BitBuf,
+    sink: &mut W,
+) -> Result<(), Fault>
+    ensures { let put : Putting = putting_of W.taken W.begun W.failed sink.old sink.new in
+        SettlesOne (DecodesBits params.now count limits.samples bits.now.list) put result }
 {
-    let samples = read_source(alloc, params, limits, count, source)?;
-    stored(alloc, params, &samples)
+    let mut reader = StreamReader::new(alloc, *params, bits, count, limits.samples())?;
+    let mut samples = Vec::new(alloc);
+    let total = count_samples(params, &mut reader, &mut samples)?;
+    write_range(alloc, params, &mut reader, 0, total, samples, sink)
 }
 
-#[tactic(auto, using(crate::proofs::OutputLemmas::leaves_settled))]
 /// Reads the source whole, and writes the bytes of the samples that it codes: with a count the first `count`, without one
 /// all. The refusals in their order: `Read`, `StreamTooLong` and `Memory` as they are met while the source is read; then
 /// those of `decode_all`. Nothing has been written then and `begin` was not called. After `begin` only `Write` can come,
 /// and a front of the answer has been written.
+///
+/// The coded bits are read twice, so that the samples are not kept: memory is taken for the bytes of the source, and for
+/// one interval of samples and their bytes.
 pub fn decode<R: Source, W: Sink>(
     alloc: Global,
     params: &Params,
@@ -66,6 +71,6 @@ pub fn decode<R: Source, W: Sink>(
         let put : Putting = putting_of W.taken W.begun W.failed sink.old sink.new in
         Leaves (IsDecoded params.now limits count) took (are_past limits.bytes) put result }
 {
-    let answer = decode_source(alloc, params, limits, count, source);
-    settle(answer, sink)
+    let bits = read_bits(alloc, source, limits.bytes())?;
+    decode_bits(alloc, params, limits, count, &bits, sink)
 }

@@ -2,7 +2,7 @@
 
 ghost use Rattle.std.specs.Prelude.{◌≤◌, ◌^◌};
 
-use crate::{decode_all, encode_all};
+use crate::{StreamReader, decode_all, encode_all};
 use aec_bits::BitBuf;
 use aec_params::{Fault, Params, Settings};
 use std::alloc::Global;
@@ -47,7 +47,20 @@ pub fn expect_bits(rt: &impl Abort, bits: &BitBuf, len: u64, bytes: &[u8]) {
     }
 }
 
-/// Reads bytes with a count or without one, and compares the samples.
+/// The samples that a reader hands out, interval by interval.
+fn read_by_steps(alloc: Global, reader: &mut StreamReader) -> Result<Vec<i64>, Fault> {
+    let mut all = Vec::new(alloc);
+    let mut samples = Vec::new(alloc);
+    for _ in 0..MOST {
+        if !reader.next(&mut samples)? {
+            break;
+        }
+        all.extend_from_slice(&samples)?;
+    }
+    Ok(all)
+}
+
+/// Reads bytes with a count or without one, at once and twice in steps, and compares the samples.
 pub fn expect_read(
     rt: &impl Abort,
     alloc: Global,
@@ -59,6 +72,12 @@ pub fn expect_read(
     let bits = BitBuf::from_bytes(alloc, bytes)?;
     let read = decode_all(alloc, &Params::new(settings)?, &bits, count, MOST)?;
     assert_eq!(rt; read.as_slice(), samples);
+    let mut reader = StreamReader::new(alloc, Params::new(settings)?, &bits, count, MOST)?;
+    for _ in 0..2 {
+        let steps = read_by_steps(alloc, &mut reader)?;
+        assert_eq!(rt; steps.as_slice(), samples);
+        reader.restart();
+    }
     Ok(())
 }
 
@@ -76,7 +95,21 @@ pub fn expect_zeros(
     expect_read(rt, alloc, settings, bytes, count, &zeros)
 }
 
-/// Reads bytes, and compares the refusal.
+/// The samples of bits that are read in steps, or their refusal.
+fn samples_by_steps(
+    alloc: Global,
+    params: Params,
+    bits: &BitBuf,
+    count: Option<u64>,
+    limit: u64,
+) -> Result<Vec<i64>, Fault>
+    requires { limit ≤ 2 ^ 32 }
+{
+    let mut reader = StreamReader::new(alloc, params, bits, count, limit)?;
+    read_by_steps(alloc, &mut reader)
+}
+
+/// Reads bytes at once and in steps, and compares the refusals.
 pub fn expect_refusal(
     rt: &impl Abort,
     alloc: Global,
@@ -91,6 +124,10 @@ pub fn expect_refusal(
     let bits = BitBuf::from_bytes(alloc, bytes)?;
     match decode_all(alloc, &Params::new(settings)?, &bits, count, limit) {
         Ok(_) => assert!(rt; false, "samples are read"),
+        Err(refusal) => assert_eq!(rt; refusal, fault),
+    }
+    match samples_by_steps(alloc, Params::new(settings)?, &bits, count, limit) {
+        Ok(_) => assert!(rt; false, "samples are read in steps"),
         Err(refusal) => assert_eq!(rt; refusal, fault),
     }
     Ok(())

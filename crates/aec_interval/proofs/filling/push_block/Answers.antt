@@ -15,19 +15,22 @@ push_unmapped-requires-clause-prediction c =
 pub push_unmapped-requires-clause-small : goal.push_unmapped-requires-clause-small
 push_unmapped-requires-clause-small c = values-below c.args.params.now c.args.block.now c.args.samples.now.items c.values.result.now c.requires.next c.values.ensures.value
 
-pub returns-in-None-clause-ok : goal.returns-in-None-clause-ok
-returns-in-None-clause-ok c =
+pub returns-in-None-clause-items : goal.returns-in-None-clause-items
+returns-in-None-clause-items c =
     let fits : FitsSigned w64 c.previous_of-previous.result = search (rules, c.previous_of-previous.type_inv) in
-    fills_block_plain c.push_unmapped.result c.args.params.now c.args.samples.now.items c.push_unmapped.new.samples.items c.args.block.now (to_z w64 (of_z w64 c.previous_of-previous.result)) c.values.result.now c.requires.allowed c.requires.next (sym c.in-None.ensures.value)
-    (to_z-of_z w64 c.previous_of-previous.result fits ∙ (c.previous_of-previous.ensures ∙ ap last_sample c.deref.ensures.value)) c.values.ensures.value c.push_unmapped.ensures.ok
+    fills_block_plain c.args.params.now c.args.samples.now.items c.push_unmapped.new.samples.items c.args.block.now
+    (to_z w64 (of_z w64 c.previous_of-previous.result)) c.values.result.now c.requires.allowed c.requires.next (sym c.in-None.ensures.value)
+    (to_z-of_z w64 c.previous_of-previous.result fits ∙ (c.previous_of-previous.ensures ∙ ap last_sample c.deref.ensures.value)) c.values.ensures.value
+    c.push_unmapped.ensures.items
 
-pub returns-in_ok-push-in-Some-clause-ok : goal.returns-in_ok-push-in-Some-clause-ok
-returns-in_ok-push-in-Some-clause-ok c =
+pub returns-in-Some-clause-items : goal.returns-in-Some-clause-items
+returns-in-Some-clause-items c =
     let fits : FitsSigned w64 c.value-first.result = search (rules, c.value-first.type_inv) in
     let kept : to_z w64 (of_z w64 c.value-first.result) ≡ c.value-first.result = to_z-of_z w64 c.value-first.result fits in
-    fills_block_reference c.push_unmapped-in-Some.result c.args.params.now c.args.samples.now.items _ c.push_unmapped-in-Some.new.samples.items c.args.block.now c.in-Some.pattern (to_z w64 (of_z w64 c.value-first.result)) _
-    c.requires.allowed c.requires.next (sym c.in-Some.ensures.value)
+    fills_block_reference c.args.params.now c.args.samples.now.items _ c.push_unmapped-in-Some.new.samples.items c.args.block.now c.in-Some.pattern
+    (to_z w64 (of_z w64 c.value-first.result)) _ c.requires.allowed c.requires.next (sym c.in-Some.ensures.value)
     (subst (λ (x : ℤ). IsHeld c.args.params.now x) (sym kept) c.value-first.ensures.held)
     (ap (λ (x : ℤ). sample_pattern c.args.params.now x) kept ∙ c.value-first.ensures.undone)
-    (take_all (length c.values-in-Some.result.now - 1) (drop 1 c.values-in-Some.result.now) (omega (arith, length-drop 1 c.values-in-Some.result.now)) ∙ ap (drop 1) c.values-in-Some.ensures.value)
-    c.in_ok-push-in-Some.ensures.items c.push_unmapped-in-Some.ensures.ok
+    (take_all (length c.values-in-Some.result.now - 1) (drop 1 c.values-in-Some.result.now) (omega (arith, length-drop 1 c.values-in-Some.result.now))
+    ∙ ap (drop 1) c.values-in-Some.ensures.value)
+    (rw c.unwrap.ensures at c.push.ensures.items) c.push_unmapped-in-Some.ensures.items

@@ -5,13 +5,14 @@ use Rattle.aec_interval.proofs.reading.decode_from.Goals as goal
 
 pub loop-reader-init : goal.loop-reader-init
 loop-reader-init c = record {
-  reached = reached-start c.args.params.now c.args.wanted.count c.args.wanted.limit c.args.bits.now.list _ _ _ c.seek.ensures.pos c.new-samples.ensures.items;
+  reached = reached-start c.args.params.now c.args.wanted.count c.args.wanted.limit c.args.bits.now.list _ _ _ _ c.seek.ensures.pos c.new-samples.ensures.items;
   list = c.seek.ensures.list ∙ c.new-reader.ensures.list;
+  after = omega arith;
   few = omega arith;
 }
 
 pub returns-in_err-block-clause-refuses : goal.returns-in_err-block-clause-refuses
 returns-in_err-block-clause-refuses c =
     let exit = err_from_is_err_and c.from_residual.result c.from_residual.ensures.1 in
-    reading-refuses c.args.params.now c.args.wanted.count c.args.wanted.limit c.args.bits.now.list _ _ _ _ _
-    exit.1 exit.2 c.loop-reader.invariant.list c.in_err-block.ensures.refuses
+    reading-refuses c.args.params.now c.args.wanted.count c.args.wanted.limit c.args.bits.now.list _ _ _ _ _ _
+    exit.1 exit.2 c.loop-reader.invariant.list (rw c.requires.first at c.in_err-block.ensures.refuses)

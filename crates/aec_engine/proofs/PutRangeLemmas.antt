@@ -1,0 +1,249 @@
+-- The second reading: the bytes of a range of samples put piece by piece.
+use Rattle.std.proofs.Common.{◌≡◌, ℕ, zero, suc, ◌+◌, ◌-◌, ◌*◌, ◌%◌, ◌<◌, ◌≤◌, ◌^◌, min, Bool, true, false, Option, Some, None, Result, Ok, Err, OnOk, OnErr, ℤ, List, [], ◌∷◌, ◌++◌, length, take, drop, refl, sym, ap, ap₂, ◌∙◌, subst, arith, append-nil, append_assoc, ⊎_elim}
+use Rattle.std.specs.Io.KnownBytes.{Appends, Keeps}
+use Rattle.std.proofs.KnownBytes.{Appends-nil, Appends-trans}
+use Rattle.std.proofs.lemmas.Bool.{cases_lt}
+use Rattle.std.proofs.lemmas.List.{length-append, length-take, length-drop, take_all, take-append-drop, nil_from_length}
+use Rattle.std.specs.List.{AllByRecursion}
+use Rattle.std.proofs.lemmas.List.Concat.{flat_map-append}
+use Rattle.aec_params.specs.declared.settings.Settings.{Settings}
+use Rattle.aec_params.specs.declared.fault.Fault.{Fault}
+use Rattle.aec_params.specs.declared.fault.Fault.TheVariants.{Memory}
+use Rattle.aec_params.specs.Params.{IsAllowed, IsHeld, interval_len}
+use Rattle.aec_params.specs.Stored.{stored_bytes}
+use Rattle.aec_params.specs.Reading.{IsReading}
+use Rattle.aec_bits.specs.Devices.{AppendsFront}
+use Rattle.aec_interval.specs.Pieces.{Place, is_wanted_at, ReadsPiece, ReadsInterval, HasRead, RefusesAt}
+use Rattle.aec_interval.proofs.ReadingLemmas.{bits_are_read_in_one_way}
+use Rattle.aec_interval.proofs.PieceReadingLemmas.{has_read_more, has_read_all, has_read_front, lacks_memory_only, has_read_nothing, piece_is_held}
+use Rattle.aec_interval.proofs.BlockLemmas.{all_left, all_right}
+use Rattle.aec_engine.specs.Output.{all_stored, samples_from}
+use Rattle.aec_engine.specs.ReadingTwice.{AreSamplesOf, PutsPart}
+use Rattle.aec_engine.proofs.ReadTwiceLemmas.{place_from, settings-same, same_next}
+
+-- ---- parts of lists
+
+drop-none : {X : Type 0} (n : ℕ) (l : List X) → length l ≡ 0 → drop n l ≡ l
+drop-none n [] none = nil_from_length (drop n []) (length-drop n [] ∙ omega arith)
+drop-none n (x ∷ l) none = absurd (omega arith)
+
+take-none : {X : Type 0} (n : ℕ) (l : List X) → length l ≡ 0 → take n l ≡ l
+take-none n [] none = nil_from_length (take n []) (length-take n [] ∙ omega arith)
+take-none n (x ∷ l) none = absurd (omega arith)
+
+drop-both : {X : Type 0} (n : ℕ) (xs ys : List X) → drop n (xs ++ ys) ≡ drop n xs ++ drop (n - length xs) ys
+drop-both n [] ys = ap₂ (λ l k. l ++ drop k ys) (sym (drop-none n [] refl)) (omega arith)
+drop-both zero (x ∷ xs) ys = let none : 0 - length (x ∷ xs) ≡ 0 = omega arith in ap (λ k. (x ∷ xs) ++ drop k ys) (sym none)
+drop-both (suc n) (x ∷ xs) ys = drop-both n xs ys ∙ ap (λ k. drop n xs ++ drop k ys) (omega arith)
+
+take-both : {X : Type 0} (n : ℕ) (xs ys : List X) → take n (xs ++ ys) ≡ take n xs ++ take (n - length xs) ys
+take-both n [] ys = ap₂ (λ l k. l ++ take k ys) (sym (take-none n [] refl)) (omega arith)
+take-both zero (x ∷ xs) ys = let none : 0 - length (x ∷ xs) ≡ 0 = omega arith in ap (λ k. take k ys) (sym none)
+take-both (suc n) (x ∷ xs) ys = ap (λ l. x ∷ l) (take-both n xs ys ∙ ap (λ k. take n xs ++ take k ys) (omega arith))
+
+pub samples_from-append : (first len : ℕ) (xs ys : List ℤ)
+    → samples_from first len (xs ++ ys) ≡ samples_from first len xs ++ samples_from (first - length xs) (len - (length xs - first)) ys
+samples_from-append first len xs ys =
+    ap (take len) (drop-both first xs ys) ∙ take-both len (drop first xs) (drop (first - length xs) ys)
+    ∙ ap (λ k. samples_from first len xs ++ take k (drop (first - length xs) ys)) (ap (λ n. len - n) (length-drop first xs))
+
+pub samples_from-most : (skip left : ℕ) (ys : List ℤ) → length (samples_from skip left ys) ≡ min left (length ys - skip)
+samples_from-most skip left ys = length-take left (drop skip ys) ∙ ap (min left) (length-drop skip ys)
+
+all_stored-append : (s : Settings) (xs ys : List ℤ) → all_stored s (xs ++ ys) ≡ all_stored s xs ++ all_stored s ys
+all_stored-append s xs ys = flat_map-append (stored_bytes s) xs ys
+
+-- ---- what was put so far
+
+pub record PutsSoFar (start p : Place) (s : Settings) (first len skip left : ℕ) (before after : Option (List ℕ)) (waiting : List ℕ) : Type 0 where
+  pub samples : List ℤ
+  pub read : HasRead p samples
+  pub same : p ≡ place_from start p.block p.bit
+  pub few : p.block < 2 ^ 34
+  pub put : List ℕ
+  pub appended : Appends before after put
+  pub all : put ++ waiting ≡ all_stored s (samples_from first len samples)
+  pub skip_is : skip ≡ first - length samples
+  pub left_is : left ≡ len - (length samples - first)
+
+pub puts_none : (start : Place) (s : Settings) (first len : ℕ) (known : Option (List ℕ)) (waiting : List ℕ) → waiting ≡ [] → (samples : List ℤ) × AreSamplesOf start samples
+    → PutsSoFar start start s first len first len known known waiting
+puts_none start s first len known waiting none given = record {
+  samples = [];
+  read = subst (λ p. HasRead p []) (sym at_start) (has_read_nothing start.settings start.count start.limit start.bits);
+  same = refl;
+  few = omega (arith, given.1.some_block);
+  put = [];
+  appended = Appends-nil known;
+  all = none ∙ sym (ap (all_stored s) (nothing first len));
+  skip_is = omega arith;
+  left_is = omega arith;
+}
+  where
+    at_start : start ≡ place_from start 0 0
+    at_start = ap (λ i. place_from start i start.bit) given.1.some_block ∙ ap (λ b. place_from start 0 b) given.1.some_bit
+
+    nothing : (first len : ℕ) → samples_from first len [] ≡ []
+    nothing zero zero = refl
+    nothing zero (suc len) = refl
+    nothing (suc first) zero = refl
+    nothing (suc first) (suc len) = refl
+
+-- the bytes of a step's part behind those so far
+behind : (s : Settings) (put waiting put_then waiting_then : List ℕ) (first len : ℕ) (xs ys part : List ℤ)
+    → put ++ waiting ≡ all_stored s (samples_from first len xs) → put_then ++ waiting_then ≡ waiting ++ all_stored s part
+    → part ≡ samples_from (first - length xs) (len - (length xs - first)) ys
+    → (put ++ put_then) ++ waiting_then ≡ all_stored s (samples_from first len (xs ++ ys))
+behind s put waiting put_then waiting_then first len xs ys part so_far next is =
+    append_assoc put put_then waiting_then ∙ ap (λ l. put ++ l) next ∙ sym (append_assoc put waiting (all_stored s part))
+    ∙ ap₂ (λ l part. l ++ all_stored s part) so_far is
+    ∙ sym (ap (all_stored s) (samples_from-append first len xs ys) ∙ all_stored-append s (samples_from first len xs) _)
+
+pub puts_more : (start p q : Place) (s : Settings) (first len skip left skip_then left_then : ℕ) (before mid after : Option (List ℕ)) (waiting waiting_then : List ℕ)
+    (ys part : List ℤ) → IsAllowed start.settings → PutsSoFar start p s first len skip left before mid waiting → ReadsInterval p ys q → q.block < 2 ^ 34
+    → part ≡ samples_from skip left ys → PutsPart mid after waiting (all_stored s part) waiting_then → skip_then ≡ skip - length ys → left_then ≡ left - length part
+    → PutsSoFar start q s first len skip_then left_then before after waiting_then
+puts_more start p q s first len skip left skip_then left_then before mid after waiting waiting_then ys part a so_far step few is puts skips leaves = record {
+  samples = so_far.samples ++ ys;
+  read = has_read_more p q so_far.samples ys (subst IsAllowed (sym (settings-same start p so_far.same)) a) so_far.read step;
+  same = same_next start p q so_far.same step.piece.same;
+  few = few;
+  put = so_far.put ++ puts.put;
+  appended = Appends-trans before mid after so_far.put puts.put so_far.appended puts.appended;
+  all = behind s so_far.put waiting puts.put waiting_then first len so_far.samples ys part so_far.all puts.all
+      (is ∙ ap₂ (λ k n. samples_from k n ys) so_far.skip_is so_far.left_is);
+  skip_is = omega (arith, skips, so_far.skip_is, length-append so_far.samples ys);
+  left_is = omega (arith, leaves, so_far.left_is, so_far.skip_is, length-append so_far.samples ys, ap length is, samples_from-most skip left ys);
+}
+
+-- ---- the second reading is refused nothing
+
+pub not_refused : (start p : Place) (s : Settings) (first len skip left capacity : ℕ) (before after : Option (List ℕ)) (waiting : List ℕ) (fault : Fault) {P : Type 0}
+    → IsAllowed start.settings → PutsSoFar start p s first len skip left before after waiting → (samples : List ℤ) × AreSamplesOf start samples
+    → RefusesAt p fault → (fault ≡ Memory → capacity < interval_len p.settings) → interval_len start.settings ≤ capacity → P
+not_refused start p s first len skip left capacity before after waiting fault a so_far given refuses full room =
+    let settings = settings-same start p so_far.same in
+    let whole : IsReading p.settings p.count p.limit p.bits given.0 =
+    subst (λ (p : Place). IsReading p.settings p.count p.limit p.bits given.0) (sym so_far.same) given.1.reading in
+    let memory = lacks_memory_only p so_far.samples given.0 fault (subst IsAllowed (sym settings) a) so_far.read whole refuses in
+    absurd (omega (arith, full memory, room, ap interval_len settings))
+
+-- ---- what the sink has at the end
+
+front_more : (before mid after : Option (List ℕ)) (put more rest all : List ℕ) → Appends before mid put → AppendsFront mid after more → all ≡ put ++ (more ++ rest)
+    → AppendsFront before after all
+front_more before mid after put more rest all first front is =
+    (length put + min front.0 (length more), subst (Appends before after) (sym taken) (Appends-trans before mid after put (take front.0 more) first front.1))
+  where
+    n : ℕ
+    n = min front.0 (length more)
+
+    capped : take n more ≡ take front.0 more
+    capped = ⊎_elim fewer whole (cases_lt front.0 (length more))
+      where
+        fewer : front.0 < length more → take n more ≡ take front.0 more
+        fewer h = let same : n ≡ front.0 = omega (arith, h) in ap (λ m. take m more) same
+
+        whole : length more ≤ front.0 → take n more ≡ take front.0 more
+        whole h = take_all n more (omega (arith, h)) ∙ sym (take_all front.0 more (omega (arith, h)))
+
+    taken : take (length put + n) all ≡ put ++ take front.0 more
+    taken =
+        let here : length put + n - length put ≡ n = omega arith in
+        let none : n - length more ≡ 0 = omega arith in
+        ap (take (length put + n)) is ∙ take-both (length put + n) put (more ++ rest)
+        ∙ ap₂ ◌++◌ (take_all (length put + n) put (omega arith)) (ap (λ k. take k (more ++ rest)) here)
+        ∙ ap (λ l. put ++ l) (take-both n more rest ∙ ap₂ ◌++◌ capped (ap (λ k. take k rest) none) ∙ append-nil (take front.0 more))
+
+pub puts_front : (start p q : Place) (s : Settings) (first len skip left : ℕ) (before mid after : Option (List ℕ)) (waiting : List ℕ) (ys part xs : List ℤ)
+    → IsAllowed start.settings → PutsSoFar start p s first len skip left before mid waiting → ReadsInterval p ys q
+    → (is_wanted_at q ≡ true → q.block % q.settings.interval ≡ 0) → part ≡ samples_from skip left ys → AppendsFront mid after (waiting ++ all_stored s part)
+    → AreSamplesOf start xs → AppendsFront before after (all_stored s (samples_from first len xs))
+puts_front start p q s first len skip left before mid after waiting ys part xs a so_far step begins is front given =
+    front_more before mid after so_far.put (waiting ++ all_stored s part) (all_stored s later) (all_stored s (samples_from first len xs)) so_far.appended front
+    (ap (all_stored s) (ap (samples_from first len) rest.1 ∙ samples_from-append first len both rest.0) ∙ all_stored-append s (samples_from first len both) later
+    ∙ ap (λ l. l ++ all_stored s later) (sym here) ∙ append_assoc so_far.put (waiting ++ all_stored s part) (all_stored s later))
+  where
+    allowed : IsAllowed p.settings
+    allowed = subst IsAllowed (sym (settings-same start p so_far.same)) a
+
+    both : List ℤ
+    both = so_far.samples ++ ys
+
+    same : q ≡ place_from start q.block q.bit
+    same = same_next start p q so_far.same step.piece.same
+
+    rest : (zs : List ℤ) × (xs ≡ both ++ zs)
+    rest = has_read_front q both xs (subst IsAllowed (sym (settings-same start q same)) a) (has_read_more p q so_far.samples ys allowed so_far.read step) begins
+        (subst (λ (p : Place). IsReading p.settings p.count p.limit p.bits xs) (sym same) given.reading)
+
+    later : List ℤ
+    later = samples_from (first - length both) (len - (length both - first)) rest.0
+
+    here : so_far.put ++ (waiting ++ all_stored s part) ≡ all_stored s (samples_from first len both)
+    here = sym (append_assoc so_far.put waiting (all_stored s part))
+        ∙ ap₂ (λ l part. l ++ all_stored s part) so_far.all (is ∙ ap₂ (λ k n. samples_from k n ys) so_far.skip_is so_far.left_is)
+        ∙ sym (ap (all_stored s) (samples_from-append first len so_far.samples ys) ∙ all_stored-append s (samples_from first len so_far.samples) _)
+
+-- at the end what was read is all
+all_read : (start p : Place) (s : Settings) (first len skip left : ℕ) (before after : Option (List ℕ)) (waiting : List ℕ) (xs : List ℤ) → IsAllowed start.settings
+    → (so_far : PutsSoFar start p s first len skip left before after waiting) → is_wanted_at p ≡ false → AreSamplesOf start xs → so_far.samples ≡ xs
+all_read start p s first len skip left before after waiting xs a so_far done given =
+    let whole = has_read_all p so_far.samples (subst IsAllowed (sym (settings-same start p so_far.same)) a) so_far.read done in
+    (bits_are_read_in_one_way start.settings start.count start.limit start.bits a).one_reading so_far.samples xs
+    (subst (λ (p : Place). IsReading p.settings p.count p.limit p.bits so_far.samples) so_far.same whole) given.reading
+
+pub puts_all : (start p : Place) (s : Settings) (first len skip left : ℕ) (before mid after : Option (List ℕ)) (waiting bytes : List ℕ) (r : Result (Unit {0}) Fault)
+    → IsAllowed start.settings → PutsSoFar start p s first len skip left before mid waiting → is_wanted_at p ≡ false → bytes ≡ waiting → OnOk r (Appends mid after bytes)
+    → (xs : List ℤ) → AreSamplesOf start xs → OnOk r (Appends before after (all_stored s (samples_from first len xs)))
+puts_all start p s first len skip left before mid after waiting bytes (Ok u) a so_far done is puts xs given =
+    subst (Appends before after) (ap (λ l. so_far.put ++ l) is ∙ so_far.all
+    ∙ ap (λ l. all_stored s (samples_from first len l)) (all_read start p s first len skip left before mid waiting xs a so_far done given))
+    (Appends-trans before mid after so_far.put bytes so_far.appended puts)
+puts_all start p s first len skip left before mid after waiting bytes (Err e) a so_far done is puts xs given = tt
+
+pub puts_last_front : (start p : Place) (s : Settings) (first len skip left : ℕ) (before mid after : Option (List ℕ)) (waiting bytes : List ℕ)
+    (r : Result (Unit {0}) Fault) → IsAllowed start.settings → PutsSoFar start p s first len skip left before mid waiting → is_wanted_at p ≡ false → bytes ≡ waiting
+    → OnErr r (AppendsFront mid after bytes) → (xs : List ℤ) → AreSamplesOf start xs → OnErr r (AppendsFront before after (all_stored s (samples_from first len xs)))
+puts_last_front start p s first len skip left before mid after waiting bytes (Ok u) a so_far done is puts xs given = tt
+puts_last_front start p s first len skip left before mid after waiting bytes (Err e) a so_far done is puts xs given =
+    front_more before mid after so_far.put bytes [] (all_stored s (samples_from first len xs)) so_far.appended puts
+    (sym (ap (λ l. so_far.put ++ l) (append-nil bytes ∙ is) ∙ so_far.all
+    ∙ ap (λ l. all_stored s (samples_from first len l)) (all_read start p s first len skip left before mid waiting xs a so_far done given)))
+
+-- ---- in the form in which the code has the facts
+
+-- part of a step's samples
+pub part_is_held : (start p q : Place) (s : Settings) (skip left : ℕ) (ys part : List ℤ) → p ≡ place_from start p.block p.bit → start.settings ≡ s → ReadsPiece p ys q
+    → part ≡ samples_from skip left ys → AllByRecursion (IsHeld s) part
+part_is_held start p q s skip left ys part same settings piece is =
+    subst (AllByRecursion (IsHeld s)) (sym is)
+    (all_left (IsHeld s) (take left (drop skip ys)) (drop left (drop skip ys)) (subst (AllByRecursion (IsHeld s)) (sym (take-append-drop left (drop skip ys)))
+    (all_right (IsHeld s) (take skip ys) (drop skip ys) (subst (AllByRecursion (IsHeld s)) (sym (take-append-drop skip ys))
+    (subst (λ s. AllByRecursion (IsHeld s) ys) (settings-same start p same ∙ settings) (piece_is_held p q ys piece))))))
+
+pub puts_front_err : (r : Result (Unit {0}) Fault) (fault : Fault) (start p q : Place) (s : Settings) (first len skip left : ℕ) (before mid after : Option (List ℕ))
+    (waiting : List ℕ) (ys part : List ℤ) → r ≡ Err fault
+    → IsAllowed start.settings → PutsSoFar start p s first len skip left before mid waiting → ReadsInterval p ys q
+    → (is_wanted_at q ≡ true → q.block % q.settings.interval ≡ 0) → part ≡ samples_from skip left ys → AppendsFront mid after (waiting ++ all_stored s part)
+    → (xs : List ℤ) → AreSamplesOf start xs → OnErr r (AppendsFront before after (all_stored s (samples_from first len xs)))
+puts_front_err r fault start p q s first len skip left before mid after waiting ys part is a so_far step begins part_is front xs given =
+    subst (λ r. OnErr r (AppendsFront before after (all_stored s (samples_from first len xs)))) (sym is)
+    (puts_front start p q s first len skip left before mid after waiting ys part xs a so_far step begins part_is front given)
+
+-- a sink that kept its bytes when it was begun
+begun_then : (before mid after : Option (List ℕ)) (bytes : List ℕ) → Keeps before mid → Appends mid after bytes → Appends before after bytes
+begun_then None mid after bytes kept appended = tt
+begun_then (Some xs) None after bytes kept appended = absurd kept
+begun_then (Some xs) (Some ys) None bytes kept appended = appended
+begun_then (Some xs) (Some ys) (Some zs) bytes kept appended = appended ∙ ap (λ l. l ++ bytes) kept
+
+pub begun_ok : (before mid after : Option (List ℕ)) (bytes : List ℕ) (r : Result (Unit {0}) Fault) → Keeps before mid → OnOk r (Appends mid after bytes)
+    → OnOk r (Appends before after bytes)
+begun_ok before mid after bytes (Ok u) kept ok = begun_then before mid after bytes kept ok
+begun_ok before mid after bytes (Err e) kept ok = tt
+
+pub begun_err : (before mid after : Option (List ℕ)) (bytes : List ℕ) (r : Result (Unit {0}) Fault) → Keeps before mid → OnErr r (AppendsFront mid after bytes)
+    → OnErr r (AppendsFront before after bytes)
+begun_err before mid after bytes (Ok u) kept front = tt
+begun_err before mid after bytes (Err e) kept front = (front.0, begun_then before mid after (take front.0 bytes) kept front.1)

@@ -1,0 +1,87 @@
+-- Bits read once to count their samples, and again to put the bytes of some of them.
+use Rattle.std.proofs.Common.{◌≡◌, ℕ, ◌+◌, ◌-◌, ◌*◌, ◌%◌, ◌<◌, ◌≤◌, ◌^◌, Bool, true, false, Option, None, Result, Ok, Err, IfOk, IfErr, ℤ, List, [], ◌∷◌, ◌++◌, length, take, drop, refl, sym, ap, ap₂, ◌∙◌, subst, arith, append-nil, append_assoc}
+use Rattle.std.proofs.Math.Nat.{mul-le-mul_right}
+use Rattle.std.specs.List.{AllByRecursion}
+use Rattle.std.proofs.lemmas.List.{length-append}
+use Rattle.aec_params.specs.declared.settings.Settings.{Settings}
+use Rattle.aec_params.specs.declared.fault.Fault.{Fault}
+use Rattle.aec_params.specs.Params.{IsAllowed, IsHeld, interval_len}
+use Rattle.aec_params.specs.Reading.{IsReading}
+use Rattle.aec_interval.specs.Reached.{RefusesReading}
+use Rattle.aec_interval.specs.Pieces.{Place, place_at, is_wanted_at, ReadsInterval, HasRead, RefusesAt}
+use Rattle.aec_interval.proofs.ReadNextLemmas.{block_size-most}
+use Rattle.aec_interval.proofs.PieceReadingLemmas.{has_read_nothing, has_read_more, has_read_all, has_read_refused, has_read_few, has_read_front, lacks_memory_only, piece_is_held}
+use Rattle.aec_engine.specs.ReadingTwice.{AreSamplesOf, HaveSamples}
+
+-- a place that was come to from another one
+abbrev pub place_from : Place → ℕ → ℕ → Place
+place_from p i b = place_at p.settings p.count p.limit p.bits i b
+
+-- all samples up to a place were counted
+pub record CountsSoFar (start p : Place) (total : ℕ) : Type 0 where
+  pub samples : List ℤ
+  pub read : HasRead p samples
+  pub counted : length samples ≡ total
+  pub same : p ≡ place_from start p.block p.bit
+  pub few : p.block < 2 ^ 34
+
+pub counts_none : (start p : Place) → p ≡ start → start.block ≡ 0 → start.bit ≡ 0 → CountsSoFar start p 0
+counts_none start p is block bit = subst (λ p. CountsSoFar start p 0) (sym (is ∙ at_start)) (record {
+  samples = [];
+  read = has_read_nothing start.settings start.count start.limit start.bits;
+  counted = refl;
+  same = refl;
+  few = omega arith;
+})
+  where
+    at_start : start ≡ place_from start 0 0
+    at_start = ap (λ i. place_from start i start.bit) block ∙ ap (λ b. place_from start 0 b) bit
+
+pub settings-same : (start p : Place) → p ≡ place_from start p.block p.bit → p.settings ≡ start.settings
+settings-same start p same = ap (λ (p : Place). p.settings) same
+
+pub same_next : (start p q : Place) → p ≡ place_from start p.block p.bit → q ≡ place_from p q.block q.bit → q ≡ place_from start q.block q.bit
+same_next start p q first second = second ∙ ap (λ (p : Place). place_from p q.block q.bit) first
+
+pub counts_more : (start p q : Place) (total more : ℕ) (ys : List ℤ) → IsAllowed start.settings → CountsSoFar start p total → ReadsInterval p ys q
+    → more ≡ total + length ys → q.block < 2 ^ 34 → CountsSoFar start q more
+counts_more start p q total more ys a so_far step is few = record {
+  samples = so_far.samples ++ ys;
+  read = has_read_more p q so_far.samples ys (subst IsAllowed (sym (settings-same start p so_far.same)) a) so_far.read step;
+  counted = omega (arith, length-append so_far.samples ys, so_far.counted, is);
+  same = same_next start p q so_far.same step.piece.same;
+  few = few;
+}
+
+-- so many samples can be counted
+pub counts_few : (start p : Place) (total : ℕ) → IsAllowed start.settings → CountsSoFar start p total → total ≤ 2 ^ 40
+counts_few start p total a so_far =
+    let allowed = subst IsAllowed (sym (settings-same start p so_far.same)) a in
+    let most : p.block * p.settings.block_size ≤ 2 ^ 34 * 64 = product p.block p.settings.block_size so_far.few (block_size-most p.settings allowed) in
+    omega (arith, so_far.counted, has_read_few p so_far.samples allowed so_far.read, most)
+  where
+    product : (i j : ℕ) → i < 2 ^ 34 → j ≤ 64 → i * j ≤ 2 ^ 34 * 64
+    product i j low few =
+        let x : i * j ≤ 2 ^ 34 * j = mul-le-mul_right j (omega (arith, low)) in
+        omega (arith, x, few)
+
+pub counts_refused : {X : Type 0} (r : Result X Fault) (fault other : Fault) (start p : Place) (total : ℕ) → IsAllowed start.settings → r ≡ Err fault → fault ≡ other
+    → CountsSoFar start p total → RefusesAt p other → IfErr r (λ fault. RefusesReading start.settings start.count start.limit start.bits 0 0 fault)
+counts_refused {X} r fault other start p total a is same so_far refuses =
+    let P : Result X Fault → Type 0 = λ r. IfErr r (λ fault. RefusesReading start.settings start.count start.limit start.bits 0 0 fault) in
+    let whole = has_read_refused p so_far.samples other (subst IsAllowed (sym (settings-same start p so_far.same)) a) so_far.read refuses in
+    subst P (sym (is ∙ ap Err same)) (subst (λ (p : Place). RefusesReading p.settings p.count p.limit p.bits 0 0 other) so_far.same whole)
+
+pub counts_all : (start p : Place) (total : ℕ) → IsAllowed start.settings → CountsSoFar start p total → is_wanted_at p ≡ false → HaveSamples start total
+counts_all start p total a so_far done =
+    let whole = has_read_all p so_far.samples (subst IsAllowed (sym (settings-same start p so_far.same)) a) so_far.read done in
+    record {
+      samples = so_far.samples;
+      reading = subst (λ (p : Place). IsReading p.settings p.count p.limit p.bits so_far.samples) so_far.same whole;
+      counted = so_far.counted;
+    }
+
+pub at_start_again : (start p q : Place) → p ≡ place_from start p.block p.bit → q ≡ place_from p 0 0 → start.block ≡ 0 → start.bit ≡ 0 → q ≡ start
+at_start_again start p q same again block bit =
+    again ∙ (ap (λ (p : Place). place_from p 0 0) same
+    ∙ sym (ap (λ i. place_from start i start.bit) block ∙ ap (λ b. place_from start 0 b) bit))

@@ -1,0 +1,162 @@
+-- Answers that are written or refused, by what stands for them before they are stored.
+use Rattle.std.proofs.Common.{◌≡◌, ℕ, ◌+◌, ◌<◌, ◌≤◌, Bool, Option, None, Some, Result, Ok, Err, OnOk, OnErr, IfErr, ℤ, List, length, take, drop, refl, sym, ap, ◌∙◌, subst, arith}
+use Rattle.std.specs.Io.KnownBytes.{Appends}
+use Rattle.std.specs.Result.{result_err}
+use Rattle.std.proofs.lemmas.List.{take_all}
+use Rattle.aec_params.specs.declared.settings.Settings.{Settings}
+use Rattle.aec_params.specs.declared.fault.Fault.{Fault}
+use Rattle.aec_params.specs.declared.fault.Fault.TheVariants.{Memory, Write, OutOfRange}
+use Rattle.aec_params.specs.Limits.{Caps}
+use Rattle.aec_params.specs.Codewords.{bits_of_bytes}
+use Rattle.aec_params.specs.Reading.{IsReading}
+use Rattle.aec_bits.specs.Devices.{counted, AppendsFront}
+use Rattle.aec_interval.specs.Reached.{count_refusal, RefusesReading, RefusesDecoding, above_limit, unread}
+use Rattle.aec_interval.specs.Pieces.{Place, place_at}
+use Rattle.aec_engine.specs.Output.{IsDecoded, decoded, IsRanged, not_decoded, outside, cut_out, all_stored, samples_from}
+use Rattle.aec_engine.specs.Transfers.{Input, Taking, are_past, Putting, RefusesIntake, IsTakenWhole, GivesAnswer, given, Settles, not_begun, Leaves}
+use Rattle.aec_engine.specs.ReadingTwice as twice
+use Rattle.aec_engine.specs.Transfers as transfers
+use Rattle.aec_engine.specs.ReadingTwice.{GaveWhole, AreSamplesOf, HaveSamples, StoresPart, DecodesBits, CutsBits, SettlesOne}
+use Rattle.aec_engine.proofs.RangingLemmas.{refused_as_decoding}
+use Rattle.aec_engine.proofs.OutputLemmas.{Keeps-same, settles_delivered, leaves_settled, refused_intake, refused_decoding, read_samples}
+
+-- a refusal with nothing written
+pub settles_refusal : (answers : Result (List ℕ) Fault → Type 0) (r : Result (Unit {0}) Fault) (fault f : Fault) (before : Option (List ℕ)) (begun failures : ℕ)
+    → r ≡ Err fault → fault ≡ f → answers (Err f)
+    → SettlesOne answers (record { before = before; after = before; begun_before = begun; begun_after = begun; failures = failures }) r
+settles_refusal answers r fault f before begun failures is same answered =
+    let sink : Putting = record { before = before; after = before; begun_before = begun; begun_after = begun; failures = failures } in
+    subst (SettlesOne answers sink) (sym (is ∙ ap Err same))
+    (record { answer = Err f; answered = answered; settles = not_begun f (record { kept = Keeps-same before; begun = refl }) })
+
+-- bytes that are written
+pub settles_written : (answers : Result (List ℕ) Fault → Type 0) (r : Result (Unit {0}) Fault) (bytes : List ℕ) (sink : Putting) → answers (Ok bytes)
+    → OnOk r (Appends sink.before sink.after bytes) → OnErr r (AppendsFront sink.before sink.after bytes) → sink.begun_after ≡ counted sink.begun_before
+    → IfErr r (λ e. (e ≡ Write) × (sink.failures ≡ 1)) → SettlesOne answers sink r
+settles_written answers r bytes sink answered ok front begun fault =
+    record { answer = Ok bytes; answered = answered; settles = settles_delivered {X = List ℕ} (λ b. b) (Ok bytes) r bytes bytes sink refl refl ok front begun fault }
+
+settles_map : (answers others : Result (List ℕ) Fault → Type 0) (sink : Putting) (r : Result (Unit {0}) Fault)
+    → ((answer : Result (List ℕ) Fault) → answers answer → others answer) → SettlesOne answers sink r → SettlesOne others sink r
+settles_map answers others sink r weaker one = record { answer = one.answer; answered = weaker one.answer one.answered; settles = one.settles }
+
+-- ---- bits
+
+-- at the first bit
+abbrev pub samples_at_start : (s : Settings) (count : Option ℕ) (limit : ℕ) (bits : List Bool) (p : Place) (total : ℕ) → p ≡ place_at s count limit bits 0 0
+    → HaveSamples p total → (xs : List ℤ) × AreSamplesOf p xs
+samples_at_start s count limit bits p total is have =
+    (have.samples, record { reading = have.reading; some_block = ap (λ (p : Place). p.block) is; some_bit = ap (λ (p : Place). p.bit) is })
+
+reading_at : (s : Settings) (count : Option ℕ) (limit : ℕ) (bits : List Bool) (p : Place) (xs : List ℤ) → p ≡ place_at s count limit bits 0 0
+    → IsReading p.settings p.count p.limit p.bits xs → IsReading s count limit bits xs
+reading_at s count limit bits p xs is reading = subst (λ (p : Place). IsReading p.settings p.count p.limit p.bits xs) is reading
+
+pub refuses_count : (s : Settings) (count : Option ℕ) (limit : ℕ) (bits : List Bool) (fault : Fault) → Some fault ≡ count_refusal limit count
+    → RefusesDecoding s count limit bits fault
+refuses_count s count limit bits fault is = above_limit fault (sym is)
+
+pub refuses_reading : (s : Settings) (count : Option ℕ) (limit : ℕ) (bits : List Bool) (p : Place) (fault : Fault) → p ≡ place_at s count limit bits 0 0
+    → None ≡ count_refusal limit count → RefusesReading p.settings p.count p.limit p.bits 0 0 fault → RefusesDecoding s count limit bits fault
+refuses_reading s count limit bits p fault is none refuses =
+    unread fault (sym none) (subst (λ (p : Place). RefusesReading p.settings p.count p.limit p.bits 0 0 fault) is refuses)
+
+whole_part : (total : ℕ) (xs : List ℤ) → length xs ≡ total → samples_from 0 total xs ≡ xs
+whole_part total xs is = take_all total xs (omega (arith, is))
+
+pub decodes_all : (s : Settings) (count : Option ℕ) (limit most : ℕ) (bits : List Bool) (p : Place) (total : ℕ) (sink : Putting) (r : Result (Unit {0}) Fault)
+    → limit ≡ most → p ≡ place_at s count limit bits 0 0 → None ≡ count_refusal limit count → (have : HaveSamples p total)
+    → ((xs : List ℤ) → AreSamplesOf p xs → SettlesOne (StoresPart s 0 total xs) sink r) → SettlesOne (DecodesBits s count most bits) sink r
+decodes_all s count limit most bits p total sink r same is none have settles =
+    let start = samples_at_start s count limit bits p total is have in
+    subst (λ limit. SettlesOne (DecodesBits s count limit bits) sink r) same
+    (settles_map (StoresPart s 0 total start.0) (DecodesBits s count limit bits) sink r answer (settles start.0 start.1))
+  where
+    answer : (a : Result (List ℕ) Fault) → StoresPart s 0 total have.samples a → DecodesBits s count limit bits a
+    answer a twice.stored = subst (λ xs. DecodesBits s count limit bits (Ok (all_stored s xs))) (sym (whole_part total have.samples have.counted))
+        (twice.read have.samples (sym none) (reading_at s count limit bits p have.samples is have.reading))
+    answer a twice.no_room = twice.no_memory
+
+pub cuts_part : (s : Settings) (count : Option ℕ) (limit most first len : ℕ) (bits : List Bool) (p : Place) (total : ℕ) (sink : Putting) (r : Result (Unit {0}) Fault)
+    → limit ≡ most → p ≡ place_at s count limit bits 0 0 → None ≡ count_refusal limit count → (have : HaveSamples p total) → first + len ≤ total
+    → ((xs : List ℤ) → AreSamplesOf p xs → SettlesOne (StoresPart s first len xs) sink r) → SettlesOne (CutsBits s count most first len bits) sink r
+cuts_part s count limit most first len bits p total sink r same is none have within settles =
+    let start = samples_at_start s count limit bits p total is have in
+    subst (λ limit. SettlesOne (CutsBits s count limit first len bits) sink r) same
+    (settles_map (StoresPart s first len start.0) (CutsBits s count limit first len bits) sink r answer (settles start.0 start.1))
+  where
+    answer : (a : Result (List ℕ) Fault) → StoresPart s first len have.samples a → CutsBits s count limit first len bits a
+    answer a twice.stored = twice.cut have.samples (sym none) (reading_at s count limit bits p have.samples is have.reading) (omega (arith, within, have.counted))
+    answer a twice.no_room = twice.lacks_memory
+
+pub cuts_past : (s : Settings) (count : Option ℕ) (limit first len : ℕ) (bits : List Bool) (p : Place) (total : ℕ) (fault : Fault)
+    → p ≡ place_at s count limit bits 0 0 → None ≡ count_refusal limit count → HaveSamples p total → (fault ≡ OutOfRange total) × (total < first + len)
+    → CutsBits s count limit first len bits (Err fault)
+cuts_past s count limit first len bits p total fault is none have past =
+    subst (λ f. CutsBits s count limit first len bits (Err f)) (sym (past.0 ∙ ap OutOfRange (sym have.counted)))
+    (twice.past have.samples (sym none) (reading_at s count limit bits p have.samples is have.reading) (omega (arith, past.1, have.counted)))
+
+-- ---- sources
+
+pub leaves_refused_intake : (answers : Input → Result (List ℕ) Fault → Type 0) (caps : Caps) (source : Taking) (r : Result (Unit {0}) Fault) (fault f : Fault)
+    (before : Option (List ℕ)) (begun failures : ℕ) → r ≡ Err fault → fault ≡ f → GivesAnswer answers source (are_past caps.bytes) (Err f)
+    → Leaves answers source (are_past caps.bytes) (record { before = before; after = before; begun_before = begun; begun_after = begun; failures = failures }) r
+leaves_refused_intake answers caps source r fault f before begun failures is same gives =
+    let one = settles_refusal (λ a. GivesAnswer answers source (are_past caps.bytes) a) r fault f before begun failures is same gives in
+    leaves_settled answers source (are_past caps.bytes) _ one.answer r one.answered one.settles
+
+gives_decoded : (s : Settings) (caps : Caps) (count : Option ℕ) (before after : Option (List ℕ)) (failures : ℕ) (bytes : List ℕ) (answer : Result (List ℕ) Fault)
+    → IsTakenWhole before after failures caps.bytes bytes → DecodesBits s count caps.samples (bits_of_bytes bytes) answer
+    → GivesAnswer (IsDecoded s caps count) (record { before = before; after = after; failures = failures }) (are_past caps.bytes) answer
+gives_decoded s caps count before after failures bytes answer taken (twice.read xs none reading) =
+    let gave = read_samples s caps count before after failures bytes xs taken none reading in
+    given gave.input (Ok (all_stored s xs)) gave.gave (decoded xs gave.read)
+gives_decoded s caps count before after failures bytes answer taken (twice.unread fault refuses) =
+    refused_decoding s caps count before after failures bytes fault taken refuses
+gives_decoded s caps count before after failures bytes answer taken twice.no_memory = transfers.lacks_memory
+
+pub leaves_decoded : (s : Settings) (caps : Caps) (count : Option ℕ) (before after : Option (List ℕ)) (failures limit most : ℕ) (bits : List Bool) (sink : Putting)
+    (r : Result (Unit {0}) Fault) → limit ≡ caps.bytes → most ≡ caps.samples → GaveWhole before after failures limit bits → SettlesOne (DecodesBits s count most bits) sink r
+    → Leaves (IsDecoded s caps count) (record { before = before; after = after; failures = failures }) (are_past caps.bytes) sink r
+leaves_decoded s caps count before after failures limit most bits sink r limited counted gave one =
+    leaves_settled (IsDecoded s caps count) _ (are_past caps.bytes) sink one.answer r
+    (gives_decoded s caps count before after failures gave.bytes one.answer (subst (λ limit. IsTakenWhole before after failures limit gave.bytes) limited gave.taken)
+    (subst (λ bits. DecodesBits s count caps.samples bits one.answer) gave.spelled (subst (λ most. DecodesBits s count most bits one.answer) counted one.answered)))
+    one.settles
+
+gives_ranged : (s : Settings) (caps : Caps) (count : Option ℕ) (first len : ℕ) (before after : Option (List ℕ)) (failures : ℕ) (bytes : List ℕ)
+    (answer : Result (List ℕ) Fault) → IsTakenWhole before after failures caps.bytes bytes → CutsBits s count caps.samples first len (bits_of_bytes bytes) answer
+    → GivesAnswer (IsRanged s caps count first len) (record { before = before; after = after; failures = failures }) (are_past caps.bytes) answer
+gives_ranged s caps count first len before after failures bytes answer taken (twice.cut xs none reading within) =
+    let gave = read_samples s caps count before after failures bytes xs taken none reading in
+    given gave.input (Ok (all_stored s (samples_from first len xs))) gave.gave (cut_out xs gave.read within)
+gives_ranged s caps count first len before after failures bytes answer taken (twice.past xs none reading beyond) =
+    let gave = read_samples s caps count before after failures bytes xs taken none reading in
+    given gave.input (Err (OutOfRange (length xs))) gave.gave (outside xs gave.read beyond)
+gives_ranged s caps count first len before after failures bytes answer taken (twice.not_read fault refuses) =
+    refused_as_decoding s caps count first len _ (Err fault) fault refl (refused_decoding s caps count before after failures bytes fault taken refuses)
+gives_ranged s caps count first len before after failures bytes answer taken twice.lacks_memory = transfers.lacks_memory
+
+pub leaves_ranged : (s : Settings) (caps : Caps) (count : Option ℕ) (first len : ℕ) (before after : Option (List ℕ)) (failures limit most : ℕ) (bits : List Bool)
+    (sink : Putting) (r : Result (Unit {0}) Fault) → limit ≡ caps.bytes → most ≡ caps.samples → GaveWhole before after failures limit bits
+    → SettlesOne (CutsBits s count most first len bits) sink r
+    → Leaves (IsRanged s caps count first len) (record { before = before; after = after; failures = failures }) (are_past caps.bytes) sink r
+leaves_ranged s caps count first len before after failures limit most bits sink r limited counted gave one =
+    leaves_settled (IsRanged s caps count first len) _ (are_past caps.bytes) sink one.answer r
+    (gives_ranged s caps count first len before after failures gave.bytes one.answer
+    (subst (λ limit. IsTakenWhole before after failures limit gave.bytes) limited gave.taken)
+    (subst (λ bits. CutsBits s count caps.samples first len bits one.answer) gave.spelled
+    (subst (λ most. CutsBits s count most first len bits one.answer) counted one.answered))) one.settles
+
+-- a source that was not read whole
+pub intake_decoded : (s : Settings) (caps : Caps) (count : Option ℕ) (before after : Option (List ℕ)) (failures limit : ℕ) (f : Fault) → limit ≡ caps.bytes
+    → RefusesIntake before after failures limit f
+    → GivesAnswer (IsDecoded s caps count) (record { before = before; after = after; failures = failures }) (are_past caps.bytes) (Err f)
+intake_decoded s caps count before after failures limit f limited refuses =
+    refused_intake s caps count before after failures f (subst (λ limit. RefusesIntake before after failures limit f) limited refuses)
+
+pub intake_ranged : (s : Settings) (caps : Caps) (count : Option ℕ) (first len : ℕ) (before after : Option (List ℕ)) (failures limit : ℕ) (f : Fault)
+    → limit ≡ caps.bytes → RefusesIntake before after failures limit f
+    → GivesAnswer (IsRanged s caps count first len) (record { before = before; after = after; failures = failures }) (are_past caps.bytes) (Err f)
+intake_ranged s caps count first len before after failures limit f limited refuses =
+    refused_as_decoding s caps count first len _ (Err f) f refl (intake_decoded s caps count before after failures limit f limited refuses)

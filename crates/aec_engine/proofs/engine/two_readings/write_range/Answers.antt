@@ -1,0 +1,18 @@
+use Rattle.std.proofs.Common.{◌∙◌}
+use Rattle.std.proofs.lemmas.Result.{err_from_is_err_and}
+use Rattle.aec_params.specs.declared.fault.Fault.TheVariants.{Memory}
+use Rattle.aec_engine.specs.Output.{all_stored, samples_from}
+use Rattle.aec_engine.specs.ReadingTwice.{stored, no_room}
+use Rattle.aec_engine.proofs.SettlingLemmas.{settles_refusal, settles_written}
+use Rattle.aec_engine.proofs.engine.two_readings.write_range.Goals as goal
+
+pub returns-in_err-samples : goal.returns-in_err-samples
+returns-in_err-samples g c xs given =
+    let exit = err_from_is_err_and c.from_residual.result c.from_residual.ensures.1 in
+    settles_refusal _ _ exit.0 Memory (g.W.Sink.taken c.args.sink.now) (g.W.Sink.begun c.args.sink.now) (g.W.Sink.failed c.args.sink.now) exit.1
+    (exit.2 ∙ c.in_err-samples.ensures.fault) no_room
+
+pub returns : goal.returns
+returns g c xs given =
+    settles_written _ c.deliver_range.result (all_stored c.args.params.now (samples_from c.args.first c.args.len xs)) _ stored
+    (c.deliver_range.ensures.ok xs given) (c.deliver_range.ensures.front xs given) c.deliver_range.ensures.begun c.deliver_range.ensures.fault

@@ -1,0 +1,69 @@
+-- What the parts of decoding give: the bits of a source, and what their two readings answer.
+use Rattle.std.specs.Prelude.{◌≡◌, ℕ, ◌+◌, ◌<◌, ◌≤◌, Bool, true, Option, None, Result, Ok, Err, ℤ, List, ◌++◌, length}
+use Rattle.std.specs.Io.KnownBytes.{Appends}
+use Rattle.aec_params.specs.declared.settings.Settings.{Settings}
+use Rattle.aec_params.specs.declared.fault.Fault.{Fault}
+use Rattle.aec_params.specs.declared.fault.Fault.TheVariants.{OutOfRange, Memory}
+use Rattle.aec_params.specs.Codewords.{bits_of_bytes}
+use Rattle.aec_params.specs.Reading.{IsReading}
+use Rattle.aec_interval.specs.Reached.{count_refusal, RefusesDecoding}
+use Rattle.aec_interval.specs.Pieces.{Place}
+use Rattle.aec_engine.specs.Transfers.{input_of, Taking, are_past, Gave, IsTakenWhole, Putting, Settles}
+use Rattle.aec_engine.specs.Output.{all_stored, samples_from}
+
+-- a source gave bytes with these bits, and failed behind them or not
+pub record GaveBits (source : Taking) (limit : ℕ) (bits : List Bool) (failed : Bool) : Type 0 where
+  pub bytes : List ℕ
+  pub gave : Gave source (are_past limit) (input_of bytes failed)
+  pub spelled : bits ≡ bits_of_bytes bytes
+  pub within : failed ≡ true → length bytes ≤ limit
+
+-- the bits of a source that was taken whole
+pub record GaveWhole (before after : Option (List ℕ)) (failures limit : ℕ) (bits : List Bool) : Type 0 where
+  pub bytes : List ℕ
+  pub taken : IsTakenWhole before after failures limit bytes
+  pub spelled : bits ≡ bits_of_bytes bytes
+
+-- bits are read as these samples, from their start
+pub record AreSamplesOf (p : Place) (samples : List ℤ) : Type 0 where
+  pub reading : IsReading p.settings p.count p.limit p.bits samples
+  pub some_block : p.block ≡ 0
+  pub some_bit : p.bit ≡ 0
+
+-- bits are read as so many samples
+pub record HaveSamples (p : Place) (total : ℕ) : Type 0 where
+  pub samples : List ℤ
+  pub reading : IsReading p.settings p.count p.limit p.bits samples
+  pub counted : length samples ≡ total
+
+-- the bytes of a part of samples, or want of memory
+pub data StoresPart (s : Settings) (first len : ℕ) (samples : List ℤ) : Result (List ℕ) Fault → Type 0 where
+  stored : StoresPart s first len samples (Ok (all_stored s (samples_from first len samples)))
+  no_room : StoresPart s first len samples (Err Memory)
+
+-- what decoding answers to bits
+pub data DecodesBits (s : Settings) (count : Option ℕ) (limit : ℕ) (bits : List Bool) : Result (List ℕ) Fault → Type 0 where
+  read : (samples : List ℤ) → count_refusal limit count ≡ None → IsReading s count limit bits samples → DecodesBits s count limit bits (Ok (all_stored s samples))
+  unread : (fault : Fault) → RefusesDecoding s count limit bits fault → DecodesBits s count limit bits (Err fault)
+  no_memory : DecodesBits s count limit bits (Err Memory)
+
+-- what cutting out a range answers to bits
+pub data CutsBits (s : Settings) (count : Option ℕ) (limit first len : ℕ) (bits : List Bool) : Result (List ℕ) Fault → Type 0 where
+  cut : (samples : List ℤ) → count_refusal limit count ≡ None → IsReading s count limit bits samples → first + len ≤ length samples
+      → CutsBits s count limit first len bits (Ok (all_stored s (samples_from first len samples)))
+  past : (samples : List ℤ) → count_refusal limit count ≡ None → IsReading s count limit bits samples → length samples < first + len
+      → CutsBits s count limit first len bits (Err (OutOfRange (length samples)))
+  not_read : (fault : Fault) → RefusesDecoding s count limit bits fault → CutsBits s count limit first len bits (Err fault)
+  lacks_memory : CutsBits s count limit first len bits (Err Memory)
+
+-- one of these answers is written, or refused with nothing written
+pub record SettlesOne (answers : Result (List ℕ) Fault → Type 0) (sink : Putting) (result : Result (Unit {0}) Fault) : Type 0 where
+  pub answer : Result (List ℕ) Fault
+  pub answered : answers answer
+  pub settles : Settles sink answer result
+
+-- bytes that waited and more of them are put, up to those that wait then
+pub record PutsPart (before after : Option (List ℕ)) (waited more waiting : List ℕ) : Type 0 where
+  pub put : List ℕ
+  pub appended : Appends before after put
+  pub all : put ++ waiting ≡ waited ++ more

@@ -1,0 +1,53 @@
+//! The bits of a source that is read to its end, or to a limit.
+
+ghost use Rattle.std.specs.Prelude.{◌≡◌, ◌≤◌, IfErr, IfOk, length, true};
+ghost use Rattle.aec_params.specs.declared.fault.Fault.TheVariants.{Memory};
+ghost use Rattle.aec_engine.specs.ReadingTwice.{GaveBits, GaveWhole};
+ghost use Rattle.aec_engine.specs.Transfers.{RefusesIntake, Taking, taking_of};
+
+use crate::engine::intake::PIECE;
+use aec_bits::{BitBuf, Source};
+use aec_params::Fault;
+use std::alloc::Global;
+
+/// The bits of the bytes of a source up to its end, up to its failure, or past `limit` bytes, and whether it failed.
+/// `Memory` alone is refused.
+fn read_bits_past<R: Source>(
+    alloc: Global,
+    source: &mut R,
+    limit: u64,
+) -> Result<(BitBuf, bool), Fault>
+    ensures ok { let took : Taking = taking_of R.left R.failed source.old source.new in
+        IfOk result (λ given. GaveBits took limit given.0.list given.1) }
+    ensures fault { IfErr result (λ e. e ≡ Memory) }
+{
+    let mut bits = BitBuf::new(alloc);
+    let mut piece = [0u8; PIECE];
+    while bits.byte_len() <= limit {
+        match source.take(&mut piece) {
+            Ok(0) => return Ok((bits, false)),
+            Ok(count) => bits.append(&BitBuf::from_bytes(alloc, &piece[..count])?)?,
+            Err(_) => return Ok((bits, true)),
+        }
+    }
+    Ok((bits, false))
+}
+
+/// The bits of the bytes of a source up to its end, kept once. The refusals are those of `read_whole`.
+pub(crate) fn read_bits<R: Source>(
+    alloc: Global,
+    source: &mut R,
+    limit: u64,
+) -> Result<BitBuf, Fault>
+    ensures ok { IfOk result (λ bits. GaveWhole (R.left source.old) (R.left source.new) (R.failed source.new) limit bits.list) }
+    ensures refuses { IfErr result (λ fault. RefusesIntake (R.left source.old) (R.left source.new) (R.failed source.new) limit fault) }
+{
+    let (bits, failed) = read_bits_past(alloc, source, limit)?;
+    if failed {
+        return Err(Fault::Read);
+    }
+    if bits.byte_len() > limit {
+        return Err(Fault::StreamTooLong { limit });
+    }
+    Ok(bits)
+}

@@ -1,0 +1,184 @@
+//! Coded bits read twice: once to judge them, and once to write the samples that they stand for.
+
+ghost use Rattle.std.specs.Prelude.{◌≡◌, ℕ, ◌+◌, ◌*◌, ◌<◌, ◌≤◌, ◌++◌, List, ℤ, length, vec_len, vec_capacity, IfOk, IfErr, OnOk, OnErr};
+ghost use Rattle.std.specs.List.{AllByRecursion};
+ghost use Rattle.std.specs.Io.KnownBytes.{Appends};
+ghost use Rattle.aec_params.specs.declared.fault.Fault.TheVariants.{Memory, Write as WriteFault};
+ghost use Rattle.aec_params.specs.Params.{IsAllowed, IsHeld, interval_len};
+ghost use Rattle.aec_bits.specs.Devices.{counted, AppendsFront};
+ghost use Rattle.aec_interval.specs.Reached.{RefusesReading};
+ghost use Rattle.aec_engine.specs.Output.{all_stored, samples_from};
+ghost use Rattle.aec_engine.specs.Transfers.{Putting, putting_of};
+ghost use Rattle.aec_engine.specs.ReadingTwice.{AreSamplesOf, HaveSamples, PutsPart, SettlesOne, StoresPart};
+
+use crate::engine::intake::PIECE;
+use aec_bits::{Sink, put_all};
+use aec_interval::StreamReader;
+use aec_params::{Fault, Params, put_sample};
+use std::alloc::Global;
+
+/// Reads all samples from the first bit on and keeps none of them. How many there are.
+pub(crate) fn count_samples(
+    params: &Params,
+    reader: &mut StreamReader,
+    samples: &mut Vec<i64>,
+) -> Result<u64, Fault>
+    requires settings { reader.old.settings ≡ params.now }
+    requires block { reader.old.block ≡ 0 }
+    requires bit { reader.old.bit ≡ 0 }
+    ensures ok { IfOk result (λ total. HaveSamples reader.old total) }
+    ensures refuses { IfErr result (λ fault. RefusesReading reader.old.settings reader.old.count reader.old.limit reader.old.bits 0 0 fault) }
+    ensures same { OnOk result (reader.new ≡ reader.old) }
+{
+    // What the parameters promise is told by their calls.
+    let _len = params.interval_len();
+    let mut total = 0;
+    while reader.next(samples)? {
+        total += samples.len() as u64;
+    }
+    reader.restart();
+    Ok(total)
+}
+
+/// Of samples those behind the first `skip`, at most `left` of them.
+fn part_of(samples: &[i64], skip: u64, left: u64) -> &[i64]
+    ensures { result.now ≡ samples_from skip left samples.now }
+{
+    let rest = &samples[(skip as usize).min(samples.len())..];
+    &rest[..(left as usize).min(rest.len())]
+}
+
+/// Appends the bytes of samples. Takes no memory.
+fn append_stored(params: &Params, samples: &[i64], bytes: &mut Vec<u8>)
+    requires held { AllByRecursion (IsHeld params.now) samples.now }
+    requires room { vec_len bytes.old + 4 * length samples.now ≤ vec_capacity bytes.old }
+    ensures items { bytes.new.items ≡ bytes.old.items ++ all_stored params.now samples.now }
+    ensures len { vec_len bytes.new ≤ vec_len bytes.old + 4 * length samples.now }
+    ensures capacity { vec_capacity bytes.old ≤ vec_capacity bytes.new }
+{
+    let mut group = [0u8; 4];
+    for x in samples {
+        let width = put_sample(params, *x, &mut group);
+        bytes.extend_from_slice(&group[..width]).unwrap();
+    }
+}
+
+/// Puts the bytes of samples behind those that wait, as soon as they are a piece; else they wait too.
+fn put_part<W: Sink>(
+    params: &Params,
+    samples: &[i64],
+    bytes: &mut Vec<u8>,
+    sink: &mut W,
+) -> Result<(), Fault>
+    requires held { AllByRecursion (IsHeld params.now) samples.now }
+    requires room { vec_len bytes.old + 4 * length samples.now ≤ vec_capacity bytes.old }
+    ensures ok { OnOk result (PutsPart (W.taken sink.old) (W.taken sink.new) bytes.old.items (all_stored params.now samples.now) bytes.new.items) }
+    ensures front { OnErr result (AppendsFront (W.taken sink.old) (W.taken sink.new) (bytes.old.items ++ all_stored params.now samples.now)) }
+    ensures begun { W.begun sink.new ≡ W.begun sink.old }
+    ensures fault { IfErr result (λ e. (e ≡ WriteFault) × (W.failed sink.new ≡ 1)) }
+    ensures few { OnOk result (vec_len bytes.new < 65536) }
+    ensures capacity { vec_capacity bytes.old ≤ vec_capacity bytes.new }
+{
+    append_stored(params, samples, bytes);
+    if bytes.len() >= PIECE {
+        put_all(sink, bytes)?;
+        bytes.clear();
+    }
+    Ok(())
+}
+
+/// Reads the samples again and puts the bytes of `len` of them from place `first` on. Takes no memory.
+fn put_range<W: Sink>(
+    params: &Params,
+    reader: &mut StreamReader,
+    first: u64,
+    len: u64,
+    samples: &mut Vec<i64>,
+    bytes: &mut Vec<u8>,
+    sink: &mut W,
+) -> Result<(), Fault>
+    requires settings { reader.old.settings ≡ params.now }
+    requires read { (xs : List ℤ) × AreSamplesOf reader.old xs }
+    requires room { interval_len params.now ≤ vec_capacity samples.old }
+    requires empty { vec_len bytes.old ≡ 0 }
+    requires buffer { 65536 + 4 * interval_len params.now ≤ vec_capacity bytes.old }
+    ensures ok { (xs : List ℤ) → AreSamplesOf reader.old xs
+        → OnOk result (Appends (W.taken sink.old) (W.taken sink.new) (all_stored params.now (samples_from first len xs))) }
+    ensures front { (xs : List ℤ) → AreSamplesOf reader.old xs
+        → OnErr result (AppendsFront (W.taken sink.old) (W.taken sink.new) (all_stored params.now (samples_from first len xs))) }
+    ensures begun { W.begun sink.new ≡ W.begun sink.old }
+    ensures fault { IfErr result (λ e. (e ≡ WriteFault) × (W.failed sink.new ≡ 1)) }
+{
+    // What the parameters promise is told by their calls.
+    let _len = params.interval_len();
+    let mut skip = first;
+    let mut left = len;
+    while reader.next(samples)? {
+        let part = part_of(samples, skip, left);
+        left -= part.len() as u64;
+        put_part(params, part, bytes, sink)?;
+        skip = skip.saturating_sub(samples.len() as u64);
+    }
+    put_all(sink, bytes)
+}
+
+/// Begins, and puts the bytes of `len` samples from place `first` on. Takes no memory.
+fn deliver_range<W: Sink>(
+    params: &Params,
+    reader: &mut StreamReader,
+    first: u64,
+    len: u64,
+    samples: &mut Vec<i64>,
+    bytes: &mut Vec<u8>,
+    sink: &mut W,
+) -> Result<(), Fault>
+    requires settings { reader.old.settings ≡ params.now }
+    requires read { (xs : List ℤ) × AreSamplesOf reader.old xs }
+    requires room { interval_len params.now ≤ vec_capacity samples.old }
+    requires empty { vec_len bytes.old ≡ 0 }
+    requires buffer { 65536 + 4 * interval_len params.now ≤ vec_capacity bytes.old }
+    ensures ok { (xs : List ℤ) → AreSamplesOf reader.old xs
+        → OnOk result (Appends (W.taken sink.old) (W.taken sink.new) (all_stored params.now (samples_from first len xs))) }
+    ensures front { (xs : List ℤ) → AreSamplesOf reader.old xs
+        → OnErr result (AppendsFront (W.taken sink.old) (W.taken sink.new) (all_stored params.now (samples_from first len xs))) }
+    ensures begun { W.begun sink.new ≡ counted (W.begun sink.old) }
+    ensures fault { IfErr result (λ e. (e ≡ WriteFault) × (W.failed sink.new ≡ 1)) }
+{
+    sink.begin()?;
+    put_range(params, reader, first, len, samples, bytes, sink)
+}
+
+/// Room for the samples of an interval, made in a vector that is used again, and for their bytes behind a piece.
+fn buffers(alloc: Global, params: &Params, samples: Vec<i64>) -> Result<(Vec<i64>, Vec<u8>), Fault>
+    ensures room { IfOk result (λ made. interval_len params.now ≤ vec_capacity made.0) }
+    ensures empty { IfOk result (λ made. vec_len made.1 ≡ 0) }
+    ensures buffer { IfOk result (λ made. 65536 + 4 * interval_len params.now ≤ vec_capacity made.1) }
+    ensures fault { IfErr result (λ e. e ≡ Memory) }
+{
+    let len = params.interval_len() as usize;
+    let mut samples = samples;
+    samples.clear();
+    samples.reserve(len)?;
+    let bytes = Vec::with_capacity(alloc, PIECE + 4 * len)?;
+    Ok((samples, bytes))
+}
+
+/// Makes room, begins, and writes the bytes of `len` samples from place `first` on. `Memory` where the room is refused;
+/// nothing was begun then.
+pub(crate) fn write_range<W: Sink>(
+    alloc: Global,
+    params: &Params,
+    reader: &mut StreamReader,
+    first: u64,
+    len: u64,
+    samples: Vec<i64>,
+    sink: &mut W,
+) -> Result<(), Fault>
+    requires settings { reader.old.settings ≡ params.now }
+    requires read { (xs : List ℤ) × AreSamplesOf reader.old xs }
+    ensures { let put : Putting = putting_of W.taken W.begun W.failed sink.old sink.new in
+        (xs : List ℤ) → AreSamplesOf reader.old xs → SettlesOne (StoresPart params.now first len xs) put result }
+{
+    let (mut samples, mut bytes) = buffers(alloc, params, samples)?;
+    deliver_range(params, reader, first, len, &mut samples, &mut bytes, sink)
+}

@@ -1,0 +1,330 @@
+-- Steps of a reading behind one another are the reading, and the refusal of one is the refusal of all.
+use Rattle.std.proofs.Common.{◌≡◌, ℕ, ◌+◌, ◌-◌, ◌*◌, ◌/◌, ◌%◌, ◌<◌, ◌≤◌, Bool, true, false, Option, Some, None, ℤ, List, [], ◌∷◌, ◌++◌, length, take, drop, refl, sym, ap, ap₂, ◌∙◌, subst, arith, append-nil, append_assoc, ⊎_elim}
+use Rattle.std.specs.Int.{div_ceil}
+use Rattle.std.specs.List.{AllByRecursion, flat_map}
+use Rattle.std.proofs.Math.Nat.{mul-le-mul_right}
+use Rattle.std.proofs.lemmas.Nat.{div-add-mod'}
+use Rattle.std.proofs.lemmas.Bool.{ltb-true, cases_Bool}
+use Rattle.std.proofs.lemmas.List.{length-take, length-append, take_all, take_at, take-append-drop}
+use Rattle.std.proofs.lemmas.List.Concat.{flat_map-append}
+use Rattle.aec_params.specs.declared.settings.Settings.{Settings}
+use Rattle.aec_params.specs.declared.fault.Fault.{Fault}
+use Rattle.aec_params.specs.declared.fault.Fault.TheVariants.{Memory}
+use Rattle.aec_params.specs.Params.{IsAllowed, IsHeld, interval_len}
+use Rattle.aec_params.specs.Cutting.{pieces_of}
+use Rattle.aec_params.specs.Blocks.{Block, blocks_of, all_blocks_of}
+use Rattle.aec_params.specs.Reading.{is_wanted, LeadsTo, stream_blocks, kept_blocks, IsBlockReading, FillBlocks, counted_samples, IsReading}
+use Rattle.aec_params.specs.Faults.{IsFault}
+use Rattle.aec_params.proofs.ReadingLaws.{FillBlocks-one_to_one}
+use Rattle.aec_params.proofs.SettingLaws.{block_size-positive, interval-positive}
+use Rattle.aec_params.proofs.SampleLaws.{interval_len-positive}
+use Rattle.aec_bits.proofs.CodeLaws.{pieces_of-append}
+use Rattle.aec_interval.specs.Reached.{RefusesReading, no_memory, faulty}
+use Rattle.aec_interval.specs.Pieces.{Place, place_at, is_wanted_at, counted_from, ReadsPiece, ReadsInterval, HasRead, RefusesAt}
+use Rattle.aec_interval.specs.PieceLaws.{AllStepsAreTheReading}
+use Rattle.aec_interval.proofs.CuttingLemmas.{div_ceil-bounds, div_ceil-times}
+use Rattle.aec_interval.proofs.BlockLemmas.{all_left}
+use Rattle.aec_interval.proofs.PlaceLemmas.{LeadsTo-append, stream_blocks-append}
+use Rattle.aec_interval.proofs.RoundTripLemmas.{length-all_blocks_of}
+use Rattle.aec_interval.proofs.WalkLemmas.{same_blocks, no_reading_and_fault}
+use Rattle.aec_interval.proofs.OutcomeLemmas.{outcome}
+use Rattle.aec_interval.proofs.ReadingLemmas.{bits_are_read_in_one_way}
+use Rattle.aec_interval.proofs.ReachedLemmas.{length-stream_blocks, take-append-past, kept_blocks-append, kept_blocks-wanted}
+use Rattle.aec_interval.proofs.ReadNextLemmas.{reached-start}
+
+-- ---- whole intervals of samples
+
+all_both : {X : Type 0} (P : X → Type 0) (xs ys : List X) → AllByRecursion P xs → AllByRecursion P ys → AllByRecursion P (xs ++ ys)
+all_both P [] ys h k = k
+all_both P (x ∷ xs) ys h k = (h.0, all_both P xs ys h.1 k)
+
+-- as many blocks as whole intervals have
+whole_intervals : (s : Settings) (i len : ℕ) → i % s.interval ≡ 0 → len ≡ i * s.block_size → len ≡ i / s.interval * interval_len s
+whole_intervals s i len begins is =
+    is ∙ ap (λ n. n * s.block_size) (omega (arith, div-add-mod' i s.interval, begins)) ∙ regrouped (i / s.interval) s.interval s.block_size
+  where
+    regrouped : (k r j : ℕ) → k * r * j ≡ k * (j * r)
+    regrouped k r j = omega arith
+
+all_blocks_of-append : (s : Settings) (k : ℕ) (front back : List ℤ) → IsAllowed s → length front ≡ k * interval_len s
+    → all_blocks_of s (front ++ back) ≡ all_blocks_of s front ++ all_blocks_of s back
+all_blocks_of-append s k front back a whole =
+    ap (flat_map (blocks_of s)) (pieces_of-append (interval_len s) k front back (interval_len-positive s a) whole)
+    ∙ flat_map-append (blocks_of s) (pieces_of (interval_len s) front) (pieces_of (interval_len s) back)
+
+FillBlocks-append : (s : Settings) (k : ℕ) (front back : List ℤ) (bs cs : List Block) → IsAllowed s → length front ≡ k * interval_len s
+    → FillBlocks s front bs → FillBlocks s back cs → FillBlocks s (front ++ back) (bs ++ cs)
+FillBlocks-append s k front back bs cs a whole first second = record {
+  held = all_both (IsHeld s) front back first.held second.held;
+  whole = both (length bs) (length cs) s.block_size (length front) (length back) first.whole second.whole (length-append front back) (length-append bs cs);
+  mapped = all_blocks_of-append s k front back a whole ∙ ap₂ ◌++◌ first.mapped second.mapped;
+}
+  where
+    both : (m n j x y : ℕ) {t u : ℕ} → x ≡ m * j → y ≡ n * j → t ≡ x + y → u ≡ m + n → t ≡ u * j
+    both m n j x y {t} {u} h k e f = omega (arith, h, k, e, ap (λ u. u * j) f)
+
+-- samples that fill blocks, cut where an interval begins
+FillBlocks-front : (s : Settings) (i : ℕ) (samples : List ℤ) (bs cs : List Block) → IsAllowed s → i % s.interval ≡ 0 → length bs ≡ i
+    → FillBlocks s samples (bs ++ cs) → FillBlocks s (take (i * s.block_size) samples) bs
+FillBlocks-front s i samples bs cs a begins count filled = record {
+  held = all_left (IsHeld s) front back (subst (AllByRecursion (IsHeld s)) (sym cut) filled.held);
+  whole = len ∙ ap (λ n. n * s.block_size) (sym count);
+  mapped = sym (take_at (all_blocks_of s front) (all_blocks_of s back) i blocks) ∙ (ap (take i) together ∙ take_at bs cs i count);
+}
+  where
+    front : List ℤ
+    front = take (i * s.block_size) samples
+
+    back : List ℤ
+    back = drop (i * s.block_size) samples
+
+    cut : front ++ back ≡ samples
+    cut = take-append-drop (i * s.block_size) samples
+
+    enough : (i n m j : ℕ) → m ≡ i + n → i * j ≤ m * j
+    enough i n m j e = mul-le-mul_right j (omega (arith, e))
+
+    len : length front ≡ i * s.block_size
+    len = omega (
+      arith,
+      length-take (i * s.block_size) samples,
+      filled.whole,
+      enough i (length cs) (length (bs ++ cs)) s.block_size (length-append bs cs ∙ ap (λ n. n + length cs) count),
+    )
+
+    blocks : length (all_blocks_of s front) ≡ i
+    blocks = length-all_blocks_of s a front ∙ ap (λ n. div_ceil n s.block_size) len ∙ div_ceil-times i s.block_size (block_size-positive s a)
+
+    together : all_blocks_of s front ++ all_blocks_of s back ≡ bs ++ cs
+    together = sym (all_blocks_of-append s (i / s.interval) front back a (whole_intervals s i (length front) begins len)) ∙ (ap (all_blocks_of s) cut ∙ filled.mapped)
+
+-- ---- samples that are asked for
+
+-- a block that is needed begins before the count
+before_count : (s : Settings) (count i : ℕ) → IsAllowed s → i < div_ceil count s.block_size → i * s.block_size < count
+before_count s count i a below =
+    let next : (i + 1) * s.block_size ≤ div_ceil count s.block_size * s.block_size = mul-le-mul_right s.block_size (omega (arith, below)) in
+    omega (arith, next, one_more i s.block_size, div_ceil-bounds count s.block_size (block_size-positive s a))
+  where
+    one_more : (i j : ℕ) → (i + 1) * j ≡ i * j + j
+    one_more i j = omega arith
+
+counted-start : (s : Settings) (count : Option ℕ) (samples : List ℤ) → counted_from s count 0 samples ≡ counted_samples count samples
+counted-start s None samples = refl
+counted-start s (Some count) samples = ap (λ n. take n samples) (omega arith)
+
+module _ (s : Settings) (a : IsAllowed s) (count : Option ℕ) (limit : ℕ) (bits : List Bool) (i b : ℕ) (xs : List ℤ)
+    (read : HasRead (place_at s count limit bits i b) xs) where
+  abbrev before : List Block
+  before = stream_blocks s 0 read.sets
+
+  before-count : length before ≡ i
+  before-count = omega (arith, length-stream_blocks s count limit bits 0 0 read.sets i b (interval-positive s a) read.leads)
+
+  -- ---- where no more is wanted
+
+  pub reading-of_all : is_wanted s count bits i b ≡ false → IsReading s count limit bits xs
+  reading-of_all done = record {
+    blocks = kept_blocks s count 0 before;
+    read = record { sets = read.sets; end_block = i; end_bit = b; leads = read.leads; done = done; kept = refl };
+    all_samples = read.all_samples;
+    filled = read.filled;
+    counted = read.counted ∙ counted-start s count read.all_samples;
+  }
+
+  -- ---- a refusal
+
+  fault-of_all : (fault : Fault) → IsFault s count limit bits i b fault → IsFault s count limit bits 0 0 fault
+  fault-of_all fault h = record {
+    sets = read.sets ++ h.sets;
+    block = h.block;
+    bit = h.bit;
+    leads = LeadsTo-append s count limit bits 0 0 read.sets i b h.sets h.block h.bit read.leads h.leads;
+    wanted = h.wanted;
+    wrong = h.wrong;
+  }
+
+  pub refusal-of_all : (fault : Fault) → RefusesReading s count limit bits i b fault → RefusesReading s count limit bits 0 0 fault
+  refusal-of_all fault (faulty f wrong) = faulty f (fault-of_all f wrong)
+  refusal-of_all fault (no_memory h) = no_memory (record {
+    sets = read.sets ++ h.sets;
+    last = h.last;
+    block = h.block;
+    bit = h.bit;
+    leads = subst (λ sets. LeadsTo s count limit bits 0 0 sets h.block h.bit) (sym (append_assoc read.sets h.sets (h.last ∷ [])))
+        (LeadsTo-append s count limit bits 0 0 read.sets i b (h.sets ++ (h.last ∷ [])) h.block h.bit read.leads h.leads);
+  })
+
+  -- where the whole has a reading, only memory can be missing
+  pub memory-only : (samples : List ℤ) (fault : Fault) → IsReading s count limit bits samples → RefusesReading s count limit bits i b fault → fault ≡ Memory
+  memory-only samples fault whole (no_memory h) = refl
+  memory-only samples fault whole (faulty f wrong) = absurd (no_reading_and_fault s a count limit bits 0 0 whole.blocks f whole.read (fault-of_all f wrong))
+
+  -- ---- where more is wanted
+
+  module _ (wanted : is_wanted s count bits i b ≡ true) where
+    kept-before : kept_blocks s count 0 before ≡ before
+    kept-before = kept_blocks-wanted s count bits 0 i b before (omega (arith, before-count)) wanted
+
+    all_filled : FillBlocks s read.all_samples before
+    all_filled = subst (FillBlocks s read.all_samples) kept-before read.filled
+
+    all-len : length read.all_samples ≡ i * s.block_size
+    all-len = all_filled.whole ∙ ap (λ n. n * s.block_size) before-count
+
+    all-asked : (count : Option ℕ) → is_wanted s count bits i b ≡ true → counted_from s count 0 read.all_samples ≡ read.all_samples
+    all-asked None wanted = refl
+    all-asked (Some n) wanted =
+        let below = before_count s n i a (ltb-true i (div_ceil n s.block_size) wanted) in
+        take_all (n - 0 * s.block_size) read.all_samples (omega (arith, all-len, below))
+
+    xs-all : xs ≡ read.all_samples
+    xs-all = read.counted ∙ all-asked count wanted
+
+    xs-filled : FillBlocks s xs before
+    xs-filled = subst (λ l. FillBlocks s l before) (sym xs-all) all_filled
+
+    xs-len : length xs ≡ i * s.block_size
+    xs-len = ap length xs-all ∙ all-len
+
+    counted-behind : (count : Option ℕ) (more : List ℤ) → is_wanted s count bits i b ≡ true → xs ++ counted_from s count i more ≡ counted_samples count (xs ++ more)
+    counted-behind None more wanted = refl
+    counted-behind (Some n) more wanted =
+        let below = before_count s n i a (ltb-true i (div_ceil n s.block_size) wanted) in
+        ap (λ k. xs ++ take (n - k) more) (sym xs-len) ∙ sym (take-append-past n xs more (omega (arith, xs-len, below)))
+
+    module _ (begins : i % s.interval ≡ 0) where
+      intervals : length xs ≡ i / s.interval * interval_len s
+      intervals = whole_intervals s i (length xs) begins xs-len
+
+      pub read-more : (ys : List ℤ) (q : Place) → ReadsPiece (place_at s count limit bits i b) ys q → HasRead q (xs ++ ys)
+      read-more ys q piece = subst (λ q. HasRead q (xs ++ ys)) (sym piece.same) (record {
+        sets = read.sets ++ piece.sets;
+        leads = LeadsTo-append s count limit bits 0 0 read.sets i b piece.sets q.block q.bit read.leads piece.leads;
+        all_samples = xs ++ piece.all_samples;
+        filled = subst (FillBlocks s (xs ++ piece.all_samples))
+            (sym (ap (kept_blocks s count 0) (stream_blocks-append s count limit bits 0 0 read.sets i b piece.sets read.leads)
+            ∙ kept_blocks-append s count bits 0 i b before (stream_blocks s i piece.sets) (omega (arith, before-count)) wanted))
+            (FillBlocks-append s (i / s.interval) xs piece.all_samples before (kept_blocks s count i (stream_blocks s i piece.sets)) a intervals xs-filled piece.filled);
+        counted = ap (λ ys. xs ++ ys) piece.counted ∙ counted-behind count piece.all_samples wanted ∙ sym (counted-start s count (xs ++ piece.all_samples));
+        same = refl;
+      })
+
+      -- what was read is a front of the reading of all
+      rest-of_blocks : (samples : List ℤ) (whole : IsReading s count limit bits samples) (later : List Block) → IsBlockReading s count limit bits i b later
+          → (ys : List ℤ) × (samples ≡ xs ++ ys)
+      rest-of_blocks samples whole later h = (counted_from s count i back, samples-are)
+        where
+          both : IsBlockReading s count limit bits 0 0 (before ++ later)
+          both = record {
+            sets = read.sets ++ h.sets;
+            end_block = h.end_block;
+            end_bit = h.end_bit;
+            leads = LeadsTo-append s count limit bits 0 0 read.sets i b h.sets h.end_block h.end_bit read.leads h.leads;
+            done = h.done;
+            kept = ap (λ bs. before ++ bs) h.kept
+                ∙ sym (ap (kept_blocks s count 0) (stream_blocks-append s count limit bits 0 0 read.sets i b h.sets read.leads)
+                ∙ kept_blocks-append s count bits 0 i b before (stream_blocks s i h.sets) (omega (arith, before-count)) wanted);
+          }
+
+          filled : FillBlocks s whole.all_samples (before ++ later)
+          filled = subst (FillBlocks s whole.all_samples) (same_blocks s a count limit bits 0 0 whole.blocks (before ++ later) whole.read both) whole.filled
+
+          front : take (i * s.block_size) whole.all_samples ≡ xs
+          front = FillBlocks-one_to_one s _ xs before a (FillBlocks-front s i whole.all_samples before later a begins before-count filled) xs-filled
+
+          back : List ℤ
+          back = drop (i * s.block_size) whole.all_samples
+
+          samples-are : samples ≡ xs ++ counted_from s count i back
+          samples-are = whole.counted ∙ ap (counted_samples count) (sym (take-append-drop (i * s.block_size) whole.all_samples) ∙ ap (λ l. l ++ back) front)
+              ∙ sym (counted-behind count back wanted)
+
+      pub rest-of_all : (samples : List ℤ) → IsReading s count limit bits samples → (ys : List ℤ) × (samples ≡ xs ++ ys)
+      rest-of_all samples whole = ⊎_elim (λ r. rest-of_blocks samples whole r.0 r.1)
+          (λ f. absurd (no_reading_and_fault s a count limit bits 0 0 whole.blocks f.0 whole.read (fault-of_all f.0 f.1))) (outcome s a count limit bits i b)
+
+-- ---- by places
+
+-- nothing was read at first
+pub has_read_nothing : (s : Settings) (count : Option ℕ) (limit : ℕ) (bits : List Bool) → HasRead (place_at s count limit bits 0 0) []
+has_read_nothing s count limit bits =
+    let start = reached-start s count limit bits 0 0 0 [] refl refl in
+    record { sets = start.sets; leads = start.leads; all_samples = []; filled = start.filled; counted = none count; same = refl }
+  where
+    none : (count : Option ℕ) → [] ≡ counted_from s count 0 []
+    none None = refl
+    none (Some n) = sym (take_all (n - 0 * s.block_size) [] (omega arith))
+
+-- the samples of a step behind those before it
+pub has_read_more : (p q : Place) (xs ys : List ℤ) → IsAllowed p.settings → HasRead p xs → ReadsInterval p ys q → HasRead q (xs ++ ys)
+has_read_more p q xs ys a read step = read-more p.settings a p.count p.limit p.bits p.block p.bit xs read step.wanted step.begins ys q step.piece
+
+-- they are all where no more is wanted
+pub has_read_all : (p : Place) (xs : List ℤ) → IsAllowed p.settings → HasRead p xs → is_wanted_at p ≡ false → IsReading p.settings p.count p.limit p.bits xs
+has_read_all p xs a read done = reading-of_all p.settings a p.count p.limit p.bits p.block p.bit xs read done
+
+-- a refusal is that of all
+pub has_read_refused : (p : Place) (xs : List ℤ) (fault : Fault) → IsAllowed p.settings → HasRead p xs → RefusesAt p fault
+    → RefusesReading p.settings p.count p.limit p.bits 0 0 fault
+has_read_refused p xs fault a read refuses = refusal-of_all p.settings a p.count p.limit p.bits p.block p.bit xs read fault refuses
+
+-- the second time only memory can be missing
+pub lacks_memory_only : (p : Place) (xs samples : List ℤ) (fault : Fault) → IsAllowed p.settings → HasRead p xs → IsReading p.settings p.count p.limit p.bits samples
+    → RefusesAt p fault → fault ≡ Memory
+lacks_memory_only p xs samples fault a read whole refuses =
+    memory-only p.settings a p.count p.limit p.bits p.block p.bit xs read samples fault whole refuses
+
+-- what was read is a front of all: behind it comes more of them
+pub has_read_front : (p : Place) (xs samples : List ℤ) → IsAllowed p.settings → HasRead p xs → (is_wanted_at p ≡ true → p.block % p.settings.interval ≡ 0)
+    → IsReading p.settings p.count p.limit p.bits samples → (ys : List ℤ) × (samples ≡ xs ++ ys)
+has_read_front p xs samples a read begins whole =
+    ⊎_elim (λ wanted. rest-of_all p.settings a p.count p.limit p.bits p.block p.bit xs read wanted (begins wanted) samples whole)
+    (λ done. (
+      [],
+      (bits_are_read_in_one_way p.settings p.count p.limit p.bits a).one_reading samples xs whole (has_read_all p xs a read done)
+          ∙ sym (append-nil xs),
+    )) (cases_Bool (is_wanted_at p))
+
+-- they are no more than the blocks up to the place hold
+pub has_read_few : (p : Place) (xs : List ℤ) → IsAllowed p.settings → HasRead p xs → length xs ≤ p.block * p.settings.block_size
+has_read_few p xs a read = omega (arith, asked p.count read.counted, read.filled.whole, most)
+  where
+    before : List Block
+    before = stream_blocks p.settings 0 read.sets
+
+    kept : (count : Option ℕ) → length (kept_blocks p.settings count 0 before) ≤ length before
+    kept None = omega arith
+    kept (Some n) = omega (arith, length-take (div_ceil n p.settings.block_size - 0) before)
+
+    most : length (kept_blocks p.settings p.count 0 before) * p.settings.block_size ≤ p.block * p.settings.block_size
+    most = mul-le-mul_right p.settings.block_size (omega (
+      arith,
+      kept p.count,
+      length-stream_blocks p.settings p.count p.limit p.bits 0 0 read.sets p.block p.bit (interval-positive p.settings a) read.leads,
+    ))
+
+    asked : (count : Option ℕ) → xs ≡ counted_from p.settings count 0 read.all_samples → length xs ≤ length read.all_samples
+    asked None is = omega (arith, ap length is)
+    asked (Some n) is = omega (arith, ap length is, length-take (n - 0 * p.settings.block_size) read.all_samples)
+
+-- the samples of a step are samples of the settings
+pub piece_is_held : (p q : Place) (xs : List ℤ) → ReadsPiece p xs q → AllByRecursion (IsHeld p.settings) xs
+piece_is_held p q xs piece = subst (AllByRecursion (IsHeld p.settings)) (sym piece.counted) (asked p.count)
+  where
+    asked : (count : Option ℕ) → AllByRecursion (IsHeld p.settings) (counted_from p.settings count p.block piece.all_samples)
+    asked None = piece.filled.held
+    asked (Some n) = all_left (IsHeld p.settings) _ (drop (n - p.block * p.settings.block_size) piece.all_samples)
+        (subst (AllByRecursion (IsHeld p.settings)) (sym (take-append-drop (n - p.block * p.settings.block_size) piece.all_samples)) piece.filled.held)
+
+pub steps_are_the_reading : AllStepsAreTheReading
+steps_are_the_reading = record {
+  begun = has_read_nothing;
+  steps = λ p xs a read. record {
+    more = λ ys q step. has_read_more p q xs ys a read step;
+    all = has_read_all p xs a read;
+    refused = λ fault. has_read_refused p xs fault a read;
+    memory_only = λ samples fault. lacks_memory_only p xs samples fault a read;
+    front = λ samples begins. has_read_front p xs samples a read begins;
+  };
+}

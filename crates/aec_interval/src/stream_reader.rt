@@ -1,0 +1,103 @@
+//! A reader of samples, interval by interval.
+
+use crate::reading::{Wanted, cut_to_count, read_interval, wants_more};
+use crate::whole_reading::judge_count;
+use aec_bits::{BitBuf, BitReader};
+use aec_params::{Fault, Params};
+use std::alloc::Global;
+use std::marker::Model;
+
+/// Reads the samples that coded bits stand for, as `decode_all` does, and hands them out interval by interval. It keeps
+/// none of them. Contracts see the place where it is.
+#[derive(Debug, Drop)]
+pub struct StreamReader<'a> {
+    params: Params,
+    count: Option<u64>,
+    limit: u64,
+    reader: BitReader<'a>,
+    block: u64,
+    alloc: Global,
+}
+
+impl<'a> Model for StreamReader<'a> {
+    ghost use Rattle.aec_interval.specs.Pieces.{Place, place_at, IsPlace};
+
+    ghost Value = { Place };
+
+    ghost view = { λ r. place_at r.params r.count r.limit r.reader.list r.block r.reader.pos };
+
+    ghost invariant = { λ r. IsPlace (place_at r.params r.count r.limit r.reader.list r.block r.reader.pos) };
+}
+
+impl<'a> StreamReader<'a> {
+    ghost use Rattle.std.specs.Prelude.{◌≡◌, ◌<◌, ◌≤◌, ◌%◌, ◌^◌, true, false, [], vec_capacity, IfOk, IfErr};
+    ghost use Rattle.std.specs.Result.{result_err};
+    ghost use Rattle.std.specs.List.{AllByRecursion};
+    ghost use Rattle.aec_params.specs.declared.fault.Fault.TheVariants.{Memory};
+    ghost use Rattle.aec_params.specs.Params.{IsHeld, interval_len};
+    ghost use Rattle.aec_interval.specs.Reached.{count_refusal};
+    ghost use Rattle.aec_interval.specs.Pieces.{place_at, is_wanted_at, ReadsInterval, RefusesAt};
+
+    /// A reader at the first bit, which asks for the first `count` samples, or without a count for all of them.
+    /// `TooManySamples` where a given count is above `limit`. Takes no memory.
+    pub fn new(
+        alloc: Global,
+        params: Params,
+        bits: &'a BitBuf,
+        count: Option<u64>,
+        limit: u64,
+    ) -> Result<StreamReader<'a>, Fault>
+        requires { limit ≤ 2 ^ 32 }
+        ensures ok { IfOk result (λ reader. reader ≡ place_at params count limit bits.now.list 0 0) }
+        ensures refuses { result_err result ≡ count_refusal limit count }
+    {
+        judge_count(count, limit)?;
+        Ok(StreamReader {
+            params,
+            count,
+            limit,
+            reader: BitReader::new(bits),
+            block: 0,
+            alloc,
+        })
+    }
+
+    /// Goes back to the first bit.
+    pub fn restart(&mut self)
+        ensures { self.new ≡ place_at self.old.settings self.old.count self.old.limit self.old.bits 0 0 }
+    {
+        // What the parameters promise is told by their calls.
+        let _len = self.params.interval_len();
+        self.reader.seek(0);
+        self.block = 0;
+    }
+
+    /// Puts the samples of the next interval in the place of those that were handed in; false where none are left.
+    ///
+    /// The refusals are those of `decode_all`, each as soon as it is met. `Memory` comes only where the vector had no room
+    /// for the samples of a whole interval.
+    pub fn next(&mut self, samples: &mut Vec<i64>) -> Result<bool, Fault>
+        ensures more { IfOk result (λ more. more ≡ is_wanted_at self.old) }
+        ensures read { IfOk result (λ more. more ≡ true → ReadsInterval self.old samples.new.items self.new) }
+        ensures done { IfOk result (λ more. more ≡ false → self.new ≡ self.old) }
+        ensures refuses { IfErr result (λ fault. RefusesAt self.old fault) }
+        ensures full { IfErr result (λ fault. fault ≡ Memory → vec_capacity samples.old < interval_len self.old.settings) }
+        ensures capacity { vec_capacity samples.old ≤ vec_capacity samples.new }
+        ensures few { self.new.block < 2 ^ 34 }
+        ensures ends { is_wanted_at self.new ≡ true → self.new.block % self.new.settings.interval ≡ 0 }
+    {
+        samples.clear();
+        let wanted = Wanted {
+            first: self.block,
+            start: self.reader.pos(),
+            count: self.count,
+            limit: self.limit,
+        };
+        if !wants_more(&self.params, wanted, &self.reader, self.block) {
+            return Ok(false);
+        }
+        self.block = read_interval(self.alloc, &self.params, wanted, &mut self.reader, samples)?;
+        cut_to_count(&self.params, wanted, samples);
+        Ok(true)
+    }
+}
