@@ -1,5 +1,5 @@
 -- What the reading of a coded data set answers: what the one stands for that begins at the position.
-use Rattle.std.specs.Prelude.{◌≡◌, ℕ, ◌+◌, ◌<◌, Bool, true, Option, Some, None, List, length, ⊤}
+use Rattle.std.specs.Prelude.{◌≡◌, ℕ, ◌+◌, ◌<◌, Bool, true, Option, Some, None, length, ⊤}
 use Rattle.aec_params.specs.declared.settings.Settings.{Settings}
 use Rattle.aec_params.specs.CodedDataSets.{Body, uncompressed_values, value_pairs, split_values, zero_blocks, CodedDataSet, cds_bits, has_small_values}
 use Rattle.aec_params.specs.Places.{told_blocks, block_of_values, block_of_members}
