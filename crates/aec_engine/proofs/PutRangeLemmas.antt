@@ -1,5 +1,5 @@
 -- The second reading: the bytes of a range of samples put piece by piece.
-use Rattle.std.proofs.Common.{◌≡◌, ℕ, zero, suc, ◌+◌, ◌-◌, ◌*◌, ◌%◌, ◌<◌, ◌≤◌, ◌^◌, min, Bool, true, false, Option, Some, None, Result, Ok, Err, OnOk, OnErr, ℤ, List, [], ◌∷◌, ◌++◌, length, take, drop, refl, sym, ap, ap₂, ◌∙◌, subst, arith, append-nil, append_assoc, ⊎_elim}
+use Rattle.std.proofs.Common.{◌≡◌, ℕ, zero, suc, ◌+◌, ◌-◌, ◌%◌, ◌<◌, ◌≤◌, ◌^◌, min, true, false, Option, Some, None, Result, Ok, Err, OnOk, OnErr, ℤ, List, [], ◌∷◌, ◌++◌, length, take, drop, refl, sym, ap, ap₂, ◌∙◌, subst, arith, append-nil, append_assoc, ⊎_elim}
 use Rattle.std.specs.Io.KnownBytes.{Appends, Keeps}
 use Rattle.std.proofs.KnownBytes.{Appends-nil, Appends-trans}
 use Rattle.std.proofs.lemmas.Bool.{cases_lt}
@@ -72,7 +72,7 @@ puts_none start s first len known waiting none given = record {
   samples = [];
   read = subst (λ p. HasRead p []) (sym at_start) (has_read_nothing start.settings start.count start.limit start.bits);
   same = refl;
-  few = omega (arith, given.1.some_block);
+  few = omega (arith, given.1.first_block);
   put = [];
   appended = Appends-nil known;
   all = none ∙ sym (ap (all_stored s) (nothing first len));
@@ -81,7 +81,7 @@ puts_none start s first len known waiting none given = record {
 }
   where
     at_start : start ≡ place_from start 0 0
-    at_start = ap (λ i. place_from start i start.bit) given.1.some_block ∙ ap (λ b. place_from start 0 b) given.1.some_bit
+    at_start = ap (λ i. place_from start i start.bit) given.1.first_block ∙ ap (λ b. place_from start 0 b) given.1.first_bit
 
     nothing : (first len : ℕ) → samples_from first len [] ≡ []
     nothing zero zero = refl

@@ -1,11 +1,10 @@
 -- Answers of cutting out a range, from what its parts answer.
-use Rattle.std.proofs.Common.{◌≡◌, ℕ, ◌+◌, ◌<◌, ◌≤◌, Option, Result, Ok, Err, IfOk, IfErr, ℤ, List, length, refl, sym, ap, ◌∙◌, subst}
+use Rattle.std.proofs.Common.{◌≡◌, ℕ, Option, Result, Err, List, sym, subst}
 use Rattle.aec_params.specs.declared.settings.Settings.{Settings}
 use Rattle.aec_params.specs.declared.fault.Fault.{Fault}
-use Rattle.aec_params.specs.declared.fault.Fault.TheVariants.{Memory, OutOfRange}
 use Rattle.aec_params.specs.Limits.{Caps}
-use Rattle.aec_engine.specs.Output.{GaveSamples, IsDecoded, IsRanged, not_decoded, outside, cut_out, all_stored, samples_from}
-use Rattle.aec_engine.specs.Transfers.{Taking, are_past, answer_of, GivesAnswer, given, lacks_memory}
+use Rattle.aec_engine.specs.Output.{IsDecoded, IsRanged, not_decoded}
+use Rattle.aec_engine.specs.Transfers.{Taking, are_past, GivesAnswer, given, lacks_memory}
 
 -- a refusal of decoding is one of cutting out
 pub refused_as_decoding : (s : Settings) (caps : Caps) (count : Option ℕ) (first len : ℕ) (source : Taking) (answer : Result (List ℕ) Fault) (fault : Fault)

@@ -1,17 +1,15 @@
 -- Bits read once to count their samples, and again to put the bytes of some of them.
-use Rattle.std.proofs.Common.{◌≡◌, ℕ, ◌+◌, ◌-◌, ◌*◌, ◌%◌, ◌<◌, ◌≤◌, ◌^◌, Bool, true, false, Option, None, Result, Ok, Err, IfOk, IfErr, ℤ, List, [], ◌∷◌, ◌++◌, length, take, drop, refl, sym, ap, ap₂, ◌∙◌, subst, arith, append-nil, append_assoc}
+use Rattle.std.proofs.Common.{◌≡◌, ℕ, ◌+◌, ◌*◌, ◌<◌, ◌≤◌, ◌^◌, false, Result, Err, IfErr, ℤ, List, [], ◌++◌, length, refl, sym, ap, ◌∙◌, subst, arith}
 use Rattle.std.proofs.Math.Nat.{mul-le-mul_right}
-use Rattle.std.specs.List.{AllByRecursion}
 use Rattle.std.proofs.lemmas.List.{length-append}
-use Rattle.aec_params.specs.declared.settings.Settings.{Settings}
 use Rattle.aec_params.specs.declared.fault.Fault.{Fault}
-use Rattle.aec_params.specs.Params.{IsAllowed, IsHeld, interval_len}
+use Rattle.aec_params.specs.Params.{IsAllowed}
 use Rattle.aec_params.specs.Reading.{IsReading}
 use Rattle.aec_interval.specs.Reached.{RefusesReading}
 use Rattle.aec_interval.specs.Pieces.{Place, place_at, is_wanted_at, ReadsInterval, HasRead, RefusesAt}
 use Rattle.aec_interval.proofs.ReadNextLemmas.{block_size-most}
-use Rattle.aec_interval.proofs.PieceReadingLemmas.{has_read_nothing, has_read_more, has_read_all, has_read_refused, has_read_few, has_read_front, lacks_memory_only, piece_is_held}
-use Rattle.aec_engine.specs.ReadingTwice.{AreSamplesOf, HaveSamples}
+use Rattle.aec_interval.proofs.PieceReadingLemmas.{has_read_nothing, has_read_more, has_read_all, has_read_refused, has_read_few}
+use Rattle.aec_engine.specs.ReadingTwice.{HaveSamples}
 
 -- a place that was come to from another one
 abbrev pub place_from : Place → ℕ → ℕ → Place

@@ -1,18 +1,17 @@
 -- Answers that are written or refused, by what stands for them before they are stored.
-use Rattle.std.proofs.Common.{◌≡◌, ℕ, ◌+◌, ◌<◌, ◌≤◌, Bool, Option, None, Some, Result, Ok, Err, OnOk, OnErr, IfErr, ℤ, List, length, take, drop, refl, sym, ap, ◌∙◌, subst, arith}
+use Rattle.std.proofs.Common.{◌≡◌, ℕ, ◌+◌, ◌<◌, ◌≤◌, Bool, Option, None, Some, Result, Ok, Err, OnOk, OnErr, IfErr, ℤ, List, length, refl, sym, ap, ◌∙◌, subst, arith}
 use Rattle.std.specs.Io.KnownBytes.{Appends}
-use Rattle.std.specs.Result.{result_err}
 use Rattle.std.proofs.lemmas.List.{take_all}
 use Rattle.aec_params.specs.declared.settings.Settings.{Settings}
 use Rattle.aec_params.specs.declared.fault.Fault.{Fault}
-use Rattle.aec_params.specs.declared.fault.Fault.TheVariants.{Memory, Write, OutOfRange}
+use Rattle.aec_params.specs.declared.fault.Fault.TheVariants.{Write, OutOfRange}
 use Rattle.aec_params.specs.Limits.{Caps}
 use Rattle.aec_params.specs.Codewords.{bits_of_bytes}
 use Rattle.aec_params.specs.Reading.{IsReading}
 use Rattle.aec_bits.specs.Devices.{counted, AppendsFront}
 use Rattle.aec_interval.specs.Reached.{count_refusal, RefusesReading, RefusesDecoding, above_limit, unread}
 use Rattle.aec_interval.specs.Pieces.{Place, place_at}
-use Rattle.aec_engine.specs.Output.{IsDecoded, decoded, IsRanged, not_decoded, outside, cut_out, all_stored, samples_from}
+use Rattle.aec_engine.specs.Output.{IsDecoded, decoded, IsRanged, outside, cut_out, all_stored, samples_from}
 use Rattle.aec_engine.specs.Transfers.{Input, Taking, are_past, Putting, RefusesIntake, IsTakenWhole, GivesAnswer, given, Settles, not_begun, Leaves}
 use Rattle.aec_engine.specs.ReadingTwice as twice
 use Rattle.aec_engine.specs.Transfers as transfers
@@ -46,7 +45,7 @@ settles_map answers others sink r weaker one = record { answer = one.answer; ans
 abbrev pub samples_at_start : (s : Settings) (count : Option ℕ) (limit : ℕ) (bits : List Bool) (p : Place) (total : ℕ) → p ≡ place_at s count limit bits 0 0
     → HaveSamples p total → (xs : List ℤ) × AreSamplesOf p xs
 samples_at_start s count limit bits p total is have =
-    (have.samples, record { reading = have.reading; some_block = ap (λ (p : Place). p.block) is; some_bit = ap (λ (p : Place). p.bit) is })
+    (have.samples, record { reading = have.reading; first_block = ap (λ (p : Place). p.block) is; first_bit = ap (λ (p : Place). p.bit) is })
 
 reading_at : (s : Settings) (count : Option ℕ) (limit : ℕ) (bits : List Bool) (p : Place) (xs : List ℤ) → p ≡ place_at s count limit bits 0 0
     → IsReading p.settings p.count p.limit p.bits xs → IsReading s count limit bits xs

@@ -24,11 +24,11 @@ pub record GaveWhole (before after : Option (List ℕ)) (failures limit : ℕ) (
   pub taken : IsTakenWhole before after failures limit bytes
   pub spelled : bits ≡ bits_of_bytes bytes
 
--- bits are read as these samples, from their start
+-- bits are read as these samples, and the place is their start
 pub record AreSamplesOf (p : Place) (samples : List ℤ) : Type 0 where
   pub reading : IsReading p.settings p.count p.limit p.bits samples
-  pub some_block : p.block ≡ 0
-  pub some_bit : p.bit ≡ 0
+  pub first_block : p.block ≡ 0
+  pub first_bit : p.bit ≡ 0
 
 -- bits are read as so many samples
 pub record HaveSamples (p : Place) (total : ℕ) : Type 0 where
@@ -43,7 +43,8 @@ pub data StoresPart (s : Settings) (first len : ℕ) (samples : List ℤ) : Resu
 
 -- what decoding answers to bits
 pub data DecodesBits (s : Settings) (count : Option ℕ) (limit : ℕ) (bits : List Bool) : Result (List ℕ) Fault → Type 0 where
-  read : (samples : List ℤ) → count_refusal limit count ≡ None → IsReading s count limit bits samples → DecodesBits s count limit bits (Ok (all_stored s samples))
+  read : (samples : List ℤ) → count_refusal limit count ≡ None → IsReading s count limit bits samples
+      → DecodesBits s count limit bits (Ok (all_stored s samples))
   unread : (fault : Fault) → RefusesDecoding s count limit bits fault → DecodesBits s count limit bits (Err fault)
   no_memory : DecodesBits s count limit bits (Err Memory)
 

@@ -1,4 +1,4 @@
-use Rattle.std.proofs.Common.{arith, length, take}
+use Rattle.std.proofs.Common.{arith, take}
 use Rattle.std.proofs.lemmas.List.{length-take}
 use Rattle.aec_engine.proofs.IntakeLemmas.{takes_more, gave_failed, gave_past, nearer}
 use Rattle.aec_engine.proofs.engine.bit_intake.read_bits_past.Goals as goal

@@ -1,7 +1,6 @@
 use Rattle.std.proofs.Common.{Some, Err, ◌∙◌, ap, refl, sym, subst}
 use Rattle.std.proofs.lemmas.Result.{err_from_is_err_and}
-use Rattle.aec_params.specs.declared.fault.Fault.{Fault}
-use Rattle.aec_engine.specs.ReadingTwice.{HaveSamples, DecodesBits, SettlesOne, unread}
+use Rattle.aec_engine.specs.ReadingTwice.{HaveSamples, DecodesBits, unread}
 use Rattle.aec_engine.proofs.SettlingLemmas.{settles_refusal, refuses_count, refuses_reading, decodes_all}
 use Rattle.aec_engine.proofs.engine.decoding.decode_bits.Goals as goal
 

@@ -1,7 +1,6 @@
 use Rattle.std.proofs.Common.{Some, Err, ◌∙◌, ap, refl, sym, subst}
 use Rattle.std.proofs.lemmas.Result.{err_from_is_err_and}
-use Rattle.aec_params.specs.declared.fault.Fault.{Fault}
-use Rattle.aec_engine.specs.ReadingTwice.{HaveSamples, CutsBits, SettlesOne, not_read}
+use Rattle.aec_engine.specs.ReadingTwice.{HaveSamples, CutsBits, not_read}
 use Rattle.aec_engine.proofs.SettlingLemmas.{settles_refusal, refuses_count, refuses_reading, cuts_part, cuts_past}
 use Rattle.aec_engine.proofs.engine.ranging.range_bits.Goals as goal
 

@@ -1,4 +1,4 @@
-use Rattle.std.proofs.Common.{arith, refl, sym, subst, ap, length, ◌∙◌}
+use Rattle.std.proofs.Common.{arith, refl, sym, subst}
 use Rattle.std.proofs.lemmas.Result.{err_from_is_err_and}
 use Rattle.aec_params.specs.Params.{IsAllowed}
 use Rattle.aec_engine.proofs.ReadTwiceLemmas.{counts_none, counts_more, counts_few, counts_refused}

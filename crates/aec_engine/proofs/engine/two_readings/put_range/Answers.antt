@@ -1,11 +1,8 @@
-use Rattle.std.proofs.Common.{arith, sym, subst, ap, refl, length, ◌∙◌, ◌*◌}
+use Rattle.std.proofs.Common.{arith, sym, subst, ap, refl, ◌∙◌}
 use Rattle.std.proofs.lemmas.List.{nil_from_length}
 use Rattle.std.proofs.lemmas.Result.{err_from_is_err_and}
-use Rattle.std.specs.List.{AllByRecursion}
-use Rattle.aec_params.specs.Params.{IsAllowed, IsHeld, interval_len}
+use Rattle.aec_params.specs.Params.{IsAllowed, interval_len}
 use Rattle.aec_engine.specs.Output.{samples_from}
-use Rattle.aec_interval.proofs.PieceReadingLemmas.{piece_is_held}
-use Rattle.aec_engine.proofs.ReadTwiceLemmas.{settings-same}
 use Rattle.aec_engine.proofs.PutRangeLemmas.{puts_none, puts_more, not_refused, part_is_held, puts_front_err, puts_all, puts_last_front}
 use Rattle.aec_engine.proofs.engine.two_readings.put_range.Goals as goal
 
