@@ -2,7 +2,7 @@
 # Every test: the gate, and then with the programs that it has built coded samples, coded data that is cut, damaged streams,
 # refused memory in whole runs and in calls of the libraries, files that fail, the round trips with the client of libaec, and
 # edits by generated scripts. Fails if one fails. The last line counts what passed and failed: the gate's where all have passed,
-# else that of the first part that failed. Run from the top of the repository by `make test`.
+# else that of the first part that failed, and before it the lines that say why. Run from the top of the repository by `make test`.
 export PYTHONDONTWRITEBYTECODE=1
 kept=$(mktemp -d)
 trap 'rm -rf "$kept"' EXIT
@@ -30,6 +30,14 @@ on_program() {
     fi
 }
 
+# Shows once more, behind all else, the lines of a part that say why it failed, and what the machine has left.
+explain() {
+    echo "== why $1 failed"
+    grep -E 'NOT PROVED|NOT REFUSED|BAD EDIT|FAILED|error|killed|: not proved|no verdict' "$kept/$1.log" | cut -c 1-300 | tail -n 30
+    df -h . /tmp
+    grep -E 'MemTotal|MemAvailable' /proc/meminfo
+}
+
 part gate rt ci
 echo "== coded samples"
 part coded on_program tests/coded.py
@@ -55,6 +63,9 @@ for name in gate coded cuts damaged memory calls files trips scripts; do
         break
     fi
 done
+if ! has_passed "$last"; then
+    explain "$last"
+fi
 echo "== $last"
 tail -n 1 "$kept/$last.log"
 has_passed "$last"
