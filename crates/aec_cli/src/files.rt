@@ -130,7 +130,7 @@ impl<'a, F: Files> DestSink<'a, F> {
 
     /// Has the system write out what the file was given, and ends the sink. `Write` where that fails, and where the
     /// sink has failed. A file that can't be synced, as a pipe or a terminal, is done as it is, and so is a sink that
-    /// was not begun.
+    /// neither was begun nor has failed.
     pub fn finish(self) -> Result<(), Fault>
         ensures failed { ⟦<DestSink<'a, F> as Sink>⟧.failed self.entry ≡ 1 → IsErr result }
         ensures unbegun { ⟦<DestSink<'a, F> as Sink>⟧.begun self.entry ≡ 0 → ⟦<DestSink<'a, F> as Sink>⟧.failed self.entry ≡ 0

@@ -32,7 +32,8 @@ pub struct Edited {
 ///
 /// Each edit is answered as the definition says for the samples and the calls that those before it have left. What is
 /// written is, bit for bit, the code of the samples that the accepted edits leave; read with its count it gives these
-/// samples. `Memory` where there is no room for the outcomes or for the samples that are read; nothing was written then.
+/// samples. `Memory` where there is no room for the outcomes or for the samples that are read, but not for no edits; nothing was
+/// written then.
 /// `Write` where the sink fails, which has then taken the front of the stream.
 pub fn write_edited<C: Codec + Drop, W: Sink>(
     alloc: Global,

@@ -15,7 +15,7 @@ use Rattle.aec_params.specs.Faults.{IsSetAt, IsNotRead, IsWrongAt, not_read, too
 use Rattle.aec_block.specs.ReadCds.{as_run_len, run_len_of, answer_of}
 use Rattle.aec_interval.specs.NextBlock.{run_blocks}
 use Rattle.aec_interval.specs.NextSet.{run_count, cds_count, kept_count, IsNextCds, cds_front}
-use Rattle.aec_interval.specs.Reached.{AreFilled, IsReached, RefusesReading, faulty}
+use Rattle.aec_interval.specs.Reached.{AreFilled, IsReached, RefusesUpTo, wrong_before}
 use Rattle.aec_interval.proofs.NextSetLemmas.{single_next, run_front}
 
 -- ---- how many blocks
@@ -96,17 +96,18 @@ front-answer_of s count bits i b reference (zero_blocks m) some wanted = kept_ru
 
 -- ---- faults
 
-module _ (s : Settings) (count : Option ℕ) (limit : ℕ) (bits : List Bool) (first start i b : ℕ) (samples : List ℤ) (reached : IsReached s count limit bits first start i b samples) (wanted : is_wanted s count bits i b ≡ true) where
-  wrong_here : (fault : Fault) → IsWrongAt s count limit bits i b fault → RefusesReading s count limit bits first start fault
-  wrong_here fault wrong = faulty fault (record { sets = reached.sets; block = i; bit = b; leads = reached.leads; wanted = wanted; wrong = wrong })
+module _ (s : Settings) (count : Option ℕ) (limit : ℕ) (bits : List Bool) (first start i b : ℕ) (samples : List ℤ) (reached : IsReached s count limit bits first start i b samples) (wanted : is_wanted s count bits i b ≡ true)
+    (end : ℕ) (before : i < end) where
+  wrong_here : (fault : Fault) → IsWrongAt s count limit bits i b fault → RefusesUpTo s count limit bits first start end fault
+  wrong_here fault wrong = wrong_before fault (record { sets = reached.sets; block = i; bit = b; leads = reached.leads; wanted = wanted; wrong = wrong }) before
 
-  pub refuses_unread : (fault : Fault) → IsNotRead s (is_reference_block s (i % s.interval)) bits b fault → RefusesReading s count limit bits first start fault
+  pub refuses_unread : (fault : Fault) → IsNotRead s (is_reference_block s (i % s.interval)) bits b fault → RefusesUpTo s count limit bits first start end fault
   refuses_unread fault none = wrong_here fault (not_read fault none)
 
   pub refuses_long : (c : CodedDataSet) → IsSetAt s (is_reference_block s (i % s.interval)) bits b c → has_small_values s c ≡ true → stays_in_segment s (i % s.interval) c ≡ false
-      → RefusesReading s count limit bits first start (RunTooLong b)
+      → RefusesUpTo s count limit bits first start end (RunTooLong b)
   refuses_long c at small long = wrong_here _ (too_long c at small long)
 
   pub refuses_many : (c : CodedDataSet) → IsSetAt s (is_reference_block s (i % s.interval)) bits b c → IsLawfulAt s (i % s.interval) c → keeps_limit s count limit (next_block s i c) ≡ false
-      → RefusesReading s count limit bits first start (TooManySamples limit)
+      → RefusesUpTo s count limit bits first start end (TooManySamples limit)
   refuses_many c at lawful many = wrong_here _ (too_many c at lawful many)

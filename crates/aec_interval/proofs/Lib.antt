@@ -28,6 +28,7 @@ pub mod NextFillLemmas
 pub mod ReachedLemmas
 pub mod ZeroRunLemmas
 pub mod NextSetLemmas
+pub mod UpToLemmas
 pub mod DecodeLemmas
 pub mod ReadNextLemmas
 pub mod ReadIntervalLemmas

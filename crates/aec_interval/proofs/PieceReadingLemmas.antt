@@ -31,6 +31,7 @@ use Rattle.aec_interval.proofs.OutcomeLemmas.{outcome}
 use Rattle.aec_interval.proofs.ReadingLemmas.{bits_are_read_in_one_way}
 use Rattle.aec_interval.proofs.ReachedLemmas.{length-stream_blocks, take-append-past, kept_blocks-append, kept_blocks-wanted}
 use Rattle.aec_interval.proofs.ReadNextLemmas.{reached-start}
+use Rattle.aec_interval.proofs.UpToLemmas.{up_to-reading}
 
 -- ---- whole intervals of samples
 
@@ -267,13 +268,14 @@ has_read_all p xs a read done = reading-of_all p.settings a p.count p.limit p.bi
 -- a refusal is that of all
 pub has_read_refused : (p : Place) (xs : List ℤ) (fault : Fault) → IsAllowed p.settings → HasRead p xs → RefusesAt p fault
     → RefusesReading p.settings p.count p.limit p.bits 0 0 fault
-has_read_refused p xs fault a read refuses = refusal-of_all p.settings a p.count p.limit p.bits p.block p.bit xs read fault refuses
+has_read_refused p xs fault a read refuses =
+    refusal-of_all p.settings a p.count p.limit p.bits p.block p.bit xs read fault (up_to-reading _ _ _ _ _ _ _ _ refuses)
 
 -- the second time only memory can be missing
 pub lacks_memory_only : (p : Place) (xs samples : List ℤ) (fault : Fault) → IsAllowed p.settings → HasRead p xs → IsReading p.settings p.count p.limit p.bits samples
     → RefusesAt p fault → fault ≡ Memory
 lacks_memory_only p xs samples fault a read whole refuses =
-    memory-only p.settings a p.count p.limit p.bits p.block p.bit xs read samples fault whole refuses
+    memory-only p.settings a p.count p.limit p.bits p.block p.bit xs read samples fault whole (up_to-reading _ _ _ _ _ _ _ _ refuses)
 
 -- what was read is a front of all: behind it comes more of them
 pub has_read_front : (p : Place) (xs samples : List ℤ) → IsAllowed p.settings → HasRead p xs → (is_wanted_at p ≡ true → p.block % p.settings.interval ≡ 0)

@@ -25,8 +25,8 @@ use Rattle.aec_block.specs.declared.cds.Cds.{Cds}
 use Rattle.aec_params.specs.Faults.{IsNotRead}
 use Rattle.aec_block.specs.ReadCds.{IsReadAs}
 use Rattle.aec_interval.specs.NextBlock.{FillsNext}
-use Rattle.aec_interval.specs.NextSet.{cds_count, kept_count, IsNextCds, cds_front}
-use Rattle.aec_interval.specs.Reached.{AreFilled, IsReached, IsReadFrom, LeadsBehindOne, RefusesReading, no_memory, count_refusal, RefusesDecoding, above_limit, unread}
+use Rattle.aec_interval.specs.NextSet.{cds_count, kept_count, blocks_before_end, IsNextCds, cds_front}
+use Rattle.aec_interval.specs.Reached.{AreFilled, IsReached, IsReadFrom, LeadsBehindOne, RefusesReading, RefusesUpTo, no_room, count_refusal, RefusesDecoding, above_limit, unread}
 use Rattle.aec_params.proofs.SettingLaws.{block_size-positive, interval-positive}
 use Rattle.std.proofs.Common.{◌*◌, ◌/◌, ◌^◌}
 use Rattle.aec_params.proofs.StreamLaws.{run_len-some}
@@ -67,6 +67,13 @@ blocks_after s count limit bits first start i b samples allowed reached =
 -- what is known at a wanted coded data set: `place` and `due` are its place in the interval and whether it has a reference there
 module _ (s : Settings) (count : Option ℕ) (limit : ℕ) (first start : ℕ) (old new : Cursor) (i : ℕ) (samples : List ℤ) (allowed : IsAllowed s)
     (reached : IsReached s count limit old.list first start i old.pos samples) (wanted : is_wanted s count old.list i old.pos ≡ true) where
+  -- where the interval of that coded data set ends
+  abbrev end : ℕ
+  end = i + blocks_before_end s i
+
+  before-end : i < end
+  before-end = omega (arith, mod-lt i (interval-positive s allowed))
+
   module _ (place interval : ℕ) (due : Bool) (place_is : place ≡ i % interval) (interval_is : interval ≡ s.interval)
       (due_is : due ≡ is_reference_block s place) where
     here : place ≡ i % s.interval
@@ -76,10 +83,10 @@ module _ (s : Settings) (count : Option ℕ) (limit : ℕ) (first start : ℕ) (
     due-here = due_is ∙ ap (is_reference_block s) here
 
     pub unread-refuses : {X : Type 0} (r : Result X Fault) (fault other : Fault) → r ≡ Err fault → fault ≡ other → IsNotRead s due old.list old.pos other
-        → IfErr r (λ fault. RefusesReading s count limit old.list first start fault)
+        → IfErr r (λ fault. RefusesUpTo s count limit old.list first start end fault)
     unread-refuses r fault other is same not_read =
-        let P : Result _ Fault → Type 0 = λ r. IfErr r (λ fault. RefusesReading s count limit old.list first start fault) in
-        subst P (sym (is ∙ ap Err same)) (refuses_unread s count limit old.list first start i old.pos samples reached wanted other
+        let P : Result _ Fault → Type 0 = λ r. IfErr r (λ fault. RefusesUpTo s count limit old.list first start end fault) in
+        subst P (sym (is ∙ ap Err same)) (refuses_unread s count limit old.list first start i old.pos samples reached wanted end before-end other
         (subst (λ b. IsNotRead s b old.list old.pos other) due-here not_read))
 
     module _ (cds : Cds) (blocks left : ℕ) (read_there : (c : CodedDataSet) × IsReadAs s due old new c cds) (counted_there : blocks ≡ cds_count s place cds)
@@ -99,10 +106,10 @@ module _ (s : Settings) (count : Option ℕ) (limit : ℕ) (first start : ℕ) (
       blocks-is : blocks ≡ block_count s (i % s.interval) c
       blocks-is = count-read s (i % s.interval) (is_reference_block s (i % s.interval)) old new c cds blocks read counted
 
-      pub long-refuses : (bit : ℕ) → bit ≡ old.pos → left < blocks → RefusesReading s count limit old.list first start (RunTooLong bit)
+      pub long-refuses : (bit : ℕ) → bit ≡ old.pos → left < blocks → RefusesUpTo s count limit old.list first start end (RunTooLong bit)
       long-refuses bit at past =
-          subst (λ b. RefusesReading s count limit old.list first start (RunTooLong b)) (sym at)
-          (refuses_long s count limit old.list first start i old.pos samples reached wanted c read.set read.small
+          subst (λ b. RefusesUpTo s count limit old.list first start end (RunTooLong b)) (sym at)
+          (refuses_long s count limit old.list first start i old.pos samples reached wanted end before-end c read.set read.small
           (lt-leb (block_count s (i % s.interval) c) (segment_left s (i % s.interval)) (omega (arith, blocks-is, left_is, past))))
 
       stays : blocks ≤ left → stays_in_segment s (i % s.interval) c ≡ true
@@ -111,8 +118,8 @@ module _ (s : Settings) (count : Option ℕ) (limit : ℕ) (first start : ℕ) (
       lawful : blocks ≤ left → IsLawfulAt s (i % s.interval) c
       lawful within = record { shape = read.set.shape; small = read.small; within = stays within }
 
-      pub many-refuses : blocks ≤ left → keeps_limit s count limit (i + blocks) ≡ false → RefusesReading s count limit old.list first start (TooManySamples limit)
-      many-refuses within many = refuses_many s count limit old.list first start i old.pos samples reached wanted c read.set (lawful within)
+      pub many-refuses : blocks ≤ left → keeps_limit s count limit (i + blocks) ≡ false → RefusesUpTo s count limit old.list first start end (TooManySamples limit)
+      many-refuses within many = refuses_many s count limit old.list first start i old.pos samples reached wanted end before-end c read.set (lawful within)
           (ap (λ z. keeps_limit s count limit (i + z)) (sym blocks-is) ∙ many)
 
       behind-one : blocks ≤ left → keeps_limit s count limit (i + blocks) ≡ true → LeadsBehindOne s count limit old.list first start
@@ -125,11 +132,15 @@ module _ (s : Settings) (count : Option ℕ) (limit : ℕ) (first start : ℕ) (
             (ap (λ z. keeps_limit s count limit (i + z)) (sym blocks-is) ∙ keeps);
       }
 
-      pub memory-refuses : {X : Type 0} (r : Result X Fault) (fault other : Fault) → blocks ≤ left → keeps_limit s count limit (i + blocks) ≡ true
-          → r ≡ Err fault → fault ≡ other → other ≡ Memory → IfErr r (λ fault. RefusesReading s count limit old.list first start fault)
-      memory-refuses r fault other within keeps is same memory =
-          let P : Result _ Fault → Type 0 = λ r. IfErr r (λ fault. RefusesReading s count limit old.list first start fault) in
-          subst P (sym (is ∙ ap Err (same ∙ memory))) (no_memory (behind-one within keeps))
+      ends-inside : place + left ≤ s.interval → blocks ≤ left → i + block_count s (i % s.interval) c ≤ i + (s.interval - i % s.interval)
+      ends-inside inside within = omega (arith, blocks-is, here, inside, within)
+
+      pub memory-refuses : {X : Type 0} (r : Result X Fault) (fault other : Fault) → place + left ≤ s.interval → blocks ≤ left
+          → keeps_limit s count limit (i + blocks) ≡ true → r ≡ Err fault → fault ≡ other → other ≡ Memory → IfErr r (λ fault. RefusesUpTo s count limit old.list first start end fault)
+      unfolding behind-one
+      memory-refuses r fault other inside within keeps is same memory =
+          let P : Result _ Fault → Type 0 = λ r. IfErr r (λ fault. RefusesUpTo s count limit old.list first start end fault) in
+          subst P (sym (is ∙ ap Err (same ∙ memory))) (no_room (behind-one within keeps) (ends-inside inside within))
 
       blocks-some : 1 ≤ blocks
       blocks-some = omega (arith, blocks-is, count-some s (i % s.interval) c (mod-lt i (interval-positive s allowed)))

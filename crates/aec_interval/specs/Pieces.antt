@@ -1,11 +1,11 @@
 -- A reading that goes interval by interval: where it is, what one step reads, and what the steps were so far.
-use Rattle.std.specs.Prelude.{◌≡◌, ℕ, ◌-◌, ◌*◌, ◌%◌, ◌<◌, ◌≤◌, ◌^◌, Bool, true, Option, Some, None, IfSome, ℤ, List, length, take}
+use Rattle.std.specs.Prelude.{◌≡◌, ℕ, ◌+◌, ◌-◌, ◌*◌, ◌%◌, ◌<◌, ◌≤◌, ◌^◌, Bool, true, Option, Some, None, IfSome, ℤ, List, length, take}
 use Rattle.aec_params.specs.declared.settings.Settings.{Settings}
 use Rattle.aec_params.specs.declared.fault.Fault.{Fault}
 use Rattle.aec_params.specs.Params.{interval_len}
 use Rattle.aec_params.specs.CodedDataSets.{CodedDataSet}
 use Rattle.aec_params.specs.Reading.{is_wanted, LeadsTo, stream_blocks, kept_blocks, FillBlocks}
-use Rattle.aec_interval.specs.Reached.{RefusesReading}
+use Rattle.aec_interval.specs.Reached.{RefusesUpTo}
 
 -- what is read and under which terms, the block that comes next, and the bit where its coded data set begins
 pub record Place : Type 0 where
@@ -37,21 +37,23 @@ pub record ReadsPiece (p : Place) (samples : List ℤ) (q : Place) : Type 0 wher
   pub counted : samples ≡ counted_from p.settings p.count p.block all_samples
   pub same : q ≡ place_at p.settings p.count p.limit p.bits q.block q.bit
 
--- one step: more is wanted where an interval begins, and these samples of it are read
+-- one step: more is wanted where an interval begins, and its samples are read, to its end where more is wanted behind them
 pub record ReadsInterval (p : Place) (samples : List ℤ) (q : Place) : Type 0 where
   pub wanted : is_wanted_at p ≡ true
   pub begins : p.block % p.settings.interval ≡ 0
   pub piece : ReadsPiece p samples q
   pub few : length samples ≤ interval_len p.settings
   pub ahead : p.block < q.block
+  pub within : q.block ≤ p.block + p.settings.interval
+  pub to_end : is_wanted_at q ≡ true → q.block ≡ p.block + p.settings.interval
 
 -- the samples that were read up to a place
 abbrev pub HasRead : Place → List ℤ → Type 0
 HasRead p samples = ReadsPiece (place_at p.settings p.count p.limit p.bits 0 0) samples p
 
--- why nothing is read at a place: the fault from there on, or want of memory for a coded data set behind it
+-- why the interval that begins at a place is not read: a fault in it, or want of memory for its samples
 abbrev pub RefusesAt : Place → Fault → Type 0
-RefusesAt p fault = RefusesReading p.settings p.count p.limit p.bits p.block p.bit fault
+RefusesAt p fault = RefusesUpTo p.settings p.count p.limit p.bits p.block p.bit (p.block + p.settings.interval) fault
 
 -- a place that a reader comes to
 pub record IsPlace (p : Place) : Type 0 where

@@ -1,5 +1,5 @@
 -- How far a reading has come, and why it stops.
-use Rattle.std.specs.Prelude.{◌≡◌, ℕ, Bool, if◌then◌else◌, nat_lt, Option, Some, None, ℤ, List, [], ◌∷◌, ◌++◌, length}
+use Rattle.std.specs.Prelude.{◌≡◌, ◌<◌, ◌≤◌, ℕ, Bool, if◌then◌else◌, nat_lt, Option, Some, None, ℤ, List, [], ◌∷◌, ◌++◌, length}
 use Rattle.aec_params.specs.declared.settings.Settings.{Settings}
 use Rattle.aec_params.specs.declared.fault.Fault.{Fault}
 use Rattle.aec_params.specs.declared.fault.Fault.TheVariants.{Memory, TooManySamples}
@@ -43,6 +43,12 @@ pub record LeadsBehindOne (s : Settings) (count : Option ℕ) (limit : ℕ) (bit
 pub data RefusesReading (s : Settings) (count : Option ℕ) (limit : ℕ) (bits : List Bool) (first start : ℕ) : Fault → Type 0 where
   no_memory : LeadsBehindOne s count limit bits first start → RefusesReading s count limit bits first start Memory
   faulty : (fault : Fault) → IsFault s count limit bits first start fault → RefusesReading s count limit bits first start fault
+
+-- the same, met no later than block `end`: the fault of a coded data set that would begin before it, or want of memory for the samples
+-- of those that lead there at most
+pub data RefusesUpTo (s : Settings) (count : Option ℕ) (limit : ℕ) (bits : List Bool) (first start end : ℕ) : Fault → Type 0 where
+  no_room : (h : LeadsBehindOne s count limit bits first start) → h.block ≤ end → RefusesUpTo s count limit bits first start end Memory
+  wrong_before : (fault : Fault) (h : IsFault s count limit bits first start fault) → h.block < end → RefusesUpTo s count limit bits first start end fault
 
 -- the refusal of a sample count that is above the limit
 abbrev pub count_refusal : ℕ → Option ℕ → Option Fault

@@ -9,7 +9,7 @@ ghost use Rattle.aec_params.specs.Reading.{is_wanted, keeps_limit, begin_of};
 ghost use Rattle.aec_interval.specs.NextBlock.{FillsNext};
 ghost use Rattle.aec_interval.specs.NextSet.{cds_count, kept_count, IsNextCds, cds_front, blocks_before_end};
 ghost use Rattle.aec_interval.specs.Pieces.{counted_from};
-ghost use Rattle.aec_interval.specs.Reached.{AreFilled, IsReached, IsReadFrom, RefusesReading};
+ghost use Rattle.aec_interval.specs.Reached.{AreFilled, IsReached, IsReadFrom, RefusesReading, RefusesUpTo};
 
 use crate::filling::push_block;
 use crate::interval::SEGMENT_BLOCKS;
@@ -165,7 +165,8 @@ fn read_next(
     requires counted { IfSome wanted.count (λ count. count ≤ 2 ^ 32) }
     ensures ok { IfOk result (λ next.
         IsReached params.now wanted.count wanted.limit reader.new.list wanted.first wanted.start next reader.new.pos samples.new.items) }
-    ensures refuses { IfErr result (λ fault. RefusesReading params.now wanted.count wanted.limit reader.old.list wanted.first wanted.start fault) }
+    ensures refuses { IfErr result (λ fault. RefusesUpTo params.now wanted.count wanted.limit reader.old.list wanted.first wanted.start
+        (block + blocks_before_end params.now block) fault) }
     ensures list { reader.new.list ≡ reader.old.list }
     ensures forward { IfOk result (λ next. block < next) }
     ensures few { IfOk result (λ next. next < 2 ^ 34) }
@@ -213,9 +214,13 @@ pub(crate) fn read_interval(
     requires counted { IfSome wanted.count (λ count. count ≤ 2 ^ 32) }
     ensures ok { IfOk result (λ next.
         IsReached params.now wanted.count wanted.limit reader.new.list wanted.first wanted.start next reader.new.pos samples.new.items) }
-    ensures refuses { IfErr result (λ fault. RefusesReading params.now wanted.count wanted.limit reader.old.list wanted.first wanted.start fault) }
+    ensures refuses { IfErr result (λ fault. RefusesUpTo params.now wanted.count wanted.limit reader.old.list wanted.first wanted.start
+        (wanted.first + params.now.interval) fault) }
     ensures list { reader.new.list ≡ reader.old.list }
     ensures forward { IfOk result (λ next. wanted.first < next) }
+    ensures within { IfOk result (λ next. next ≤ wanted.first + params.now.interval) }
+    ensures to_end { IfOk result (λ next.
+        is_wanted params.now wanted.count reader.new.list next reader.new.pos ≡ true → next ≡ wanted.first + params.now.interval) }
     ensures few { IfOk result (λ next. next < 2 ^ 34) }
     ensures ends { IfOk result (λ next.
         is_wanted params.now wanted.count reader.new.list next reader.new.pos ≡ true → next % params.now.interval ≡ 0) }

@@ -30,7 +30,7 @@ impl<'a> Model for StreamReader<'a> {
 }
 
 impl<'a> StreamReader<'a> {
-    ghost use Rattle.std.specs.Prelude.{◌≡◌, ◌<◌, ◌≤◌, ◌%◌, ◌^◌, true, false, [], vec_capacity, IfOk, IfErr};
+    ghost use Rattle.std.specs.Prelude.{◌≡◌, ◌<◌, ◌≤◌, ◌%◌, ◌^◌, true, false, [], vec_capacity, IfOk, IfErr, OnErr};
     ghost use Rattle.std.specs.Result.{result_err};
     ghost use Rattle.std.specs.List.{AllByRecursion};
     ghost use Rattle.aec_params.specs.declared.fault.Fault.TheVariants.{Memory};
@@ -72,15 +72,20 @@ impl<'a> StreamReader<'a> {
         self.block = 0;
     }
 
-    /// Puts the samples of the next interval in the place of those that were handed in; false where none are left.
+    /// Puts the samples of the next interval in the place of those that were handed in, at most as many as an interval has;
+    /// false where none are left.
     ///
-    /// The refusals are those of `decode_all`, each as soon as it is met. `Memory` comes only where the vector had no room
-    /// for the samples of a whole interval.
+    /// The refusals are those of `decode_all`, each where its interval is met. `Memory` comes only where the vector had no
+    /// room for the samples of a whole interval. After a refusal, and where none are left, the reader is where it was, and the
+    /// vector is empty: a call that lacked memory can be made again.
     pub fn next(&mut self, samples: &mut Vec<i64>) -> Result<bool, Fault>
         ensures more { IfOk result (λ more. more ≡ is_wanted_at self.old) }
         ensures read { IfOk result (λ more. more ≡ true → ReadsInterval self.old samples.new.items self.new) }
         ensures done { IfOk result (λ more. more ≡ false → self.new ≡ self.old) }
+        ensures empty { IfOk result (λ more. more ≡ false → samples.new.items ≡ []) }
         ensures refuses { IfErr result (λ fault. RefusesAt self.old fault) }
+        ensures err { OnErr result (self.new ≡ self.old) }
+        ensures cleared { OnErr result (samples.new.items ≡ []) }
         ensures full { IfErr result (λ fault. fault ≡ Memory → vec_capacity samples.old < interval_len self.old.settings) }
         ensures capacity { vec_capacity samples.old ≤ vec_capacity samples.new }
         ensures few { self.new.block < 2 ^ 34 }
@@ -96,8 +101,17 @@ impl<'a> StreamReader<'a> {
         if !wants_more(&self.params, wanted, &self.reader, self.block) {
             return Ok(false);
         }
-        self.block = read_interval(self.alloc, &self.params, wanted, &mut self.reader, samples)?;
-        cut_to_count(&self.params, wanted, samples);
-        Ok(true)
+        match read_interval(self.alloc, &self.params, wanted, &mut self.reader, samples) {
+            Ok(next) => {
+                self.block = next;
+                cut_to_count(&self.params, wanted, samples);
+                Ok(true)
+            }
+            Err(fault) => {
+                self.reader.seek(wanted.start);
+                samples.truncate(0);
+                Err(fault)
+            }
+        }
     }
 }

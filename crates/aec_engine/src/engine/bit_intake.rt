@@ -33,7 +33,7 @@ fn read_bits_past<R: Source>(
     Ok((bits, false))
 }
 
-/// The bits of the bytes of a source up to its end, kept once. The refusals are those of `read_whole`.
+/// The bits of the bytes of a source up to its end. The refusals are those of `read_whole`.
 pub(crate) fn read_bits<R: Source>(
     alloc: Global,
     source: &mut R,

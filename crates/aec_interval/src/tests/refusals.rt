@@ -63,6 +63,16 @@ fn refuses_long_runs(rt: HostRuntime) -> Result<(), Fail> {
         MOST,
         past,
     )?;
+    // Two blocks behind the first one of two.
+    expect_refusal(
+        &rt,
+        rt.alloc(),
+        Settings::USUAL,
+        &[0x00, 0x08, 0x20],
+        None,
+        MOST,
+        Fault::RunTooLong { bit: 13 },
+    )?;
     // 63 blocks in an interval of 62, and in one of 63.
     let long = [0, 0, 0, 0, 0, 0, 0, 0, 0, 0x10];
     expect_refusal(

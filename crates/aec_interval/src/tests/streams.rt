@@ -95,7 +95,7 @@ pub fn expect_zeros(
     expect_read(rt, alloc, settings, bytes, count, &zeros)
 }
 
-/// The samples of bits that are read in steps, or their refusal.
+/// The samples of bits that are read in steps, or their refusal, which comes again where the step is made again.
 fn samples_by_steps(
     alloc: Global,
     params: Params,
@@ -106,7 +106,10 @@ fn samples_by_steps(
     requires { limit ≤ 2 ^ 32 }
 {
     let mut reader = StreamReader::new(alloc, params, bits, count, limit)?;
-    read_by_steps(alloc, &mut reader)
+    match read_by_steps(alloc, &mut reader) {
+        Ok(samples) => Ok(samples),
+        Err(_) => read_by_steps(alloc, &mut reader),
+    }
 }
 
 /// Reads bytes at once and in steps, and compares the refusals.

@@ -56,7 +56,7 @@ returns-in_err-reserve_blocks-clause-refuses c =
     memory-refuses _ _ _ _ _ c.args.reader.now c.read_cds.new.reader _ _ c.interval.ensures.allowed c.requires.reached c.requires.wanted
     _ _ _ refl (c.from.ensures ∙ c.interval.ensures.value) c.has_reference.ensures
     _ _ _ c.in_ok-cds.ensures.ok c.block_count-blocks.ensures c.blocks_left.ensures.value
-    _ _ _ c.if-blocks-blocks_left.false (sym c.within_limit.ensures ∙ c.if-not-within_limit.false)
+    _ _ _ c.blocks_left.ensures.within c.if-blocks-blocks_left.false (sym c.within_limit.ensures ∙ c.if-not-within_limit.false)
     exit.1 exit.2 c.in_err-reserve_blocks.ensures.fault
 
 pub returns-clause-ok : goal.returns-clause-ok
