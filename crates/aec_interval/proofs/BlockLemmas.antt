@@ -1,9 +1,9 @@
 -- Blocks: each has J values below 2^n, and a reference with 0 in its place exactly where one is due.
-use Rattle.std.proofs.Common.{◌≡◌, ℕ, zero, suc, ◌+◌, ◌-◌, ◌*◌, ◌^◌, ◌<◌, Bool, true, false, Option, Some, None, ℤ, pos, List, [], ◌∷◌, ◌++◌, length, map, take, drop, replicate, refl, sym, ap, ◌∙◌, subst, arith, ⊎_elim, ◌≤◌, add-one, mod-eq_of_lt, lt_of_mul-lt-mul_right}
-use Rattle.std.specs.Prelude.{⊤, ◌==◌, ◌&&◌, if◌then◌else◌, unwrap_or}
+use Rattle.std.proofs.Common.{◌≡◌, ℕ, zero, suc, ◌+◌, ◌-◌, ◌*◌, ◌^◌, ◌<◌, false, Option, Some, None, ℤ, pos, List, [], ◌∷◌, ◌++◌, length, replicate, refl, sym, ap, ◌∙◌, subst, arith, ⊎_elim, ◌≤◌, add-one, mod-eq_of_lt, lt_of_mul-lt-mul_right}
+use Rattle.std.specs.Prelude.{⊤, ◌==◌, unwrap_or}
 use Rattle.std.specs.List.{AllByRecursion, last_or}
 use Rattle.std.specs.Int.{div_ceil}
-use Rattle.std.proofs.lemmas.List.{length-append, length-replicate, length-take, length-drop, length-map, take-append-drop}
+use Rattle.std.proofs.lemmas.List.{length-append, length-replicate, length-map}
 use Rattle.std.proofs.lemmas.Bool.{cases_lt, cond_both, and_right, ne_eqb}
 use Rattle.std.proofs.lemmas.Nat.{pow_pos}
 use Rattle.aec_params.specs.declared.settings.Settings.{Settings}
@@ -12,8 +12,7 @@ use Rattle.aec_params.specs.Cutting.{pieces_of, up_to_multiple}
 use Rattle.aec_params.specs.Mapping.{mapped_after, mapped_values}
 use Rattle.aec_params.specs.Blocks.{Block, filled_samples, reference_of, with_reference, blocks_of}
 use Rattle.aec_params.specs.BlockShapes.{IsBlockAt, AreBlocksFrom}
-use Rattle.aec_params.specs.Places.{is_reference_block, placed_values}
-use Rattle.aec_params.specs.Spellings.{written_values, after_reference}
+use Rattle.aec_params.specs.Places.{is_reference_block}
 use Rattle.aec_interval.proofs.CuttingLemmas.{IsPieceBefore, by_pieces, pieces_of-nil, pieces_of-cons, length-pieces_of, up_to_multiple-fills, div_ceil-times, div_ceil-bounds}
 use Rattle.aec_params.proofs.ValueLaws.{mapped_value-fits}
 use Rattle.aec_params.proofs.PatternLaws.{pattern-fits}

@@ -1,8 +1,7 @@
 -- The code of an interval is read as its blocks.
-use Rattle.std.proofs.Common.{◌≡◌, ℕ, suc, ◌+◌, ◌%◌, ◌<◌, ◌≤◌, List, [], ◌∷◌, ◌++◌, length, refl, sym, ap, ◌∙◌, subst, arith, inl, inr, ⊎_elim, lt_of_mul-lt-mul_right}
+use Rattle.std.proofs.Common.{◌≡◌, ℕ, suc, ◌+◌, ◌%◌, ◌<◌, ◌≤◌, List, [], ◌∷◌, ◌++◌, length, refl, sym, ap, ◌∙◌, subst, arith, inl, inr, ⊎_elim}
 use Rattle.std.specs.Prelude.{ℤ}
 use Rattle.std.specs.List.{AllByRecursion, flat_map}
-use Rattle.std.specs.Int.{div_ceil}
 use Rattle.std.proofs.lemmas.List.{length-append, nil_from_length}
 use Rattle.std.proofs.lemmas.Bool.{cases_lt}
 use Rattle.aec_params.specs.declared.settings.Settings.{Settings}
@@ -12,8 +11,8 @@ use Rattle.aec_params.specs.Places.{segment_left}
 use Rattle.aec_params.specs.Runs.{groups_of}
 use Rattle.aec_params.specs.Intervals.{group_sets, block_sets, unpadded_bits}
 use Rattle.aec_params.specs.Reading.{ReadsBlocks}
-use Rattle.aec_interval.proofs.CuttingLemmas.{IsPieceBefore, by_pieces, pieces_of-nil, pieces_of-cons, div_ceil-bounds}
-use Rattle.aec_interval.proofs.BlockLemmas.{AreDueFrom, AreDueFrom-blocks_of, blocks-few, block_size-positive}
+use Rattle.aec_interval.proofs.CuttingLemmas.{IsPieceBefore, by_pieces, pieces_of-nil, pieces_of-cons}
+use Rattle.aec_interval.proofs.BlockLemmas.{AreDueFrom, AreDueFrom-blocks_of, blocks-few}
 use Rattle.aec_interval.proofs.GroupLemmas.{group_blocks, AreGroupsFrom-groups_of, flat_map-groups_of}
 use Rattle.aec_interval.proofs.CoveringLemmas.{IsCovering, IsCovering-nil, IsCovering-groups, EndsWell}
 

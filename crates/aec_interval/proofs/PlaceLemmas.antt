@@ -1,15 +1,15 @@
 -- Where coded data sets stand in a stream: those that cover an interval lead through it, with one skip at its end.
 use Rattle.std.proofs.Common.{◌≡◌, ℕ, ◌+◌, ◌*◌, ◌%◌, ◌<◌, ◌≤◌, min, Bool, true, Option, Some, List, [], ◌∷◌, ◌++◌, length, refl, sym, ap, ap₂, ◌∙◌, subst, arith}
-use Rattle.std.specs.Prelude.{◌==◌, ◌&&◌, nat_lt, if◌then◌else◌}
+use Rattle.std.specs.Prelude.{◌==◌, ◌&&◌, nat_lt}
 use Rattle.std.specs.List.{flat_map}
 use Rattle.std.specs.Int.{div_ceil, next_multiple_of}
 use Rattle.std.proofs.lemmas.List.{length-append, append_assoc, append-nil}
 use Rattle.std.proofs.Math.Seq.{drop-append_seam, drop-append-add}
 use Rattle.std.proofs.lemmas.Nat.{mod-mul-add}
-use Rattle.std.proofs.lemmas.Bool.{cond_both, cond-false, leb-true, lt-ltb, ltb-false, and_right, ne_eqb}
+use Rattle.std.proofs.lemmas.Bool.{cond-false, leb-true, lt-ltb, and_right, ne_eqb}
 use Rattle.aec_params.specs.declared.settings.Settings.{Settings}
 use Rattle.aec_params.specs.CodedDataSets.{Body, uncompressed_values, value_pairs, split_values, zero_blocks, CodedDataSet, cds_bits}
-use Rattle.aec_params.specs.Places.{block_count, body_blocks, run_len, segment_left, IsLawfulAt, cds_blocks}
+use Rattle.aec_params.specs.Places.{block_count, body_blocks, segment_left, IsLawfulAt, cds_blocks}
 use Rattle.aec_params.specs.Reading.{Covers, covered_blocks, StandsAt, begin_of, next_block, next_begin, LeadsTo, stream_blocks}
 pub use Rattle.aec_params.proofs.StreamLaws.{length-cds_blocks, run_len-some}
 

@@ -1,10 +1,9 @@
 -- Zero blocks that come next, one behind the other.
-use Rattle.std.proofs.Common.{◌≡◌, ℕ, zero, suc, ◌+◌, ◌*◌, ◌/◌, ◌%◌, ◌<◌, ◌≤◌, ◌^◌, ◌==◌, ◌&&◌, Bool, true, false, Option, Some, None, ℤ, List, [], ◌∷◌, ◌++◌, length, replicate, refl, sym, ap, ap₂, ◌∙◌, subst, append_assoc, add-one, arith}
+use Rattle.std.proofs.Common.{◌≡◌, ℕ, zero, suc, ◌+◌, ◌*◌, ◌/◌, ◌%◌, ◌<◌, ◌≤◌, ◌==◌, ◌&&◌, Bool, true, false, Option, None, ℤ, List, [], ◌∷◌, ◌++◌, length, replicate, refl, sym, ap, ap₂, ◌∙◌, subst, append_assoc, add-one, arith}
 use Rattle.std.proofs.Math.Nat.{mul_comm, mod-lt, zero-mul, suc-mul, mul-lt-mul_of_pos_right}
-use Rattle.std.proofs.lemmas.Nat.{pow_pos, div-add-mod', mod-mul-add}
+use Rattle.std.proofs.lemmas.Nat.{div-add-mod', mod-mul-add}
 use Rattle.std.proofs.lemmas.Bool.{ne_eqb}
 use Rattle.std.proofs.lemmas.List.{length-append, length-replicate}
-use Rattle.std.specs.List.{AllByRecursion}
 use Rattle.aec_params.specs.declared.settings.Settings.{Settings}
 use Rattle.aec_params.specs.Params.{IsAllowed, interval_len}
 use Rattle.aec_params.specs.Blocks.{Block}

@@ -1,5 +1,5 @@
 -- What the private functions of `filling` and `reading_runs` compute: one block more behind whole blocks of samples.
-use Rattle.std.specs.Prelude.{◌≡◌, ℕ, zero, suc, ◌%◌, ◌^◌, ◌<◌, ◌==◌, ◌&&◌, Bool, true, false, Option, None, Some, ℤ, pos, List, [], ◌∷◌, ◌++◌, length, take, replicate, unwrap_or, ⊤}
+use Rattle.std.specs.Prelude.{◌≡◌, ℕ, zero, suc, ◌%◌, ◌==◌, ◌&&◌, Bool, true, false, Option, None, ℤ, pos, List, [], ◌∷◌, ◌++◌, length, replicate, unwrap_or}
 use Rattle.std.specs.List.{last_or, AllByRecursion}
 use Rattle.aec_params.specs.declared.settings.Settings.{Settings}
 use Rattle.aec_params.specs.Params.{interval_len, IsHeld}
