@@ -3,15 +3,16 @@
 
 Runs the program at PATH_OF_AEC ('ours') and the command-line client of libaec ('theirs', named by the environment
 variable LIBAEC, else /usr/bin/aec) on generated samples; both decode the stream that theirs has coded. Prints tables in
-Markdown: seconds of processor time (user and system, the least of three runs, starting included), peak memory (the
-maximum resident set, as /usr/bin/time tells it), the ratios, and how both grow from 1 to 16 MiB of samples. Nothing is
-judged.
+Markdown: seconds of processor time (user and system, the least of five runs in turn, starting included), peak memory (the
+maximum resident set, as /usr/bin/time tells it), the ratios, and how both grow from 1 to 16 MiB of samples. A last table
+has the speeds of each input both ways, theirs divided by ours in seconds, and their geometric mean. Nothing is judged.
 
 The inputs are one MiB of samples each, repeated for the greater sizes, so a coder that takes time in proportion to
 its input takes 16 times as long for 16 MiB. With --quick only 1 MiB is run, once.
 """
 
 import datetime
+import math
 import os
 import platform
 import random
@@ -76,27 +77,29 @@ INPUTS = [
 ]
 
 
-def run(command, folder, runs):
-    """The least processor time of the runs in seconds, and the peak memory in MiB."""
-    told, best = os.path.join(folder, "told"), None
-    for _ in range(runs):
-        timed = ["/usr/bin/time", "-f", "%M", "-o", told, *command]
-        _, status, used = os.wait4(os.posix_spawn(timed[0], timed, os.environ), 0)
-        if status != 0:
-            raise SystemExit(f"{' '.join(command)}: failed")
-        seconds = used.ru_utime + used.ru_stime
-        best = seconds if best is None else min(best, seconds)
+def run(command, folder):
+    """The processor time of a run in seconds, and its peak memory in MiB."""
+    told = os.path.join(folder, "told")
+    timed = ["/usr/bin/time", "-f", "%M", "-o", told, *command]
+    _, status, used = os.wait4(os.posix_spawn(timed[0], timed, os.environ), 0)
+    if status != 0:
+        raise SystemExit(f"{' '.join(command)}: failed")
     with open(told) as file:
-        return best, int(file.read().split()[-1]) / 1024
+        return used.ru_utime + used.ru_stime, int(file.read().split()[-1]) / 1024
+
+
+def least(told):
+    """The least seconds of some runs, and their greatest peak."""
+    return min(seconds for seconds, _ in told), max(mib for _, mib in told)
 
 
 def measure(job, ours, theirs, options, source, folder, runs):
-    """Seconds and MiB of ours, then of theirs, for one job on one file."""
+    """Seconds and MiB of ours, then of theirs, for one job on one file. The runs take turns, so that both meet a machine that is
+    now faster and now slower."""
     words = ["-d", *options] if job == "decoding" else options
-    told = []
-    for path in (ours, theirs):
-        told.append(run([path, *words, source, os.path.join(folder, "dest")], folder, runs))
-    return told
+    dest = os.path.join(folder, "dest")
+    told = [[run([path, *words, source, dest], folder) for path in (ours, theirs)] for _ in range(runs)]
+    return [least(one) for one in zip(*told)]
 
 
 def row(name, block, interval, told):
@@ -105,13 +108,20 @@ def row(name, block, interval, told):
     growth = [told[-1][i][0] / told[0][i][0] for i in (0, 1)]
     memory_growth = told[-1][0][1] / told[0][0][1]
     return (
-        f"| {name} | {block} | {interval} | {our_seconds:.2f} | {their_seconds:.2f} | {our_seconds / their_seconds:.1f} "
-        f"| {our_mib:.0f} | {their_mib:.0f} | {our_mib / their_mib:.0f} | {growth[0]:.1f} | {growth[1]:.1f} | {memory_growth:.1f} |"
+        f"| {name} | {block} | {interval} | {our_seconds:.2f} | {their_seconds:.2f} | {our_seconds / their_seconds:.2f} "
+        f"| {our_mib:.0f} | {their_mib:.0f} | {our_mib / their_mib:.1f} | {growth[0]:.1f} | {growth[1]:.1f} | {memory_growth:.1f} |"
     )
 
 
+def speed(told):
+    """How many times as fast as theirs ours is, at the greatest size."""
+    (our_seconds, _), (their_seconds, _) = told[-1]
+    return their_seconds / our_seconds
+
+
 def table(job, ours, theirs, pieces, folder, sizes, runs):
-    """The table of a job over all inputs and settings."""
+    """Prints the table of a job over all inputs and settings. The speeds by input, J and r."""
+    speeds = {}
     print(f"### {job.capitalize()}, {sizes[-1]} MiB of samples\n")
     print("| Input | J | r | ours, s | theirs, s | ratio | ours, MiB | theirs, MiB | ratio | growth ours | theirs | memory |")
     print("|---|---|---|---|---|---|---|---|---|---|---|---|")
@@ -127,7 +137,26 @@ def table(job, ours, theirs, pieces, folder, sizes, runs):
                 source = coded if job == "decoding" else raw
                 told.append(measure(job, ours, theirs, words, source, folder, runs))
             print(row(name, block, interval, told), flush=True)
+            speeds[name, block, interval] = speed(told)
     print()
+    return speeds
+
+
+def geometric_mean(values):
+    """The geometric mean of positive numbers."""
+    return math.exp(sum(map(math.log, values)) / len(values))
+
+
+def summary(coding, decoding):
+    """Prints the speeds both ways, and their geometric means."""
+    print("### Times libaec's speed\n")
+    print("| Input | J | r | coding | decoding |")
+    print("|---|---|---|---|---|")
+    for name, block, interval in coding:
+        key = name, block, interval
+        print(f"| {name} | {block} | {interval} | {coding[key]:.2f} | {decoding[key]:.2f} |")
+    means = [geometric_mean(list(speeds.values())) for speeds in (coding, decoding)]
+    print(f"| geometric mean | | | {means[0]:.2f} | {means[1]:.2f} |")
 
 
 def main():
@@ -136,13 +165,15 @@ def main():
     for path in ("/usr/bin/time", theirs):
         if not os.path.exists(path):
             raise SystemExit(f"no {path}: install Debian's packages time and libaec-tools")
-    sizes, runs = ([1], 1) if quick else (SIZES, 3)
+    sizes, runs = ([1], 1) if quick else (SIZES, 5)
     chance = random.Random(16)
     pieces = {name: make(chance) for name, _, make in INPUTS}
     print(f"{datetime.date.today()}, {os.cpu_count()} cores, {platform.platform()}\n")
     with tempfile.TemporaryDirectory() as folder:
-        for job in ("decoding", "coding"):
-            table(job, ours, theirs, pieces, folder, sizes, runs)
+        speeds = {
+            job: table(job, ours, theirs, pieces, folder, sizes, runs) for job in ("decoding", "coding")
+        }
+    summary(speeds["coding"], speeds["decoding"])
 
 
 if __name__ == "__main__":

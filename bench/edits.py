@@ -16,7 +16,7 @@ import subprocess
 import sys
 import tempfile
 
-from bench import MIB, detector, run
+from bench import MIB, detector, least, run
 
 SIZE = 64
 OPTIONS = ["-n", "16", "-j", "16", "-r", "128"]
@@ -40,6 +40,11 @@ def read(path):
         return file.read()
 
 
+def three(command, folder):
+    """The least seconds of three runs, and their greatest peak in MiB."""
+    return least([run(command, folder) for _ in range(3)])
+
+
 def changed(raw, places):
     """The samples after the overwrites."""
     samples = bytearray(raw)
@@ -52,7 +57,7 @@ def edited(ours, folder, raw, places):
     """Seconds and MiB of a run that edits; fails where its stream is not that of the changed samples."""
     path = {name: os.path.join(folder, name) for name in ("coded", "script", "dest", "changed", "expected")}
     write(path["script"], "".join(f"overwrite {place} {value}\n" for place, value in places).encode())
-    told = run([ours, *OPTIONS, "--edit", path["script"], path["coded"], path["dest"]], folder, 3)
+    told = three([ours, *OPTIONS, "--edit", path["script"], path["coded"], path["dest"]], folder)
     write(path["changed"], changed(raw, places))
     subprocess.run([ours, *OPTIONS, path["changed"], path["expected"]], check=True)
     if read(path["dest"]) != read(path["expected"]):
@@ -73,16 +78,16 @@ def main():
     with tempfile.TemporaryDirectory() as folder:
         source, coded, dest = (os.path.join(folder, name) for name in ("raw", "coded", "dest"))
         write(source, raw)
-        line("coding", run([ours, *OPTIONS, source, coded], folder, 3))
-        line("decoding", run([ours, "-d", *OPTIONS, coded, dest], folder, 3))
+        line("coding", three([ours, *OPTIONS, source, coded], folder))
+        line("decoding", three([ours, "-d", *OPTIONS, coded, dest], folder))
         base = None
         for name, places in SCRIPTS:
             told = edited(ours, folder, raw, places)
             base = base or told[0]
             each = f"{(told[0] - base) / len(places) * 1000:.1f}" if places else ""
             line(f"`--edit`, {name}", told, each)
-        line("libaec: decoding", run([theirs, "-d", *OPTIONS, coded, dest], folder, 3))
-        line("libaec: coding", run([theirs, *OPTIONS, source, dest], folder, 3))
+        line("libaec: decoding", three([theirs, "-d", *OPTIONS, coded, dest], folder))
+        line("libaec: coding", three([theirs, *OPTIONS, source, dest], folder))
 
 
 if __name__ == "__main__":

@@ -10,7 +10,6 @@ The seed of the last part is printed and can be given; a case of it can be tried
 fail and, last, how many passed. Ends with 1 where one failed.
 """
 
-import argparse
 import random
 import sys
 import tempfile
@@ -18,7 +17,7 @@ import tempfile
 import foreign_writer
 import plain_coder
 from damaged_cases import some_samples, some_settings
-from program import Program, Tally, on_each_core, said
+from program import Program, Tally, asked_of, on_each_core, said
 from worked_streams import EXAMPLES
 
 
@@ -73,18 +72,10 @@ def try_part(program, numbers, seed):
 
 
 def main():
-    words = argparse.ArgumentParser(description="Codes samples, and compares with a plain coder.")
-    words.add_argument("program")
-    words.add_argument("--seed", type=int, default=121)
-    words.add_argument("--cases", type=int, default=2000)
-    words.add_argument("--only", type=int)
-    asked = words.parse_args()
-    tally = Tally()
+    asked, tally = asked_of("Codes samples, and compares with a plain coder.", 2000), Tally()
     with tempfile.TemporaryDirectory() as folder:
         try_worked(Program(asked.program, folder), tally)
-    print(f"seed {asked.seed}, {asked.cases} cases", flush=True)
-    numbers = range(asked.cases) if asked.only is None else [asked.only]
-    for part in on_each_core(try_part, asked.program, numbers, asked.seed):
+    for part in on_each_core(try_part, asked.program, asked.numbers, asked.seed):
         tally.add(part)
     tally.print()
     return 1 if tally.failed else 0

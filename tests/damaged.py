@@ -1,5 +1,5 @@
 #!/usr/bin/env python3
-"""Damaged streams: damaged.py PATH_OF_AEC [--seed N] [--streams N] [--only N]
+"""Damaged streams: damaged.py PATH_OF_AEC [--seed N] [--cases N] [--only N]
 
 Has the program at PATH_OF_AEC decode streams that another coder might have written and that were damaged, and compares status,
 message and DEST with what the plain reader of plain_reader.py says: the very samples, or the very fault with its bit. In turn
@@ -13,7 +13,6 @@ The seed of the last part is printed and can be given; a stream of it can be tri
 fail and, last, how many passed. Ends with 1 where one failed.
 """
 
-import argparse
 import random
 import sys
 import tempfile
@@ -21,7 +20,7 @@ from collections import Counter
 
 from damaged_cases import some_count, some_damaged
 from plain_reader import Fault, reading
-from program import Program, Tally, on_each_core, said
+from program import Program, Tally, asked_of, on_each_core, said
 from worked_streams import EXAMPLES, READINGS
 
 OLD = b"what DEST held before"
@@ -124,21 +123,13 @@ def try_all(path, seed, numbers, tally):
 
 
 def main():
-    words = argparse.ArgumentParser(description="Decodes damaged streams, and compares with a plain reader.")
-    words.add_argument("program")
-    words.add_argument("--seed", type=int, default=121)
-    words.add_argument("--streams", type=int, default=5000)
-    words.add_argument("--only", type=int)
-    asked = words.parse_args()
-    tally = Tally()
+    asked, tally = asked_of("Decodes damaged streams, and compares with a plain reader.", 5000), Tally()
     if asked.only is None:
         with tempfile.TemporaryDirectory() as folder:
             program = Program(asked.program, folder)
             try_worked(program, tally)
             try_examples(program, tally)
-    print(f"seed {asked.seed}, {asked.streams} streams", flush=True)
-    numbers = range(asked.streams) if asked.only is None else [asked.only]
-    try_all(asked.program, asked.seed, numbers, tally)
+    try_all(asked.program, asked.seed, asked.numbers, tally)
     tally.print()
     return 1 if tally.failed else 0
 

@@ -6,6 +6,7 @@ import foreign_writer
 from settings import Settings
 
 WIDTHS = [1, 2, 3, 5, 7, 8, 8, 9, 12, 16, 17, 20, 24, 31, 32]
+BLOCK_SIZES = [8, 8, 8, 16, 32, 64]
 INTERVALS = [1, 2, 3, 8, 63, 64, 65, 70, 130, 4096]
 RUNS = [1, 2, 3, 4, 5, 6, 7, 20, 62, 63, 64, 65, 130]
 
@@ -21,18 +22,7 @@ class Damaged(NamedTuple):
 
 
 def some_settings(chance):
-    restricted = chance.random() < 0.2
-    return Settings(
-        bits=chance.choice([1, 2, 3, 4] if restricted else WIDTHS),
-        block_size=chance.choice([8, 8, 8, 16, 32, 64]),
-        interval=chance.choice(INTERVALS),
-        signed=chance.random() < 0.5,
-        preprocess=chance.random() < 0.7,
-        msb_first=chance.random() < 0.5,
-        three_byte=chance.random() < 0.5,
-        pad=chance.random() < 0.3,
-        restricted=restricted,
-    )
+    return Settings.by_chance(chance, WIDTHS, BLOCK_SIZES, INTERVALS, restricted=0.2)
 
 
 def some_samples(settings, chance):

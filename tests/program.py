@@ -1,5 +1,6 @@
 """A program under test, the files that it works on, and the count of what was checked."""
 
+import argparse
 import os
 import subprocess
 import tempfile
@@ -46,6 +47,22 @@ class Program:
         self.write("dest", None)
         status, self.said = self.run(*words, "source", "dest")
         return None if status is None else self.read("dest")
+
+
+def asked_of(description, cases, other=False):
+    """What the words of a test ask for that tries cases by chance: the program, another one where two are compared, the seed,
+    and the numbers of the cases. Says which seed and how many."""
+    words = argparse.ArgumentParser(description=description)
+    words.add_argument("program")
+    if other:
+        words.add_argument("other")
+    words.add_argument("--seed", type=int, default=121)
+    words.add_argument("--cases", type=int, default=cases)
+    words.add_argument("--only", type=int, help="the number of the one case to try")
+    asked = words.parse_args()
+    asked.numbers = range(asked.cases) if asked.only is None else [asked.only]
+    print(f"seed {asked.seed}, {len(asked.numbers)} cases", flush=True)
+    return asked
 
 
 def on_one_core(work, path, numbers, *more):

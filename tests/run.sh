@@ -1,17 +1,20 @@
 #!/bin/sh
 # Every test: the gate, and then with the programs that it has built coded samples, coded data that is cut, damaged streams,
 # refused memory in whole runs and in calls of the libraries, files that fail, the round trips with the client of libaec, and
-# edits by generated scripts. Fails if one fails. The last line counts what passed and failed: the gate's where all have passed,
-# else that of the first part that failed, and before it the lines that say why. Run from the top of the repository by `make test`.
+# edits by generated scripts. Fails if one fails. At the end it says how long each part took. The last line counts what passed
+# and failed: the gate's where all have passed, else that of the first part that failed, and before it the lines that say why.
+# Run from the top of the repository by `make test`.
 export PYTHONDONTWRITEBYTECODE=1
 kept=$(mktemp -d)
 trap 'rm -rf "$kept"' EXIT
 
-# Runs a part: its name, and the words of its command. Shows what it prints, and keeps that and its status.
+# Runs a part: its name, and the words of its command. Shows what it prints, and keeps that, its status and its time.
 part() {
     name=$1
     shift
+    begun=$(date +%s)
     { "$@" 2>&1; echo $? > "$kept/$name.status"; } | tee "$kept/$name.log"
+    echo "$name: $(($(date +%s) - begun)) s" >> "$kept/times"
 }
 
 has_passed() {
@@ -66,6 +69,8 @@ done
 if ! has_passed "$last"; then
     explain "$last"
 fi
+echo "== seconds of each part, on $(getconf _NPROCESSORS_ONLN) processors"
+cat "$kept/times"
 echo "== $last"
 tail -n 1 "$kept/$last.log"
 has_passed "$last"

@@ -5,25 +5,13 @@ from script_model import decoded_without_count
 from settings import Settings
 
 WIDTHS = [1, 5, 8, 12, 16, 24, 32]
-RESTRICTED_WIDTHS = [1, 2, 3, 4]
 BLOCK_SIZES = [8, 16, 64]
 INTERVALS = [1, 2, 128]
 MOST_SAMPLES = 5000
 
 
 def some_settings(chance):
-    restricted = chance.random() < 0.15
-    return Settings(
-        bits=chance.choice(RESTRICTED_WIDTHS if restricted else WIDTHS),
-        block_size=chance.choice(BLOCK_SIZES),
-        interval=chance.choice(INTERVALS),
-        signed=chance.random() < 0.5,
-        preprocess=chance.random() < 0.75,
-        msb_first=chance.random() < 0.5,
-        three_byte=chance.random() < 0.5,
-        pad=chance.random() < 0.3,
-        restricted=restricted,
-    )
+    return Settings.by_chance(chance, WIDTHS, BLOCK_SIZES, INTERVALS, restricted=0.15)
 
 
 def some_samples(settings, chance):

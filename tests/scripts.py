@@ -1,5 +1,5 @@
 #!/usr/bin/env python3
-"""Edits by scripts beside a plain model: scripts.py PATH_OF_AEC [--seed N] [--cases N]
+"""Edits by scripts beside a plain model: scripts.py PATH_OF_AEC [--seed N] [--cases N] [--only N]
 
 Generates streams and scripts, has the program at PATH_OF_AEC edit the one by the other, and compares status, messages and
 DEST with what a model says. The model reads the script by the rules of docs/COMMAND.md and makes its edits on a list.
@@ -10,14 +10,13 @@ what it was, or absent. At last the options of --help are compared with those of
 Prints the cases that fail and, last, how many checks passed. Ends with 1 where one failed.
 """
 
-import argparse
 import os
 import random
 import re
 import sys
 import tempfile
 
-from program import Program, Tally, said, short
+from program import Program, Tally, asked_of, said, short
 from script_cases import some_count, some_samples, some_script, some_settings
 from script_examples import BAD_LINES, EXAMPLES, SKIPPED_LINES, ZEROS
 from script_model import Refused, edited, edits_of
@@ -68,7 +67,8 @@ def try_lines(program, tally):
     tally.check("lines that say nothing: DEST", program.read("dest"), bytes.fromhex("00 04 40 30 C2 00 08"))
 
 
-def try_case(number, chance, program, tally):
+def try_case(seed, number, program, tally):
+    chance = random.Random(f"{seed} {number}")
     settings = some_settings(chance)
     samples = some_samples(settings, chance)
     count, present = some_count(settings, samples, chance)
@@ -118,20 +118,15 @@ def try_options(program, tally):
 
 
 def main():
-    words = argparse.ArgumentParser(description="Compares edits by scripts with a plain model.")
-    words.add_argument("program")
-    words.add_argument("--seed", type=int, default=121)
-    words.add_argument("--cases", type=int, default=300)
-    asked = words.parse_args()
-    chance, tally = random.Random(asked.seed), Tally()
+    asked, tally = asked_of("Compares edits by scripts with a plain model.", 300), Tally()
     with tempfile.TemporaryDirectory() as folder:
         program = Program(asked.program, folder)
         for example in EXAMPLES:
             try_example(example, program, tally)
         try_shared_names(program, tally)
         try_lines(program, tally)
-        for number in range(asked.cases):
-            try_case(number, chance, program, tally)
+        for number in asked.numbers:
+            try_case(asked.seed, number, program, tally)
         try_options(program, tally)
     tally.print()
     return 1 if tally.failed else 0

@@ -17,6 +17,22 @@ class Settings(NamedTuple):
     pad: bool = False
     restricted: bool = False
 
+    @classmethod
+    def by_chance(cls, chance, widths, block_sizes, intervals, restricted):
+        """Some settings, with width, J and r from lists, and so often restricted, where the width is at most 4."""
+        is_restricted = chance.random() < restricted
+        return cls(
+            bits=chance.choice([1, 2, 3, 4] if is_restricted else widths),
+            block_size=chance.choice(block_sizes),
+            interval=chance.choice(intervals),
+            signed=chance.random() < 0.5,
+            preprocess=chance.random() < 0.7,
+            msb_first=chance.random() < 0.5,
+            three_byte=chance.random() < 0.5,
+            pad=chance.random() < 0.3,
+            restricted=is_restricted,
+        )
+
     def options(self):
         """The words that a program takes for them."""
         flags = {

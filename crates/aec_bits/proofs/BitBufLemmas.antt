@@ -63,7 +63,7 @@ has_one_within words len start held within =
     ∙ ap has_one (drop-append-le start list (replicate (64 * length words - len) false) (omega arith))
     ∙ has_one-append_zeros (drop start list) (64 * length words - len)
 
-one_after : (v : ℕ) (rest : List Bool) → get_or (fs v ++ rest) v false ≡ true
+pub one_after : (v : ℕ) (rest : List Bool) → get_or (fs v ++ rest) v false ≡ true
 one_after zero rest = refl
 one_after (suc v) rest = one_after v rest
 

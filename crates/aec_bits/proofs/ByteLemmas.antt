@@ -22,11 +22,11 @@ pow_of_256 (suc k) =
     let more : 8 * suc k ≡ 8 + 8 * k = omega arith in
     rw (more, pow-add 2 8 (8 * k), pow-suc) (omega (arith, pow_of_256 k))
 
-byte_of : (k n : ℕ) → byte_at k n ≡ n / 2 ^ (8 * k) % 2 ^ 8
+pub byte_of : (k n : ℕ) → byte_at k n ≡ n / 2 ^ (8 * k) % 2 ^ 8
 byte_of zero n = ap (λ m. m % 256) (sym (div-one n))
 byte_of (suc k) n = ap (λ m. n / m % 256) (pow_of_256 (suc k))
 
-bits_of_bytes-high_first : (k n : ℕ) → bits_of_bytes (bytes_high_first k n) ≡ binary (8 * k) n
+pub bits_of_bytes-high_first : (k n : ℕ) → bits_of_bytes (bytes_high_first k n) ≡ binary (8 * k) n
 bits_of_bytes-high_first zero n = refl
 bits_of_bytes-high_first (suc k) n =
     let more : 8 + 8 * k ≡ 8 * suc k = omega arith in

@@ -15,3 +15,7 @@ pub mod BitBufLemmas
 pub mod ShiftLemmas
 pub mod ByteLemmas
 pub mod LaneLemmas
+pub mod RunLemmas
+pub mod WindowLemmas
+pub mod OnesLemmas
+pub mod EightLemmas

@@ -10,7 +10,7 @@ use Rattle.aec_bits.proofs.ZeroLemmas.{binary-zero}
 
 -- ---- zero words
 
-bits_of_words-zeros : (n : ℕ) → bits_of_words (replicate n 0) ≡ replicate (64 * n) false
+pub bits_of_words-zeros : (n : ℕ) → bits_of_words (replicate n 0) ≡ replicate (64 * n) false
 bits_of_words-zeros zero = refl
 bits_of_words-zeros (suc n) =
     let more : 64 + 64 * n ≡ 64 * suc n = omega arith in

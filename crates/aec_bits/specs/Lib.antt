@@ -8,3 +8,4 @@ pub mod Laws
 pub mod Words
 pub mod WordBits
 pub mod Packed
+pub mod Windows

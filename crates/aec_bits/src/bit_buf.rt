@@ -2,7 +2,7 @@
 
 use crate::octets::words_of;
 use crate::packed::{append_bits, cut, push_number, push_unary, splice_bits};
-use crate::words::{number_at, zeros_at};
+use crate::words::{number_at, padded_word_at, zeros_at};
 use aec_params::Fault;
 use std::alloc::Global;
 use std::marker::Model;
@@ -44,6 +44,8 @@ impl BitBuf {
     ghost use Rattle.aec_params.specs.Codewords.{fs, binary, bytes_of, bits_of_bytes, padded_to_byte};
     ghost use Rattle.aec_params.specs.Cutting.{up_to_multiple};
     ghost use Rattle.aec_bits.specs.BitReader.{has_one};
+    ghost use Rattle.aec_bits.specs.WordBits.{word_bits};
+    ghost use Rattle.aec_bits.specs.Windows.{bits_from};
 
     /// No bits. Takes no memory.
     pub fn new(alloc: Global) -> BitBuf
@@ -89,6 +91,17 @@ impl BitBuf {
         number_at(&self.words, 8 * i, 8) as u8
     }
 
+    /// Eight bytes from byte `from` on of the bytes that the bits fill.
+    #[inline(always)]
+    #[tactic(auto, using(crate::proofs::CodewordLemmas::byte_counts, crate::proofs::PackedLemmas::packed_lengths))]
+    pub(crate) fn eight_bytes(&self, from: u64) -> [u8; 8]
+        requires { from + 8 ≤ length (bytes_of self.now.list) }
+        ensures { result ≡ take 8 (drop from (bytes_of self.now.list)) }
+    {
+        let _len = self.len();
+        self.word_from(8 * from).to_be_bytes()
+    }
+
     /// The number that `width` bits spell from place `start` on, the most significant first.
     pub(crate) fn number(&self, start: u64, width: u32) -> u64
         requires width { width ≤ 64 }
@@ -97,6 +110,16 @@ impl BitBuf {
         ensures bits { drop start self.now.list ≡ binary width result ++ drop (start + width) self.now.list }
     {
         number_at(&self.words, start, width)
+    }
+
+    /// The word of the 64 bits from place `start` on; zeros stand past the end.
+    #[inline(always)]
+    pub(crate) fn word_from(&self, start: u64) -> u64
+        requires { start ≤ length self.now.list }
+        ensures bits { word_bits result ≡ bits_from start 64 self.now.list }
+        ensures bound { length self.now.list ≤ 2 ^ 62 }
+    {
+        padded_word_at(&self.words, start)
     }
 
     /// How many zeros stand from place `start` on before a one; `None` where no one follows.

@@ -1,6 +1,8 @@
 //! A reader of bits.
 
 use crate::bit_buf::BitBuf;
+use crate::ones::ones_end;
+use crate::windows::{numbers_from, sequences_from};
 use aec_params::Fault;
 use std::marker::Model;
 
@@ -24,11 +26,12 @@ impl<'a> Model for BitReader<'a> {
 }
 
 impl<'a> BitReader<'a> {
-    ghost use Rattle.std.specs.Prelude.{◌≡◌, ◌+◌, ◌<◌, ◌≤◌, ◌^◌, ◌++◌, min, not, false, length, drop, MatchResult, IfOk, IfErr, OnOk, OnErr};
+    ghost use Rattle.std.specs.Prelude.{◌≡◌, ◌+◌, ◌*◌, ◌<◌, ◌≤◌, ◌^◌, ◌++◌, min, not, true, false, Some, None, length, drop, MatchResult, IfOk, IfErr, OnOk, OnErr};
     ghost use Rattle.aec_params.specs.declared.fault.Fault.TheVariants.{Truncated};
     ghost use Rattle.aec_params.specs.Codewords.{fs, binary};
     ghost use Rattle.aec_params.specs.Cutting.{up_to_multiple};
-    ghost use Rattle.aec_bits.specs.BitReader.{has_one};
+    ghost use Rattle.std.specs.List.{flat_map};
+    ghost use Rattle.aec_bits.specs.BitReader.{has_one, behind_ones, AreBelow, StopsBefore};
 
     /// A reader at the first bit.
     pub fn new(buf: &'a BitBuf) -> BitReader<'a>
@@ -98,6 +101,98 @@ impl<'a> BitReader<'a> {
             Some(zeros) => {
                 self.pos = start + zeros + 1;
                 Ok(zeros)
+            }
+        }
+    }
+
+    /// Puts the numbers of the next fundamental sequences into `numbers`, if each is below 64, and goes behind them. Else
+    /// false: at one of them no one stands in the next 64 bits, or in those that are left, and `read_fs` may still read it. The reader is
+    /// then where it was, and what stands in `numbers` isn't said.
+    pub fn read_sequences(&mut self, numbers: &mut [u32]) -> bool
+        ensures bits { result ≡ true →
+            drop self.old.pos self.old.list ≡ flat_map fs numbers.new ++ drop self.new.pos self.old.list }
+        ensures below { result ≡ true → AreBelow 64 numbers.new }
+        ensures refuses { result ≡ false → StopsBefore (length numbers.old) (drop self.old.pos self.old.list) }
+        ensures len { length numbers.new ≡ length numbers.old }
+        ensures within { self.new.pos ≤ length self.new.list }
+        ensures list { self.new.list ≡ self.old.list }
+        ensures stays { result ≡ false → self.new ≡ self.old }
+    {
+        match sequences_from(self.buf, self.pos, numbers) {
+            None => false,
+            Some(stop) => {
+                self.pos = stop;
+                true
+            }
+        }
+    }
+
+    /// Puts the numbers that the next `width` bits each spell into `numbers`, the most significant bit first. `Truncated`
+    /// with the present place where fewer bits are left than all of them have.
+    pub fn read_numbers(&mut self, width: u32, numbers: &mut [u32]) -> Result<(), Fault>
+        requires { width ≤ 32 }
+        ensures bits { OnOk result
+            (drop self.old.pos self.old.list ≡ flat_map (binary width) numbers.new ++ drop self.new.pos self.old.list) }
+        ensures below { OnOk result (AreBelow (2 ^ width) numbers.new) }
+        ensures moves { OnOk result (self.new.pos ≡ self.old.pos + width * length numbers.old) }
+        ensures refuses { MatchResult result
+            (λ _. self.old.pos + width * length numbers.old ≤ length self.old.list)
+            (λ e. (length self.old.list < self.old.pos + width * length numbers.old) × (e ≡ Truncated self.old.pos)) }
+        ensures len { length numbers.new ≡ length numbers.old }
+        ensures within { self.new.pos ≤ length self.new.list }
+        ensures list { self.new.list ≡ self.old.list }
+        ensures err { OnErr result ((self.new ≡ self.old) × (numbers.new ≡ numbers.old)) }
+    {
+        let start = self.pos;
+        let bits = u64::from(width).saturating_mul(numbers.len() as u64);
+        if bits > self.buf.len() - start {
+            Err(Fault::Truncated { bit: start })
+        } else {
+            numbers_from(self.buf, start, width, numbers);
+            self.pos = start + bits;
+            Ok(())
+        }
+    }
+
+    /// Goes over the next `count` bits. `Truncated` with the present place where fewer are left.
+    pub fn skip_bits(&mut self, count: u64) -> Result<(), Fault>
+        ensures moves { OnOk result (self.new.pos ≡ self.old.pos + count) }
+        ensures refuses { MatchResult result
+            (λ _. self.old.pos + count ≤ length self.old.list)
+            (λ e. (length self.old.list < self.old.pos + count) × (e ≡ Truncated self.old.pos)) }
+        ensures within { self.new.pos ≤ length self.new.list }
+        ensures list { self.new.list ≡ self.old.list }
+        ensures err { OnErr result (self.new ≡ self.old) }
+    {
+        let start = self.pos;
+        if count > self.buf.len() - start {
+            Err(Fault::Truncated { bit: start })
+        } else {
+            self.pos = start + count;
+            Ok(())
+        }
+    }
+
+    /// Goes behind the `count`-th of the next ones. How many bits that takes. `Truncated` with the present place where fewer
+    /// ones are left.
+    pub fn skip_ones(&mut self, count: u64) -> Result<u64, Fault>
+        ensures place { MatchResult result
+            (λ gone. behind_ones count (drop self.old.pos self.old.list) ≡ Some gone)
+            (λ e. (behind_ones count (drop self.old.pos self.old.list) ≡ None) × (e ≡ Truncated self.old.pos)) }
+        ensures moves { IfOk result (λ gone. self.new.pos ≡ self.old.pos + gone) }
+        ensures within { self.new.pos ≤ length self.new.list }
+        ensures list { self.new.list ≡ self.old.list }
+        ensures err { OnErr result (self.new ≡ self.old) }
+    {
+        let start = self.pos;
+        if count == 0 {
+            return Ok(0);
+        }
+        match ones_end(self.buf, start, count) {
+            None => Err(Fault::Truncated { bit: start }),
+            Some(gone) => {
+                self.pos = start + gone;
+                Ok(gone)
             }
         }
     }

@@ -9,10 +9,12 @@ mod fours;
 mod io_device;
 pub mod laws;
 mod octets;
+mod ones;
 mod packed;
 mod shift;
 #[cfg(test)]
 mod tests;
+mod windows;
 mod words;
 mod writing;
 

@@ -4,4 +4,5 @@ mod bits;
 mod codecs;
 mod devices;
 mod packed;
+mod windows;
 mod words;

@@ -1,10 +1,11 @@
 //! Numbers and stretches of bits in words of 64, the most significant bit first.
 
-ghost use Rattle.std.specs.Prelude.{◌≡◌, ◌+◌, ◌-◌, ◌*◌, ◌<◌, ◌≤◌, ◌^◌, ◌++◌, false, length, take, drop, replicate, MatchOption, is_some};
+ghost use Rattle.std.specs.Prelude.{◌≡◌, ◌+◌, ◌-◌, ◌*◌, ◌<◌, ◌≤◌, ◌^◌, ◌++◌, false, length, take, drop, replicate, slice_index_or, MatchOption, is_some};
 ghost use Rattle.aec_params.specs.Codewords.{fs, binary};
 ghost use Rattle.aec_bits.specs.BitReader.{has_one};
 ghost use Rattle.aec_bits.specs.Words.{bits_of_words};
 ghost use Rattle.aec_bits.specs.WordBits.{word_bits};
+ghost use Rattle.aec_bits.specs.Windows.{bits_from};
 
 /// The number that `width` bits of a word spell from place `at` on.
 #[inline(always)]
@@ -57,6 +58,30 @@ pub(crate) fn word_at(words: &[u64], start: u64) -> u64
         return words[place];
     }
     joined(words[place], words[place + 1], at)
+}
+
+/// A word, or zero past the end.
+#[inline(always)]
+fn word_or_zero(words: &[u64], place: usize) -> u64
+    ensures { result ≡ slice_index_or words.now place 0 }
+{
+    match words.get(place) {
+        Some(word) => *word,
+        None => 0,
+    }
+}
+
+/// The word whose bits begin at place `start`; zeros stand past the end.
+#[inline(always)]
+pub(crate) fn padded_word_at(words: &[u64], start: u64) -> u64
+    requires { start ≤ 64 * length words.now }
+    ensures { word_bits result ≡ bits_from start 64 (bits_of_words words.now) }
+{
+    let place = (start / 64) as usize;
+    let at = (start % 64) as u32;
+    let first = word_or_zero(words, place);
+    let second = word_or_zero(words, place + 1);
+    (first << at) | (second >> 1 >> (63 - at))
 }
 
 /// A word of which `width` bits from place `at` on were overwritten by a number.

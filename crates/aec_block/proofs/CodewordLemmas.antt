@@ -157,6 +157,10 @@ fs_reader = record { reads = λ v rest p. fs_at-fs v rest; spelled = λ bits v r
 pub binary_reader : (w : ℕ) → IsReader (binary w) (λ v. v < 2 ^ w) (binary_at w)
 binary_reader w = record { reads = λ v rest p. binary_at-binary w v rest p; spelled = binary_at-spelled w }
 
+pub all_numbers : (values : List ℕ) → AllByRecursion (λ v. Unit {0}) values
+all_numbers [] = tt
+all_numbers (v ∷ values) = (tt, all_numbers values)
+
 pub values_at-reads : (code : ℕ → List Bool) (P : ℕ → Type 0) (value_at : List Bool → Taken ℕ) → IsReader code P value_at
     → (values : List ℕ) (rest : List Bool) → AllByRecursion P values → values_at value_at (length values) (flat_map code values ++ rest) ≡ taken values rest
 values_at-reads code P value_at reader [] rest all = refl

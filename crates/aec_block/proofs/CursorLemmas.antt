@@ -1,15 +1,16 @@
 -- What a reader of bits answers, as what is taken from the bits that are left.
-use Rattle.std.proofs.Common.{◌≡◌, ℕ, ◌+◌, ◌^◌, ◌<◌, ◌≤◌, Bool, true, false, Result, Ok, Err, List, [], ◌∷◌, ◌++◌, length, drop, refl, ap, ◌∙◌, arith}
+use Rattle.std.proofs.Common.{◌≡◌, ℕ, zero, suc, ◌+◌, ◌*◌, ◌^◌, ◌<◌, ◌≤◌, Bool, true, false, Result, Ok, Err, List, [], ◌∷◌, ◌++◌, length, drop, refl, ap, ◌∙◌, inl, inr, arith}
 use Rattle.std.specs.Prelude.{IfOk, IfErr, OnOk, MatchResult}
-use Rattle.std.proofs.lemmas.Bool.{lt-leb}
+use Rattle.std.specs.List.{flat_map}
+use Rattle.std.proofs.lemmas.Bool.{cases_lt, le-leb, lt-leb}
 use Rattle.std.proofs.lemmas.List.{length-drop}
 use Rattle.aec_params.specs.declared.fault.Fault.{Fault}
 use Rattle.aec_params.specs.declared.fault.Fault.TheVariants.{Truncated}
 use Rattle.aec_params.specs.Codewords.{fs, binary}
-use Rattle.aec_bits.specs.BitReader.{Cursor, has_one}
-use Rattle.aec_block.specs.ReadAt.{nothing, fs_at, binary_at}
-use Rattle.aec_block.specs.Gathering.{bits_at, as_taken}
-use Rattle.aec_block.proofs.CodewordLemmas.{fs_at-fs, binary_at-binary}
+use Rattle.aec_bits.specs.BitReader.{Cursor, has_one, AreBelow}
+use Rattle.aec_block.specs.ReadAt.{nothing, taken, fs_at, binary_at, values_at}
+use Rattle.aec_block.specs.Gathering.{bits_at, as_taken, as_taken_by}
+use Rattle.aec_block.proofs.CodewordLemmas.{fs_at-fs, binary_at-binary, binary_reader, fs_reader, values_at-reads, all_numbers}
 
 pub binary_at-missing : (w : ℕ) (bits : List Bool) → length bits < w → binary_at w bits ≡ nothing
 binary_at-missing w bits short = rw (lt-leb w (length bits) short) refl
@@ -36,3 +37,34 @@ pub sequence_taken : (old new : Cursor) (result : Result ℕ Fault)
 sequence_taken old new (Ok v) bits moves refuses same =
     rw (same, moves) (ap fs_at bits ∙ fs_at-fs v (drop (old.pos + v + 1) old.list))
 sequence_taken old new (Err e) bits moves refuses same = fs_at-missing (bits_at old) refuses.0
+
+-- ---- numbers in a row
+
+-- too few bits are left for all of them
+pub values_at-missing : (w n : ℕ) (bits : List Bool) → length bits < w * n → values_at (binary_at w) n bits ≡ nothing
+values_at-missing w zero bits short = absurd (omega arith)
+values_at-missing w (suc n) bits short =
+    elim (cases_lt (length bits) w) [
+      | inl few ↦ rw (binary_at-missing w bits few) refl
+      | inr some ↦
+          let left : length (drop w bits) < w * n = omega (arith, length-drop w bits) in
+          rw (le-leb w (length bits) some, values_at-missing w n (drop w bits) left) refl
+    ]
+
+pub numbers_taken : (w : ℕ) (old new : Cursor) (before after : List ℕ) (result : Result (Unit {0}) Fault)
+    → OnOk result (drop old.pos old.list ≡ flat_map (binary w) after ++ drop new.pos old.list) → OnOk result (AreBelow (2 ^ w) after)
+    → MatchResult result (λ _. old.pos + w * length before ≤ length old.list)
+    (λ e. (length old.list < old.pos + w * length before) × (e ≡ Truncated old.pos))
+    → length after ≡ length before → old.pos ≤ length old.list → new.list ≡ old.list
+    → values_at (binary_at w) (length before) (bits_at old) ≡ as_taken_by (λ _. after) result (bits_at new)
+numbers_taken w old new before after (Ok v) bits below refuses count inside same =
+    rw (same, ← count) (ap (values_at (binary_at w) (length after)) bits
+    ∙ values_at-reads (binary w) (λ v. v < 2 ^ w) (binary_at w) (binary_reader w) after (drop new.pos old.list) below)
+numbers_taken w old new before after (Err e) bits below refuses count inside same =
+    values_at-missing w (length before) (bits_at old) (omega (arith, length-drop old.pos old.list, refuses.0))
+
+pub sequences_taken : (old new : Cursor) (before after : List ℕ) → drop old.pos old.list ≡ flat_map fs after ++ drop new.pos old.list
+    → length after ≡ length before → new.list ≡ old.list → values_at fs_at (length before) (bits_at old) ≡ taken after (bits_at new)
+sequences_taken old new before after bits count same =
+    rw (same, ← count) (ap (values_at fs_at (length after)) bits
+    ∙ values_at-reads fs (λ v. Unit {0}) fs_at fs_reader after (drop new.pos old.list) (all_numbers after))

@@ -1,20 +1,15 @@
 -- Values that are gathered one after another while they are small enough.
-use Rattle.std.proofs.Common.{◌≡◌, ℕ, suc, ◌+◌, ◌*◌, ◌^◌, ◌<◌, ◌≤◌, Bool, true, false, ◌&&◌, nat_lt, Option, Some, None, List, [], ◌∷◌, ◌++◌, ◌-◌, length, take, drop, refl, sym, ap, ◌∙◌, append_assoc, append-nil, inl, inr, arith}
+use Rattle.std.proofs.Common.{◌≡◌, ℕ, zero, suc, ◌+◌, ◌*◌, ◌<◌, ◌≤◌, Bool, true, false, ◌&&◌, ◌==◌, nat_lt, if◌then◌else◌, Some, List, [], ◌∷◌, ◌++◌, ◌-◌, length, take, drop, set, refl, sym, ap, ◌∙◌, append_assoc, append-nil, inl, inr, arith}
 use Rattle.std.proofs.lemmas.Bool.{cases_Bool}
-use Rattle.std.proofs.lemmas.List.{take_all, drop_all, length-append}
-use Rattle.aec_params.specs.Places.{placed_values}
+use Rattle.std.proofs.lemmas.List.{take_all, take_more_set, length-set}
 use Rattle.aec_bits.specs.BitReader.{Cursor}
-use Rattle.aec_block.specs.ReadAt.{Taken, nothing, taken, map_taken, fs_at, binary_at, values_at, members_at, pair_with_number, before_members, joined_values}
-use Rattle.aec_block.specs.Gathering.{when, gathered, lows_gathered, with_value}
+use Rattle.aec_block.specs.ReadAt.{Taken, nothing, taken, map_taken, fs_at, values_at, members_at, pair_with_number, before_members}
+use Rattle.aec_block.specs.Gathering.{when, gathered, kept_members, members_gathered}
 
 -- a reader that has moved in its list
 pub record HasMoved (start now : Cursor) : Type 0 where
   pub list : now.list ≡ start.list
   pub within : now.pos ≤ length now.list
-
--- values with later ones behind them
-abbrev pub put_behind : List ℕ → List ℕ → List ℕ
-put_behind before later = before ++ later
 
 -- ---- numbers in a row, one after another
 
@@ -64,52 +59,119 @@ gathered-next limit before before_later true v kept later =
     ]
 gathered-next limit before before_later false v kept later = refl
 
-pub with_value-below : (limit : ℕ) (before : List ℕ) (v : ℕ) → nat_lt v limit ≡ true → with_value limit before v ≡ before ++ v ∷ []
-with_value-below limit before v below = rw below refl
-
-pub length-with_value : (limit : ℕ) (before : List ℕ) (v : ℕ) → length (with_value limit before v) ≤ length before + 1
-length-with_value limit before v =
-    elim (cases_Bool (nat_lt v limit)) [
-      | inl below ↦ rw below (omega (arith, length-append before (v ∷ [])))
-      | inr above ↦ rw above (omega arith)
-    ]
-
 pub gathered-done : (limit : ℕ) (before : List ℕ) (fit : Bool) → gathered limit before fit [] ≡ when fit before
 gathered-done limit before true = ap (λ l. Some l) (append-nil before)
 gathered-done limit before false = refl
 
--- ---- a block of values
+-- ---- the members of pairs
 
-pub placed_values-append : (reference : Option ℕ) (values : List ℕ) → placed_values reference values ≡ placed_values reference [] ++ values
-placed_values-append None values = refl
-placed_values-append (Some r) values = refl
+-- a value put at a place, if it is below the limit
+abbrev pub value_put : ℕ → List ℕ → ℕ → ℕ → List ℕ
+value_put limit values i v = if nat_lt v limit then set values i v else values
 
-pub put_behind-next : (before values : List ℕ) (v : ℕ) → values ≡ before ++ v ∷ [] → (later : List ℕ) → put_behind before (v ∷ later) ≡ put_behind values later
-put_behind-next before values v is later = rw is (sym (append_assoc before (v ∷ []) later))
+pub length-value_put : (limit : ℕ) (values : List ℕ) (i v : ℕ) → length (value_put limit values i v) ≡ length values
+length-value_put limit values i v =
+    elim (cases_Bool (nat_lt v limit)) [
+      | inl below ↦ rw below (length-set values i v)
+      | inr above ↦ rw above refl
+    ]
 
--- one more value has been pushed
-pub gathered-pushed : (limit : ℕ) (before values : List ℕ) (fit fits : Bool) (v : ℕ) → fits ≡ nat_lt v limit → values ≡ with_value limit before v
-    → (later : List ℕ) → gathered limit before fit (v ∷ later) ≡ gathered limit values (fit && fits) later
-gathered-pushed limit before values fit fits v test is later =
-    rw test (gathered-next limit before values fit v (λ below. is ∙ with_value-below limit before v below) later)
+-- 0 stays in the reference place
+pub kept_members-put : (limit : ℕ) (placed : Bool) (values : List ℕ) (i v : ℕ) → values ≡ kept_members placed values → (placed ≡ true → i ≡ 0 → v ≡ 0)
+    → value_put limit values i v ≡ kept_members placed (value_put limit values i v)
+kept_members-put limit false values i v is zero_there = refl
+kept_members-put limit true [] i v is zero_there = absurd (cc)
+kept_members-put limit true (first ∷ values) zero v is zero_there =
+    let none : first ≡ 0 = cc in
+    rw (zero_there refl refl, none) (same (nat_lt 0 limit))
+  where
+    same : (b : Bool) → (if b then 0 ∷ values else (0 ∷ values)) ≡ 0 ∷ drop 1 (if b then 0 ∷ values else (0 ∷ values))
+    same true = refl
+    same false = refl
+kept_members-put limit true (first ∷ values) (suc i) v is zero_there =
+    let none : first ≡ 0 = cc in
+    rw none (same (nat_lt v limit))
+  where
+    same : (b : Bool) → (if b then 0 ∷ set values i v else (0 ∷ values)) ≡ 0 ∷ drop 1 (if b then 0 ∷ set values i v else (0 ∷ values))
+    same true = refl
+    same false = refl
 
--- the members of one more pair have been pushed
-pub gathered-pushed_pair : (limit : ℕ) (before between values : List ℕ) (fit first_fits second_fits : Bool) (first second number : ℕ)
-    → first ≡ (pair_with_number number).first → second ≡ (pair_with_number number).second
-    → first_fits ≡ nat_lt first limit → between ≡ with_value limit before first
-    → second_fits ≡ nat_lt second limit → values ≡ with_value limit between second
-    → (later : List ℕ) → gathered limit before fit (before_members (pair_with_number number) later) ≡ gathered limit values (fit && first_fits && second_fits) later
-gathered-pushed_pair limit before between values fit first_fits second_fits first second number
-    is_first is_second first_test first_is second_test second_is later =
-    rw (← is_first, ← is_second) (gathered-pushed limit before between fit first_fits first first_test first_is (second ∷ later)
-    ∙ gathered-pushed limit between values (fit && first_fits) second_fits second second_test second_is later)
+kept_zero : (placed : Bool) (i first kept : ℕ) → kept ≡ (if placed && (i == 0) then 0 else first) → placed ≡ true → 2 * i ≡ 0 → kept ≡ 0
+kept_zero true zero first kept is there start = is
+kept_zero true (suc i) first kept is there start = absurd (omega arith)
+kept_zero false i first kept is there start = absurd (cc)
 
--- one more value is put together from its high part
-pub lows_gathered-pushed : (limit : ℕ) (before values : List ℕ) (fit fits : Bool) (k high : ℕ) (highs all_highs : List ℕ) (low v : ℕ)
-    → all_highs ≡ high ∷ highs → v ≡ high * 2 ^ k + low → fits ≡ nat_lt v limit → values ≡ with_value limit before v
-    → (lows : List ℕ) → lows_gathered limit before fit k all_highs (low ∷ lows) ≡ lows_gathered limit values (fit && fits) k highs lows
-lows_gathered-pushed limit before values fit fits k high highs all_highs low v split whole test is lows =
-    rw (split, ← whole) (gathered-pushed limit before values fit fits v test is (joined_values k highs lows))
+pub pair_placed : (limit : ℕ) (placed : Bool) (before between values : List ℕ) (i first second kept : ℕ)
+    → kept ≡ (if placed && (i == 0) then 0 else first) → between ≡ value_put limit before (2 * i) kept
+    → values ≡ value_put limit between (2 * i + 1) second → before ≡ kept_members placed before → values ≡ kept_members placed values
+pair_placed limit placed before between values i first second kept is_kept first_put second_put there =
+    let between_there : between ≡ kept_members placed between =
+    rw first_put (kept_members-put limit placed before (2 * i) kept there (kept_zero placed i first kept is_kept)) in
+    rw second_put (kept_members-put limit placed between (2 * i + 1) second between_there (λ there start. absurd (omega arith)))
+
+-- the members of one more pair have been put in place
+pub members_gathered-put : (limit : ℕ) (before between values : List ℕ) (i : ℕ) (fit first_fits second_fits placed : Bool) (first second kept number : ℕ)
+    → 2 * i + 1 < length before
+    → first ≡ (pair_with_number number).first → second ≡ (pair_with_number number).second → kept ≡ (if placed then 0 else first)
+    → first_fits ≡ nat_lt kept limit → between ≡ value_put limit before (2 * i) kept
+    → second_fits ≡ nat_lt second limit → values ≡ value_put limit between (2 * i + 1) second
+    → (later : List ℕ) → members_gathered limit (take (2 * i) before) fit placed (before_members (pair_with_number number) later)
+    ≡ gathered limit (take (2 * (i + 1)) values) (fit && first_fits && second_fits) later
+members_gathered-put limit before between values i fit first_fits second_fits placed first second kept number inside
+    is_first is_second is_kept first_test first_put second_test second_put later =
+    let long : length between ≡ length before = ap length first_put ∙ length-value_put limit before (2 * i) kept in
+    let place : 2 * (i + 1) ≡ 2 * i + 1 + 1 = omega arith in
+    let first_there : nat_lt kept limit ≡ true → take (2 * i + 1) between ≡ take (2 * i) before ++ kept ∷ [] = λ below.
+    rw (first_put, below) (take_more_set before (2 * i) kept (omega arith)) in
+    let second_there : nat_lt second limit ≡ true → take (2 * (i + 1)) values ≡ take (2 * i + 1) between ++ second ∷ [] = λ below.
+    rw (place, second_put, below) (take_more_set between (2 * i + 1) second (omega arith)) in
+    rw (first_test, second_test) (kept_first placed is_kept
+    ∙ (gathered-next limit (take (2 * i) before) (take (2 * i + 1) between) fit kept first_there (second ∷ later)
+    ∙ gathered-next limit (take (2 * i + 1) between) (take (2 * (i + 1)) values) (fit && nat_lt kept limit) second second_there later))
+  where
+    kept_first : (b : Bool) → kept ≡ (if b then 0 else first)
+        → members_gathered limit (take (2 * i) before) fit b (before_members (pair_with_number number) later)
+        ≡ gathered limit (take (2 * i) before) fit (kept ∷ (second ∷ later))
+    kept_first true is = rw (is, ← is_second) refl
+    kept_first false is = rw (is, ← is_first, ← is_second) refl
+
+-- behind the first pair no member is in the reference place
+later_pair : (placed : Bool) (i : ℕ) → 0 < i → (placed && (i == 0)) ≡ false
+later_pair placed zero some = absurd (omega arith)
+later_pair true (suc i) some = grind arith
+later_pair false (suc i) some = refl
+
+-- of the members that begin the bits of start, those of the first i pairs are in place, and the others begin the bits
+abbrev pub MembersGathered : ℕ → Bool → ℕ → List Bool → List ℕ → ℕ → Bool → List Bool → Type 0
+MembersGathered limit placed n start values i fit bits =
+    map_taken (members_gathered limit [] true placed) (members_at n start)
+    ≡ map_taken (members_gathered limit (take (2 * i) values) fit (placed && (i == 0))) (members_at (n - i) bits)
+
+pub MembersGathered-next : (limit : ℕ) (placed : Bool) (n : ℕ) (start : List Bool) (before between values : List ℕ) (i : ℕ)
+    (fit first_fits second_fits : Bool) (bits rest : List Bool) (first second kept number : ℕ)
+    → 2 * i + 1 < length before → i < n → fs_at bits ≡ taken number rest
+    → first ≡ (pair_with_number number).first → second ≡ (pair_with_number number).second → kept ≡ (if placed && (i == 0) then 0 else first)
+    → first_fits ≡ nat_lt kept limit → between ≡ value_put limit before (2 * i) kept
+    → second_fits ≡ nat_lt second limit → values ≡ value_put limit between (2 * i + 1) second
+    → MembersGathered limit placed n start before i fit bits
+    → MembersGathered limit placed n start values (i + 1) (fit && first_fits && second_fits) rest
+MembersGathered-next limit placed n start before between values i fit first_fits second_fits bits rest first second kept number inside within read
+    is_first is_second is_kept first_test first_put second_test second_put so_far =
+    let left : n - i ≡ suc (n - (i + 1)) = omega arith in
+    so_far ∙ (members_at-next (members_gathered limit (take (2 * i) before) fit (placed && (i == 0)))
+    (gathered limit (take (2 * (i + 1)) values) (fit && first_fits && second_fits)) (n - i) (n - (i + 1)) number bits rest left read
+    (members_gathered-put limit before between values i fit first_fits second_fits (placed && (i == 0)) first second kept number inside
+    is_first is_second is_kept first_test first_put second_test second_put)
+    ∙ ap (λ b. map_taken (members_gathered limit (take (2 * (i + 1)) values) (fit && first_fits && second_fits) b) (members_at (n - (i + 1)) rest))
+    (sym (later_pair placed (i + 1) (omega arith))))
+
+pub MembersGathered-done : (limit : ℕ) (placed : Bool) (n : ℕ) (start : List Bool) (values : List ℕ) (i : ℕ) (fit : Bool) (bits : List Bool)
+    → n ≤ i → 0 < n → length values ≤ 2 * n → MembersGathered limit placed n start values i fit bits
+    → map_taken (members_gathered limit [] true placed) (members_at n start) ≡ taken (when fit values) bits
+MembersGathered-done limit placed n start values i fit bits past some all so_far =
+    so_far ∙ (ap (λ b. map_taken (members_gathered limit (take (2 * i) values) fit b) (members_at (n - i) bits)) (later_pair placed i (omega arith))
+    ∙ (members_at-done (gathered limit (take (2 * i) values) fit) (n - i) bits (omega arith)
+    ∙ ap (λ o. taken o bits) (gathered-done limit (take (2 * i) values) fit ∙ ap (when fit) (take_all (2 * i) values (omega arith)))))
 
 -- ---- the high parts
 
@@ -136,29 +198,3 @@ HighsGathered-done limit n start highs i fit bits same all so_far =
     ap (λ m. map_taken (gathered limit [] true) (values_at fs_at m start)) (sym same)
     ∙ (so_far ∙ (values_at-done fs_at (gathered limit (take i highs) fit) (length highs - i) bits (omega arith)
     ∙ ap (λ o. taken o bits) (gathered-done limit (take i highs) fit ∙ ap (when fit) (take_all i highs past))))
-
--- ---- the low bits
-
--- of the values whose high parts are known, those up to i have been put together, and the low bits of the others begin the bits
-abbrev pub LowsGathered : ℕ → List Bool → List ℕ → ℕ → List ℕ → List ℕ → ℕ → Bool → List Bool → Type 0
-LowsGathered limit start before k highs values i fit bits =
-    map_taken (lows_gathered limit before true k highs) (values_at (binary_at k) (length highs) start)
-    ≡ map_taken (lows_gathered limit values fit k (drop i highs)) (values_at (binary_at k) (length highs - i) bits)
-
-pub LowsGathered-next : (limit : ℕ) (start : List Bool) (before : List ℕ) (k : ℕ) (highs values later_values : List ℕ) (i high low v : ℕ) (fit fits : Bool)
-    (bits rest : List Bool) → i < length highs → drop i highs ≡ high ∷ drop (i + 1) highs → binary_at k bits ≡ taken low rest
-    → v ≡ high * 2 ^ k + low → fits ≡ nat_lt v limit → later_values ≡ with_value limit values v
-    → LowsGathered limit start before k highs values i fit bits → LowsGathered limit start before k highs later_values (i + 1) (fit && fits) rest
-LowsGathered-next limit start before k highs values later_values i high low v fit fits bits rest within split first whole test is so_far =
-    let left : length highs - i ≡ suc (length highs - (i + 1)) = omega arith in
-    so_far ∙ values_at-next (binary_at k) (lows_gathered limit values fit k (drop i highs))
-    (lows_gathered limit later_values (fit && fits) k (drop (i + 1) highs))
-    (length highs - i) (length highs - (i + 1)) low bits rest left first
-    (lows_gathered-pushed limit values later_values fit fits k high (drop (i + 1) highs) (drop i highs) low v split whole test is)
-
-pub LowsGathered-done : (limit : ℕ) (start : List Bool) (before : List ℕ) (k : ℕ) (highs values : List ℕ) (i : ℕ) (fit : Bool) (bits : List Bool)
-    → length highs ≤ i → LowsGathered limit start before k highs values i fit bits
-    → map_taken (lows_gathered limit before true k highs) (values_at (binary_at k) (length highs) start) ≡ taken (when fit values) bits
-LowsGathered-done limit start before k highs values i fit bits all so_far =
-    so_far ∙ (values_at-done (binary_at k) (lows_gathered limit values fit k (drop i highs)) (length highs - i) bits (omega arith)
-    ∙ ap (λ o. taken o bits) (ap (λ l. lows_gathered limit values fit k l []) (drop_all i highs all) ∙ gathered-done limit values fit))

@@ -10,7 +10,7 @@ use Rattle.aec_params.specs.Codewords.{fs, binary}
 use Rattle.aec_params.specs.Blocks.{Block}
 use Rattle.aec_params.specs.CodedDataSets.{pair_number, pair_bits, reference_bits, cds_bits}
 use Rattle.aec_params.specs.Spellings.{written_values, uncompressed, paired, split}
-use Rattle.aec_block.specs.Lengths.{reference_len, sum_of_shifted, pairs_length, uncompressed_length, paired_length, split_length}
+use Rattle.aec_block.specs.Lengths.{reference_len, head_length, sum_of_shifted, pairs_length, uncompressed_length, paired_length, split_length}
 
 pub length-binary : (w v : ℕ) → length (binary w v) ≡ w
 length-binary zero v = refl
@@ -74,6 +74,19 @@ length-split s b k =
     let high = length-high_parts k (written_values b) in
     let low = length-low_parts k (written_values b) in
     simp length-append (omega arith)
+
+-- what the codewords of values that are split leave of the whole
+pub record IsHighRest (s : Settings) (b : Block) (k bits head low : ℕ) : Type 0 where
+  pub head_within : head ≤ bits
+  pub low_within : low ≤ bits - head
+  pub rest : bits - head - low ≡ length (flat_map (λ v. fs (v / 2 ^ k)) (written_values b))
+
+pub high_rest : (s : Settings) (b : Block) (k bits head low : ℕ) → bits ≡ length (cds_bits s (split b k)) → head ≡ head_length s b.reference
+    → low ≡ length (written_values b) * k → IsHighRest s b k bits head low
+high_rest s b k bits head low is_bits is_head is_low =
+    let whole = is_bits ∙ length-split s b k in
+    let high = length-high_parts k (written_values b) in
+    record { head_within = omega arith; low_within = omega arith; rest = omega arith }
 
 -- the next pair of values, and the end
 pub pairs_length-drop : (values : List ℕ) (i j k : ℕ) → j ≡ i + 1 → k ≡ i + 2 → j < length values

@@ -1,4 +1,6 @@
 pub mod MappingLemmas
+pub mod ListMappingLemmas
+pub mod NearLemmas
 pub mod LengthLemmas
 pub mod LanesLemmas
 pub mod SplittingLemmas
@@ -9,9 +11,15 @@ pub mod PairLemmas
 pub mod SplitLemmas
 pub mod KindLemmas
 pub mod SetLemmas
+pub mod GatheredLemmas
 pub mod WritingLemmas
+pub mod HighWordLemmas
+pub mod LowWordLemmas
 pub mod CursorLemmas
+pub mod JoiningLemmas
 pub mod GatheringLemmas
+pub mod FillingLemmas
 pub mod ReadCdsLemmas
 pub mod StandingLemmas
+pub mod SkippingLemmas
 pub mod ShortestLemmas

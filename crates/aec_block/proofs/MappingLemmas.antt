@@ -61,7 +61,7 @@ x_max-offset s a =
     greatest-offset s.signed (2 ^ (s.bits - 1)) (2 ^ s.bits) (pow_pos (s.bits - 1)) (pow-halves s.bits (bits-least s a))
 
 -- a held sample lies between the least and the greatest
-held-between : (s : Settings) (x : ℤ) → IsHeld s x → (x_min s ≤ℤ x) × (x ≤ℤ x_max s)
+pub held-between : (s : Settings) (x : ℤ) → IsHeld s x → (x_min s ≤ℤ x) × (x ≤ℤ x_max s)
 held-between s x h =
     let parts = and_parts (int_le (x_min s) x) (int_le x (x_max s)) h in
     (grind (arith, ints, parts.0), grind (arith, ints, parts.1))

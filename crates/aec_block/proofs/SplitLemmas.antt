@@ -4,7 +4,7 @@ use Rattle.std.specs.List.{AllByRecursion, flat_map}
 use Rattle.std.proofs.lemmas.Nat.{pow_pos, shr_split, shr_high, mod_low, mod_below}
 use Rattle.aec_params.specs.Codewords.{fs, binary}
 use Rattle.aec_block.specs.ReadAt.{taken, fs_at, binary_at, values_at, joined_values, lows_at, split_at}
-use Rattle.aec_block.proofs.CodewordLemmas.{then_at-passed, map_taken-mapped, fs_reader, binary_reader, values_at-reads, values_at-spelled}
+use Rattle.aec_block.proofs.CodewordLemmas.{then_at-passed, map_taken-mapped, fs_reader, binary_reader, values_at-reads, values_at-spelled, all_numbers}
 
 -- the high parts and the low bits of values
 abbrev pub high_parts : ℕ → List ℕ → List ℕ
@@ -34,10 +34,6 @@ length-high_parts k (v ∷ values) = ap (λ n. suc n) (length-high_parts k value
 length-low_parts : (k : ℕ) (values : List ℕ) → length (low_parts k values) ≡ length values
 length-low_parts k [] = refl
 length-low_parts k (v ∷ values) = ap (λ n. suc n) (length-low_parts k values)
-
-all_numbers : (values : List ℕ) → AllByRecursion (λ v. Unit {0}) values
-all_numbers [] = tt
-all_numbers (v ∷ values) = (tt, all_numbers values)
 
 all_low : (k : ℕ) (values : List ℕ) → AllByRecursion (λ v. v < 2 ^ k) (low_parts k values)
 all_low k [] = tt

@@ -1,7 +1,8 @@
 -- The first k that one more doesn't make shorter is the best.
-use Rattle.std.proofs.Common.{◌≡◌, ℕ, zero, suc, ◌+◌, ◌-◌, ◌*◌, ◌/◌, ◌^◌, ◌<◌, ◌≤◌, subst, arith, ⊎_elim, List, [], ◌∷◌, length}
+use Rattle.std.proofs.Common.{◌≡◌, ℕ, zero, suc, ap, ◌∙◌, ◌+◌, ◌-◌, ◌*◌, ◌/◌, ◌^◌, ◌<◌, ◌≤◌, subst, arith, ⊎_elim, inl, inr, List, [], ◌∷◌, length}
 use Rattle.std.proofs.lemmas.Bool.{cases_lt}
-use Rattle.std.proofs.lemmas.Nat.{shr-shr}
+use Rattle.std.proofs.lemmas.Nat.{shr-shr, pow_pos}
+use Rattle.std.proofs.Math.Nat.{lt-div-mul-add, add-mul, mul-le-mul_right}
 use Rattle.std.proofs.lemmas.List.Sums.{sum_by-cons}
 use Rattle.aec_block.specs.Lengths.{sum_of_shifted, split_values_length, IsBestSplit}
 
@@ -64,15 +65,55 @@ pub falls_to-none : (values : List ℕ) → FallsTo 0 values
 falls_to-none values j h = absurd (omega arith)
 
 -- one more is shorter
-pub falls_to-more : (k sum next : ℕ) (values : List ℕ) → FallsTo k values → sum ≡ sum_of_shifted k values → next ≡ sum_of_shifted (k + 1) values
-    → next + length values < sum → FallsTo (k + 1) values
-falls_to-more k sum next values falls at_k at_next shorter j h =
-    let step : split_values_length (k + 1) values < split_values_length k values = omega arith in
+falls_to-next : (k : ℕ) (values : List ℕ) → FallsTo k values → split_values_length (k + 1) values < split_values_length k values → FallsTo (k + 1) values
+falls_to-next k values falls step j h =
     ⊎_elim (λ e. after (split_values_length (k + 1) values) (split_values_length k values) (split_values_length j values) step (falls j e))
     (λ e. subst (λ i. split_values_length (k + 1) values < split_values_length i values) (omega arith) step) (cases_lt j k)
   where
     after : (a b c : ℕ) → a < b → b < c → a < c
     after a b c f g = omega arith
+
+pub falls_to-more : (k sum next : ℕ) (values : List ℕ) → FallsTo k values → sum ≡ sum_of_shifted k values → next ≡ sum_of_shifted (k + 1) values
+    → next + length values < sum → FallsTo (k + 1) values
+falls_to-more k sum next values falls at_k at_next shorter =
+    let step : split_values_length (k + 1) values < split_values_length k values = omega arith in
+    falls_to-next k values falls step
+
+-- a sum by its quotients: what the low bits can add
+sum_of_shifted-whole : (k : ℕ) (values : List ℕ) → sum_of_shifted 0 values + length values ≤ sum_of_shifted k values * 2 ^ k + length values * 2 ^ k
+sum_of_shifted-whole k [] = omega arith
+sum_of_shifted-whole k (v ∷ values) =
+    let rest = sum_of_shifted-whole k values in
+    let now = sum_by-cons (λ (u : ℕ). u / 2 ^ k) v values in
+    let whole = sum_by-cons (λ (u : ℕ). u / 2 ^ 0) v values in
+    let quotient : v < v / 2 ^ k * 2 ^ k + 2 ^ k = lt-div-mul-add (pow_pos k) in
+    let sums : (v / 2 ^ k + sum_of_shifted k values) * 2 ^ k ≡ v / 2 ^ k * 2 ^ k + sum_of_shifted k values * 2 ^ k = add-mul _ _ _ in
+    let counts : (1 + length values) * 2 ^ k ≡ 1 * 2 ^ k + length values * 2 ^ k = add-mul _ _ _ in
+    let one_more : length (v ∷ values) ≡ 1 + length values = omega arith in
+    let all_sums = ap (λ (n : ℕ). n * 2 ^ k) now ∙ sums in
+    let all_counts = ap (λ (n : ℕ). n * 2 ^ k) one_more ∙ counts in
+    omega arith
+
+-- where the values add up to more than three times their number with k low bits, one low bit more makes them shorter
+longer_before : (k : ℕ) (values : List ℕ) → 3 * length values * 2 ^ k < sum_of_shifted 0 values
+    → split_values_length (k + 1) values < split_values_length k values
+longer_before k values past =
+    let whole = sum_of_shifted-whole k values in
+    let halved = sum_of_shifted-halved k values in
+    let great : 2 * length values < sum_of_shifted k values =
+    elim (cases_lt (2 * length values) (sum_of_shifted k values)) [
+      | inl great ↦ great
+      | inr small ↦ let product = mul-le-mul_right (2 ^ k) small in absurd (omega arith)
+    ] in
+    omega arith
+
+pub falls_to-first : (first sum : ℕ) (values : List ℕ) → sum ≡ sum_of_shifted 0 values → ((j : ℕ) → j < first → 3 * length values * 2 ^ j < sum)
+    → FallsTo first values
+falls_to-first zero sum values is past = falls_to-none values
+falls_to-first (suc k) sum values is past =
+    let before = falls_to-first k sum values is (λ j h. past j (omega arith)) in
+    subst (λ i. FallsTo i values) (omega arith)
+    (falls_to-next k values before (longer_before k values (subst (λ t. 3 * length values * 2 ^ k < t) is (past k (omega arith)))))
 
 pub best-stopped : (options k sum next : ℕ) (values : List ℕ) → FallsTo k values → k < options → sum ≡ sum_of_shifted k values
     → next ≡ sum_of_shifted (k + 1) values → sum ≤ next + length values → IsBestSplit options k values

@@ -1,6 +1,7 @@
 -- Codewords appended one after another into reserved room.
 use Rattle.std.proofs.Common.{◌≡◌, ℕ, zero, suc, ◌+◌, ◌-◌, ◌*◌, ◌/◌, ◌%◌, ◌^◌, ◌<◌, ◌≤◌, refl, ap, ◌∙◌, sym, arith, Bool, Option, Some, None, List, [], ◌∷◌, ◌++◌, length, take, drop, get_or, drop-cons, append_assoc, append-nil, length-append, length-drop}
 use Rattle.std.specs.List.{flat_map, AllByRecursion}
+use Rattle.std.proofs.lemmas.List.{take_rest}
 use Rattle.aec_params.specs.Codewords.{fs, binary}
 use Rattle.aec_params.specs.CodedDataSets.{pair_number, pair_bits}
 use Rattle.aec_params.specs.declared.settings.Settings.{Settings}
@@ -14,20 +15,36 @@ use Rattle.aec_block.proofs.LengthLemmas.{length-fs, length-binary, length-refer
 -- what stands in a list so far, with what is still to be appended, makes a whole; and there is room for what is still to come
 pub record Appending (old new done todo : List Bool) (before after : ℕ) : Type 0 where
   pub list : new ++ todo ≡ old ++ done
-  pub grown : length old ≤ length new
   pub room : before + length todo ≤ after + length done
 
--- the next codeword
-pub appending-more : (old new next done todo codeword rest : List Bool) (before after later n : ℕ) → Appending old new done todo before after
-    → todo ≡ codeword ++ rest → next ≡ new ++ codeword → length codeword ≡ n → after ≤ later + n → Appending old next done rest before later
-appending-more old new next done todo codeword rest before after later n so_far split is len room = record {
-  list = ap (λ (bits : List Bool). bits ++ rest) is ∙ append_assoc new codeword rest ∙ sym (ap (λ (bits : List Bool). new ++ bits) split) ∙ so_far.list;
-  grown = let longer = ap (length {A = Bool}) is ∙ length-append new codeword in let held = so_far.grown in omega arith;
+-- the next codeword is gathered: what was held before may be in the list now
+pub gathering-more : (old new next done held kept todo codeword rest : List Bool) (before after later n : ℕ) → Appending old new done (held ++ todo) before after
+    → todo ≡ codeword ++ rest → next ++ kept ≡ new ++ (held ++ codeword) → length codeword ≡ n → after + length kept ≤ later + (length held + n)
+    → Appending old next done (kept ++ rest) before later
+gathering-more old new next done held kept todo codeword rest before after later n so_far split is len room = record {
+  list =
+      sym (append_assoc next kept rest) ∙ ap (λ (bits : List Bool). bits ++ rest) is ∙ append_assoc new (held ++ codeword) rest
+      ∙ ap (λ (bits : List Bool). new ++ bits) (append_assoc held codeword rest ∙ sym (ap (λ (bits : List Bool). held ++ bits) split)) ∙ so_far.list;
   room =
       let total = ap (length {A = Bool}) split ∙ length-append codeword rest in
-      let held = so_far.room in
+      let ahead = length-append held todo in
+      let behind = length-append kept rest in
+      let so_much = so_far.room in
       omega arith;
 }
+
+-- a head and one part, and a head and two parts
+pub gathered-part : (old at_head at_part new head_held part_held head part : List Bool) → at_head ++ head_held ≡ old ++ head
+    → at_part ++ part_held ≡ at_head ++ (head_held ++ part) → new ≡ at_part ++ part_held → new ≡ old ++ (head ++ part)
+gathered-part old at_head at_part new head_held part_held head part begun added is =
+    is ∙ added ∙ sym (append_assoc at_head head_held part) ∙ ap (λ (bits : List Bool). bits ++ part) begun ∙ append_assoc old head part
+
+pub gathered-parts : (old at_head at_high at_low new head_held high_held low_held head high low : List Bool) → at_head ++ head_held ≡ old ++ head
+    → at_high ++ high_held ≡ at_head ++ (head_held ++ high) → at_low ++ low_held ≡ at_high ++ (high_held ++ low) → new ≡ at_low ++ low_held
+    → new ≡ old ++ (head ++ (high ++ low))
+gathered-parts old at_head at_high at_low new head_held high_held low_held head high low begun first second is =
+    let before = gathered-part old at_head at_high (at_high ++ high_held) head_held high_held head high begun first refl in
+    gathered-part old at_high at_low new high_held low_held (head ++ high) low before second is ∙ ap (λ (bits : List Bool). old ++ bits) (append_assoc head high low)
 
 flat_map-drop : (f : ℕ → List Bool) (values : List ℕ) (i j : ℕ) → j ≡ i + 1 → i < length values
     → flat_map f (drop i values) ≡ f (get_or values i 0) ++ flat_map f (drop j values)
@@ -53,26 +70,24 @@ pair_bits-drop values i j k next after within =
     rw (at_j, at_k) (ap pair_bits (drop-cons values i 0 here)
     ∙ ap (λ (rest : List ℕ). pair_bits (get_or values i 0 ∷ rest)) (drop-cons values (suc i) 0 there))
 
-pub room-for_next : (old new done todo codeword rest : List Bool) (before after n : ℕ) → Appending old new done todo before after
-    → length done ≤ before → todo ≡ codeword ++ rest → length codeword ≡ n → n ≤ after
-room-for_next old new done todo codeword rest before after n so_far reserved split is =
+pub room-for_next : (old new done held todo codeword rest : List Bool) (before after n : ℕ) → Appending old new done (held ++ todo) before after
+    → length done ≤ before → todo ≡ codeword ++ rest → length codeword ≡ n → length held + n ≤ after
+room-for_next old new done held todo codeword rest before after n so_far reserved split is =
     let total = ap (length {A = Bool}) split ∙ length-append codeword rest in
-    let held = so_far.room in
+    let ahead = length-append held todo in
+    let so_much = so_far.room in
     omega arith
 
--- what is still to come is no longer than the whole
-pub length-next : (old new done todo codeword rest : List Bool) (before after n : ℕ) → Appending old new done todo before after
-    → todo ≡ codeword ++ rest → length codeword ≡ n → n ≤ length done
-length-next old new done todo codeword rest before after n so_far split is =
+pub length-parts : (todo codeword rest : List Bool) (n : ℕ) → todo ≡ codeword ++ rest → length codeword ≡ n → length todo ≡ n + length rest
+length-parts todo codeword rest n split is =
     let total = ap (length {A = Bool}) split ∙ length-append codeword rest in
-    let whole = sym (length-append new todo) ∙ ap (length {A = Bool}) so_far.list ∙ length-append old done in
-    let held = so_far.grown in
     omega arith
 
 -- nothing is left
-pub appending-all : (old new done todo : List Bool) (before after : ℕ) → Appending old new done todo before after → todo ≡ [] → new ≡ old ++ done
-appending-all old new done todo before after so_far none =
-    sym (append-nil new) ∙ sym (ap (λ (bits : List Bool). new ++ bits) none) ∙ so_far.list
+pub gathered-all : (old new done held todo : List Bool) (before after : ℕ) → Appending old new done (held ++ todo) before after → todo ≡ []
+    → new ++ held ≡ old ++ done
+gathered-all old new done held todo before after so_far none =
+    sym (ap (λ (bits : List Bool). new ++ bits) (ap (λ (bits : List Bool). held ++ bits) none ∙ append-nil held)) ∙ so_far.list
 
 pair_bits-short : (values : List ℕ) → length values ≤ 1 → pair_bits values ≡ []
 pair_bits-short [] few = refl
@@ -98,5 +113,7 @@ after_reference-small n (Some r) (v ∷ values) small = small.1
 pub low_parts-written : (s : Settings) (b : Block) → IsFull s b
     → low_parts s.bits (written_values b) ≡ flat_map (binary s.bits) (written_values b)
 low_parts-written s b full = low_parts-plain s.bits (written_values b) (after_reference-small s.bits b.reference b.values full.values)
+
+pub ruleset behind = (take_rest)
 
 pub ruleset parts = (append_assoc, length-append, length-binary, length-fs, length-reference_bits, low_parts-written)

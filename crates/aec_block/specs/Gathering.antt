@@ -1,12 +1,12 @@
 -- How the private functions of reading answer: what was taken, in the place of a result, and values that are gathered while
 -- they are small enough.
-use Rattle.std.specs.Prelude.{ℕ, Bool, ◌&&◌, nat_lt, if◌then◌else◌, Option, Some, None, Result, Ok, Err, List, [], ◌∷◌, ◌++◌, drop}
+use Rattle.std.specs.Prelude.{ℕ, Bool, ◌&&◌, nat_lt, true, false, if◌then◌else◌, Option, Some, None, Result, Ok, Err, List, ◌∷◌, ◌++◌, drop}
 use Rattle.std.specs.List.{list_all}
 use Rattle.aec_bits.specs.BitReader.{Cursor}
 use Rattle.aec_params.specs.Blocks.{Block}
 use Rattle.aec_params.specs.Places.{block_of_values, block_of_members}
 use Rattle.aec_params.specs.CodedDataSets.{value_pairs, judged_in}
-use Rattle.aec_block.specs.ReadAt.{Taken, nothing, taken, joined_values}
+use Rattle.aec_block.specs.ReadAt.{Taken, nothing, taken}
 
 -- the bits that are left at a cursor
 abbrev pub bits_at : Cursor → List Bool
@@ -22,6 +22,10 @@ abbrev pub as_taken_by : {X Y E : Type 0} → (X → Y) → Result X E → List 
 as_taken_by f (Ok x) rest = taken (f x) rest
 as_taken_by f (Err e) rest = nothing
 
+-- values of which nothing is kept
+abbrev pub no_values : List ℕ → Unit {0}
+no_values values = tt
+
 -- something, where a test holds
 abbrev pub when : {X : Type 0} → Bool → X → Option X
 when b x = if b then Some x else None
@@ -33,13 +37,17 @@ all_below limit values = list_all (λ v. nat_lt v limit) values
 abbrev pub gathered : ℕ → List ℕ → Bool → List ℕ → Option (List ℕ)
 gathered limit before fit later = when (fit && all_below limit later) (before ++ later)
 
--- the same with later values of which the high parts are known
-abbrev pub lows_gathered : ℕ → List ℕ → Bool → ℕ → List ℕ → List ℕ → Option (List ℕ)
-lows_gathered limit before fit k highs lows = gathered limit before fit (joined_values k highs lows)
+-- values, where they are below the limit
+abbrev pub small_values : ℕ → List ℕ → Option (List ℕ)
+small_values limit values = when (all_below limit values) values
 
--- values with one more, where that is below the limit
-abbrev pub with_value : ℕ → List ℕ → ℕ → List ℕ
-with_value limit before v = if nat_lt v limit then before ++ v ∷ [] else before
+-- the members of pairs, of which the first gives way to 0 in the reference place, where there is one
+abbrev pub kept_members : Bool → List ℕ → List ℕ
+kept_members true members = 0 ∷ drop 1 members
+kept_members false members = members
+
+abbrev pub members_gathered : ℕ → List ℕ → Bool → Bool → List ℕ → Option (List ℕ)
+members_gathered limit before fit placed members = gathered limit before fit (kept_members placed members)
 
 -- the block of such values, where they are below the limit
 abbrev pub small_block : ℕ → Option ℕ → List ℕ → Option Block

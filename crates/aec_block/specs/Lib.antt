@@ -1,4 +1,5 @@
 pub mod Offsets
+pub mod Unmapping
 pub mod BlockShape
 pub mod Lengths
 pub mod Choices
@@ -6,4 +7,5 @@ pub mod Written
 pub mod ReadAt
 pub mod Gathering
 pub mod ReadCds
+pub mod SkipCds
 pub mod Laws

@@ -1,5 +1,5 @@
 -- What the private functions of `mapping` compute: the mapping on offsets from the least sample, of which `top` is the greatest.
-use Rattle.std.specs.Prelude.{ℕ, ◌+◌, ◌-◌, ◌*◌, ◌^◌, min, ◌&&◌, nat_le, nat_lt, if◌then◌else◌, ℤ, ◌-ℤ◌, unsigned_abs}
+use Rattle.std.specs.Prelude.{ℕ, ◌+◌, ◌-◌, ◌*◌, ◌/◌, ◌%◌, ◌^◌, ◌≤◌, ◌==◌, min, ◌&&◌, nat_le, nat_lt, if◌then◌else◌, ℤ, ◌-ℤ◌, unsigned_abs, ⊤, List, [], ◌∷◌}
 use Rattle.aec_params.specs.declared.settings.Settings.{Settings}
 use Rattle.aec_params.specs.Params.{x_min}
 
@@ -21,3 +21,17 @@ mapped_offset top p x =
     if nat_le p x && nat_le (x - p) (offset_room top p) then 2 * (x - p)
     else (if nat_lt x p && nat_le (p - x) (offset_room top p) then 2 * (p - x) - 1
     else offset_room top p + ((x - p) + (p - x)))
+
+-- what is coded for offsets, each at the one before it, which is p for the first
+abbrev pub mapped_offsets : ℕ → ℕ → List ℕ → List ℕ
+mapped_offsets top p [] = []
+mapped_offsets top p (x ∷ xs) = mapped_offset top p x ∷ mapped_offsets top x xs
+
+-- the offset for which m is coded at p, where both sides of p have room for it: above p for even m, below for odd
+abbrev pub near_offset : ℕ → ℕ → ℕ
+near_offset p m = if m % 2 == 0 then p + m / 2 else p - (m / 2 + 1)
+
+-- values for which there is room on both sides, each at the offset of the one before, which is p for the first
+abbrev pub AreNear : ℕ → ℕ → List ℕ → Type 0
+AreNear top p [] = ⊤
+AreNear top p (m ∷ ms) = (m ≤ 2 * offset_room top p) × AreNear top (near_offset p m) ms

@@ -7,8 +7,11 @@ use Rattle.aec_params.specs.Faults.{IsSetAt}
 use Rattle.aec_bits.specs.BitReader.{Cursor}
 use Rattle.aec_block.specs.declared.cds.RunLen.{RunLen}
 use Rattle.aec_block.specs.declared.cds.RunLen.TheVariants.{Blocks, Rest}
+use Rattle.aec_params.specs.Blocks.{Block}
 use Rattle.aec_block.specs.declared.cds.Cds.{Cds}
 use Rattle.aec_block.specs.declared.cds.Cds.TheVariants.{Single, Zeros}
+use Rattle.aec_block.specs.declared.cds.Found.{Found}
+use Rattle.aec_block.specs.declared.cds.Found.TheVariants.{Single as SingleFound, Zeros as ZerosFound}
 use Rattle.aec_block.specs.declared.reading.Kind.{Kind}
 use Rattle.aec_block.specs.declared.reading.Kind.TheVariants.{ZeroBlocks, SecondExtension, Split, NoCompression}
 use Rattle.aec_block.specs.ReadAt.{set_of}
@@ -38,6 +41,15 @@ checked s c = when (has_small_values s c) (cds_of c)
 
 abbrev pub checked_body : Settings → Option ℕ → Body → Option Cds
 checked_body s reference body = checked s (set_of reference body)
+
+-- what was found, with the block that it was read into
+abbrev pub as_cds : Found → Block → Cds
+as_cds SingleFound block = Single block
+as_cds (ZerosFound reference len) block = Zeros reference len
+
+abbrev pub as_read : Option Found → Block → Option Cds
+as_read None block = None
+as_read (Some found) block = Some (as_cds found block)
 
 -- k is below 32 where it is a splitting option's
 abbrev pub HasShortSplit : Kind → Type 0

@@ -12,7 +12,18 @@ pub(crate) const MOST_VALUES: usize = 64;
 #[derive(Debug, Drop)]
 pub struct Block {
     reference: Option<u32>,
-    values: SmallVec<u32, MOST_VALUES>,
+    pub(crate) values: SmallVec<u32, MOST_VALUES>,
+}
+
+ghost use Rattle.std.specs.Prelude.{◌≡◌, ◌≤◌, [], length};
+ghost use Rattle.aec_params.specs.Places.{placed_values};
+
+/// How many values stand in the reference place.
+pub(crate) fn places_before(reference: Option<u32>) -> usize
+    ensures value { result ≡ length (placed_values reference []) }
+    ensures most { result ≤ 1 }
+{
+    usize::from(reference.is_some())
 }
 
 impl Model for Block {
@@ -44,6 +55,24 @@ impl Block {
             values.push_reserved(0);
         }
         Block { reference, values }
+    }
+
+    /// Begins anew with so many values, of which the one in the reference place is 0, where there is a reference. What the
+    /// others are isn't said.
+    #[inline(always)]
+    pub(crate) fn restart(&mut self, reference: Option<u32>, len: usize)
+        requires most { len ≤ most_values }
+        requires place { length (placed_values reference []) ≤ len }
+        ensures reference { self.new.reference ≡ reference }
+        ensures len { length self.new.values ≡ len }
+    {
+        self.reference = reference;
+        if self.values.len() != len {
+            self.values.resize(len, 0).unwrap();
+        }
+        if reference.is_some() {
+            self.values.as_mut_slice()[0] = 0;
+        }
     }
 
     /// Appends a value.

@@ -19,3 +19,30 @@ pub enum Cds {
     /// A run of zero blocks, of which the first has the reference sample where there is one.
     Zeros { reference: Option<u32>, len: RunLen },
 }
+
+/// What a coded data set is that was read into a block.
+#[derive(Clone, Copy, Debug, PartialEq, Eq)]
+pub enum Found {
+    /// One block, by any option: the block that it was read into.
+    Single,
+    /// A run of zero blocks, of which the first has the reference sample where there is one. The block that was lent holds
+    /// nothing of it.
+    Zeros { reference: Option<u32>, len: RunLen },
+}
+
+impl Found {
+    ghost use Rattle.std.specs.Prelude.{◌≡◌};
+    ghost use Rattle.aec_params.specs.Blocks.{Block as Values};
+    ghost use Rattle.aec_block.specs.ReadCds.{as_cds};
+    ghost use Rattle.aec_block.specs.SkipCds.{read_len};
+
+    /// For how many blocks it stands.
+    pub fn stands_for(self) -> RunLen
+        ensures { (values : Values) → result ≡ read_len (as_cds self values) }
+    {
+        match self {
+            Found::Single => RunLen::Blocks(1),
+            Found::Zeros { len, .. } => len,
+        }
+    }
+}

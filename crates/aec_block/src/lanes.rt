@@ -57,7 +57,7 @@ fn sum_by_eights(values: &[u32], k: u32) -> u64
 }
 
 /// The sum of a few values, one by one.
-fn sum_one_by_one(values: &[u32], k: u32) -> u64
+pub(crate) fn sum_one_by_one(values: &[u32], k: u32) -> u64
     requires k { k < 32 }
     requires len { length values.now ≤ most_values }
     ensures sum { result ≡ sum_of_shifted k values.now }

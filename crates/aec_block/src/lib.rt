@@ -5,26 +5,40 @@
 mod block;
 mod cds;
 mod choice;
+mod gathered;
+mod high_words;
 mod lanes;
 pub mod laws;
 mod lengths;
+mod low_words;
+mod mapped_blocks;
 mod mapping;
+mod near_values;
 mod reading;
+mod reading_blocks;
 mod reading_codewords;
 mod reading_values;
+mod skipping;
+mod skipping_values;
 mod splitting;
 mod writing;
 
 pub use block::Block;
-pub use cds::{Cds, RunLen};
+pub use cds::{Cds, Found, RunLen};
 pub use choice::{Choice, Coding, choose};
-pub use mapping::{map, unmap};
-pub use reading::read_cds;
+pub use mapped_blocks::map_into;
+pub use mapping::{map, unmap, unmap_all};
+pub use reading::{read_cds, read_into};
+pub use skipping::skip_cds;
 pub use writing::{write_block, write_run};
 
 #[cfg(test)]
 mod reading_tests;
 #[cfg(test)]
+mod reused_block_tests;
+#[cfg(test)]
 mod run_tests;
+#[cfg(test)]
+mod skipping_tests;
 #[cfg(test)]
 mod tests;

@@ -1,21 +1,19 @@
 //! Reads one coded data set.
 
-ghost use Rattle.std.specs.Prelude.{◌≡◌, ◌+◌, ◌≤◌, length, [], IfOk, IfErr, OnErr, option_map};
+ghost use Rattle.std.specs.Prelude.{◌≡◌, ◌+◌, ◌≤◌, length, IfOk, IfErr, OnErr};
 ghost use Rattle.std.specs.Option.{is_some};
 ghost use Rattle.aec_params.specs.Params.{IsAllowed, id_len};
-ghost use Rattle.aec_params.specs.CodedDataSets.{CodedDataSet, written_count};
-ghost use Rattle.aec_params.specs.Places.{placed_values};
-ghost use Rattle.aec_block.specs.declared.cds.Cds.TheVariants.{Single};
-ghost use Rattle.aec_block.specs.BlockShape.{most_values};
+ghost use Rattle.aec_params.specs.CodedDataSets.{CodedDataSet};
+ghost use Rattle.aec_block.specs.declared.cds.Found.TheVariants.{Single};
 ghost use Rattle.aec_block.specs.ReadAt.{map_taken, kind_at, reference_at, body_at, cds_at};
-ghost use Rattle.aec_block.specs.Gathering.{bits_at, as_taken};
-ghost use Rattle.aec_block.specs.ReadCds.{run_len_of, checked, checked_body, HasShortSplit, IsReadAs};
+ghost use Rattle.aec_block.specs.Gathering.{bits_at, as_taken, as_taken_by, when};
+ghost use Rattle.aec_block.specs.ReadCds.{run_len_of, checked, checked_body, as_cds, as_read, HasShortSplit, IsReadAs};
 ghost use Rattle.aec_params.specs.Faults.{IsNotRead};
 
 use crate::block::Block;
-use crate::cds::{Cds, RunLen};
+use crate::cds::{Cds, Found, RunLen};
+use crate::reading_blocks::{fill_pairs, fill_split, fill_uncompressed};
 use crate::reading_codewords::{read_number, read_sequence};
-use crate::reading_values::{read_pairs, read_split, read_uncompressed};
 use aec_bits::BitReader;
 use aec_params::{Fault, Params};
 use std::alloc::Global;
@@ -30,7 +28,7 @@ pub(crate) enum Kind {
 }
 
 /// The kind that the next bits identify.
-fn read_kind(params: &Params, reader: &mut BitReader) -> Result<Kind, Fault>
+pub(crate) fn read_kind(params: &Params, reader: &mut BitReader) -> Result<Kind, Fault>
     requires within { reader.old.pos ≤ length reader.old.list }
     ensures taken { kind_at (id_len params.now) (bits_at reader.old) ≡ as_taken result (bits_at reader.new) }
     ensures short { IfOk result HasShortSplit }
@@ -56,7 +54,7 @@ fn read_kind(params: &Params, reader: &mut BitReader) -> Result<Kind, Fault>
 }
 
 /// The reference sample's pattern, where one is due.
-fn read_reference(
+pub(crate) fn read_reference(
     params: &Params,
     reader: &mut BitReader,
     is_ref: bool,
@@ -85,76 +83,98 @@ fn run_len(number: u64) -> RunLen
     }
 }
 
-/// How many values a block with that reference sample or without one writes one by one.
-fn values_due(params: &Params, reference: Option<u32>) -> u32
-    ensures count { result ≡ written_count params.now (is_some reference) }
-    ensures most { length (placed_values reference []) + result ≤ most_values }
+/// One block, where its values fit.
+fn single(fit: bool) -> Option<Found>
+    ensures { result ≡ when fit Single }
 {
-    match reference {
-        Some(_) => params.block_size() - 1,
-        None => params.block_size(),
-    }
+    if fit { Some(Found::Single) } else { None }
 }
 
-/// A coded data set of one block, where there is a block.
-fn single(block: Option<Block>) -> Option<Cds>
-    ensures { result ≡ option_map (λ b. Single b) block }
-{
-    match block {
-        Some(block) => Some(Cds::Single(block)),
-        None => None,
-    }
-}
-
-/// What stands behind the identifier and the reference sample; none where a value is above the greatest that the width
-/// has.
-fn read_body(
-    alloc: Global,
+/// What stands behind the identifier and the reference sample, read into the block; none where a value is above the
+/// greatest that the width has.
+pub(crate) fn read_body(
     params: &Params,
     reader: &mut BitReader,
     kind: Kind,
     reference: Option<u32>,
     is_ref: bool,
-) -> Result<Option<Cds>, Fault>
+    block: &mut Block,
+) -> Result<Option<Found>, Fault>
     requires within { reader.old.pos ≤ length reader.old.list }
     requires short { HasShortSplit kind }
     requires due { is_some reference ≡ is_ref }
     ensures taken { map_taken (checked_body params.now reference) (body_at params.now is_ref kind (bits_at reader.old))
-        ≡ as_taken result (bits_at reader.new) }
+        ≡ as_taken_by (λ found. as_read found block.new) result (bits_at reader.new) }
     ensures list { reader.new.list ≡ reader.old.list }
     ensures within { reader.new.pos ≤ length reader.new.list }
 {
-    let count = values_due(params, reference);
     match kind {
         Kind::ZeroBlocks => {
             let len = run_len(read_sequence(reader)?);
-            Ok(Some(Cds::Zeros { reference, len }))
+            Ok(Some(Found::Zeros { reference, len }))
         }
         Kind::NoCompression => {
-            let block = read_uncompressed(alloc, params, reader, reference, count)?;
-            Ok(Some(Cds::Single(block)))
+            fill_uncompressed(params, reader, reference, block)?;
+            Ok(Some(Found::Single))
         }
-        Kind::SecondExtension => Ok(single(read_pairs(alloc, params, reader, reference)?)),
-        Kind::Split(k) => Ok(single(read_split(alloc, params, reader, reference, count, k)?)),
+        Kind::SecondExtension => Ok(single(fill_pairs(params, reader, reference, block)?)),
+        Kind::Split(k) => Ok(single(fill_split(params, reader, reference, k, block)?)),
     }
 }
 
-/// One coded data set; none where a value is above the greatest that the width has.
+/// One coded data set, read into the block; none where a value is above the greatest that the width has.
 fn read_set(
-    alloc: Global,
     params: &Params,
     reader: &mut BitReader,
     is_ref: bool,
-) -> Result<Option<Cds>, Fault>
+    block: &mut Block,
+) -> Result<Option<Found>, Fault>
     requires within { reader.old.pos ≤ length reader.old.list }
-    ensures taken { map_taken (checked params.now) (cds_at params.now is_ref (bits_at reader.old)) ≡ as_taken result (bits_at reader.new) }
+    ensures taken { map_taken (checked params.now) (cds_at params.now is_ref (bits_at reader.old))
+        ≡ as_taken_by (λ found. as_read found block.new) result (bits_at reader.new) }
     ensures allowed { IsAllowed params.now }
     ensures list { reader.new.list ≡ reader.old.list }
     ensures within { reader.new.pos ≤ length reader.new.list }
 {
     let kind = read_kind(params, reader)?;
     let reference = read_reference(params, reader, is_ref)?;
-    read_body(alloc, params, reader, kind, reference, is_ref)
+    read_body(params, reader, kind, reference, is_ref, block)
+}
+
+/// Reads the one coded data set that begins at the reader's place, of a block with a reference sample or of another, and
+/// goes behind it. Where it is of one block, that stands in `block` then, whatever stood there before. `Truncated` where
+/// none begins there, and `ValueTooLarge` where the one that does has a value above the greatest that the width has; the
+/// reader is then where it was, and the place of the refusal is that one. What stands in `block` after a run or a refusal
+/// isn't said. Takes no memory.
+pub fn read_into(
+    params: &Params,
+    reader: &mut BitReader,
+    is_ref: bool,
+    block: &mut Block,
+) -> Result<Found, Fault>
+    ensures ok { IfOk result (λ found.
+        (c : CodedDataSet) × IsReadAs params.now is_ref reader.old reader.new c (as_cds found block.new)) }
+    ensures refuses { IfErr result (IsNotRead params.now is_ref reader.old.list reader.old.pos) }
+    ensures err { OnErr result (reader.new ≡ reader.old) }
+{
+    let start = reader.pos();
+    let fault = match read_set(params, reader, is_ref, block) {
+        Ok(Some(found)) => return Ok(found),
+        Ok(None) => Fault::ValueTooLarge { bit: start },
+        Err(_) => Fault::Truncated { bit: start },
+    };
+    reader.seek(start);
+    Err(fault)
+}
+
+/// A coded data set that was read into a block.
+fn cds_found(found: Found, block: Block) -> Cds
+    ensures { result ≡ as_cds found block }
+{
+    match found {
+        Found::Single => Cds::Single(block),
+        Found::Zeros { reference, len } => Cds::Zeros { reference, len },
+    }
 }
 
 /// Reads the one coded data set that begins at the reader's place, of a block with a reference sample or of another, and
@@ -171,12 +191,7 @@ pub fn read_cds(
     ensures refuses { IfErr result (IsNotRead params.now is_ref reader.old.list reader.old.pos) }
     ensures err { OnErr result (reader.new ≡ reader.old) }
 {
-    let start = reader.pos();
-    let fault = match read_set(alloc, params, reader, is_ref) {
-        Ok(Some(cds)) => return Ok(cds),
-        Ok(None) => Fault::ValueTooLarge { bit: start },
-        Err(_) => Fault::Truncated { bit: start },
-    };
-    reader.seek(start);
-    Err(fault)
+    let mut block = Block::new(alloc, None);
+    let found = read_into(params, reader, is_ref, &mut block)?;
+    Ok(cds_found(found, block))
 }

@@ -1,8 +1,9 @@
 //! Reads the codewords of a coded data set.
 
-ghost use Rattle.std.specs.Prelude.{◌≡◌, ◌≤◌, ◌<◌, ◌^◌, length, IfOk};
-ghost use Rattle.aec_block.specs.ReadAt.{fs_at, binary_at, pair_with_number};
-ghost use Rattle.aec_block.specs.Gathering.{bits_at, as_taken};
+ghost use Rattle.std.specs.Prelude.{◌≡◌, ◌≤◌, ◌<◌, ◌^◌, true, false, length, IfOk, OnOk};
+ghost use Rattle.aec_bits.specs.BitReader.{AreBelow};
+ghost use Rattle.aec_block.specs.ReadAt.{taken, fs_at, binary_at, values_at, pair_with_number};
+ghost use Rattle.aec_block.specs.Gathering.{bits_at, as_taken, as_taken_by};
 
 use aec_bits::BitReader;
 use aec_params::Fault;
@@ -26,6 +27,36 @@ pub(crate) fn read_sequence(reader: &mut BitReader) -> Result<u64, Fault>
     ensures within { reader.new.pos ≤ length reader.new.list }
 {
     reader.read_fs()
+}
+
+/// Puts the numbers that the next bits spell, each in `width` bits, into `numbers`.
+pub(crate) fn read_numbers(
+    reader: &mut BitReader,
+    width: u32,
+    numbers: &mut [u32],
+) -> Result<(), Fault>
+    requires width { width ≤ 32 }
+    requires within { reader.old.pos ≤ length reader.old.list }
+    ensures taken { values_at (binary_at width) (length numbers.old) (bits_at reader.old)
+        ≡ as_taken_by (λ _. numbers.new) result (bits_at reader.new) }
+    ensures below { OnOk result (AreBelow (2 ^ width) numbers.new) }
+    ensures len { length numbers.new ≡ length numbers.old }
+    ensures list { reader.new.list ≡ reader.old.list }
+    ensures within { reader.new.pos ≤ length reader.new.list }
+{
+    reader.read_numbers(width, numbers)
+}
+
+/// Puts the numbers of the fundamental sequences that come next into `numbers`, where all are short. Else false, and the
+/// reader stays.
+pub(crate) fn read_short_sequences(reader: &mut BitReader, numbers: &mut [u32]) -> bool
+    ensures taken { result ≡ true → values_at fs_at (length numbers.old) (bits_at reader.old) ≡ taken numbers.new (bits_at reader.new) }
+    ensures stays { result ≡ false → reader.new ≡ reader.old }
+    ensures len { length numbers.new ≡ length numbers.old }
+    ensures list { reader.new.list ≡ reader.old.list }
+    ensures within { reader.new.pos ≤ length reader.new.list }
+{
+    reader.read_sequences(numbers)
 }
 
 /// The two members of the pair with a number. As many steps are made as their sum is, fewer than the bits of the

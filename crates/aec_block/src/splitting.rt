@@ -1,6 +1,6 @@
 //! The k with which a block's values are split.
 
-ghost use Rattle.std.specs.Prelude.{◌≡◌, ◌+◌, ◌*◌, ◌^◌, ◌<◌, ◌≤◌, nat_lt, length};
+ghost use Rattle.std.specs.Prelude.{◌≡◌, ◌+◌, ◌*◌, ◌^◌, ◌<◌, ◌≤◌, ℕ, nat_lt, length};
 ghost use Rattle.aec_block.specs.BlockShape.{most_values};
 ghost use Rattle.aec_block.specs.Lengths.{sum_of_shifted, split_values_length, IsBestSplit};
 
@@ -36,9 +36,48 @@ fn with_k(sum: u64, count: usize, k: u32) -> Splitting
     }
 }
 
+/// Whether the sum of so many values is more than `3 * count * 2^k`; then one low bit more than `k` makes them shorter.
+fn is_past(sum: u64, count: u64, k: u32) -> bool
+    requires count { count ≤ most_values }
+    requires k { k < 32 }
+    ensures { result ≡ nat_lt (3 * count * 2 ^ k) sum }
+{
+    (3 * count) << k < sum
+}
+
+/// The k to begin with, by the sum of the values: each one before it is longer than the next.
+fn first_k(sum: u64, count: u64, last: u32) -> u32
+    requires count { count ≤ most_values }
+    requires last { last < 32 }
+    ensures within { result ≤ last }
+    ensures before { (j : ℕ) → j < result → 3 * count * 2 ^ j < sum }
+{
+    for k in 0..last {
+        if !is_past(sum, count, k) {
+            return k;
+        }
+    }
+    last
+}
+
+/// The sum of the values without their `k` low bits, where that of the values as they are is known.
+fn sum_from(values: &[u32], total: u64, k: u32) -> u64
+    requires total { total ≡ sum_of_shifted 0 values.now }
+    requires bound { total ≤ 2 ^ 39 }
+    requires k { k < 32 }
+    requires len { length values.now ≤ most_values }
+    ensures sum { result ≡ sum_of_shifted k values.now }
+    ensures bound { result ≤ 2 ^ 39 }
+{
+    if k == 0 {
+        return total;
+    }
+    shifted_sum(values, k)
+}
+
 /// The k below `options` with which the values have the fewest bits, and of equal ones the least; 0 where there are no
 /// options. The sums fall by half at least with each k, so what one more low bit gains never grows: at the first k that
-/// one more doesn't make shorter, no later one does.
+/// one more doesn't make shorter, no later one does. The sum of the values as they are says where to begin.
 pub(crate) fn best_split(values: &[u32], options: u32) -> Splitting
     requires options { options ≤ 32 }
     requires len { length values.now ≤ most_values }
@@ -46,10 +85,12 @@ pub(crate) fn best_split(values: &[u32], options: u32) -> Splitting
     ensures bits { result.bits ≡ split_values_length result.k values.now }
     ensures bound { result.bits ≤ 2 ^ 40 }
 {
-    let mut sum = shifted_sum(values, 0);
     let last = options.saturating_sub(1);
-    for k in 0..last {
-        let next = shifted_sum(values, k + 1);
+    let total = shifted_sum(values, 0);
+    let first = first_k(total, values.len() as u64, last);
+    let mut sum = sum_from(values, total, first);
+    for k in first..last {
+        let next = sum_from(values, total, k + 1);
         if !is_shorter_next(sum, next, values.len() as u64) {
             return with_k(sum, values.len(), k);
         }

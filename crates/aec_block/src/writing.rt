@@ -1,11 +1,11 @@
 //! What is written for one block, and for a run of zero blocks.
 
-ghost use Rattle.std.specs.Prelude.{◌≡◌, ◌+◌, ◌-◌, ◌<◌, ◌≤◌, ◌^◌, ◌++◌, false, length, if◌then◌else◌, OnOk, OnErr, IfErr};
+ghost use Rattle.std.specs.Prelude.{◌≡◌, ◌+◌, ◌-◌, ◌*◌, ◌/◌, ◌<◌, ◌≤◌, ◌^◌, ◌++◌, false, length, drop, if◌then◌else◌, OnOk, OnErr, IfErr};
 ghost use Rattle.aec_params.specs.declared.fault.Fault.TheVariants.{Memory};
 ghost use Rattle.aec_params.specs.Params.{IsAllowed, split_count};
 ghost use Rattle.aec_params.specs.Codewords.{fs, binary};
 ghost use Rattle.aec_params.specs.CodedDataSets.{pair_bits, reference_bits, cds_bits};
-ghost use Rattle.aec_params.specs.Spellings.{uncompressed, paired, split};
+ghost use Rattle.aec_params.specs.Spellings.{written_values, uncompressed, paired, split};
 ghost use Rattle.aec_params.specs.Runs.{segment_len, run_code};
 ghost use Rattle.aec_block.specs.Lengths.{reference_len};
 ghost use Rattle.aec_block.specs.Choices.{FitsReference, IsFull, IsChoice};
@@ -13,80 +13,188 @@ ghost use Rattle.aec_block.specs.Written.{high_parts, low_parts, shortest_bits, 
 
 use crate::block::Block;
 use crate::choice::{Choice, Coding};
+use crate::gathered::Gathered;
+use crate::high_words::high_word;
 use crate::lengths::{head_len, pair_len};
+use crate::low_words::{low_word_of_eight, low_word_of_four, low_word_of_two};
 use aec_bits::BitBuf;
 use aec_params::{Fault, Params};
 
-/// Appends a number in so many bits, for which there is room.
-fn put_number(out: &mut BitBuf, value: u64, width: u32)
-    requires width { width ≤ 64 }
-    requires fits { value < 2 ^ width }
-    requires room { width ≤ out.old.room }
-    ensures list { out.new.list ≡ out.old.list ++ binary width value }
-    ensures room { out.old.room ≤ out.new.room + width }
+/// Gathers the reference sample, where there is one.
+fn put_reference(
+    params: &Params,
+    reference: Option<u32>,
+    gathered: Gathered,
+    out: &mut BitBuf,
+) -> Gathered
+    requires reference { FitsReference params.now reference }
+    requires room { length gathered + reference_len params.now reference ≤ out.old.room }
+    ensures list { out.new.list ++ result ≡ out.old.list ++ (gathered ++ reference_bits params.now reference) }
+    ensures room { out.old.room + length result ≤ out.new.room + (length gathered + reference_len params.now reference) }
 {
-    out.push_bits(value, width).unwrap();
+    match reference {
+        None => gathered,
+        Some(r) => gathered.put(u64::from(r), params.bits(), out),
+    }
 }
 
-/// Appends `v` zeros and a one, for which there is room.
-fn put_fs(out: &mut BitBuf, v: u64)
-    requires { v < out.old.room }
-    ensures list { out.new.list ≡ out.old.list ++ fs v }
-    ensures room { out.old.room ≤ out.new.room + (v + 1) }
-{
-    out.push_fs(v).unwrap();
-}
-
-/// Appends an identifier of so many bits and the reference sample, where there is one.
-fn put_head(params: &Params, reference: Option<u32>, id: u32, width: u32, out: &mut BitBuf)
-    requires width { width ≤ 64 }
+/// Gathers an identifier of so many bits and the reference sample, where there is one.
+#[tactic(auto, using(crate::proofs::WritingLemmas::parts))]
+fn put_head(
+    params: &Params,
+    reference: Option<u32>,
+    id: u32,
+    width: u32,
+    out: &mut BitBuf,
+) -> Gathered
+    requires width { width < 64 }
     requires fits { id < 2 ^ width }
     requires reference { FitsReference params.now reference }
     requires room { width + reference_len params.now reference ≤ out.old.room }
-    ensures list { out.new.list ≡ out.old.list ++ (binary width id ++ reference_bits params.now reference) }
-    ensures room { out.old.room ≤ out.new.room + (width + reference_len params.now reference) }
+    ensures list { out.new.list ++ result ≡ out.old.list ++ (binary width id ++ reference_bits params.now reference) }
+    ensures room { out.old.room + length result ≤ out.new.room + (width + reference_len params.now reference) }
 {
-    put_number(out, u64::from(id), width);
-    if let Some(r) = reference {
-        put_number(out, u64::from(r), params.bits());
-    }
+    let id = Gathered::of_number(u64::from(id), width);
+    put_reference(params, reference, id, out)
 }
 
-/// Appends the lowest `width` bits of each value.
-fn put_low_parts(values: &[u32], width: u32, out: &mut BitBuf)
+/// Gathers the lowest `width` bits of each value, one by one.
+fn put_each_low_part(
+    values: &[u32],
+    width: u32,
+    mut gathered: Gathered,
+    out: &mut BitBuf,
+) -> Gathered
     requires width { width ≤ 32 }
-    requires room { length (low_parts width values.now) ≤ out.old.room }
-    ensures list { out.new.list ≡ out.old.list ++ low_parts width values.now }
-    ensures room { out.old.room ≤ out.new.room + length (low_parts width values.now) }
+    requires room { length (gathered ++ low_parts width values.now) ≤ out.old.room }
+    ensures list { out.new.list ++ result ≡ out.old.list ++ (gathered ++ low_parts width values.now) }
+    ensures room { out.old.room + length result ≤ out.new.room + length (gathered ++ low_parts width values.now) }
 {
     for v in values {
-        put_number(out, u64::from(*v) % (1 << width), width);
+        gathered = gathered.put(u64::from(*v) % (1 << width), width, out);
     }
+    gathered
 }
 
-/// Appends each value without its `k` low bits.
-fn put_high_parts(values: &[u32], k: u32, out: &mut BitBuf)
+/// Gathers the lowest `width` bits of the values two at a time: of all but the last, where one is left.
+fn put_low_twos(values: &[u32], width: u32, mut gathered: Gathered, out: &mut BitBuf) -> Gathered
+    requires width { width < 32 }
+    requires room { length (gathered ++ low_parts width values.now) ≤ out.old.room }
+    ensures list { out.new.list ++ (result ++ low_parts width (drop (2 * (length values.now / 2)) values.now))
+        ≡ out.old.list ++ (gathered ++ low_parts width values.now) }
+    ensures room { out.old.room + length (result ++ low_parts width (drop (2 * (length values.now / 2)) values.now))
+        ≤ out.new.room + length (gathered ++ low_parts width values.now) }
+{
+    for i in 0..values.len() / 2 {
+        let word = low_word_of_two(values, 2 * i, width);
+        gathered = gathered.put(word, 2 * width, out);
+    }
+    gathered
+}
+
+/// Gathers the lowest `width` bits of the values four at a time: of all but the last few, fewer than four.
+fn put_low_fours(values: &[u32], width: u32, mut gathered: Gathered, out: &mut BitBuf) -> Gathered
+    requires width { width < 16 }
+    requires room { length (gathered ++ low_parts width values.now) ≤ out.old.room }
+    ensures list { out.new.list ++ (result ++ low_parts width (drop (4 * (length values.now / 4)) values.now))
+        ≡ out.old.list ++ (gathered ++ low_parts width values.now) }
+    ensures room { out.old.room + length (result ++ low_parts width (drop (4 * (length values.now / 4)) values.now))
+        ≤ out.new.room + length (gathered ++ low_parts width values.now) }
+{
+    for i in 0..values.len() / 4 {
+        let word = low_word_of_four(values, 4 * i, width);
+        gathered = gathered.put(word, 4 * width, out);
+    }
+    gathered
+}
+
+/// Gathers the lowest `width` bits of the values eight at a time: of all but the last few, fewer than eight.
+fn put_low_eights(values: &[u32], width: u32, mut gathered: Gathered, out: &mut BitBuf) -> Gathered
+    requires width { width < 8 }
+    requires room { length (gathered ++ low_parts width values.now) ≤ out.old.room }
+    ensures list { out.new.list ++ (result ++ low_parts width (drop (8 * (length values.now / 8)) values.now))
+        ≡ out.old.list ++ (gathered ++ low_parts width values.now) }
+    ensures room { out.old.room + length (result ++ low_parts width (drop (8 * (length values.now / 8)) values.now))
+        ≤ out.new.room + length (gathered ++ low_parts width values.now) }
+{
+    for i in 0..values.len() / 8 {
+        let word = low_word_of_eight(values, 8 * i, width);
+        gathered = gathered.put(word, 8 * width, out);
+    }
+    gathered
+}
+
+/// Gathers the lowest `width` bits of each value, as many values at a time as fit a word with those of two, four or eight.
+#[tactic(auto, using(crate::proofs::WritingLemmas::behind))]
+fn put_low_parts(values: &[u32], width: u32, gathered: Gathered, out: &mut BitBuf) -> Gathered
+    requires width { width ≤ 32 }
+    requires room { length (gathered ++ low_parts width values.now) ≤ out.old.room }
+    ensures list { out.new.list ++ result ≡ out.old.list ++ (gathered ++ low_parts width values.now) }
+    ensures room { out.old.room + length result ≤ out.new.room + length (gathered ++ low_parts width values.now) }
+{
+    if width < 8 {
+        let whole = 8 * (values.len() / 8);
+        let eights = put_low_eights(values, width, gathered, out);
+        return put_each_low_part(&values[whole..], width, eights, out);
+    }
+    if width < 16 {
+        let whole = 4 * (values.len() / 4);
+        let fours = put_low_fours(values, width, gathered, out);
+        return put_each_low_part(&values[whole..], width, fours, out);
+    }
+    if width < 32 {
+        let whole = 2 * (values.len() / 2);
+        let twos = put_low_twos(values, width, gathered, out);
+        return put_each_low_part(&values[whole..], width, twos, out);
+    }
+    put_each_low_part(values, width, gathered, out)
+}
+
+/// Gathers each value without its `k` low bits, one by one.
+fn put_each_high_part(values: &[u32], k: u32, mut gathered: Gathered, out: &mut BitBuf) -> Gathered
     requires k { k < 32 }
-    requires room { length (high_parts k values.now) ≤ out.old.room }
-    ensures list { out.new.list ≡ out.old.list ++ high_parts k values.now }
-    ensures room { out.old.room ≤ out.new.room + length (high_parts k values.now) }
+    requires room { length (gathered ++ high_parts k values.now) ≤ out.old.room }
+    ensures list { out.new.list ++ result ≡ out.old.list ++ (gathered ++ high_parts k values.now) }
+    ensures room { out.old.room + length result ≤ out.new.room + length (gathered ++ high_parts k values.now) }
 {
     for v in values {
-        put_fs(out, u64::from(*v >> k));
+        gathered = gathered.put_fs(u64::from(*v >> k), out);
     }
+    gathered
 }
 
-/// Appends the codewords of consecutive pairs.
-fn put_pairs(values: &[u32], out: &mut BitBuf)
+/// Gathers each value without its `k` low bits, which are `len` bits in all.
+fn put_high_parts(
+    values: &[u32],
+    k: u32,
+    len: u64,
+    gathered: Gathered,
+    out: &mut BitBuf,
+) -> Gathered
+    requires k { k < 32 }
+    requires len { len ≡ length (high_parts k values.now) }
+    requires room { length (gathered ++ high_parts k values.now) ≤ out.old.room }
+    ensures list { out.new.list ++ result ≡ out.old.list ++ (gathered ++ high_parts k values.now) }
+    ensures room { out.old.room + length result ≤ out.new.room + length (gathered ++ high_parts k values.now) }
+{
+    if len < 64 {
+        return gathered.put(high_word(values, k), len as u32, out);
+    }
+    put_each_high_part(values, k, gathered, out)
+}
+
+/// Gathers the codewords of consecutive pairs.
+fn put_pairs(values: &[u32], mut gathered: Gathered, out: &mut BitBuf) -> Gathered
     requires fits { length (pair_bits values.now) < 2 ^ 64 }
-    requires room { length (pair_bits values.now) ≤ out.old.room }
-    ensures list { out.new.list ≡ out.old.list ++ pair_bits values.now }
-    ensures room { out.old.room ≤ out.new.room + length (pair_bits values.now) }
+    requires room { length (gathered ++ pair_bits values.now) ≤ out.old.room }
+    ensures list { out.new.list ++ result ≡ out.old.list ++ (gathered ++ pair_bits values.now) }
+    ensures room { out.old.room + length result ≤ out.new.room + length (gathered ++ pair_bits values.now) }
 {
     for i in 0..values.len() / 2 {
         let number = pair_len(values[2 * i], values[2 * i + 1]) - 1;
-        put_fs(out, number as u64);
+        gathered = gathered.put_fs(number as u64, out);
     }
+    gathered
 }
 
 /// Appends a block as it is, for which there is room.
@@ -98,8 +206,8 @@ fn put_uncompressed(params: &Params, block: &Block, out: &mut BitBuf)
     ensures room { out.old.room ≤ out.new.room + length (cds_bits params.now (uncompressed block.now)) }
 {
     let width = params.id_len();
-    put_head(params, block.reference(), (1 << width) - 1, width, out);
-    put_low_parts(block.written(), params.bits(), out);
+    let head = put_head(params, block.reference(), (1 << width) - 1, width, out);
+    put_low_parts(block.written(), params.bits(), head, out).append_to(out);
 }
 
 /// Appends a block by the second extension, for which there is room.
@@ -111,22 +219,34 @@ fn put_paired(params: &Params, block: &Block, out: &mut BitBuf)
     ensures list { out.new.list ≡ out.old.list ++ cds_bits params.now (paired block.now) }
     ensures room { out.old.room ≤ out.new.room + length (cds_bits params.now (paired block.now)) }
 {
-    put_head(params, block.reference(), 1, params.id_len() + 1, out);
-    put_pairs(block.values(), out);
+    let head = put_head(params, block.reference(), 1, params.id_len() + 1, out);
+    put_pairs(block.values(), head, out).append_to(out);
 }
 
-/// Appends a block by splitting with `k`, for which there is room.
+/// How many of the bits of a block that is split with `k` are those of its values without their low bits.
+fn high_len(params: &Params, block: &Block, k: u32, bits: u64) -> u64
+    requires k { k < 32 }
+    requires bits { bits ≡ length (cds_bits params.now (split block.now k)) }
+    ensures { result ≡ length (high_parts k (written_values block.now)) }
+{
+    let head = u64::from(head_len(params, block.reference()));
+    bits - head - block.written().len() as u64 * u64::from(k)
+}
+
+/// Appends a block by splitting with `k`, for which there is room, in so many bits.
 #[tactic(auto, using(crate::proofs::WritingLemmas::parts))]
-fn put_split(params: &Params, block: &Block, k: u32, out: &mut BitBuf)
+fn put_split(params: &Params, block: &Block, k: u32, bits: u64, out: &mut BitBuf)
     requires full { IsFull params.now block.now }
     requires k { k < split_count params.now }
+    requires bits { bits ≡ length (cds_bits params.now (split block.now k)) }
     requires room { length (cds_bits params.now (split block.now k)) ≤ out.old.room }
     ensures list { out.new.list ≡ out.old.list ++ cds_bits params.now (split block.now k) }
     ensures room { out.old.room ≤ out.new.room + length (cds_bits params.now (split block.now k)) }
 {
-    put_head(params, block.reference(), k + 1, params.id_len(), out);
-    put_high_parts(block.written(), k, out);
-    put_low_parts(block.written(), k, out);
+    let len = high_len(params, block, k, bits);
+    let head = put_head(params, block.reference(), k + 1, params.id_len(), out);
+    let high = put_high_parts(block.written(), k, len, head, out);
+    put_low_parts(block.written(), k, high, out).append_to(out);
 }
 
 /// Appends the coded data set of a block that is in no run, by the option of `choose`. `Memory` where a growth was
@@ -149,7 +269,7 @@ pub fn write_block(
     match choice.coding {
         Coding::NoCompression => put_uncompressed(params, block, out),
         Coding::SecondExtension => put_paired(params, block, out),
-        Coding::Split(k) => put_split(params, block, k, out),
+        Coding::Split(k) => put_split(params, block, k, choice.bits, out),
     }
     Ok(())
 }
@@ -190,7 +310,7 @@ pub fn write_run(
 {
     let code = code_of_run(z, to_end);
     out.reserve(u64::from(head_len(params, reference) + 1 + (code + 1)))?;
-    put_head(params, reference, 0, params.id_len() + 1, out);
-    put_fs(out, u64::from(code));
+    let head = put_head(params, reference, 0, params.id_len() + 1, out);
+    head.put_fs(u64::from(code), out).append_to(out);
     Ok(())
 }

@@ -1,8 +1,8 @@
-//! Lists of bits, and stored samples.
+//! Lists of bits.
 
-use crate::trial::{Trial, print_bits, print_samples, try_calls};
+use crate::trial::{Trial, print_bits, try_calls};
 use aec_bits::BitBuf;
-use aec_params::{Fault, Params, Settings, read_samples};
+use aec_params::Fault;
 use std::alloc::Global;
 
 // A list of bits, and the bits 11 and 0110 that it is given.
@@ -75,39 +75,11 @@ const WITH_ROOM: [(usize, &str); 7] = [
     (6, "BitBuf::from_bytes"),
 ];
 
-// Signed samples of five bits.
-#[derive(Drop)]
-struct Stored {
-    samples: Vec<i64>,
-    alloc: Global,
-}
-
-impl Trial for Stored {
-    fn call(&mut self, _number: usize) -> Result<(), Fault> {
-        let params = Params::new(Settings {
-            bits: 5,
-            signed: true,
-            ..Settings::USUAL
-        })?;
-        self.samples = read_samples(self.alloc, &params, &[0x1F, 0xFF, 0xF0, 0x0F])?;
-        Ok(())
-    }
-
-    fn show<R: Print>(&self, rt: &R) {
-        print_samples(rt, &self.samples);
-    }
-}
-
-/// Lists of bits with room that was reserved and with none, and samples from bytes.
+/// Lists of bits with room that was reserved and with none.
 pub fn try_bits<R: Print + Eprint>(rt: &R, alloc: Global) -> Result<(), Fault> {
     try_calls(rt, &WITH_ROOM, &mut Bits::new(alloc)?);
     for call in &WITH_ROOM[1..5] {
         try_calls(rt, &[*call], &mut Bits::new(alloc)?);
     }
-    let mut stored = Stored {
-        samples: Vec::new(alloc),
-        alloc,
-    };
-    try_calls(rt, &[(0, "read_samples")], &mut stored);
     Ok(())
 }

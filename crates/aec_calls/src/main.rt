@@ -6,7 +6,9 @@ mod blocks;
 mod codecs;
 mod edits;
 mod engines;
+mod lists;
 mod pieces;
+mod readers;
 mod streams;
 mod trial;
 
@@ -27,9 +29,11 @@ fn main(rt: HostRuntime) -> ExitCode {
 fn try_all(rt: &HostRuntime) -> Result<(), Fault> {
     let alloc = rt.alloc();
     bits::try_bits(rt, alloc)?;
+    lists::try_lists(rt, alloc)?;
     codecs::try_codecs(rt, alloc)?;
     blocks::try_blocks(rt, alloc)?;
     streams::try_streams(rt, alloc)?;
+    readers::try_readers(rt, alloc)?;
     pieces::try_pieces(rt, alloc)?;
     edits::try_edits(rt, alloc)?;
     engines::try_engines(rt, alloc)

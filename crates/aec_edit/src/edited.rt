@@ -1,6 +1,6 @@
 //! The whole of it: edits from nothing, and the stream and the samples that they leave.
 
-ghost use Rattle.std.specs.Prelude.{◌≡◌, ◌<◌, ◌≤◌, ◌^◌, ◌⊎◌, ℕ, List, [], length, Err, IfOk, IfErr};
+ghost use Rattle.std.specs.Prelude.{◌≡◌, ◌<◌, ◌≤◌, ◌^◌, ◌⊎◌, ℕ, List, [], length, vec_capacity, Err, IfOk, OnOk, IfErr, OnErr};
 ghost use Rattle.std.specs.Io.KnownBytes.{Appends, Keeps};
 ghost use Rattle.aec_params.specs.declared.fault.Fault.TheVariants.{Memory, Write as WriteFault};
 ghost use Rattle.aec_params.specs.Codewords.{bytes_of};
@@ -58,16 +58,83 @@ pub fn write_edited<C: Codec + Drop, W: Sink>(
         (bytes_of (code_of (C.format codec) (all_left [] edits.now done)))) }
     ensures begun { W.begun sink.new ≡ W.begun sink.old }
 {
-    let mut workspace = Workspace::new(alloc, codec, limit);
     let mut outcomes = Vec::new(alloc);
-    workspace.run(edits, &mut outcomes)?;
+    let mut workspace = edit_from_nothing(alloc, codec, limit, edits, &mut outcomes)?;
+    let samples = read_back(alloc, &mut workspace)?;
+    write_left(&workspace, outcomes, samples, sink)
+}
+
+/// Makes edits in an empty workspace, and adds what became of each to `outcomes`. `Memory` where there is no room for so many.
+fn edit_from_nothing<C: Codec + Drop>(
+    alloc: Global,
+    codec: C,
+    limit: u64,
+    edits: &[Edit],
+    outcomes: &mut Vec<Outcome>,
+) -> Result<Workspace<C>, Fault>
+    requires limit { limit ≤ 2 ^ 32 }
+    requires none { outcomes.old.items ≡ [] }
+    ensures answers { IfOk result (λ workspace. AnswersAll (C.format codec) limit [] (C.called codec)
+        edits.now outcomes.new.items (C.called workspace.codec)) }
+    ensures samples { IfOk result (λ workspace. workspace.samples ≡ all_left [] edits.now outcomes.new.items) }
+    ensures format { IfOk result (λ workspace. C.format workspace.codec ≡ C.format codec) }
+    ensures full { OnErr result (vec_capacity outcomes.old < length edits.now) }
+    ensures fault { IfErr result (λ e. e ≡ Memory) }
+{
+    let mut workspace = Workspace::new(alloc, codec, limit);
+    workspace.run(edits, outcomes)?;
+    Ok(workspace)
+}
+
+/// All samples of a workspace, read back out of their code. `Memory` where a growth was refused, but not for no samples.
+fn read_back<C: Codec>(alloc: Global, workspace: &mut Workspace<C>) -> Result<Vec<i64>, Fault>
+    ensures ok { IfOk result (λ samples. samples.items ≡ workspace.old.samples) }
+    ensures fault { IfErr result (λ e. (e ≡ Memory) × (0 < length workspace.old.samples)) }
+    ensures samples { workspace.new.samples ≡ workspace.old.samples }
+    ensures calls { C.called workspace.new.codec ≡ C.called workspace.old.codec }
+    ensures format { C.format workspace.new.codec ≡ C.format workspace.old.codec }
+{
     let count = workspace.count();
-    let samples = workspace.range(alloc, 0, count)?;
+    workspace.range(alloc, 0, count)
+}
+
+/// Writes the stream of a workspace, and says what edits have left in it.
+fn write_left<C: Codec, W: Sink>(
+    workspace: &Workspace<C>,
+    outcomes: Vec<Outcome>,
+    samples: Vec<i64>,
+    sink: &mut W,
+) -> Result<Edited, Fault>
+    ensures outcomes { IfOk result (λ edited. edited.outcomes.items ≡ outcomes.items) }
+    ensures samples { IfOk result (λ edited. edited.samples.items ≡ samples.items) }
+    ensures bits { IfOk result (λ edited. edited.bits ≡ length (code_of (C.format workspace.now.codec) workspace.now.samples)) }
+    ensures calls { IfOk result (λ edited. edited.calls ≡ C.called workspace.now.codec) }
+    ensures stream { OnOk result (Appends (W.taken sink.old) (W.taken sink.new)
+        (bytes_of (code_of (C.format workspace.now.codec) workspace.now.samples))) }
+    ensures front { OnErr result (AppendsFront (W.taken sink.old) (W.taken sink.new)
+        (bytes_of (code_of (C.format workspace.now.codec) workspace.now.samples))) }
+    ensures begun { W.begun sink.new ≡ W.begun sink.old }
+    ensures fault { IfErr result (λ e. (e ≡ WriteFault) × (W.failed sink.new ≡ 1)) }
+{
     workspace.write_to(sink)?;
-    Ok(Edited {
+    Ok(summed_up(workspace, outcomes, samples))
+}
+
+/// What edits have left in a workspace, with their outcomes and its samples.
+fn summed_up<C: Codec>(
+    workspace: &Workspace<C>,
+    outcomes: Vec<Outcome>,
+    samples: Vec<i64>,
+) -> Edited
+    ensures outcomes { result.outcomes.items ≡ outcomes.items }
+    ensures samples { result.samples.items ≡ samples.items }
+    ensures bits { result.bits ≡ length (code_of (C.format workspace.now.codec) workspace.now.samples) }
+    ensures calls { result.calls ≡ C.called workspace.now.codec }
+{
+    Edited {
         outcomes,
         bits: workspace.stream_bits(),
         samples,
         calls: workspace.calls(),
-    })
+    }
 }

@@ -25,7 +25,7 @@ use Rattle.aec_engine.specs.Transfers.{input_of, Taking, GivesAnswer, given, lac
 use Rattle.aec_engine.specs.Output.{IsEncoded, are_refused, not_coded, encoded}
 use Rattle.aec_engine.specs.CodingSteps.{IsFedSoFar, IsFed, StopsCoding, no_memory, refused, bytes_left}
 use Rattle.aec_engine.proofs.OutputLemmas.{taking}
-use Rattle.aec_engine.proofs.JudgingLemmas.{length-samples_of_bytes}
+use Rattle.aec_interval.proofs.TakingLemmas.{length-samples_of_bytes}
 
 -- ---- a coder that was fed bytes
 

@@ -8,7 +8,6 @@ pub mod OutputLemmas
 pub mod RangingLemmas
 pub mod JudgingLemmas
 pub mod CodingLemmas
-pub mod StoringLemmas
 pub mod AnswerLemmas
 pub mod RangeAnswerLemmas
 pub mod FrontLemmas

@@ -1,9 +1,10 @@
 -- The second reading: the bytes of a range of samples put piece by piece.
-use Rattle.std.proofs.Common.{◌≡◌, ℕ, zero, suc, ◌+◌, ◌-◌, ◌%◌, ◌<◌, ◌≤◌, ◌^◌, min, true, false, Option, Some, None, Result, Ok, Err, OnOk, OnErr, ℤ, List, [], ◌∷◌, ◌++◌, length, take, drop, refl, sym, ap, ap₂, ◌∙◌, subst, arith, append-nil, append_assoc, ⊎_elim}
+use Rattle.std.proofs.Common.{◌≡◌, ℕ, zero, suc, ◌+◌, ◌-◌, ◌%◌, ◌<◌, ◌≤◌, ◌^◌, min, true, false, Option, Some, None, Result, Ok, Err, OnOk, OnErr, ℤ, List, [], ◌∷◌, ◌++◌, length, take, drop, refl, sym, ap, ap₂, ◌∙◌, subst, arith, append-nil, append_assoc, ◌⊎◌, ⊎_elim}
 use Rattle.std.specs.Io.KnownBytes.{Appends, Keeps}
 use Rattle.std.proofs.KnownBytes.{Appends-nil, Appends-trans}
 use Rattle.std.proofs.lemmas.Bool.{cases_lt}
 use Rattle.std.proofs.lemmas.List.{length-append, length-take, length-drop, take_all, take-append-drop, nil_from_length}
+use Rattle.std.proofs.Math.Nat.{zero-mod}
 use Rattle.std.specs.List.{AllByRecursion}
 use Rattle.std.proofs.lemmas.List.Concat.{flat_map-append}
 use Rattle.aec_params.specs.declared.settings.Settings.{Settings}
@@ -60,6 +61,7 @@ pub record PutsSoFar (start p : Place) (s : Settings) (first len skip left : ℕ
   pub read : HasRead p samples
   pub same : p ≡ place_from start p.block p.bit
   pub few : p.block < 2 ^ 34
+  pub begins : is_wanted_at p ≡ true → p.block % p.settings.interval ≡ 0
   pub put : List ℕ
   pub appended : Appends before after put
   pub all : put ++ waiting ≡ all_stored s (samples_from first len samples)
@@ -73,6 +75,7 @@ puts_none start s first len known waiting none given = record {
   read = subst (λ p. HasRead p []) (sym at_start) (has_read_nothing start.settings start.count start.limit start.bits);
   same = refl;
   few = omega (arith, given.1.first_block);
+  begins = λ _. ap (λ i. i % start.settings.interval) given.1.first_block ∙ zero-mod start.settings.interval;
   put = [];
   appended = Appends-nil known;
   all = none ∙ sym (ap (all_stored s) (nothing first len));
@@ -101,13 +104,14 @@ behind s put waiting put_then waiting_then first len xs ys part so_far next is =
 
 pub puts_more : (start p q : Place) (s : Settings) (first len skip left skip_then left_then : ℕ) (before mid after : Option (List ℕ)) (waiting waiting_then : List ℕ)
     (ys part : List ℤ) → IsAllowed start.settings → PutsSoFar start p s first len skip left before mid waiting → ReadsInterval p ys q → q.block < 2 ^ 34
-    → part ≡ samples_from skip left ys → PutsPart mid after waiting (all_stored s part) waiting_then → skip_then ≡ skip - length ys → left_then ≡ left - length part
+    → (is_wanted_at q ≡ true → q.block % q.settings.interval ≡ 0) → part ≡ samples_from skip left ys → PutsPart mid after waiting (all_stored s part) waiting_then → skip_then ≡ skip - length ys → left_then ≡ left - length part
     → PutsSoFar start q s first len skip_then left_then before after waiting_then
-puts_more start p q s first len skip left skip_then left_then before mid after waiting waiting_then ys part a so_far step few is puts skips leaves = record {
+puts_more start p q s first len skip left skip_then left_then before mid after waiting waiting_then ys part a so_far step few begins is puts skips leaves = record {
   samples = so_far.samples ++ ys;
   read = has_read_more p q so_far.samples ys (subst IsAllowed (sym (settings-same start p so_far.same)) a) so_far.read step;
   same = same_next start p q so_far.same step.piece.same;
   few = few;
+  begins = begins;
   put = so_far.put ++ puts.put;
   appended = Appends-trans before mid after so_far.put puts.put so_far.appended puts.appended;
   all = behind s so_far.put waiting puts.put waiting_then first len so_far.samples ys part so_far.all puts.all
@@ -193,23 +197,46 @@ all_read start p s first len skip left before after waiting xs a so_far done giv
     (bits_are_read_in_one_way start.settings start.count start.limit start.bits a).one_reading so_far.samples xs
     (subst (λ (p : Place). IsReading p.settings p.count p.limit p.bits so_far.samples) so_far.same whole) given.reading
 
+-- none are left to put, or none to read: what was taken is the whole range
+range_taken : (start p : Place) (s : Settings) (first len skip left : ℕ) (before after : Option (List ℕ)) (waiting : List ℕ) (xs : List ℤ)
+    → IsAllowed start.settings → (so_far : PutsSoFar start p s first len skip left before after waiting) → (left ≡ 0) ⊎ (is_wanted_at p ≡ false)
+    → AreSamplesOf start xs → samples_from first len so_far.samples ≡ samples_from first len xs
+range_taken start p s first len skip left before after waiting xs a so_far ends given = ⊎_elim none_left none_wanted ends
+  where
+    allowed : IsAllowed p.settings
+    allowed = subst IsAllowed (sym (settings-same start p so_far.same)) a
+
+    rest : (ys : List ℤ) × (xs ≡ so_far.samples ++ ys)
+    rest = has_read_front p so_far.samples xs allowed so_far.read so_far.begins
+        (subst (λ (p : Place). IsReading p.settings p.count p.limit p.bits xs) (sym so_far.same) given.reading)
+
+    none_left : left ≡ 0 → samples_from first len so_far.samples ≡ samples_from first len xs
+    none_left none =
+        sym (ap (samples_from first len) rest.1 ∙ samples_from-append first len so_far.samples rest.0
+        ∙ ap (λ k. samples_from first len so_far.samples ++ take k (drop (first - length so_far.samples) rest.0)) (sym so_far.left_is ∙ none)
+        ∙ append-nil (samples_from first len so_far.samples))
+
+    none_wanted : is_wanted_at p ≡ false → samples_from first len so_far.samples ≡ samples_from first len xs
+    none_wanted done = ap (samples_from first len) (all_read start p s first len skip left before after waiting xs a so_far done given)
+
 pub puts_all : (start p : Place) (s : Settings) (first len skip left : ℕ) (before mid after : Option (List ℕ)) (waiting bytes : List ℕ) (r : Result (Unit {0}) Fault)
-    → IsAllowed start.settings → PutsSoFar start p s first len skip left before mid waiting → is_wanted_at p ≡ false → bytes ≡ waiting → OnOk r (Appends mid after bytes)
-    → (xs : List ℤ) → AreSamplesOf start xs → OnOk r (Appends before after (all_stored s (samples_from first len xs)))
-puts_all start p s first len skip left before mid after waiting bytes (Ok u) a so_far done is puts xs given =
+    → IsAllowed start.settings → PutsSoFar start p s first len skip left before mid waiting → (left ≡ 0) ⊎ (is_wanted_at p ≡ false) → bytes ≡ waiting
+    → OnOk r (Appends mid after bytes) → (xs : List ℤ) → AreSamplesOf start xs → OnOk r (Appends before after (all_stored s (samples_from first len xs)))
+puts_all start p s first len skip left before mid after waiting bytes (Ok u) a so_far ends is puts xs given =
     subst (Appends before after) (ap (λ l. so_far.put ++ l) is ∙ so_far.all
-    ∙ ap (λ l. all_stored s (samples_from first len l)) (all_read start p s first len skip left before mid waiting xs a so_far done given))
+    ∙ ap (all_stored s) (range_taken start p s first len skip left before mid waiting xs a so_far ends given))
     (Appends-trans before mid after so_far.put bytes so_far.appended puts)
-puts_all start p s first len skip left before mid after waiting bytes (Err e) a so_far done is puts xs given = tt
+puts_all start p s first len skip left before mid after waiting bytes (Err e) a so_far ends is puts xs given = tt
 
 pub puts_last_front : (start p : Place) (s : Settings) (first len skip left : ℕ) (before mid after : Option (List ℕ)) (waiting bytes : List ℕ)
-    (r : Result (Unit {0}) Fault) → IsAllowed start.settings → PutsSoFar start p s first len skip left before mid waiting → is_wanted_at p ≡ false → bytes ≡ waiting
-    → OnErr r (AppendsFront mid after bytes) → (xs : List ℤ) → AreSamplesOf start xs → OnErr r (AppendsFront before after (all_stored s (samples_from first len xs)))
-puts_last_front start p s first len skip left before mid after waiting bytes (Ok u) a so_far done is puts xs given = tt
-puts_last_front start p s first len skip left before mid after waiting bytes (Err e) a so_far done is puts xs given =
+    (r : Result (Unit {0}) Fault) → IsAllowed start.settings → PutsSoFar start p s first len skip left before mid waiting
+    → (left ≡ 0) ⊎ (is_wanted_at p ≡ false) → bytes ≡ waiting → OnErr r (AppendsFront mid after bytes)
+    → (xs : List ℤ) → AreSamplesOf start xs → OnErr r (AppendsFront before after (all_stored s (samples_from first len xs)))
+puts_last_front start p s first len skip left before mid after waiting bytes (Ok u) a so_far ends is puts xs given = tt
+puts_last_front start p s first len skip left before mid after waiting bytes (Err e) a so_far ends is puts xs given =
     front_more before mid after so_far.put bytes [] (all_stored s (samples_from first len xs)) so_far.appended puts
     (sym (ap (λ l. so_far.put ++ l) (append-nil bytes ∙ is) ∙ so_far.all
-    ∙ ap (λ l. all_stored s (samples_from first len l)) (all_read start p s first len skip left before mid waiting xs a so_far done given)))
+    ∙ ap (all_stored s) (range_taken start p s first len skip left before mid waiting xs a so_far ends given)))
 
 -- ---- in the form in which the code has the facts
 

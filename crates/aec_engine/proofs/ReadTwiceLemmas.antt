@@ -1,13 +1,14 @@
 -- Bits read once to count their samples, and again to put the bytes of some of them.
-use Rattle.std.proofs.Common.{◌≡◌, ℕ, ◌+◌, ◌*◌, ◌<◌, ◌≤◌, ◌^◌, false, Result, Err, IfErr, ℤ, List, [], ◌++◌, length, refl, sym, ap, ◌∙◌, subst, arith}
+use Rattle.std.proofs.Common.{◌≡◌, ℕ, ◌+◌, ◌*◌, ◌<◌, ◌≤◌, ◌^◌, false, Option, Some, IfSome, Result, Err, IfErr, ℤ, List, [], ◌++◌, length, refl, sym, ap, ◌∙◌, subst, arith}
 use Rattle.std.proofs.Math.Nat.{mul-le-mul_right}
 use Rattle.std.proofs.lemmas.List.{length-append}
 use Rattle.aec_params.specs.declared.fault.Fault.{Fault}
 use Rattle.aec_params.specs.Params.{IsAllowed}
 use Rattle.aec_params.specs.Reading.{IsReading}
-use Rattle.aec_interval.specs.Reached.{RefusesReading}
+use Rattle.aec_interval.specs.Reached.{RefusesReading, wrong_before}
 use Rattle.aec_interval.specs.Pieces.{Place, place_at, is_wanted_at, ReadsInterval, HasRead, RefusesAt}
-use Rattle.aec_interval.proofs.ReadNextLemmas.{block_size-most}
+use Rattle.aec_interval.specs.Skipping.{HasInterval, IsFaultAt}
+use Rattle.aec_interval.proofs.WantedSetLemmas.{block_size-most}
 use Rattle.aec_interval.proofs.PieceReadingLemmas.{has_read_nothing, has_read_more, has_read_all, has_read_refused, has_read_few}
 use Rattle.aec_engine.specs.ReadingTwice.{HaveSamples}
 
@@ -83,3 +84,24 @@ pub at_start_again : (start p q : Place) → p ≡ place_from start p.block p.bi
 at_start_again start p q same again block bit =
     again ∙ (ap (λ (p : Place). place_from p 0 0) same
     ∙ sym (ap (λ i. place_from start i start.bit) block ∙ ap (λ b. place_from start 0 b) bit))
+
+-- ---- an interval gone over
+
+pub counts_interval : (start p q : Place) (total more len : ℕ) → IsAllowed start.settings → CountsSoFar start p total → HasInterval p len q → more ≡ total + len
+    → q.block < 2 ^ 34 → CountsSoFar start q more
+counts_interval start p q total more len a so_far has is few =
+    counts_more start p q total more has.samples a so_far has.read (omega (arith, is, has.counted)) few
+
+-- so many samples can be counted, with those of the interval
+pub counts_within : (start p q : Place) (total len : ℕ) → IsAllowed start.settings → CountsSoFar start p total → HasInterval p len q → q.block < 2 ^ 34
+    → total + len ≤ 2 ^ 40
+counts_within start p q total len a so_far has few =
+    counts_few start q (total + len) a (counts_interval start p q total (total + len) len a so_far has refl few)
+
+pub some_interval : (p q : Place) (found : Option ℕ) (len : ℕ) → IfSome found (λ len. HasInterval p len q) → found ≡ Some len → HasInterval p len q
+some_interval p q found len has is = subst (λ found. IfSome found (λ len. HasInterval p len q)) is has
+
+pub counts_wrong : {X : Type 0} (r : Result X Fault) (fault other : Fault) (start p : Place) (total : ℕ) → IsAllowed start.settings → r ≡ Err fault → fault ≡ other
+    → CountsSoFar start p total → IsFaultAt p other → IfErr r (λ fault. RefusesReading start.settings start.count start.limit start.bits 0 0 fault)
+counts_wrong r fault other start p total a is same so_far wrong =
+    counts_refused r fault other start p total a is same so_far (wrong_before other wrong.wrong wrong.before)

@@ -1,8 +1,8 @@
 -- One block: its first sample, those behind it, and the filler.
-use Rattle.std.proofs.Common.{◌≡◌, ℕ, ◌+◌, ◌-◌, ◌^◌, ◌<◌, ◌≤◌, Option, Some, None, ℤ, pos, List, [], ◌∷◌, ◌++◌, length, drop, take, replicate, refl, sym, ap, ap₂, ◌∙◌, arith}
-use Rattle.std.specs.Prelude.{unwrap_or, slice_index_or}
+use Rattle.std.proofs.Common.{◌≡◌, ℕ, ◌+◌, ◌-◌, ◌^◌, ◌<◌, ◌≤◌, Option, Some, None, ℤ, pos, List, [], ◌∷◌, ◌++◌, length, replicate, refl, sym, ap, ap₂, ◌∙◌, arith}
+use Rattle.std.specs.Prelude.{unwrap_or}
 use Rattle.std.specs.List.{AllByRecursion, last_or}
-use Rattle.std.proofs.lemmas.List.{length-append, length-replicate, take_all}
+use Rattle.std.proofs.lemmas.List.{length-append, length-replicate}
 use Rattle.std.proofs.lemmas.Bool.{cond_both}
 use Rattle.aec_params.specs.declared.settings.Settings.{Settings}
 use Rattle.aec_params.specs.Params.{IsAllowed, IsHeld, sample_pattern}
@@ -13,7 +13,9 @@ use Rattle.aec_params.proofs.PatternLaws.{pattern-fits}
 use Rattle.aec_block.specs.Choices.{FitsReference, IsFull}
 use Rattle.aec_interval.specs.Chunks.{values_after, reference_after, block_after, HoldsPrevious, AreSamplesAfter}
 use Rattle.aec_interval.proofs.BlockLemmas.{all-mapped_after, all-mapped_values, all-filled_samples}
+use Rattle.aec_interval.specs.NextBlock.{last_sample}
 use Rattle.aec_interval.proofs.MappedLemmas.{mapped_after-replicate}
+use Rattle.aec_interval.proofs.FillingLemmas.{last_sample-kept}
 use Rattle.aec_interval.proofs.ChunkLemmas.{values_after-append, length-values_after, length-filled_block}
 
 -- a full block of values that fit
@@ -56,45 +58,22 @@ block_values s o x last xs n few e f =
     missing = omega (arith, e, filled)
 
 -- how many values there are before the filler
-pub length-begun : (s : Settings) (o : Option ℤ) (x : ℤ) (xs : List ℤ) → length (values_after s o (x ∷ []) ++ mapped_after s x xs) ≡ length (x ∷ xs)
-length-begun s o x xs = ap length (sym (values_after-append s o (x ∷ []) xs)) ∙ length-values_after s o (x ∷ xs)
+pub mapped-len : (s : Settings) (o : Option ℤ) (v : List ℤ) (mapped : Block) → mapped ≡ record { reference = reference_after s o v; values = values_after s o v }
+    → length mapped.values ≡ length v
+mapped-len s o v mapped e = ap (λ (b : Block). length b.values) e ∙ length-values_after s o v
 
-pub block_after-built : (s : Settings) (o : Option ℤ) (x last : ℤ) (xs : List ℤ) (begun mapped built : Block) → length (x ∷ xs) ≤ s.block_size
-    → begun ≡ record { reference = reference_after s o (x ∷ []); values = values_after s o (x ∷ []) }
-    → mapped ≡ record begun { values = begun.values ++ mapped_after s x xs } → Some last ≡ last_or (Some x) xs
+-- the values of the samples with the filler behind them make the block
+pub block_after-built : (s : Settings) (o : Option ℤ) (v : List ℤ) (last : ℤ) (mapped built : Block) → 0 < length v → length v ≤ s.block_size
+    → mapped ≡ record { reference = reference_after s o v; values = values_after s o v } → last ≡ last_sample v
     → built ≡ record mapped { values = mapped.values ++ replicate (s.block_size - length mapped.values) (mapped_value s last last) }
-    → built ≡ block_after s o (x ∷ xs)
-block_after-built s o x last xs begun mapped built few e f g h =
+    → built ≡ block_after s o v
+block_after-built s o [] last mapped built some few e g h = absurd (omega arith)
+block_after-built s o (x ∷ xs) last mapped built some few e g h =
     let front : mapped.values ≡ values_after s o (x ∷ []) ++ mapped_after s x xs =
-    ap (λ (b : Block). b.values) f ∙ ap (λ (b : Block). b.values ++ mapped_after s x xs) e in
+    ap (λ (b : Block). b.values) e ∙ values_after-append s o (x ∷ []) xs in
     let missing : s.block_size - length mapped.values ≡ s.block_size - length (x ∷ xs) =
-    ap (λ n. s.block_size - n) (ap length front ∙ length-begun s o x xs) in
-    let reference : built.reference ≡ reference_after s o (x ∷ xs) =
-    ap (λ (b : Block). b.reference) h ∙ ap (λ (b : Block). b.reference) f ∙ ap (λ (b : Block). b.reference) e ∙ same_reference o in
+    ap (λ n. s.block_size - n) (mapped-len s o (x ∷ xs) mapped e) in
     let values : built.values ≡ values_after s o (filled_samples s (x ∷ xs)) =
     ap (λ (b : Block). b.values) h ∙ ap (λ l. l ++ replicate (s.block_size - length mapped.values) (mapped_value s last last)) front
-    ∙ block_values s o x last xs (s.block_size - length mapped.values) few missing g in
-    ap₂ (λ r l. record { reference = r; values = l }) reference values
-  where
-    same_reference : (o : Option ℤ) → reference_after s o (x ∷ []) ≡ reference_after s o (x ∷ xs)
-    same_reference None = refl
-    same_reference (Some p) = refl
-
--- ---- the same as the program builds it
-
-pub block_size-most : (s : Settings) → IsAllowed s → s.block_size ≤ 64
-block_size-most s a = let b = a.block_size in grind arith
-
-pub first_and_rest : (v : List ℤ) → 0 < length v → v ≡ slice_index_or v 0 (pos 0) ∷ take (length v - 1) (drop 1 v)
-first_and_rest [] h = absurd (omega arith)
-first_and_rest (x ∷ v) h = let e : length (x ∷ v) - 1 ≡ length v = omega arith in ap (λ l. x ∷ l) (sym (take_all (length (x ∷ v) - 1) v (omega arith)))
-
-pub begun-len : (s : Settings) (o : Option ℤ) (x : ℤ) (begun : Block) → begun ≡ record { reference = reference_after s o (x ∷ []); values = values_after s o (x ∷ []) }
-    → length begun.values ≡ 1
-begun-len s o x begun e = ap (λ (b : Block). length b.values) e ∙ length-values_after s o (x ∷ [])
-
-pub mapped-len : (s : Settings) (o : Option ℤ) (x : ℤ) (xs : List ℤ) (begun mapped : Block)
-    → begun ≡ record { reference = reference_after s o (x ∷ []); values = values_after s o (x ∷ []) }
-    → mapped ≡ record begun { values = begun.values ++ mapped_after s x xs } → length mapped.values ≡ 1 + length xs
-mapped-len s o x xs begun mapped e f =
-    ap (λ (b : Block). length b.values) f ∙ ap (λ (b : Block). length (b.values ++ mapped_after s x xs)) e ∙ length-begun s o x xs ∙ omega arith
+    ∙ block_values s o x last xs (s.block_size - length mapped.values) few missing (last_sample-kept (x ∷ xs) x last xs refl g) in
+    ap₂ (λ r l. record { reference = r; values = l }) (ap (λ (b : Block). b.reference) h ∙ ap (λ (b : Block). b.reference) e) values

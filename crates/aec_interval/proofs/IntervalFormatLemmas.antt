@@ -13,7 +13,7 @@ use Rattle.aec_bits.specs.Refusals.{first_unheld}
 use Rattle.aec_interval.specs.IntervalFormat.{interval_format}
 use Rattle.aec_interval.specs.Laws.{AreOfInterval}
 use Rattle.aec_interval.proofs.EqualLengthLemmas.{equal_lengths}
-use Rattle.aec_interval.proofs.ReadNextLemmas.{block_size-most}
+use Rattle.aec_interval.proofs.WantedSetLemmas.{block_size-most}
 use Rattle.aec_interval.proofs.StreamLemmas.{interval_len-positive}
 
 held_from : (t : Bool) → t ≡ true → IsTrue t

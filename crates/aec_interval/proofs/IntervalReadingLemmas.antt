@@ -1,7 +1,8 @@
 -- An interval whose code stands somewhere in bits is read there, and nothing else is.
-use Rattle.std.proofs.Common.{◌≡◌, ℕ, ◌+◌, ◌*◌, Bool, Some, List, ◌++◌, length, take, refl, sym, ap, ap₂, ◌∙◌, subst, arith, Result, Err, IfErr}
+use Rattle.std.proofs.Common.{◌≡◌, ℕ, ◌+◌, ◌*◌, Bool, Some, List, ◌++◌, length, take, refl, sym, ap, ap₂, ◌∙◌, subst, arith, Result, Err, OnOk, IfErr}
 use Rattle.std.specs.Prelude.{ℤ}
 use Rattle.std.specs.Int.{div_ceil}
+use Rattle.std.proofs.lemmas.Result.{on_ok_weaker}
 use Rattle.std.proofs.lemmas.List.{length-take, take-append-drop, take_at}
 use Rattle.std.proofs.lemmas.Bool.{le-ltb}
 use Rattle.aec_params.specs.declared.settings.Settings.{Settings}
@@ -75,8 +76,9 @@ memory-refuses {X} s limit bits start count r fault other a is same refuses begi
     subst P (sym is) (same ∙ memory-alone s limit bits start count begins.0 other a refuses begins.1)
 
 -- what is appended is what was read
-pub read-more : (s : Settings) (limit : ℕ) (bits : List Bool) (start count : ℕ) (front new samples taken : List ℤ) → IsAllowed s
-    → new ≡ front ++ taken → taken ≡ samples → IsReadFrom s (Some count) limit bits start samples
-    → (v : List ℤ) → BeginsAt (interval_format s) bits start count v → new ≡ front ++ v
-read-more s limit bits start count front new samples taken a appended same read v begins =
-    appended ∙ ap (◌++◌ front) (same ∙ read-interval s limit bits start count samples v a read begins)
+pub read-more : {X : Type 0} (s : Settings) (limit : ℕ) (bits : List Bool) (start count : ℕ) (front new samples taken : List ℤ) (r : Result X Fault)
+    → IsAllowed s → OnOk r (new ≡ front ++ taken) → taken ≡ samples → IsReadFrom s (Some count) limit bits start samples
+    → (v : List ℤ) → BeginsAt (interval_format s) bits start count v → OnOk r (new ≡ front ++ v)
+read-more s limit bits start count front new samples taken r a appended same read v begins =
+    let all = ap (◌++◌ front) (same ∙ read-interval s limit bits start count samples v a read begins) in
+    on_ok_weaker r (λ is. is ∙ all) appended

@@ -1,7 +1,11 @@
 -- A sample more, and the bytes of samples joined to those before them.
-use Rattle.std.proofs.Common.{w64, to_z, of_z, ◌≡◌, ℕ, zero, suc, ◌+◌, ◌-◌, ◌*◌, ◌/◌, ◌%◌, ◌<◌, ◌≤◌, Bool, None, ℤ, List, [], ◌∷◌, ◌++◌, length, take, drop, refl, sym, ap, ◌∙◌, subst, arith, append-nil, append_assoc}
-use Rattle.std.specs.Prelude.{Result, Ok, Err, IfErr}
-use Rattle.std.proofs.lemmas.List.{length-append, nil_from_length, take-append-drop}
+use Rattle.std.proofs.Common.{w64, to_z, of_z, ◌≡◌, ℕ, zero, suc, ◌+◌, ◌-◌, ◌*◌, ◌/◌, ◌%◌, ◌<◌, ◌≤◌, inl, inr, Bool, None, ℤ, List, [], ◌∷◌, ◌++◌, length, take, drop, refl, sym, ap, ap₂, ◌∙◌, subst, arith, append-nil, append_assoc}
+use Rattle.std.specs.Prelude.{Result, Ok, Err}
+use Rattle.std.specs.Prelude.{min}
+use Rattle.std.specs.Result.{result_err}
+use Rattle.std.proofs.Math.Nat.{mul_comm, mul-sub, div-eq_of_eq-mul_left, mul-le-mul_right}
+use Rattle.std.proofs.lemmas.Bool.{cases_lt}
+use Rattle.std.proofs.lemmas.List.{length-append, length-take, nil_from_length, take-append-drop}
 use Rattle.std.proofs.lemmas.Nat.{div-add-mod', mod_below}
 use Rattle.std.proofs.lemmas.Int.{to_z-of_z}
 use mir.Val.{SFits}
@@ -10,15 +14,16 @@ use Rattle.aec_params.specs.declared.fault.Fault.{Fault}
 use Rattle.aec_params.specs.declared.fault.Fault.TheVariants.{Memory}
 use Rattle.aec_params.specs.Params.{IsAllowed, interval_len, storage_len}
 use Rattle.aec_params.specs.Intervals.{interval_bits}
-use Rattle.aec_params.specs.Stored.{byte_groups}
+use Rattle.aec_params.specs.Stored.{byte_groups, samples_of_bytes, samples_behind}
 use Rattle.aec_params.specs.Streams.{stream_of}
 use Rattle.aec_params.proofs.StoredLemmas.{storage-least, byte_groups-short}
 use Rattle.aec_params.proofs.SampleLaws.{interval_len-positive}
 use Rattle.aec_bits.proofs.CodeLaws.{code_of_interval}
 use Rattle.aec_interval.specs.IntervalFormat.{interval_format}
 use Rattle.aec_interval.specs.Taking.{Taken, none_taken, judged_sample, taken_before, taken_groups}
+use Rattle.aec_interval.proofs.TakingLemmas.{all_taken, good_of, taken_groups-good, length-samples_of_bytes}
 use Rattle.aec_interval.specs.Feeding.{Coding, whole_front, left_behind, taken_of, samples_with, fed, Feeds, StopsFeeding, refused, no_memory}
-use Rattle.aec_interval.specs.Progress.{AreHeldFew, IsProgress, CompletesRest, coding_at}
+use Rattle.aec_interval.specs.Progress.{ArePart, IsProgress, CompletesRest, coding_at}
 use Rattle.aec_interval.specs.declared.joining.Progress.{Progress}
 use Rattle.aec_interval.proofs.PieceLemmas.{whole_front-few, left_behind-few_all, whole_front-all, left_behind-none, stream_of-none, byte_groups-one}
 use Rattle.aec_interval.proofs.FeedingLemmas.{coding_of, same_coding, feeds_both, stops_later, stops_before}
@@ -28,38 +33,26 @@ use Rattle.aec_interval.proofs.FeedingLemmas.{coding_of, same_coding, feeds_both
 pub pushed : (held more : List ℤ) (x : ℤ) → SFits w64 x → more ≡ held ++ to_z w64 (of_z w64 x) ∷ [] → more ≡ held ++ x ∷ []
 pushed held more x fits e = e ∙ ap (λ y. held ++ y ∷ []) (to_z-of_z w64 x fits)
 
--- the interval isn't complete yet
-pub some_held : (s : Settings) (held more : List ℤ) (x : ℤ) → more ≡ held ++ x ∷ [] → length more < interval_len s
-    → more ≡ left_behind (interval_len s) (held ++ x ∷ [])
-some_held s held more x e few = sym (ap (left_behind (interval_len s)) (sym e) ∙ left_behind-few_all (interval_len s) more few) ∙ refl
-
 -- no bits more where fewer samples are there than an interval has
-no_bits : (s : Settings) (bits : List Bool) (held : List ℤ) → IsAllowed s → length held < interval_len s
+pub no_bits : (s : Settings) (bits : List Bool) (held : List ℤ) → IsAllowed s → length held < interval_len s
     → bits ≡ bits ++ stream_of s (whole_front (interval_len s) held)
 no_bits s bits held a few =
     sym (append-nil bits)
     ∙ ap (λ l. bits ++ l) (sym (ap (stream_of s) (whole_front-few (interval_len s) held few) ∙ stream_of-none s a))
 
-pub no_more_bits : (s : Settings) (bits : List Bool) (held more : List ℤ) (x : ℤ) → AreHeldFew s held → more ≡ held ++ x ∷ [] → length more < interval_len s
-    → bits ≡ bits ++ stream_of s (whole_front (interval_len s) (held ++ x ∷ []))
-no_more_bits s bits held more x h e few =
-    no_bits s bits more h.allowed few ∙ ap (λ l. bits ++ stream_of s (whole_front (interval_len s) l)) e
+-- they are an interval's
+pub none_held : (s : Settings) (held : List ℤ) → IsAllowed s → length held ≡ interval_len s → [] ≡ left_behind (interval_len s) held
+none_held s held a full =
+    let n : length held ≡ 1 * interval_len s = omega arith in
+    sym (left_behind-none (interval_len s) 1 held (interval_len-positive s a) n)
 
--- it is complete
-pub none_held : (s : Settings) (held : List ℤ) (x : ℤ) → AreHeldFew s held → interval_len s ≤ length (held ++ x ∷ [])
-    → [] ≡ left_behind (interval_len s) (held ++ x ∷ [])
-none_held s held x h full =
-    let n : length (held ++ x ∷ []) ≡ 1 * interval_len s = omega (arith, length-append held (x ∷ []), full, h.few) in
-    sym (left_behind-none (interval_len s) 1 (held ++ x ∷ []) (interval_len-positive s h.allowed) n)
-
-pub complete_bits : (s : Settings) (bits : List Bool) (held more : List ℤ) (x : ℤ) → AreHeldFew s held → more ≡ held ++ x ∷ []
-    → interval_len s ≤ length (held ++ x ∷ []) → bits ++ interval_bits s more ≡ bits ++ stream_of s (whole_front (interval_len s) (held ++ x ∷ []))
-complete_bits s bits held more x h e full =
-    let xs = held ++ x ∷ [] in
-    let n : length xs ≡ 1 * interval_len s = omega (arith, length-append held (x ∷ []), full, h.few) in
-    ap (λ l. bits ++ interval_bits s l) e
-    ∙ ap (λ l. bits ++ l) (sym (ap (stream_of s) (whole_front-all (interval_len s) 1 xs (interval_len-positive s h.allowed) n)
-    ∙ code_of_interval (interval_format s) xs (omega (arith, n, interval_len-positive s h.allowed)) (omega (arith, n))))
+pub complete_bits : (s : Settings) (bits : List Bool) (held xs : List ℤ) → IsAllowed s → xs ≡ held → length held ≡ interval_len s
+    → bits ++ interval_bits s xs ≡ bits ++ stream_of s (whole_front (interval_len s) held)
+complete_bits s bits held xs a same full =
+    let n : length held ≡ 1 * interval_len s = omega arith in
+    ap (λ l. bits ++ interval_bits s l) same
+    ∙ ap (λ l. bits ++ l) (sym (ap (stream_of s) (whole_front-all (interval_len s) 1 held (interval_len-positive s a) n)
+    ∙ code_of_interval (interval_format s) held (omega (arith, n, interval_len-positive s a)) (omega (arith, n))))
 
 -- ---- the bytes of one sample
 
@@ -78,39 +71,85 @@ one_refused s limit p g bits r fault h whole e is =
     (no_bits s bits p.held.items h.held.allowed h.held.few
     ∙ ap (λ l. bits ++ stream_of s (whole_front (interval_len s) l)) (sym (ap (λ (t : Taken). p.held.items ++ t.samples) none ∙ append-nil p.held.items)))
 
--- want of memory at a sample that is not refused, and nothing was appended
+-- want of memory at samples that are not refused, and nothing was appended
+pub no_memory_here : (s : Settings) (limit : ℕ) (p : Progress) (g : List ℕ) (before after : List Bool) (xs : List ℤ) (fault : Fault)
+    → IsProgress s limit p → taken_groups s limit p.count (byte_groups s g) ≡ all_taken xs → 0 < length xs → fault ≡ Memory → after ≡ before
+    → StopsFeeding (coding_at s limit p []) g before after fault
+no_memory_here s limit p g before after xs fault h taken some memory same =
+    let c : Coding = coding_at s limit p [] in
+    let len = ap (λ (t : Taken). length t.samples) taken in
+    subst (StopsFeeding c g before after) (sym memory)
+    (no_memory 0 [] (samples_with c g) refl (omega arith)
+    (omega (arith, len, some, length-append p.held.items (taken_of c g).samples)) (omega (arith, len, some))
+    (same ∙ sym (append-nil before) ∙ ap (λ l. before ++ l) (sym (stream_of-none s h.held.allowed))))
+
 pub no_memory_one : (s : Settings) (limit : ℕ) (p : Progress) (g : List ℕ) (before after : List Bool) (r : Result ℤ Fault) (x : ℤ) (fault : Fault)
     → IsProgress s limit p → length g ≡ storage_len s → r ≡ judged_sample s limit p.count g → r ≡ Ok x → fault ≡ Memory → after ≡ before
     → StopsFeeding (coding_at s limit p []) g before after fault
 no_memory_one s limit p g before after r x fault h whole e is memory same =
-    let c : Coding = coding_at s limit p [] in
-    let one = ap (λ (t : Taken). length t.samples) (taken_one s limit p.count g (Ok x) h.held.allowed whole (sym is ∙ e)) in
-    subst (StopsFeeding c g before after) (sym memory)
-    (no_memory 0 [] (samples_with c g) refl (omega arith) (omega (arith, one, length-append p.held.items (taken_of c g).samples)) (omega (arith, one))
-    (same ∙ sym (append-nil before) ∙ ap (λ l. before ++ l) (sym (stream_of-none s h.held.allowed))))
+    no_memory_here s limit p g before after (x ∷ []) fault h (taken_one s limit p.count g (Ok x) h.held.allowed whole (sym is ∙ e)) (omega arith) memory same
 
--- what holds of the refusal of a call holds of the answer that hands it on
-pub of_refusal : {X : Type 0} (result : Result X Fault) (P : Fault → Type 0) (fault e : Fault) → result ≡ Err fault → fault ≡ e → P e → IfErr result P
-of_refusal result P fault e err same h = subst (λ r. IfErr r P) (sym err) (subst P (sym same) h)
-
--- it is taken
-pub one_fed : (s : Settings) (limit : ℕ) (p : Progress) (kept : List ℤ) (many : ℕ) (g : List ℕ) (before after : List Bool) (r : Result ℤ Fault) (x y : ℤ)
-    → IsProgress s limit p → length g ≡ storage_len s → r ≡ judged_sample s limit p.count g → r ≡ Ok x → y ≡ x
-    → kept ≡ left_behind (interval_len s) (p.held.items ++ y ∷ []) → many ≡ p.count + 1
-    → after ≡ before ++ stream_of s (whole_front (interval_len s) (p.held.items ++ y ∷ []))
+-- samples are taken
+pub samples_fed : (s : Settings) (limit : ℕ) (p : Progress) (kept : List ℤ) (many n : ℕ) (g : List ℕ) (before after : List Bool) (xs : List ℤ)
+    → IsProgress s limit p → length g ≡ n * storage_len s → taken_groups s limit p.count (byte_groups s g) ≡ all_taken xs
+    → kept ≡ left_behind (interval_len s) (p.held.items ++ xs) → many ≡ p.count + length xs
+    → after ≡ before ++ stream_of s (whole_front (interval_len s) (p.held.items ++ xs))
     → Feeds (coding_at s limit p []) g before after (coding_of s limit kept [] many None)
-one_fed s limit p kept many g before after r x y h whole e is same held count bits =
-    let taken = taken_one s limit p.count g (Ok y) h.held.allowed whole (ap Ok same ∙ sym is ∙ e) in
-    let n : length g ≡ 1 * storage_len s = omega arith in
+samples_fed s limit p kept many n g before after xs h whole taken held count bits =
     let c : Coding = coding_at s limit p [] in
     record {
       taken = ap (λ (t : Taken). t.refusal) taken;
       bits = bits ∙ ap (λ (t : Taken). before ++ stream_of s (whole_front (interval_len s) (p.held.items ++ t.samples))) (sym taken);
       coder = same_coding s limit kept (fed c g).held [] (fed c g).rest many (fed c g).count None (fed c g).refusal
           (held ∙ ap (λ (t : Taken). left_behind (interval_len s) (p.held.items ++ t.samples)) (sym taken))
-          (sym (left_behind-none (storage_len s) 1 g (omega (arith, storage-least s h.held.allowed)) n))
+          (sym (left_behind-none (storage_len s) n g (omega (arith, storage-least s h.held.allowed)) whole))
           (count ∙ ap (λ (t : Taken). p.count + length t.samples) (sym taken)) (sym (ap (λ (t : Taken). t.refusal) taken));
     }
+
+pub one_fed : (s : Settings) (limit : ℕ) (p : Progress) (kept : List ℤ) (many : ℕ) (g : List ℕ) (before after : List Bool) (r : Result ℤ Fault) (x y : ℤ)
+    → IsProgress s limit p → length g ≡ storage_len s → r ≡ judged_sample s limit p.count g → r ≡ Ok x → y ≡ x
+    → kept ≡ left_behind (interval_len s) (p.held.items ++ y ∷ []) → many ≡ p.count + 1
+    → after ≡ before ++ stream_of s (whole_front (interval_len s) (p.held.items ++ y ∷ []))
+    → Feeds (coding_at s limit p []) g before after (coding_of s limit kept [] many None)
+one_fed s limit p kept many g before after r x y h whole e is same held count bits =
+    samples_fed s limit p kept many 1 g before after (y ∷ []) h (omega arith)
+    (taken_one s limit p.count g (Ok y) h.held.allowed whole (ap Ok same ∙ sym is ∙ e)) held (omega arith) bits
+
+-- ---- the bytes of some samples of which none is refused
+
+good_samples : (t : Result (List ℤ) ℕ) → result_err t ≡ None → (xs : List ℤ) × (t ≡ Ok xs)
+good_samples (Ok xs) good = (xs, refl)
+good_samples (Err k) good = absurd (cc)
+
+good_taken : (s : Settings) (limit : ℕ) (p : Progress) (part : List ℕ) (xs : List ℤ) → samples_of_bytes s part ≡ Ok xs
+    → p.count + length part / storage_len s ≤ limit → taken_groups s limit p.count (byte_groups s part) ≡ all_taken xs
+good_taken s limit p part xs read within =
+    taken_groups-good s limit p.count 0 (byte_groups s part) xs read (omega (arith, within, length-samples_of_bytes s part xs read))
+
+part_count : (s : Settings) (held : List ℤ) (part : List ℕ) → IsAllowed s → (h : ArePart s held part) → length part / storage_len s ≡ h.samples
+part_count s held part a h = div-eq_of_eq-mul_left (omega (arith, storage-least s a)) h.whole
+
+-- want of memory for them
+pub part_no_memory : (s : Settings) (limit : ℕ) (p : Progress) (part : List ℕ) (before after : List Bool) (fault : Fault) → IsProgress s limit p
+    → ArePart s p.held.items part → result_err (samples_of_bytes s part) ≡ None → p.count + length part / storage_len s ≤ limit → fault ≡ Memory
+    → after ≡ before → StopsFeeding (coding_at s limit p []) part before after fault
+part_no_memory s limit p part before after fault h k good within memory same =
+    let read = good_samples (samples_of_bytes s part) good in
+    let some : 0 < length read.0 = omega (arith, length-samples_of_bytes s part read.0 read.1, part_count s p.held.items part h.held.allowed k, k.some) in
+    no_memory_here s limit p part before after read.0 fault h (good_taken s limit p part read.0 read.1 within) some memory same
+
+-- they are taken
+pub part_fed : (s : Settings) (limit : ℕ) (p : Progress) (kept more : List ℤ) (many w : ℕ) (part : List ℕ) (before after : List Bool) → IsProgress s limit p
+    → ArePart s p.held.items part → result_err (samples_of_bytes s part) ≡ None → p.count + length part / storage_len s ≤ limit → w ≡ storage_len s
+    → samples_behind p.held.items (samples_of_bytes s part) ≡ Ok more → kept ≡ left_behind (interval_len s) more → many ≡ p.count + length part / w
+    → after ≡ before ++ stream_of s (whole_front (interval_len s) more) → Feeds (coding_at s limit p []) part before after (coding_of s limit kept [] many None)
+part_fed s limit p kept more many w part before after h k good within width behind held count bits =
+    let read = good_samples (samples_of_bytes s part) good in
+    let joined : more ≡ p.held.items ++ read.0 = ap good_of (sym behind ∙ ap (samples_behind p.held.items) read.1) in
+    let len = length-samples_of_bytes s part read.0 read.1 in
+    samples_fed s limit p kept many k.samples part before after read.0 h k.whole (good_taken s limit p part read.0 read.1 within)
+    (held ∙ ap (left_behind (interval_len s)) joined) (count ∙ ap (λ w. p.count + length part / w) width ∙ ap (λ n. p.count + n) (sym len))
+    (bits ∙ ap (λ l. before ++ stream_of s (whole_front (interval_len s) l)) joined)
 
 -- ---- the bytes of whole samples
 
@@ -158,22 +197,50 @@ joined-begun s limit p bytes left bits h whole e =
       feeds = nothing_fed s limit p bits h;
     }
 
-pub joined-more : (c d e : Coding) (bytes left g later : List ℕ) (b0 b1 b2 : List Bool) → IsAllowed c.settings → JoinedSoFar c bytes left b0 b1 d
-    → left ≡ g ++ later → length g ≡ storage_len c.settings → Feeds d g b1 b2 e → JoinedSoFar c bytes later b0 b2 e
-joined-more c d e bytes left g later b0 b1 b2 a h cut whole feeds =
+sub-mul : (m n w : ℕ) → (m - n) * w ≡ m * w - n * w
+sub-mul m n w = mul_comm (m - n) w ∙ mul-sub w m n ∙ ap₂ (λ a b. a - b) (mul_comm w m) (mul_comm w n)
+
+pub joined-more : (c d e : Coding) (bytes left g later : List ℕ) (n : ℕ) (b0 b1 b2 : List Bool) → IsAllowed c.settings
+    → JoinedSoFar c bytes left b0 b1 d → left ≡ g ++ later → length g ≡ n * storage_len c.settings → Feeds d g b1 b2 e
+    → JoinedSoFar c bytes later b0 b2 e
+joined-more c d e bytes left g later n b0 b1 b2 a h cut whole feeds =
     record {
       front = h.front ++ g;
       cut = h.cut ∙ ap (λ l. h.front ++ l) cut ∙ sym (append_assoc h.front g later);
-      samples = h.samples - 1;
-      whole = less h.samples (h.whole);
+      samples = h.samples - n;
+      whole = omega (arith, ap length cut, length-append g later, whole, h.whole, sub-mul h.samples n (storage_len c.settings));
       feeds = feeds_both c d e h.front g b0 b1 b2 a h.feeds feeds;
     }
+
+-- as many bytes as the interval has places for
+some_samples : (n w size : ℕ) → size ≡ n * w → 0 < size → 0 < n
+some_samples zero w size e some = absurd (omega arith)
+some_samples (suc n) w size e some = omega arith
+
+pub places_part : (s : Settings) (held : List ℤ) (bytes : List ℕ) (places w size : ℕ) → length bytes % storage_len s ≡ 0 → 0 < length bytes
+    → w ≡ storage_len s → 0 < places → length held + places ≤ interval_len s → size ≡ min (length bytes) (places * w) → ArePart s held (take size bytes)
+places_part s held bytes places w size whole some width free within is = by_count (length bytes / storage_len s) all
   where
-    less : (k : ℕ) → length left ≡ k * storage_len c.settings → length later ≡ (k - 1) * storage_len c.settings
-    less zero e = omega (arith, ap length cut, length-append g later, storage-least c.settings a)
-    less (suc k) e =
-        let z : suc k - 1 ≡ k = omega arith in
-        omega (arith, ap length cut, length-append g later, ap (λ j. j * storage_len c.settings) z)
+    all : length bytes ≡ length bytes / storage_len s * storage_len s
+    all = omega (arith, whole, div-add-mod' (length bytes) (storage_len s))
+
+    wide : places * w ≡ places * storage_len s
+    wide = ap (λ w. places * w) width
+
+    by_count : (n : ℕ) → length bytes ≡ n * storage_len s → ArePart s held (take size bytes)
+    by_count n all = elim (cases_lt n places) [
+      | inl few ↦
+          let less = mul-le-mul_right {m = n} {n = places} (storage_len s) (omega (arith, few)) in
+          record {
+            samples = n;
+            whole = omega (arith, length-take size bytes, is, all, less, wide);
+            some = some_samples n (storage_len s) (length bytes) all some;
+            places = omega (arith, few, within);
+          }
+      | inr most ↦
+          let less = mul-le-mul_right {m = places} {n = n} (storage_len s) (omega (arith, most)) in
+          record { samples = places; whole = omega (arith, length-take size bytes, is, all, less, wide); some = free; places = within }
+    ]
 
 -- nothing is left
 pub joined-end : (c d : Coding) (bytes left : List ℕ) (b0 b1 : List Bool) → JoinedSoFar c bytes left b0 b1 d → length left < storage_len c.settings

@@ -30,9 +30,12 @@ pub mod ZeroRunLemmas
 pub mod NextSetLemmas
 pub mod UpToLemmas
 pub mod DecodeLemmas
+pub mod RefusalLemmas
+pub mod WantedSetLemmas
 pub mod ReadNextLemmas
 pub mod ReadIntervalLemmas
 pub mod PieceReadingLemmas
+pub mod SkippingLemmas
 pub mod IntervalFormatLemmas
 pub mod IntervalReadingLemmas
 pub mod PieceLemmas

@@ -1,25 +1,18 @@
 -- The blocks of samples with one block more: the blocks as they were, and that block.
-use Rattle.std.proofs.Common.{◌≡◌, ℕ, zero, suc, ◌+◌, ◌-◌, ◌*◌, ◌%◌, ◌<◌, ◌≤◌, ◌==◌, if◌then◌else◌, Option, Some, None, ℤ, pos, List, [], ◌∷◌, ◌++◌, length, replicate, unwrap_or, refl, sym, ap, ap₂, append-nil, append_assoc, ◌∙◌, subst, arith, ⊎_elim}
+use Rattle.std.proofs.Common.{◌≡◌, ℕ, zero, suc, ◌+◌, ◌-◌, ◌*◌, ◌%◌, ◌<◌, ◌≤◌, ◌==◌, if◌then◌else◌, Option, None, ℤ, pos, List, [], ◌∷◌, ◌++◌, length, replicate, unwrap_or, refl, sym, ap, ap₂, append-nil, append_assoc, ◌∙◌, subst, arith, ⊎_elim}
 use Rattle.std.proofs.lemmas.List.{length-append}
 use Rattle.std.proofs.lemmas.Bool.{cases_lt, ne_eqb}
-use Rattle.std.specs.List.{flat_map, last_or}
+use Rattle.std.specs.List.{flat_map}
 use Rattle.aec_params.specs.declared.settings.Settings.{Settings}
 use Rattle.aec_params.specs.Params.{interval_len, sample_pattern}
 use Rattle.aec_params.specs.Cutting.{pieces_of, up_to_multiple}
-use Rattle.aec_params.specs.Mapping.{mapped_value, mapped_after, mapped_values}
+use Rattle.aec_params.specs.Mapping.{mapped_after, mapped_values}
 use Rattle.aec_params.specs.Blocks.{Block, filled_samples, reference_of, with_reference, blocks_of, all_blocks_of}
+use Rattle.aec_block.proofs.ListMappingLemmas.{last_or-append, mapped_after-append}
 use Rattle.aec_interval.specs.NextBlock.{last_sample, next_block_at, next_block_of}
 use Rattle.std.proofs.lemmas.List.{map-append}
 use Rattle.std.proofs.Math.Nat.{mul-mod_left, mod_self, mod-eq_of_lt, add-mod_left, suc-mul, zero-mul, one-mul, sub-zero, mul-pos, mul-le-mul_right, le-mul_of_pos_right, mul_comm, mul-sub}
 use Rattle.aec_interval.proofs.CuttingLemmas.{pieces_of-nil, pieces_of-cons, pieces_of-one, IsPieceBefore, by_pieces, length-pieces_of, div_ceil-positive}
-
-pub last_or-append : {X : Type 0} (o : Option X) (xs ys : List X) → last_or o (xs ++ ys) ≡ last_or (last_or o xs) ys
-last_or-append o [] ys = refl
-last_or-append o (x ∷ xs) ys = last_or-append (Some x) xs ys
-
-pub mapped_after-append : (s : Settings) (p : ℤ) (xs ys : List ℤ) → mapped_after s p (xs ++ ys) ≡ mapped_after s p xs ++ mapped_after s (unwrap_or (last_or (Some p) xs) (pos 0)) ys
-mapped_after-append s p [] ys = refl
-mapped_after-append s p (x ∷ xs) ys = ap (λ values. mapped_value s p x ∷ values) (mapped_after-append s x xs ys)
 
 pub mapped_values-append : (s : Settings) (x : ℤ) (xs ys : List ℤ) → mapped_values s ((x ∷ xs) ++ ys) ≡ mapped_values s (x ∷ xs) ++ mapped_after s (last_sample (x ∷ xs)) ys
 mapped_values-append s x xs ys = ap (λ values. (if s.preprocess then 0 else sample_pattern s x) ∷ values) (mapped_after-append s x xs ys)

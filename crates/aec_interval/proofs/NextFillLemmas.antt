@@ -10,7 +10,8 @@ use Rattle.aec_params.specs.CodedDataSets.{HasReference}
 use Rattle.aec_params.specs.BlockShapes.{HasReferencePlace}
 use Rattle.aec_params.specs.Reading.{FillBlocks}
 use Rattle.aec_params.proofs.SettingLaws.{block_size-positive, interval-positive}
-use Rattle.aec_interval.specs.NextBlock.{last_sample, next_block_at, Unmaps, IsNextBlock, FillsNext}
+use Rattle.aec_block.specs.Unmapping.{Unmaps}
+use Rattle.aec_interval.specs.NextBlock.{last_sample, next_block_at, IsNextBlock, FillsNext}
 use Rattle.aec_interval.proofs.NextBlockLemmas.{length-mapped_after}
 use Rattle.aec_interval.proofs.ReadingSteps.{FillBlocks-push}
 

@@ -1,11 +1,13 @@
 -- Samples taken behind others, and what bytes are as a whole.
-use Rattle.std.proofs.Common.{◌≡◌, ℕ, ◌+◌, ◌≤◌, ◌<◌, Bool, true, false, Option, Some, None, Result, Ok, Err, ℤ, List, [], ◌∷◌, ◌++◌, length, refl, sym, ap, ◌∙◌, arith, ⊎_elim}
+use Rattle.std.proofs.Common.{◌≡◌, ℕ, zero, suc, ◌+◌, ◌/◌, ◌≤◌, ◌<◌, Bool, true, false, Option, Some, None, Result, Ok, Err, ℤ, List, [], ◌∷◌, ◌++◌, length, drop, refl, sym, ap, ap₂, ◌∙◌, arith, ⊎_elim}
 use Rattle.std.proofs.lemmas.Bool.{cases_lt, cond-true, cond-false, lt-ltb, le-ltb}
+use Rattle.std.specs.Simd.{first_chunks}
+use Rattle.aec_params.specs.Params.{storage_len}
 use Rattle.std.specs.Prelude.{nat_lt, if◌then◌else◌}
 use Rattle.aec_params.specs.declared.settings.Settings.{Settings}
 use Rattle.aec_params.specs.declared.fault.Fault.{Fault}
 use Rattle.aec_params.specs.declared.fault.Fault.TheVariants.{SampleRange, TooManySamples}
-use Rattle.aec_params.specs.Stored.{number_in, sample_of_number, sample_before, samples_of_groups}
+use Rattle.aec_params.specs.Stored.{number_in, sample_of_number, sample_before, samples_of_groups, samples_of_bytes, byte_groups}
 use Rattle.aec_interval.specs.Taking.{Taken, in_range, judged_sample, taken_before, taken_groups, judged_samples}
 
 -- what is taken behind samples of which none was refused
@@ -154,3 +156,58 @@ taken_within s limit gs none =
             let some : (if nat_lt limit n then Some (TooManySamples limit) else None) ≡ Some (TooManySamples limit) =
             cond-true (nat_lt limit n) (Some (TooManySamples limit)) None (lt-ltb limit n l) in
             absurd (cc)
+
+-- ---- samples that are all taken
+
+length-samples : (s : Settings) (i : ℕ) (groups : List (List ℕ)) (samples : List ℤ) → samples_of_groups s i groups ≡ Ok samples → length samples ≡ length groups
+length-samples s i [] samples e = let none : [] ≡ samples = cc in sym (ap length none)
+length-samples s i (group ∷ groups) samples e =
+    by_first (sample_of_number s (number_in s group)) (samples_of_groups s (i + 1) groups) (λ xs is. length-samples s (i + 1) groups xs is) e
+  where
+    by_first : (first : Option ℤ) (later : Result (List ℤ) ℕ) → ((xs : List ℤ) → later ≡ Ok xs → length xs ≡ length groups)
+        → sample_before first i later ≡ Ok samples → length samples ≡ suc (length groups)
+    by_first None later all e = absurd (cc)
+    by_first (Some x) (Err k) all e = absurd (cc)
+    by_first (Some x) (Ok xs) all e = let is : x ∷ xs ≡ samples = cc in sym (ap length is) ∙ ap suc (all xs refl)
+
+length-groups : (n k : ℕ) (bytes : List ℕ) → length (first_chunks n k bytes) ≡ k
+length-groups n zero bytes = refl
+length-groups n (suc k) bytes = ap suc (length-groups n k (drop n bytes))
+
+-- bytes hold as many samples as whole groups
+pub length-samples_of_bytes : (s : Settings) (bytes : List ℕ) (samples : List ℤ) → samples_of_bytes s bytes ≡ Ok samples
+    → length samples ≡ length bytes / storage_len s
+length-samples_of_bytes s bytes samples read =
+    length-samples s 0 (byte_groups s bytes) samples read ∙ length-groups (storage_len s) (length bytes / storage_len s) bytes
+
+-- samples of which none is refused
+abbrev pub all_taken : List ℤ → Taken
+all_taken xs = record { samples = xs; refusal = None }
+
+abbrev pub good_of : Result (List ℤ) ℕ → List ℤ
+good_of (Ok xs) = xs
+good_of (Err k) = []
+
+-- the samples that groups are don't depend on the place where counting begins
+counted_step : (o : Option ℤ) (i j : ℕ) (later there : Result (List ℤ) ℕ) (xs : List ℤ) → sample_before o i later ≡ Ok xs
+    → ((ys : List ℤ) → later ≡ Ok ys → there ≡ Ok ys) → sample_before o j there ≡ Ok xs
+counted_step None i j later there xs e ih = absurd (cc)
+counted_step (Some x) i j (Ok ys) there xs e ih = ap (sample_before (Some x) j) (ih ys refl) ∙ e
+counted_step (Some x) i j (Err k) there xs e ih = absurd (cc)
+
+counted_from : (s : Settings) (i j : ℕ) (gs : List (List ℕ)) (xs : List ℤ) → samples_of_groups s i gs ≡ Ok xs → samples_of_groups s j gs ≡ Ok xs
+counted_from s i j [] xs e = e
+counted_from s i j (g ∷ gs) xs e =
+    counted_step (sample_of_number s (number_in s g)) i j (samples_of_groups s (i + 1) gs) (samples_of_groups s (j + 1) gs) xs e
+    (λ ys later. counted_from s (i + 1) (j + 1) gs ys later)
+
+-- samples within the limit are all taken
+pub taken_groups-good : (s : Settings) (limit i j : ℕ) (gs : List (List ℕ)) (xs : List ℤ) → samples_of_groups s j gs ≡ Ok xs → i + length xs ≤ limit
+    → taken_groups s limit i gs ≡ all_taken xs
+taken_groups-good s limit i j gs xs e within =
+    let here = counted_from s j i gs xs e in
+    let none : (taken_groups s limit i gs).refusal ≡ None =
+    judged_groups s limit i gs (omega arith) ∙ ap (judged_from limit i) here
+    ∙ cond-false (nat_lt limit (i + length xs)) (Some (TooManySamples limit)) None (le-ltb limit (i + length xs) within) in
+    let same = sym (taken_groups-all s limit i gs none) ∙ here in
+    ap₂ (λ ys r. record { samples = ys; refusal = r }) (ap good_of same) none

@@ -1,20 +1,32 @@
 -- Zero blocks that come next, one behind the other.
-use Rattle.std.proofs.Common.{◌≡◌, ℕ, zero, suc, ◌+◌, ◌*◌, ◌/◌, ◌%◌, ◌<◌, ◌≤◌, ◌==◌, ◌&&◌, Bool, true, false, Option, None, ℤ, List, [], ◌∷◌, ◌++◌, length, replicate, refl, sym, ap, ap₂, ◌∙◌, subst, append_assoc, add-one, arith}
-use Rattle.std.proofs.Math.Nat.{mul_comm, mod-lt, zero-mul, suc-mul, mul-lt-mul_of_pos_right}
+use Rattle.std.proofs.Common.{◌≡◌, ℕ, zero, suc, ◌+◌, ◌*◌, ◌/◌, ◌%◌, ◌<◌, ◌≤◌, ◌==◌, ◌&&◌, Bool, true, false, Option, Some, None, ℤ, pos, List, [], ◌∷◌, ◌++◌, length, take, drop, replicate, unwrap_or, ◌-◌, ◌^◌, refl, sym, ap, ap₂, ◌∙◌, subst, append_assoc, add-one, arith}
+use Rattle.std.proofs.Math.Nat.{mul_comm, mod-lt, zero-mul, one-mul, suc-mul, mul-pos, mul-lt-mul_of_pos_right}
 use Rattle.std.proofs.lemmas.Nat.{div-add-mod', mod-mul-add}
-use Rattle.std.proofs.lemmas.Bool.{ne_eqb}
-use Rattle.std.proofs.lemmas.List.{length-append, length-replicate}
+use Rattle.std.proofs.lemmas.Bool.{ne_eqb, cond-true, cond-false}
+use Rattle.std.proofs.lemmas.Bool.Decides.{nat_tests}
+use Rattle.std.specs.List.{last_or}
+use Rattle.std.proofs.lemmas.List.{length-append, length-replicate, replicate-append-replicate, take_all}
 use Rattle.aec_params.specs.declared.settings.Settings.{Settings}
-use Rattle.aec_params.specs.Params.{IsAllowed, interval_len}
+use Rattle.aec_params.specs.Params.{IsAllowed, IsHeld, interval_len, sample_pattern, pattern_value}
+use Rattle.aec_params.specs.Mapping.{mapped_value, mapped_after}
 use Rattle.aec_params.specs.Blocks.{Block}
 use Rattle.aec_params.specs.CodedDataSets.{HasReference}
 use Rattle.aec_params.specs.Places.{zero_block, is_reference_block}
 use Rattle.aec_params.specs.BlockShapes.{IsBlockAt}
 use Rattle.aec_params.specs.Reading.{FillBlocks}
 use Rattle.aec_params.proofs.StreamLaws.{zero_block_at}
-use Rattle.aec_interval.specs.NextBlock.{IsNextBlock, FillsNext, run_blocks}
+use Rattle.aec_interval.specs.NextBlock.{last_sample, IsNextBlock, FillsNext, run_blocks, sample_of_zeros}
 use Rattle.aec_interval.specs.Reached.{AreFilled}
 use Rattle.aec_params.proofs.SettingLaws.{block_size-positive, interval-positive}
+use Rattle.aec_params.proofs.ListLaws.{all-replicate}
+use Rattle.aec_params.proofs.ParamsLemmas.{value-pattern}
+use Rattle.aec_params.proofs.PatternLaws.{pattern-reaches}
+use Rattle.aec_block.specs.Offsets.{sample_offset, top_offset, mapped_offset}
+use Rattle.aec_block.specs.Unmapping.{Unmaps}
+use Rattle.aec_block.proofs.MappingLemmas.{mapped_value-offsets, mapped_value-pattern}
+use Rattle.aec_block.proofs.ListMappingLemmas.{last_or-append}
+use Rattle.aec_interval.proofs.MappedLemmas.{mapped_after-replicate}
+use Rattle.aec_interval.proofs.NextFillLemmas.{held-zero, held-last_sample, fills_plain, fills_reference, reference-below}
 
 -- whole blocks of samples end an interval exactly where their number does
 starts_alike : (j r i : ℕ) → 0 < j → 0 < r → (i * j % (j * r) == 0) ≡ (i % r == 0)
@@ -88,6 +100,167 @@ run_blocks-push s reference (suc z) some =
 
 pub FillsNext-push : (s : Settings) (old mid new : List ℤ) (reference : Option ℕ) (z : ℕ) → 1 ≤ z → FillsNext s old mid (run_blocks s reference z) → FillsNext s mid new (zero_block s None ∷ [])
     → FillsNext s old new (run_blocks s reference (z + 1))
-FillsNext-push s old mid new reference z some first then blocks filled =
+FillsNext-push s old mid new reference z some first later blocks filled =
     subst (FillBlocks s new) (append_assoc blocks (run_blocks s reference z) (zero_block s None ∷ []) ∙ ap (λ more. blocks ++ more) (sym (run_blocks-push s reference z some)))
-    (then (blocks ++ run_blocks s reference z) (first blocks filled))
+    (later (blocks ++ run_blocks s reference z) (first blocks filled))
+
+-- ---- the samples of zero blocks
+
+-- a sample at its own prediction
+mapped_value-self : (s : Settings) (x : ℤ) → IsAllowed s → s.preprocess ≡ true → IsHeld s x → mapped_value s x x ≡ 0
+mapped_value-self s x allowed on held = mapped_value-offsets s x x allowed on held held ∙ at_itself (top_offset s) (sample_offset s x)
+  where
+    at_itself : (top a : ℕ) → mapped_offset top a a ≡ 0
+    at_itself top a = grind (arith, nat_tests)
+
+-- places that are coded as 0, the first at p
+unmaps-zeros : (s : Settings) (p x : ℤ) (n : ℕ) (old : List ℤ) → IsHeld s x → mapped_value s p x ≡ 0 → mapped_value s x x ≡ 0
+    → Unmaps s p (replicate n 0) old (old ++ replicate n x)
+unmaps-zeros s p x n old held first later =
+    record { more = replicate n x; appended = refl; held = all-replicate (IsHeld s) n x held; mapped = zeros n }
+  where
+    zeros : (n : ℕ) → mapped_after s p (replicate n x) ≡ replicate n 0
+    zeros zero = refl
+    zeros (suc n) = ap₂ (λ v vs. v ∷ vs) first (mapped_after-replicate s x n ∙ ap (replicate n) later)
+
+-- behind the reference sample
+unmaps-reference : (s : Settings) (x : ℤ) (n : ℕ) (old : List ℤ) → 0 < n → IsHeld s x → mapped_value s x x ≡ 0
+    → Unmaps s x (drop 1 (replicate n 0)) (old ++ x ∷ []) (old ++ replicate n x)
+unmaps-reference s x zero old some held later = absurd (omega arith)
+unmaps-reference s x (suc n) old some held later =
+    subst (λ new. Unmaps s x (replicate n 0) (old ++ x ∷ []) new) (append_assoc old (x ∷ []) (replicate n x))
+    (unmaps-zeros s x x n (old ++ x ∷ []) held later later)
+
+-- what is needed of the sample that a run repeats
+pub record Repeats (s : Settings) (reference : Option ℕ) (old : List ℤ) (x : ℤ) : Type 0 where
+  pub held : IsHeld s x
+  pub later : mapped_value s x x ≡ 0
+  pub begins : (p : ℤ) → reference ≡ None → p ≡ last_sample old → mapped_value s p x ≡ 0
+  pub pattern : (r : ℕ) → reference ≡ Some r → sample_pattern s x ≡ r
+
+-- the sample that a zero block repeats, case by case
+pub sample_of_zeros-reference : (s : Settings) (reference : Option ℕ) (old : List ℤ) (r : ℕ) → reference ≡ Some r → sample_of_zeros s reference old ≡ pattern_value s r
+sample_of_zeros-reference s reference old r is = ap (λ o. sample_of_zeros s o old) is
+
+pub sample_of_zeros-predicted : (s : Settings) (reference : Option ℕ) (old : List ℤ) → reference ≡ None → s.preprocess ≡ true → sample_of_zeros s reference old ≡ last_sample old
+sample_of_zeros-predicted s reference old is on = ap (λ o. sample_of_zeros s o old) is ∙ cond-true s.preprocess (last_sample old) (pos 0) on
+
+pub sample_of_zeros-plain : (s : Settings) (reference : Option ℕ) (old : List ℤ) → reference ≡ None → s.preprocess ≡ false → sample_of_zeros s reference old ≡ pos 0
+sample_of_zeros-plain s reference old is off = ap (λ o. sample_of_zeros s o old) is ∙ cond-false s.preprocess (last_sample old) (pos 0) off
+
+-- a reference stands only where samples are predicted
+reference-on : (s : Settings) (p r : ℕ) → HasReference s (is_reference_block s p) (Some r) → s.preprocess ≡ true
+reference-on s p r due = by_preprocess s.preprocess refl due
+  where
+    by_preprocess : (b : Bool) → s.preprocess ≡ b → HasReference s (b && (p == 0)) (Some r) → s.preprocess ≡ true
+    by_preprocess true on due = on
+    by_preprocess false off due = absurd due
+
+-- the sample of a pattern
+sample-of-pattern : (s : Settings) (m : ℕ) → IsAllowed s → m < 2 ^ s.bits → IsHeld s (pattern_value s m) × (sample_pattern s (pattern_value s m) ≡ m)
+sample-of-pattern s m allowed small =
+    let reached = pattern-reaches s m allowed small in
+    let x : ℤ = reached.0 in
+    let value : pattern_value s m ≡ x = ap (pattern_value s) (sym reached.2) ∙ value-pattern s x allowed reached.1 in
+    (subst (λ (y : ℤ). IsHeld s y) (sym value) reached.1, ap (sample_pattern s) value ∙ reached.2)
+
+pub repeats-zeros : (s : Settings) (i : ℕ) (old : List ℤ) (reference : Option ℕ) (x : ℤ) → IsAllowed s → AreFilled s i old
+    → HasReference s (is_reference_block s (i % s.interval)) reference → x ≡ sample_of_zeros s reference old → Repeats s reference old x
+repeats-zeros s i old (Some r) x allowed filled due is =
+    let on = reference-on s (i % s.interval) r due in
+    let found = sample-of-pattern s r allowed (reference-below s (is_reference_block s (i % s.interval)) r due) in
+    let held : IsHeld s x = subst (λ (y : ℤ). IsHeld s y) (sym is) found.0 in
+    record { held = held; later = mapped_value-self s x allowed on held; begins = λ p none at. absurd (cc); pattern = λ q e. ap (sample_pattern s) is ∙ (found.1 ∙ (cc)) }
+repeats-zeros s i old None x allowed filled due is = by_preprocess s.preprocess refl
+  where
+    by_preprocess : (b : Bool) → s.preprocess ≡ b → Repeats s None old x
+    by_preprocess true on =
+        let last : x ≡ last_sample old = is ∙ cond-true s.preprocess (last_sample old) (pos 0) on in
+        let held : IsHeld s x = subst (λ (y : ℤ). IsHeld s y) (sym last) (held-last_sample s old allowed filled.filled.held) in
+        let itself : mapped_value s x x ≡ 0 = mapped_value-self s x allowed on held in
+        record {
+          held = held;
+          later = itself;
+          begins = λ p none at. ap (λ (q : ℤ). mapped_value s q x) (at ∙ sym last) ∙ itself;
+          pattern = λ r e. absurd (cc);
+        }
+    by_preprocess false off =
+        let zero_is : x ≡ pos 0 = is ∙ cond-false s.preprocess (last_sample old) (pos 0) off in
+        let any : (p : ℤ) → mapped_value s p x ≡ 0 = λ p. mapped_value-pattern s p x off ∙ ap (sample_pattern s) zero_is in
+        record {
+          held = subst (λ (y : ℤ). IsHeld s y) (sym zero_is) (held-zero s allowed);
+          later = any x;
+          begins = λ p none at. any p;
+          pattern = λ r e. absurd (cc);
+        }
+
+fills-one : (s : Settings) (old : List ℤ) (reference : Option ℕ) (x : ℤ) → IsAllowed s → IsNextBlock s old (zero_block s reference) → Repeats s reference old x
+    → FillsNext s old (old ++ replicate s.block_size x) (zero_block s reference ∷ [])
+fills-one s old None x allowed next repeats =
+    fills_plain s old (old ++ replicate s.block_size x) (replicate s.block_size 0) allowed next
+    (unmaps-zeros s (last_sample old) x s.block_size old repeats.held (repeats.begins (last_sample old) refl refl) repeats.later)
+fills-one s old (Some r) x allowed next repeats =
+    fills_reference s old (old ++ replicate s.block_size x) r (replicate s.block_size 0) x allowed next repeats.held (repeats.pattern r refl)
+    (unmaps-reference s x s.block_size old (block_size-positive s allowed) repeats.held repeats.later)
+
+last_sample-repeated : (old : List ℤ) (n : ℕ) (x : ℤ) → 0 < n → last_sample (old ++ replicate n x) ≡ x
+last_sample-repeated old zero x some = absurd (omega arith)
+last_sample-repeated old (suc n) x some =
+    ap (λ o. unwrap_or o (pos 0)) (last_or-append None old (replicate (suc n) x) ∙ same n)
+  where
+    same : (n : ℕ) → last_or (Some x) (replicate n x) ≡ Some x
+    same zero = refl
+    same (suc n) = same n
+
+-- behind some blocks of a run one block more
+fills-longer : (s : Settings) (i z : ℕ) (old : List ℤ) (reference : Option ℕ) (x : ℤ) → IsAllowed s → 1 ≤ z → i % s.interval + z < s.interval
+    → AreFilled s i old → Repeats s reference old x → FillsNext s old (old ++ replicate (z * s.block_size) x) (run_blocks s reference z)
+    → FillsNext s old (old ++ replicate ((z + 1) * s.block_size) x) (run_blocks s reference (z + 1))
+fills-longer s i z old reference x allowed some within filled repeats before =
+    subst (λ new. FillsNext s old new (run_blocks s reference (z + 1))) longer
+    (FillsNext-push s old mid (mid ++ replicate s.block_size x) reference z some before
+    (fills-one s mid None x allowed (zero_block-next s (i + z) mid None allowed so_far (no_reference-later s i z some within)) again))
+  where
+    mid : List ℤ
+    mid = old ++ replicate (z * s.block_size) x
+
+    so_far : AreFilled s (i + z) mid
+    so_far = AreFilled-next s i z old mid (run_blocks s reference z) filled before (length-run_blocks s reference z)
+
+    again : Repeats s None mid x
+    again = record {
+      held = repeats.held;
+      later = repeats.later;
+      begins = λ p none at. ap (λ (q : ℤ). mapped_value s q x)
+          (at ∙ last_sample-repeated old (z * s.block_size) x (mul-pos some (block_size-positive s allowed))) ∙ repeats.later;
+      pattern = λ r e. absurd (cc);
+    }
+
+    longer : mid ++ replicate s.block_size x ≡ old ++ replicate ((z + 1) * s.block_size) x
+    longer = append_assoc old (replicate (z * s.block_size) x) (replicate s.block_size x)
+        ∙ ap (λ l. old ++ l) (replicate-append-replicate (z * s.block_size) s.block_size x ∙ ap (λ n. replicate n x) (sym (ap (λ k. k * s.block_size) (add-one z) ∙ suc-mul z s.block_size)))
+
+fills-run : (s : Settings) (i z : ℕ) (old : List ℤ) (reference : Option ℕ) (x : ℤ) → IsAllowed s → 1 ≤ z → i % s.interval + z ≤ s.interval
+    → HasReference s (is_reference_block s (i % s.interval)) reference → AreFilled s i old → Repeats s reference old x
+    → FillsNext s old (old ++ replicate (z * s.block_size) x) (run_blocks s reference z)
+fills-run s i zero old reference x allowed some within due filled repeats = absurd (omega arith)
+fills-run s i (suc zero) old reference x allowed some within due filled repeats =
+    subst (λ n. FillsNext s old (old ++ replicate n x) (zero_block s reference ∷ [])) (sym (one-mul s.block_size))
+    (fills-one s old reference x allowed (zero_block-next s i old reference allowed filled due) repeats)
+fills-run s i (suc (suc k)) old reference x allowed some within due filled repeats =
+    subst (λ (z : ℕ). FillsNext s old (old ++ replicate (z * s.block_size) x) (run_blocks s reference z)) (add-one (suc k))
+    (fills-longer s i (suc k) old reference x allowed (omega arith) (omega arith) filled repeats
+    (fills-run s i (suc k) old reference x allowed (omega arith) (omega arith) due filled repeats))
+
+-- samples to which a run's are appended in one go
+pub fills-resized : (s : Settings) (i z : ℕ) (old new : List ℤ) (reference : Option ℕ) (kept : ℤ) (len n : ℕ) → IsAllowed s → 1 ≤ z → i % s.interval + z ≤ s.interval
+    → HasReference s (is_reference_block s (i % s.interval)) reference → AreFilled s i old → kept ≡ sample_of_zeros s reference old → len ≡ length old
+    → n ≡ len + z * s.block_size → new ≡ take n old ++ replicate (n - len) kept → FillsNext s old new (run_blocks s reference z)
+fills-resized s i z old new reference kept len n allowed some within due filled is len_is n_is pushed =
+    subst (λ new. FillsNext s old new (run_blocks s reference z)) (sym whole)
+    (fills-run s i z old reference kept allowed some within due filled (repeats-zeros s i old reference kept allowed filled due is))
+  where
+    whole : new ≡ old ++ replicate (z * s.block_size) kept
+    whole = pushed ∙ ap₂ (λ front k. front ++ replicate k kept) (take_all n old (omega (arith, len_is, n_is))) (omega (arith, n_is))
+
+pub ruleset repeated = (sample_of_zeros-reference, sample_of_zeros-predicted, sample_of_zeros-plain)

@@ -11,3 +11,4 @@ pub mod Feeding
 pub mod Progress
 pub mod CutLaws
 pub mod PieceLaws
+pub mod Skipping

@@ -1,8 +1,8 @@
 -- What the private functions of `filling` and `reading_runs` compute: one block more behind whole blocks of samples.
-use Rattle.std.specs.Prelude.{◌≡◌, ℕ, zero, suc, ◌%◌, ◌==◌, ◌&&◌, Bool, true, false, Option, None, ℤ, pos, List, [], ◌∷◌, ◌++◌, length, replicate, unwrap_or}
-use Rattle.std.specs.List.{last_or, AllByRecursion}
+use Rattle.std.specs.Prelude.{ℕ, zero, suc, ◌%◌, ◌==◌, ◌&&◌, Bool, true, false, if◌then◌else◌, Option, Some, None, ℤ, pos, List, [], ◌∷◌, ◌++◌, length, replicate, unwrap_or}
+use Rattle.std.specs.List.{last_or}
 use Rattle.aec_params.specs.declared.settings.Settings.{Settings}
-use Rattle.aec_params.specs.Params.{interval_len, IsHeld}
+use Rattle.aec_params.specs.Params.{interval_len, pattern_value}
 use Rattle.aec_params.specs.BlockShapes.{IsBlockOf}
 use Rattle.aec_params.specs.Places.{zero_block}
 use Rattle.aec_params.specs.Reading.{FillBlocks}
@@ -22,13 +22,6 @@ next_block_at s false p more = record { reference = None; values = mapped_after 
 abbrev pub next_block_of : Settings → List ℤ → List ℤ → Block
 next_block_of s samples more = next_block_at s (length samples % interval_len s == 0) (last_sample samples) more
 
--- new samples are the old ones and those that values stand for, the first of them predicted from p
-pub record Unmaps (s : Settings) (p : ℤ) (values : List ℕ) (old new : List ℤ) : Type 0 where
-  pub more : List ℤ
-  pub appended : new ≡ old ++ more
-  pub held : AllByRecursion (IsHeld s) more
-  pub mapped : mapped_after s p more ≡ values
-
 -- a block that can come behind these samples
 abbrev pub IsNextBlock : Settings → List ℤ → Block → Type 0
 IsNextBlock s samples b = IsBlockOf s (s.preprocess && (length samples % interval_len s == 0)) b
@@ -41,3 +34,9 @@ FillsNext s old new more = (blocks : List Block) → FillBlocks s old blocks →
 abbrev pub run_blocks : Settings → Option ℕ → ℕ → List Block
 run_blocks s reference zero = []
 run_blocks s reference (suc z) = zero_block s reference ∷ replicate z (zero_block s None)
+
+-- the sample that a zero block with this reference repeats behind these: that of its reference, or else the prediction, and 0
+-- where nothing is predicted
+abbrev pub sample_of_zeros : Settings → Option ℕ → List ℤ → ℤ
+sample_of_zeros s (Some r) samples = pattern_value s r
+sample_of_zeros s None samples = if s.preprocess then last_sample samples else pos 0

@@ -1,24 +1,30 @@
 -- What the private functions of `reading` compute: what a coded data set that was read stands for behind so many blocks.
-use Rattle.std.specs.Prelude.{ℕ, ◌+◌, ◌-◌, ◌%◌, ◌≤◌, min, Option, Some, None, ℤ, List, [], ◌∷◌}
+use Rattle.std.specs.Prelude.{ℕ, ◌+◌, ◌-◌, ◌%◌, ◌≤◌, min, nat_lt, if◌then◌else◌, Option, Some, None, Result, Ok, Err, ℤ, List, [], ◌∷◌}
 use Rattle.std.specs.Int.{div_ceil}
 use Rattle.aec_params.specs.declared.settings.Settings.{Settings}
+use Rattle.aec_params.specs.declared.fault.Fault.{Fault}
+use Rattle.aec_params.specs.declared.fault.Fault.TheVariants.{RunTooLong, TooManySamples}
 use Rattle.aec_params.specs.Blocks.{Block}
 use Rattle.aec_params.specs.CodedDataSets.{HasReference}
 use Rattle.aec_params.specs.Places.{segment_left, is_reference_block}
+use Rattle.aec_params.specs.Reading.{keeps_limit}
 use Rattle.aec_block.specs.declared.cds.RunLen.{RunLen}
 use Rattle.aec_block.specs.declared.cds.RunLen.TheVariants.{Blocks, Rest}
 use Rattle.aec_block.specs.declared.cds.Cds.{Cds}
 use Rattle.aec_block.specs.declared.cds.Cds.TheVariants.{Single, Zeros}
 use Rattle.aec_interval.specs.NextBlock.{IsNextBlock, run_blocks}
 
+-- how many blocks the length of a run is at block p of an interval
 abbrev pub run_count : Settings → ℕ → RunLen → ℕ
 run_count s p (Blocks z) = z
 run_count s p Rest = segment_left s p
 
--- how many blocks it stands for at block p of an interval
-abbrev pub cds_count : Settings → ℕ → Cds → ℕ
-cds_count s p (Single b) = 1
-cds_count s p (Zeros reference len) = run_count s p len
+-- the block behind a coded data set that begins at block i and at this bit and stands for z blocks, or why it may not stand there:
+-- its segment has fewer left; else the samples with it pass the limit
+abbrev pub block_behind : Settings → Option ℕ → ℕ → ℕ → ℕ → ℕ → Result ℕ Fault
+block_behind s count limit i z bit =
+    if nat_lt (segment_left s (i % s.interval)) z then Err (RunTooLong bit)
+    else (if keeps_limit s count limit (i + z) then Ok (i + z) else Err (TooManySamples limit))
 
 -- how many of z blocks are kept from block i on, as a number: it agrees with `kept_blocks` by `length-kept_blocks`
 abbrev pub kept_count : Settings → Option ℕ → ℕ → ℕ → ℕ

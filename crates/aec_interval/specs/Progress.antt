@@ -1,10 +1,10 @@
 -- What the private functions of `joining` keep: a coder that was not refused anything, by its parts.
-use Rattle.std.specs.Prelude.{◌≡◌, ℕ, ◌<◌, ◌≤◌, Bool, Option, None, ℤ, List, ◌++◌, length}
+use Rattle.std.specs.Prelude.{◌≡◌, ℕ, ◌+◌, ◌*◌, ◌<◌, ◌≤◌, Bool, Option, None, Result, MatchResult, ℤ, List, [], ◌++◌, length}
 use Rattle.std.specs.List.{AllByRecursion}
 use Rattle.aec_params.specs.declared.settings.Settings.{Settings}
 use Rattle.aec_params.specs.declared.fault.Fault.{Fault}
-use Rattle.aec_params.specs.Params.{IsAllowed, IsHeld, interval_len}
-use Rattle.aec_interval.specs.Feeding.{Coding, Feeds}
+use Rattle.aec_params.specs.Params.{IsAllowed, IsHeld, interval_len, storage_len}
+use Rattle.aec_interval.specs.Feeding.{Coding, Feeds, StopsFeeding}
 use Rattle.aec_interval.specs.declared.joining.Progress.{Progress}
 
 abbrev pub coding_with : Settings → ℕ → Progress → List ℕ → Option Fault → Coding
@@ -24,6 +24,23 @@ pub record AreHeldFew (s : Settings) (held : List ℤ) : Type 0 where
 pub record IsProgress (s : Settings) (limit : ℕ) (progress : Progress) : Type 0 where
   pub held : AreHeldFew s progress.held.items
   pub within : progress.count ≤ limit
+
+-- bytes of whole samples, at least one, for which the interval has places
+pub record ArePart (s : Settings) (held : List ℤ) (bytes : List ℕ) : Type 0 where
+  pub samples : ℕ
+  pub whole : length bytes ≡ samples * storage_len s
+  pub some : 0 < samples
+  pub places : length held + samples ≤ interval_len s
+
+-- the answer to a piece: it is taken, and the coder is d then, or it is refused
+abbrev pub AnswersPiece : {X : Type 0} → Coding → List ℕ → List Bool → Result X Fault → Coding → List Bool → Type 0
+AnswersPiece c piece before result d after =
+    MatchResult result (λ _. Feeds c piece before after d) (λ fault. StopsFeeding c piece before after fault)
+
+-- the same, where no sample is begun
+abbrev pub Joins : {X : Type 0} → Settings → ℕ → Progress → List ℕ → List Bool → Result X Fault → Progress → List Bool → Type 0
+Joins s limit old bytes before result new after =
+    AnswersPiece (coding_at s limit old []) bytes before result (coding_at s limit new []) after
 
 -- a piece completes a sample that was begun, if one was: what it completes comes before `behind`
 pub record CompletesRest (c : Coding) (piece behind : List ℕ) (before after : List Bool) (d : Coding) : Type 0 where

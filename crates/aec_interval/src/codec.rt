@@ -1,8 +1,11 @@
 //! The codec of reference sample intervals.
 
+ghost use Rattle.std.specs.Prelude.{◌≡◌, ◌+◌, ◌-◌, ◌^◌, ◌↔◌, ◌++◌, ℤ, List, None, IfSome, OnOk, OnErr, IfErr};
 ghost use Rattle.std.proofs.Props.{props};
+ghost use Rattle.aec_params.specs.declared.fault.Fault.TheVariants.{Memory};
 ghost use Rattle.aec_params.specs.Params.{IsAllowed};
-ghost use Rattle.aec_bits.specs.Codec.{IsLawful};
+ghost use Rattle.aec_bits.specs.Devices.{counted};
+ghost use Rattle.aec_bits.specs.Codec.{IsLawful, BeginsAt};
 ghost use Rattle.aec_interval.specs.IntervalFormat.{interval_format};
 
 use crate::interval::append_interval;
@@ -24,8 +27,6 @@ pub struct AecCodec {
 }
 
 impl AecCodec {
-    ghost use Rattle.std.specs.Prelude.{◌≡◌};
-
     /// A codec that begins to count at 0. Takes no memory.
     pub fn new(alloc: Global, params: Params) -> AecCodec
         ensures params { result.params ≡ params }
@@ -62,11 +63,10 @@ impl AecCodec {
 }
 
 impl Codec for AecCodec {
-    ghost use Rattle.std.specs.Prelude.{◌≡◌, ◌+◌, ◌-◌, ◌^◌, ◌≤◌, ◌⊎◌, ◌↔◌, ◌++◌, ℤ, List, length, Err, OnOk, OnErr, IfErr};
-    ghost use Rattle.aec_params.specs.declared.fault.Fault.TheVariants.{Spent, Memory};
+    ghost use Rattle.std.specs.Prelude.{◌≤◌, ◌⊎◌, length, Err};
+    ghost use Rattle.aec_params.specs.declared.fault.Fault.TheVariants.{Spent};
     ghost use Rattle.aec_params.specs.Intervals.{interval_bits};
-    ghost use Rattle.aec_bits.specs.Devices.{counted};
-    ghost use Rattle.aec_bits.specs.Codec.{IsInterval, BeginsAt};
+    ghost use Rattle.aec_bits.specs.Codec.{IsInterval};
 
     ghost format = { λ c. interval_format c.params };
 
@@ -106,11 +106,11 @@ impl Codec for AecCodec {
         ensures same_reads { self.new.reads ≡ self.old.reads }
         ensures same_params { self.new.params ≡ self.old.params }
     {
-        if self.calls == u64::MAX {
+        let Some(calls) = one_call_more(self.calls) else {
             return Err(Fault::Spent);
-        }
+        };
         append_interval(self.alloc, &self.params, samples, out)?;
-        self.calls += 1;
+        self.calls = calls;
         Ok(())
     }
 
@@ -132,15 +132,59 @@ impl Codec for AecCodec {
         ensures same_calls { self.new.calls ≡ self.old.calls }
         ensures same_params { self.new.params ≡ self.old.params }
     {
-        self.reads = self.reads.saturating_add(1);
-        let wanted = Wanted {
-            first: 0,
-            start: pos,
-            count: Some(count),
-            limit: count,
-        };
-        let samples = decode_from(self.alloc, &self.params, stream, wanted)?;
-        out.extend_from_slice(&samples)?;
-        Ok(())
+        self.reads = one_read_more(self.reads);
+        append_decoded(self.alloc, &self.params, stream, pos, count, out)
     }
+}
+
+/// How many intervals are coded with one more; none where they are the greatest number of 64 bits.
+fn one_call_more(calls: u64) -> Option<u64>
+    ensures some { IfSome result (λ more. more ≡ calls + 1) }
+    ensures none { (result ≡ None) ↔ (calls ≡ 2 ^ 64 - 1) }
+{
+    calls.checked_add(1)
+}
+
+/// How often a codec was asked to decode with one time more, up to the greatest number of 64 bits.
+fn one_read_more(reads: u64) -> u64
+    ensures { result ≡ counted reads }
+{
+    reads.saturating_add(1)
+}
+
+/// Appends the `count` samples of the interval whose code begins at bit `pos`. `Memory` where a growth was refused; the
+/// samples in `out` are then as before.
+fn append_decoded(
+    alloc: Global,
+    params: &Params,
+    stream: &BitBuf,
+    pos: u64,
+    count: u64,
+    out: &mut Vec<i64>,
+) -> Result<(), Fault>
+    requires allowed { IsAllowed params.now }
+    requires begins { (s : List ℤ) × BeginsAt (interval_format params.now) stream.now.list pos count s }
+    ensures ok { (s : List ℤ) → BeginsAt (interval_format params.now) stream.now.list pos count s
+        → OnOk result (out.new.items ≡ out.old.items ++ s) }
+    ensures fault { IfErr result (λ e. e ≡ Memory) }
+    ensures err { OnErr result (out.new.items ≡ out.old.items) }
+{
+    let wanted = Wanted {
+        first: 0,
+        start: pos,
+        count: Some(count),
+        limit: count,
+    };
+    let samples = decode_from(alloc, params, stream, wanted)?;
+    append_list(&samples, out)
+}
+
+/// Appends samples. `Memory` where a growth was refused.
+fn append_list(samples: &[i64], out: &mut Vec<i64>) -> Result<(), Fault>
+    ensures ok { OnOk result (out.new.items ≡ out.old.items ++ samples.now) }
+    ensures fault { IfErr result (λ e. e ≡ Memory) }
+    ensures err { OnErr result (out.new.items ≡ out.old.items) }
+{
+    out.extend_from_slice(samples)?;
+    Ok(())
 }

@@ -8,9 +8,10 @@ ghost use Rattle.aec_interval.specs.Laws.{AreOfInterval};
 ghost use Rattle.aec_interval.specs.Chunks.{blocks_after, AreSamplesAfter};
 ghost use Rattle.aec_interval.specs.Pending.{segment_bits, IsKept};
 
-use crate::chunks::block_of;
+use crate::chunks::fill_from;
 use crate::writing_runs::{NO_RUN, write_next};
 use aec_bits::BitBuf;
+use aec_block::Block;
 use aec_params::{Fault, Params};
 use std::alloc::Global;
 
@@ -34,8 +35,9 @@ fn write_segment(
 {
     let mut preceding = previous;
     let mut run = NO_RUN;
+    let mut block = Block::new(alloc, None);
     for chunk in samples.chunks(params.block_size() as usize) {
-        let block = block_of(alloc, params, preceding, chunk);
+        fill_from(params, preceding, chunk, &mut block);
         run = write_next(params, run, &block, out)?;
         preceding = chunk.last().copied();
     }

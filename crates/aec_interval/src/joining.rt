@@ -1,17 +1,20 @@
 //! Stored samples joined to those of an interval that is not complete, which is coded once it is.
 
-ghost use Rattle.std.specs.Prelude.{◌≡◌, ◌+◌, ◌<◌, ◌≤◌, ◌%◌, [], ◌∷◌, ◌++◌, length, OnOk, OnErr, IfOk, IfErr};
+ghost use Rattle.std.specs.Prelude.{◌≡◌, ◌+◌, ◌<◌, ◌≤◌, ◌%◌, ◌/◌, [], ◌∷◌, ◌++◌, None, length, take, OnOk, OnErr, IfOk, IfErr};
 ghost use Rattle.aec_params.specs.declared.fault.Fault.TheVariants.{Memory};
+ghost use Rattle.std.specs.List.{AllByRecursion};
+ghost use Rattle.std.specs.Result.{result_err};
 ghost use Rattle.aec_params.specs.Params.{IsHeld, interval_len, storage_len};
+ghost use Rattle.aec_params.specs.Stored.{samples_of_bytes};
 ghost use Rattle.aec_params.specs.Streams.{stream_of};
 ghost use Rattle.aec_interval.specs.Taking.{judged_sample};
-ghost use Rattle.aec_interval.specs.Feeding.{Feeds, StopsFeeding, whole_front, left_behind};
-ghost use Rattle.aec_interval.specs.Progress.{IsProgress, AreHeldFew, CompletesRest, coding_at};
+ghost use Rattle.aec_interval.specs.Feeding.{StopsFeeding, whole_front, left_behind};
+ghost use Rattle.aec_interval.specs.Progress.{IsProgress, AreHeldFew, ArePart, AnswersPiece, Joins, CompletesRest, coding_at};
 
 use crate::interval::append_interval;
 use crate::rest::Rest;
 use aec_bits::BitBuf;
-use aec_params::{Fault, Params, sample_of};
+use aec_params::{Fault, Params, append_samples, first_bad, sample_of};
 use std::alloc::Global;
 
 /// The samples of the interval that is not complete, and how many samples there were so far.
@@ -19,6 +22,31 @@ use std::alloc::Global;
 pub(crate) struct Progress {
     pub(crate) held: Vec<i64>,
     pub(crate) count: u64,
+}
+
+/// Appends the code of the samples that are held once they are an interval's, and then none are held. `Memory` where a
+/// growth was refused; nothing is appended then.
+fn code_complete(
+    alloc: Global,
+    params: &Params,
+    held: &mut Vec<i64>,
+    out: &mut BitBuf,
+) -> Result<(), Fault>
+    requires samples { AllByRecursion (IsHeld params.now) held.old.items }
+    requires most { length held.old.items ≤ interval_len params.now }
+    ensures ok { OnOk result (held.new.items ≡ left_behind (interval_len params.now) held.old.items) }
+    ensures bits { OnOk result
+        (out.new.list ≡ out.old.list ++ stream_of params.now (whole_front (interval_len params.now) held.old.items)) }
+    ensures few { AreHeldFew params.now held.new.items }
+    ensures err { OnErr result (out.new.list ≡ out.old.list) }
+    ensures fault { IfErr result (λ e. e ≡ Memory) }
+{
+    if (held.len() as u64) < params.interval_len() {
+        return Ok(());
+    }
+    let coded = append_interval(alloc, params, held, out);
+    held.clear();
+    coded
 }
 
 /// Holds a sample more. With the last sample of an interval its code is appended, and none are held. `Memory` where a
@@ -40,12 +68,7 @@ fn push_sample(
     ensures fault { IfErr result (λ e. e ≡ Memory) }
 {
     held.push(x)?;
-    if (held.len() as u64) < params.interval_len() {
-        return Ok(());
-    }
-    let coded = append_interval(alloc, params, held, out);
-    held.clear();
-    coded
+    code_complete(alloc, params, held, out)
 }
 
 /// The sample of the bytes of one, behind `count` others. `TooManySamples` where the limit is reached, then `SampleRange`.
@@ -72,15 +95,91 @@ fn join(
 ) -> Result<(), Fault>
     requires progress { IsProgress params.now limit progress.old }
     requires whole { length group.now ≡ storage_len params.now }
-    ensures ok { OnOk result
-        (Feeds (coding_at params.now limit progress.old []) group.now out.old.list out.new.list (coding_at params.now limit progress.new [])) }
-    ensures stops { IfErr result (λ fault. StopsFeeding (coding_at params.now limit progress.old []) group.now out.old.list out.new.list fault) }
+    ensures joins { Joins params.now limit progress.old group.now out.old.list result progress.new out.new.list }
     ensures progress { IsProgress params.now limit progress.new }
 {
     let x = judge(params, limit, progress.count, group)?;
     push_sample(alloc, params, &mut progress.held, x, out)?;
     progress.count += 1;
     Ok(())
+}
+
+/// Takes the bytes of whole samples one by one, up to the first that is refused.
+fn join_each(
+    alloc: Global,
+    params: &Params,
+    limit: u64,
+    progress: &mut Progress,
+    bytes: &[u8],
+    out: &mut BitBuf,
+) -> Result<(), Fault>
+    requires progress { IsProgress params.now limit progress.old }
+    requires whole { length bytes.now % storage_len params.now ≡ 0 }
+    ensures joins { Joins params.now limit progress.old bytes.now out.old.list result progress.new out.new.list }
+    ensures progress { IsProgress params.now limit progress.new }
+{
+    for group in bytes.chunks_exact(params.storage()) {
+        join(alloc, params, limit, progress, group, out)?;
+    }
+    Ok(())
+}
+
+/// Takes the bytes of some samples, no more than the interval has places, of which none is refused. `Memory` where a growth
+/// was refused.
+fn join_good(
+    alloc: Global,
+    params: &Params,
+    limit: u64,
+    progress: &mut Progress,
+    part: &[u8],
+    out: &mut BitBuf,
+) -> Result<(), Fault>
+    requires progress { IsProgress params.now limit progress.old }
+    requires samples { ArePart params.now progress.old.held.items part.now }
+    requires good { result_err (samples_of_bytes params.now part.now) ≡ None }
+    requires within { progress.old.count + length part.now / storage_len params.now ≤ limit }
+    ensures joins { Joins params.now limit progress.old part.now out.old.list result progress.new out.new.list }
+    ensures progress { IsProgress params.now limit progress.new }
+{
+    append_samples(params, part, &mut progress.held)?;
+    code_complete(alloc, params, &mut progress.held, out)?;
+    progress.count += (part.len() / params.storage()) as u64;
+    Ok(())
+}
+
+/// Takes the bytes of some samples, no more than the interval has places: at once where none is refused, else up to the
+/// first that is.
+fn join_part(
+    alloc: Global,
+    params: &Params,
+    limit: u64,
+    progress: &mut Progress,
+    part: &[u8],
+    out: &mut BitBuf,
+) -> Result<(), Fault>
+    requires progress { IsProgress params.now limit progress.old }
+    requires samples { ArePart params.now progress.old.held.items part.now }
+    ensures joins { Joins params.now limit progress.old part.now out.old.list result progress.new out.new.list }
+    ensures progress { IsProgress params.now limit progress.new }
+{
+    let count = (part.len() / params.storage()) as u64;
+    if count <= limit - progress.count && first_bad(params, part).is_none() {
+        join_good(alloc, params, limit, progress, part, out)
+    } else {
+        join_each(alloc, params, limit, progress, part, out)
+    }
+}
+
+/// How many of the bytes of whole samples, at least one, the interval has places for.
+fn part_len(params: &Params, progress: &Progress, bytes: &[u8]) -> usize
+    requires few { length progress.now.held.items < interval_len params.now }
+    requires whole { length bytes.now % storage_len params.now ≡ 0 }
+    requires some { 0 < length bytes.now }
+    ensures part { ArePart params.now progress.now.held.items (take result bytes.now) }
+    ensures within { result ≤ length bytes.now }
+{
+    let places = params.interval_len() as usize - progress.held.len();
+    bytes.len().min(places * params.storage())
 }
 
 /// Takes the bytes of whole samples, up to the first that is refused.
@@ -94,13 +193,14 @@ fn join_all(
 ) -> Result<(), Fault>
     requires progress { IsProgress params.now limit progress.old }
     requires whole { length bytes.now % storage_len params.now ≡ 0 }
-    ensures ok { OnOk result
-        (Feeds (coding_at params.now limit progress.old []) bytes.now out.old.list out.new.list (coding_at params.now limit progress.new [])) }
-    ensures stops { IfErr result (λ fault. StopsFeeding (coding_at params.now limit progress.old []) bytes.now out.old.list out.new.list fault) }
+    ensures joins { Joins params.now limit progress.old bytes.now out.old.list result progress.new out.new.list }
     ensures progress { IsProgress params.now limit progress.new }
 {
-    for group in bytes.chunks_exact(params.storage()) {
-        join(alloc, params, limit, progress, group, out)?;
+    let mut left = bytes;
+    while !left.is_empty() {
+        let (part, behind) = left.split_at(part_len(params, progress, left));
+        join_part(alloc, params, limit, progress, part, out)?;
+        left = behind;
     }
     Ok(())
 }
@@ -120,8 +220,10 @@ fn complete_rest<'a>(
     requires short { length rest.old < storage_len params.now }
     requires enough { storage_len params.now ≤ length rest.old + length piece.now }
     ensures ok { IfOk result (λ behind.
-        CompletesRest (coding_at params.now limit progress.old rest.old) piece.now behind.now out.old.list out.new.list (coding_at params.now limit progress.new [])) }
-    ensures stops { IfErr result (λ fault. StopsFeeding (coding_at params.now limit progress.old rest.old) piece.now out.old.list out.new.list fault) }
+        CompletesRest (coding_at params.now limit progress.old rest.old) piece.now behind.now out.old.list out.new.list
+        (coding_at params.now limit progress.new [])) }
+    ensures stops { IfErr result (λ fault.
+        StopsFeeding (coding_at params.now limit progress.old rest.old) piece.now out.old.list out.new.list fault) }
     ensures progress { IsProgress params.now limit progress.new }
     ensures empty { rest.new ≡ [] }
 {
@@ -148,9 +250,8 @@ pub(crate) fn take_piece(
 ) -> Result<(), Fault>
     requires progress { IsProgress params.now limit progress.old }
     requires short { length rest.old < storage_len params.now }
-    ensures ok { OnOk result
-        (Feeds (coding_at params.now limit progress.old rest.old) piece.now out.old.list out.new.list (coding_at params.now limit progress.new rest.new)) }
-    ensures stops { IfErr result (λ fault. StopsFeeding (coding_at params.now limit progress.old rest.old) piece.now out.old.list out.new.list fault) }
+    ensures takes { AnswersPiece (coding_at params.now limit progress.old rest.old) piece.now out.old.list result
+        (coding_at params.now limit progress.new rest.new) out.new.list }
     ensures progress { IsProgress params.now limit progress.new }
     ensures short { length rest.new < storage_len params.now }
 {

@@ -10,6 +10,7 @@ ghost use Rattle.aec_interval.specs.Laws.{
 };
 ghost use Rattle.aec_interval.specs.CutLaws.{AllCutsMakeNoDifference};
 ghost use Rattle.aec_interval.specs.PieceLaws.{AllStepsAreTheReading};
+ghost use Rattle.aec_interval.specs.Skipping.{AllSetsStandForSamples};
 
 /// The code of an interval is lawful coded data sets for its blocks.
 pub fn intervals_are_read()
@@ -51,4 +52,10 @@ pub fn cuts_make_no_difference()
 /// What a `StreamReader` hands out step by step is what the bits are read as, and its refusal is that of all bits.
 pub fn steps_are_the_reading()
     ensures { AllStepsAreTheReading }
+{}
+
+/// Lawful coded data sets stand for samples, from where an interval begins on: each value is coded for a sample, whatever sample
+/// comes before.
+pub fn coded_data_sets_stand_for_samples()
+    ensures { AllSetsStandForSamples }
 {}

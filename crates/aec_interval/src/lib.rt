@@ -10,6 +10,7 @@ pub mod laws;
 mod reading;
 mod reading_runs;
 mod rest;
+mod skipping;
 mod stream_coder;
 mod stream_reader;
 #[cfg(test)]

@@ -1,13 +1,16 @@
 //! Samples read from coded bits, one coded data set after another, from where an interval begins.
 
-ghost use Rattle.std.specs.Prelude.{◌≡◌, ◌≤◌, ◌<◌, ◌+◌, ◌-◌, ◌*◌, ◌%◌, ◌^◌, ℕ, List, ℤ, [], true, false, length, take, vec_len, vec_capacity, Some, None, OnOk, OnErr, IfSome, IfOk, IfErr, min};
+ghost use Rattle.std.specs.Prelude.{◌≡◌, ◌≤◌, ◌<◌, ◌+◌, ◌-◌, ◌*◌, ◌%◌, ◌^◌, ◌&&◌, nat_lt, min, true, [], length, vec_len, vec_capacity};
+ghost use Rattle.std.specs.Prelude.{Some, None, OnOk, OnErr, IfSome, IfOk, IfErr};
 ghost use Rattle.std.specs.Int.{div_ceil};
 ghost use Rattle.aec_params.specs.declared.fault.Fault.TheVariants.{Memory};
 ghost use Rattle.aec_params.specs.Params.{IsAllowed, interval_len};
 ghost use Rattle.aec_params.specs.Places.{segment_left, is_reference_block};
 ghost use Rattle.aec_params.specs.Reading.{is_wanted, keeps_limit, begin_of};
+ghost use Rattle.aec_params.specs.Blocks.{Block as Values};
+ghost use Rattle.aec_block.specs.ReadCds.{as_cds};
 ghost use Rattle.aec_interval.specs.NextBlock.{FillsNext};
-ghost use Rattle.aec_interval.specs.NextSet.{cds_count, kept_count, IsNextCds, cds_front, blocks_before_end};
+ghost use Rattle.aec_interval.specs.NextSet.{run_count, block_behind, kept_count, IsNextCds, cds_front, blocks_before_end};
 ghost use Rattle.aec_interval.specs.Pieces.{counted_from};
 ghost use Rattle.aec_interval.specs.Reached.{AreFilled, IsReached, IsReadFrom, RefusesReading, RefusesUpTo};
 
@@ -15,7 +18,7 @@ use crate::filling::push_block;
 use crate::interval::SEGMENT_BLOCKS;
 use crate::reading_runs::push_zero_run;
 use aec_bits::{BitBuf, BitReader};
-use aec_block::{Cds, RunLen, read_cds};
+use aec_block::{Block, Found, RunLen, read_into};
 use aec_params::{Fault, Params};
 use std::alloc::Global;
 
@@ -40,6 +43,19 @@ pub(crate) fn wants_more(params: &Params, wanted: Wanted, reader: &BitReader, bl
     }
 }
 
+/// Whether an interval goes on at this block: it does not end there or before, and more is wanted.
+pub(crate) fn goes_on(
+    params: &Params,
+    wanted: Wanted,
+    reader: &BitReader,
+    block: u64,
+    end: u64,
+) -> bool
+    ensures { result ≡ (nat_lt block end && is_wanted params.now wanted.count reader.now.list block reader.now.pos) }
+{
+    block < end && wants_more(params, wanted, reader, block)
+}
+
 /// How many blocks the segment of this block of an interval has left.
 fn blocks_left(params: &Params, place: u64) -> u64
     requires { place < params.now.interval }
@@ -51,10 +67,12 @@ fn blocks_left(params: &Params, place: u64) -> u64
     (segment - place % segment).min(u64::from(params.interval()) - place)
 }
 
-/// Whether this block of an interval has a reference sample.
-fn has_reference(params: &Params, place: u64) -> bool
-    ensures { result ≡ is_reference_block params.now place }
+/// Whether this block has a reference sample.
+pub(crate) fn has_reference(params: &Params, block: u64) -> bool
+    ensures value { result ≡ is_reference_block params.now (block % params.now.interval) }
+    ensures allowed { IsAllowed params.now }
 {
+    let place = block % u64::from(params.interval());
     params.preprocess() && place == 0
 }
 
@@ -67,7 +85,7 @@ fn within_limit(params: &Params, wanted: Wanted, blocks: u64) -> bool
 }
 
 /// Behind a full interval, with padding, goes to the next byte.
-fn skip_padding(params: &Params, reader: &mut BitReader, block: u64)
+pub(crate) fn skip_padding(params: &Params, reader: &mut BitReader, block: u64)
     ensures list { reader.new.list ≡ reader.old.list }
     ensures pos { reader.new.pos ≡ begin_of params.now reader.old.list block reader.old.pos }
 {
@@ -76,22 +94,43 @@ fn skip_padding(params: &Params, reader: &mut BitReader, block: u64)
     }
 }
 
-/// How many blocks a coded data set stands for at this block of an interval.
-fn block_count(params: &Params, place: u64, cds: &Cds) -> u64
+/// How many blocks that is at this block of an interval.
+fn block_count(params: &Params, place: u64, len: RunLen) -> u64
     requires { place < params.now.interval }
-    ensures { result ≡ cds_count params.now place cds.now }
+    ensures { result ≡ run_count params.now place len }
 {
-    match cds {
-        Cds::Single(_) => 1,
-        Cds::Zeros {
-            len: RunLen::Blocks(blocks),
-            ..
-        } => *blocks,
-        Cds::Zeros {
-            len: RunLen::Rest,
-            ..
-        } => blocks_left(params, place),
+    match len {
+        RunLen::Blocks(blocks) => blocks,
+        RunLen::Rest => blocks_left(params, place),
     }
+}
+
+/// The number of the block behind a coded data set that begins at this bit and stands for so many blocks. `RunTooLong` where its
+/// segment has fewer left, then `TooManySamples`.
+pub(crate) fn place_next(
+    params: &Params,
+    wanted: Wanted,
+    block: u64,
+    len: RunLen,
+    bit: u64,
+) -> Result<u64, Fault>
+    requires { block < 2 ^ 34 }
+    ensures value { result
+        ≡ block_behind params.now wanted.count wanted.limit block (run_count params.now (block % params.now.interval) len) bit }
+    ensures within { IfOk result (λ next. next ≤ block + blocks_before_end params.now block) }
+{
+    let place = block % u64::from(params.interval());
+    let blocks = block_count(params, place, len);
+    if blocks > blocks_left(params, place) {
+        return Err(Fault::RunTooLong { bit });
+    }
+    let next = block + blocks;
+    if !within_limit(params, wanted, next) {
+        return Err(Fault::TooManySamples {
+            limit: wanted.limit,
+        });
+    }
+    Ok(next)
 }
 
 /// How many of so many blocks that come next are kept: with a count those that are still needed.
@@ -105,11 +144,12 @@ fn blocks_kept(params: &Params, wanted: Wanted, block: u64, blocks: u64) -> u64
     }
 }
 
-/// Appends the samples of the first blocks of a coded data set that come next, behind `block` others. Takes no memory.
+/// Appends the samples of the first blocks of a coded data set that come next, behind `block` others; where it is of one
+/// block, that was read into `values`. Takes no memory.
 fn push_cds(
-    alloc: Global,
     params: &Params,
-    cds: &Cds,
+    found: Found,
+    values: &Block,
     kept: u64,
     block: u64,
     samples: &mut Vec<i64>,
@@ -117,17 +157,15 @@ fn push_cds(
     requires allowed { IsAllowed params.now }
     requires some { 1 ≤ kept }
     requires filled { AreFilled params.now block samples.old.items }
-    requires next { IsNextCds params.now block samples.old.items kept cds.now }
+    requires next { IsNextCds params.now block samples.old.items kept (as_cds found values.now) }
     requires room { vec_len samples.old + kept * params.now.block_size ≤ vec_capacity samples.old }
-    ensures items { FillsNext params.now samples.old.items samples.new.items (cds_front params.now kept cds.now) }
+    ensures items { FillsNext params.now samples.old.items samples.new.items (cds_front params.now kept (as_cds found values.now)) }
     ensures len { vec_len samples.new ≤ vec_len samples.old + kept * params.now.block_size }
     ensures capacity { vec_capacity samples.old ≤ vec_capacity samples.new }
 {
-    match cds {
-        Cds::Single(values) => push_block(params, values, samples),
-        Cds::Zeros { reference, .. } => {
-            push_zero_run(alloc, params, *reference, kept, block, samples)
-        }
+    match found {
+        Found::Single => push_block(params, values, samples),
+        Found::Zeros { reference, .. } => push_zero_run(params, reference, kept, block, samples),
     }
 }
 
@@ -146,14 +184,14 @@ fn reserve_blocks(params: &Params, blocks: u64, samples: &mut Vec<i64>) -> Resul
     Ok(())
 }
 
-/// Reads the coded data set of a block that is wanted, and appends its samples. The number of the block that comes then.
-/// `Memory` comes only where there was no room for the samples that the interval has left.
+/// Reads the coded data set of a block that is wanted into the block `values`, and appends its samples. The number of the block
+/// that comes then. `Memory` comes only where there was no room for the samples that the interval has left.
 fn read_next(
-    alloc: Global,
     params: &Params,
     wanted: Wanted,
     reader: &mut BitReader,
     block: u64,
+    values: &mut Block,
     samples: &mut Vec<i64>,
 ) -> Result<u64, Fault>
     requires reached { IsReached params.now wanted.count wanted.limit reader.old.list wanted.first wanted.start block reader.old.pos samples.old.items }
@@ -176,33 +214,23 @@ fn read_next(
     ensures full { IfErr result (λ fault. fault ≡ Memory
         → vec_capacity samples.old < vec_len samples.old + blocks_before_end params.now block * params.now.block_size) }
 {
-    let place = block % u64::from(params.interval());
     let bit = reader.pos();
-    let cds = read_cds(alloc, params, reader, has_reference(params, place))?;
-    let blocks = block_count(params, place, &cds);
-    if blocks > blocks_left(params, place) {
-        return Err(Fault::RunTooLong { bit });
-    }
-    let next = block + blocks;
-    if !within_limit(params, wanted, next) {
-        return Err(Fault::TooManySamples {
-            limit: wanted.limit,
-        });
-    }
-    let kept = blocks_kept(params, wanted, block, blocks);
+    let found = read_into(params, reader, has_reference(params, block), values)?;
+    let next = place_next(params, wanted, block, found.stands_for(), bit)?;
+    let kept = blocks_kept(params, wanted, block, next - block);
     reserve_blocks(params, kept, samples)?;
-    push_cds(alloc, params, &cds, kept, block - wanted.first, samples);
+    push_cds(params, found, values, kept, block - wanted.first, samples);
     skip_padding(params, reader, next);
     Ok(next)
 }
 
 /// Reads the interval that begins at a block that is wanted, up to its end or as far as blocks are wanted, and appends its
-/// samples. The number of the block that comes then.
+/// samples. Each coded data set is read into the block `values`. The number of the block that comes then.
 pub(crate) fn read_interval(
-    alloc: Global,
     params: &Params,
     wanted: Wanted,
     reader: &mut BitReader,
+    values: &mut Block,
     samples: &mut Vec<i64>,
 ) -> Result<u64, Fault>
     requires begins { reader.old.pos ≡ wanted.start }
@@ -231,8 +259,8 @@ pub(crate) fn read_interval(
     let end = wanted.first + u64::from(params.interval());
     let mut block = wanted.first;
     loop {
-        block = read_next(alloc, params, wanted, reader, block, samples)?;
-        if block >= end || !wants_more(params, wanted, reader, block) {
+        block = read_next(params, wanted, reader, block, values, samples)?;
+        if !goes_on(params, wanted, reader, block, end) {
             return Ok(block);
         }
     }
@@ -267,10 +295,18 @@ pub(crate) fn decode_from(
 {
     let mut reader = BitReader::new(bits);
     reader.seek(wanted.start);
+    let mut values = Block::new(alloc, None);
     let mut samples = Vec::new(alloc);
     let mut block = wanted.first;
     while wants_more(params, wanted, &reader, block) {
-        block = read_next(alloc, params, wanted, &mut reader, block, &mut samples)?;
+        block = read_next(
+            params,
+            wanted,
+            &mut reader,
+            block,
+            &mut values,
+            &mut samples,
+        )?;
     }
     if let Some(count) = wanted.count {
         samples.truncate(count as usize);

@@ -1,33 +1,32 @@
 //! Runs of zero blocks taken back to samples.
 
-ghost use Rattle.std.specs.Prelude.{◌≡◌, ◌≤◌, ◌<◌, ◌+◌, ◌-◌, ◌*◌, ◌%◌, ◌∷◌, [], replicate, take, length, vec_len, vec_capacity, None};
+ghost use Rattle.std.specs.Prelude.{◌≡◌, ◌≤◌, ◌<◌, ◌+◌, ◌*◌, ◌%◌, ◌^◌, vec_len, vec_capacity, IfSome};
 ghost use Rattle.aec_params.specs.Params.{IsAllowed};
 ghost use Rattle.aec_params.specs.CodedDataSets.{HasReference};
-ghost use Rattle.aec_params.specs.Places.{zero_block, is_reference_block};
-ghost use Rattle.aec_interval.specs.NextBlock.{FillsNext, run_blocks};
+ghost use Rattle.aec_params.specs.Places.{is_reference_block};
+ghost use Rattle.aec_interval.specs.NextBlock.{FillsNext, run_blocks, sample_of_zeros};
 ghost use Rattle.aec_interval.specs.Reached.{AreFilled};
 
-use crate::filling::push_block;
-use aec_block::Block;
+use crate::filling::previous_of;
 use aec_params::Params;
-use std::alloc::Global;
 
-/// A block of zeros.
-fn block_of_zeros(alloc: Global, params: &Params, reference: Option<u32>) -> Block
-    ensures { result ≡ zero_block params.now reference }
+/// The sample that a zero block repeats behind these: that of its reference, or else the prediction, and 0 where nothing
+/// is predicted.
+#[tactic(auto, using(crate::proofs::ZeroRunLemmas::repeated))]
+fn repeated_sample(params: &Params, reference: Option<u32>, samples: &[i64]) -> i64
+    requires { IfSome reference (λ r. r < 2 ^ params.now.bits) }
+    ensures { result ≡ sample_of_zeros params.now reference samples.now }
 {
-    let mut block = Block::new(alloc, reference);
-    let held = u32::from(reference.is_some());
-    for _ in held..params.block_size() {
-        block.push(0);
+    match reference {
+        Some(pattern) => params.value(pattern),
+        None if params.preprocess() => previous_of(samples),
+        None => 0,
     }
-    block
 }
 
 /// Appends the samples of so many zero blocks that come next, behind `block` others; the first has the reference sample
-/// where there is one. Takes no memory.
+/// where there is one. They are all equal. Takes no memory.
 pub(crate) fn push_zero_run(
-    alloc: Global,
     params: &Params,
     reference: Option<u32>,
     blocks: u64,
@@ -44,9 +43,9 @@ pub(crate) fn push_zero_run(
     ensures len { vec_len samples.new ≡ vec_len samples.old + blocks * params.now.block_size }
     ensures capacity { vec_capacity samples.old ≤ vec_capacity samples.new }
 {
-    push_block(params, &block_of_zeros(alloc, params, reference), samples);
-    let later = block_of_zeros(alloc, params, None);
-    for _ in 1..blocks {
-        push_block(params, &later, samples);
-    }
+    let more = blocks * u64::from(params.block_size());
+    let sample = repeated_sample(params, reference, samples);
+    samples
+        .resize(samples.len() + more as usize, sample)
+        .unwrap();
 }

@@ -1,8 +1,10 @@
 //! A reader of samples, interval by interval.
 
 use crate::reading::{Wanted, cut_to_count, read_interval, wants_more};
+use crate::skipping::{count_asked, skip_interval};
 use crate::whole_reading::judge_count;
 use aec_bits::{BitBuf, BitReader};
+use aec_block::Block;
 use aec_params::{Fault, Params};
 use std::alloc::Global;
 use std::marker::Model;
@@ -16,7 +18,7 @@ pub struct StreamReader<'a> {
     limit: u64,
     reader: BitReader<'a>,
     block: u64,
-    alloc: Global,
+    values: Block,
 }
 
 impl<'a> Model for StreamReader<'a> {
@@ -30,13 +32,14 @@ impl<'a> Model for StreamReader<'a> {
 }
 
 impl<'a> StreamReader<'a> {
-    ghost use Rattle.std.specs.Prelude.{◌≡◌, ◌<◌, ◌≤◌, ◌%◌, ◌^◌, true, false, [], vec_capacity, IfOk, IfErr, OnErr};
+    ghost use Rattle.std.specs.Prelude.{◌≡◌, ◌<◌, ◌≤◌, ◌%◌, ◌^◌, true, false, [], vec_capacity, IfSome, IfOk, IfErr, OnErr};
+    ghost use Rattle.std.specs.Option.{is_some};
     ghost use Rattle.std.specs.Result.{result_err};
-    ghost use Rattle.std.specs.List.{AllByRecursion};
     ghost use Rattle.aec_params.specs.declared.fault.Fault.TheVariants.{Memory};
-    ghost use Rattle.aec_params.specs.Params.{IsHeld, interval_len};
+    ghost use Rattle.aec_params.specs.Params.{interval_len};
     ghost use Rattle.aec_interval.specs.Reached.{count_refusal};
     ghost use Rattle.aec_interval.specs.Pieces.{place_at, is_wanted_at, ReadsInterval, RefusesAt};
+    ghost use Rattle.aec_interval.specs.Skipping.{HasInterval, IsFaultAt};
 
     /// A reader at the first bit, which asks for the first `count` samples, or without a count for all of them.
     /// `TooManySamples` where a given count is above `limit`. Takes no memory.
@@ -58,7 +61,7 @@ impl<'a> StreamReader<'a> {
             limit,
             reader: BitReader::new(bits),
             block: 0,
-            alloc,
+            values: Block::new(alloc, None),
         })
     }
 
@@ -101,7 +104,8 @@ impl<'a> StreamReader<'a> {
         if !wants_more(&self.params, wanted, &self.reader, self.block) {
             return Ok(false);
         }
-        match read_interval(self.alloc, &self.params, wanted, &mut self.reader, samples) {
+        let values = &mut self.values;
+        match read_interval(&self.params, wanted, &mut self.reader, values, samples) {
             Ok(next) => {
                 self.block = next;
                 cut_to_count(&self.params, wanted, samples);
@@ -110,6 +114,40 @@ impl<'a> StreamReader<'a> {
             Err(fault) => {
                 self.reader.seek(wanted.start);
                 samples.truncate(0);
+                Err(fault)
+            }
+        }
+    }
+
+    /// Goes over the next interval as `next` does, without its samples. How many of them are asked for; `None` where no
+    /// more is wanted.
+    ///
+    /// The refusals are those of `next`, but for want of memory, and the reader is then where it was. Takes no memory.
+    pub fn skip(&mut self) -> Result<Option<u64>, Fault>
+        ensures more { IfOk result (λ len. is_some len ≡ is_wanted_at self.old) }
+        ensures skipped { IfOk result (λ len. IfSome len (λ n. HasInterval self.old n self.new)) }
+        ensures done { IfOk result (λ len. is_some len ≡ false → self.new ≡ self.old) }
+        ensures refuses { IfErr result (λ fault. IsFaultAt self.old fault) }
+        ensures err { OnErr result (self.new ≡ self.old) }
+        ensures few { self.new.block < 2 ^ 34 }
+        ensures ends { is_wanted_at self.new ≡ true → self.new.block % self.new.settings.interval ≡ 0 }
+    {
+        let from = Wanted {
+            first: self.block,
+            start: self.reader.pos(),
+            count: self.count,
+            limit: self.limit,
+        };
+        if !wants_more(&self.params, from, &self.reader, self.block) {
+            return Ok(None);
+        }
+        match skip_interval(&self.params, from, &mut self.reader, &mut self.values) {
+            Ok(end) => {
+                self.block = end;
+                Ok(Some(count_asked(&self.params, from, end)))
+            }
+            Err(fault) => {
+                self.reader.seek(from.start);
                 Err(fault)
             }
         }

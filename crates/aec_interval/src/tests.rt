@@ -5,4 +5,5 @@ mod coding;
 mod feeding;
 mod reading;
 mod refusals;
+mod skipping;
 mod streams;

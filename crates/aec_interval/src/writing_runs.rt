@@ -41,6 +41,7 @@ impl Run {
     }
 
     /// Appends the run, which ends its segment or not. `Memory` where a growth was refused, and nothing has changed then.
+    #[inline(always)]
     pub(crate) fn write(self, params: &Params, to_end: bool, out: &mut BitBuf) -> Result<(), Fault>
         requires { IsRun params.now (if to_end then segment_len else segment_len - 1) self }
         ensures ok { OnOk result (out.new.list ≡ out.old.list ++ bits_of_run params.now self.reference self.blocks to_end) }

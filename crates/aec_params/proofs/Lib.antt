@@ -1,5 +1,6 @@
 pub mod ParamsLemmas
 pub mod StoredLemmas
+pub mod StoredListLemmas
 pub mod WorkedSettings
 pub mod WorkedStreams
 pub mod WorkedBlocks

@@ -1,5 +1,5 @@
 -- Samples as they are stored.
-use Rattle.std.proofs.Common.{◌≡◌, ℕ, suc, ◌+◌, ◌-◌, ◌*◌, ◌/◌, ◌^◌, ◌%◌, ◌<◌, ◌≤◌, ◌⊎◌, inl, inr, List, [], ◌∷◌, ◌++◌, length, take, drop, refl, ap, ap₂, ◌∙◌, sym, arith, append_assoc, append-nil, length-append}
+use Rattle.std.proofs.Common.{◌≡◌, ℕ, suc, ◌+◌, ◌-◌, ◌*◌, ◌/◌, ◌^◌, ◌%◌, ◌<◌, ◌≤◌, ◌⊎◌, inl, inr, List, [], ◌∷◌, ◌++◌, length, take, drop, refl, ap, ap₂, ◌∙◌, sym, arith, length-append}
 use Rattle.std.proofs.lemmas.Bool.{cases_Bool, cond-true, cond-false, ltb-true}
 use Rattle.std.proofs.lemmas.Bool.Decides.{nat_tests}
 use Rattle.std.proofs.Math.Nat.{div-eq-sub-div, div-eq_of_lt, mod-eq_of_lt, mod-lt, pow-le-pow_right}
@@ -86,7 +86,7 @@ pub byte_groups-short : (s : Settings) (xs : List ℕ) → length xs < storage_l
 byte_groups-short s xs short = ap (λ (k : ℕ). first_chunks (storage_len s) k xs) (div-eq_of_lt short)
 
 -- behind a good sample the first bad one is among those that are left
-fault-behind : (s : Settings) (i : ℕ) (o : Option ℤ) (later : Result (List ℤ) ℕ) → is_some o ≡ true
+pub fault-behind : (s : Settings) (i : ℕ) (o : Option ℤ) (later : Result (List ℤ) ℕ) → is_some o ≡ true
     → result_err (sample_before o i later) ≡ result_err later
 fault-behind s i None later good = absurd (cc)
 fault-behind s i (Some x) (Ok xs) good = refl
@@ -114,17 +114,8 @@ fault-here s i g rest later o a cut whole sample bad =
     ∙ ap (λ (p : Option ℤ). result_err (sample_before p i (samples_of_groups s (i + 1) (byte_groups s later)))) (sym sample)
     ∙ fault-at s i o (samples_of_groups s (i + 1) (byte_groups s later)) bad
 
--- the samples xs in front of what a reading answers
-abbrev pub behind : List ℤ → Result (List ℤ) ℕ → Result (List ℤ) ℕ
-behind xs (Ok ys) = Ok (xs ++ ys)
-behind xs (Err k) = Err k
-
-behind-sample : (xs : List ℤ) (x : ℤ) (i : ℕ) (later : Result (List ℤ) ℕ) → behind xs (sample_before (Some x) i later) ≡ behind (xs ++ x ∷ []) later
-behind-sample xs x i (Ok ys) = ap Ok (sym (append_assoc xs (x ∷ []) ys))
-behind-sample xs x i (Err k) = refl
-
 -- a stored number is no sample, or the sample of its low n bits
-sample-low : (s : Settings) (u : ℕ) → (sample_of_number s u ≡ None) ⊎ (sample_of_number s u ≡ Some (pattern_value s (u % 2 ^ s.bits)))
+pub sample-low : (s : Settings) (u : ℕ) → (sample_of_number s u ≡ None) ⊎ (sample_of_number s u ≡ Some (pattern_value s (u % 2 ^ s.bits)))
 sample-low s u =
     let low : Option ℤ = Some (pattern_value s (u % 2 ^ s.bits)) in
     let rest : Option ℤ = if s.signed && has_sign_above s u then low else None in
@@ -138,37 +129,3 @@ sample-low s u =
             | inr other ↦ inl (second ∙ cond-false (s.signed && has_sign_above s u) low None other)
           ]
     ]
-
-samples-next-at : (xs : List ℤ) (i : ℕ) (o : Option ℤ) (x : ℤ) (later all : Result (List ℤ) ℕ) → (o ≡ None) ⊎ (o ≡ Some x)
-    → all ≡ behind xs (sample_before o i later) → result_err all ≡ None → all ≡ behind (xs ++ x ∷ []) later
-samples-next-at xs i o x later all (inl none) e good =
-    let answered : all ≡ Err i = e ∙ ap (λ (p : Option ℤ). behind xs (sample_before p i later)) none in
-    let some : result_err all ≡ Some i = ap result_err answered in
-    absurd (cc)
-samples-next-at xs i o x later all (inr some) e good =
-    e ∙ ap (λ (p : Option ℤ). behind xs (sample_before p i later)) some ∙ behind-sample xs x i later
-
--- where no sample is bad, the next one is the sample of the low n bits of its number
-pub samples-next : (s : Settings) (xs ys : List ℤ) (x : ℤ) (g rest later : List ℕ) (all : Result (List ℤ) ℕ) → IsAllowed s
-    → rest ≡ g ++ later → length g ≡ storage_len s → x ≡ pattern_value s (number_in s g % 2 ^ s.bits) → result_err all ≡ None
-    → all ≡ behind xs (samples_of_groups s (length xs) (byte_groups s rest)) → ys ≡ xs ++ x ∷ []
-    → all ≡ behind ys (samples_of_groups s (length ys) (byte_groups s later))
-samples-next s xs ys x g rest later all a cut whole value good e pushed =
-    let n : ℕ = length xs in
-    let number : ℕ = number_in s g in
-    let after : Result (List ℤ) ℕ = samples_of_groups s (n + 1) (byte_groups s later) in
-    let cases : (sample_of_number s number ≡ None) ⊎ (sample_of_number s number ≡ Some x) = rw value (sample-low s number) in
-    let here : all ≡ behind xs (sample_before (sample_of_number s number) n after) =
-    e ∙ ap (λ (bytes : List ℕ). behind xs (samples_of_groups s n (byte_groups s bytes))) cut
-    ∙ ap (λ (gs : List (List ℕ)). behind xs (samples_of_groups s n gs)) (byte_groups-group s g later a whole) in
-    let count : n + 1 ≡ length (xs ++ x ∷ []) = simp length-append (omega arith) in
-    samples-next-at xs n (sample_of_number s number) x after all cases here good
-    ∙ ap (λ (i : ℕ). behind (xs ++ x ∷ []) (samples_of_groups s i (byte_groups s later))) count
-    ∙ ap (λ (zs : List ℤ). behind zs (samples_of_groups s (length zs) (byte_groups s later))) (sym pushed)
-
--- what is left is no whole group: the samples are complete
-pub samples-end : (s : Settings) (xs : List ℤ) (n : ℕ) (rest : List ℕ) (all : Result (List ℤ) ℕ) → length rest < n → n ≡ storage_len s
-    → all ≡ behind xs (samples_of_groups s (length xs) (byte_groups s rest)) → all ≡ Ok xs
-samples-end s xs n rest all short size e =
-    let left : length rest < storage_len s = rw (← size) short in
-    e ∙ ap (λ (gs : List (List ℕ)). behind xs (samples_of_groups s (length xs) gs)) (byte_groups-short s rest left) ∙ ap Ok (append-nil xs)

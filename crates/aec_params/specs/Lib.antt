@@ -1,5 +1,6 @@
 pub mod Params
 pub mod Stored
+pub mod StoredLists
 pub mod Cutting
 pub mod Codewords
 pub mod Mapping

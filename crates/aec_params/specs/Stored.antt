@@ -1,5 +1,5 @@
 -- Samples as they are stored: which bytes a sample has, and which samples bytes are.
-use Rattle.std.specs.Prelude.{◌≡◌, ℕ, ◌+◌, ◌-◌, ◌*◌, ◌/◌, ◌%◌, ◌^◌, Bool, ◌&&◌, nat_lt, ◌==◌, if◌then◌else◌, Option, Some, None, Result, Ok, Err, List, [], ◌∷◌, length, ℤ, pos, negsuc}
+use Rattle.std.specs.Prelude.{◌≡◌, ℕ, ◌+◌, ◌-◌, ◌*◌, ◌/◌, ◌%◌, ◌^◌, Bool, ◌&&◌, nat_lt, ◌==◌, if◌then◌else◌, Option, Some, None, Result, Ok, Err, List, [], ◌∷◌, ◌++◌, length, ℤ, pos, negsuc}
 use Rattle.std.specs.Simd.{first_chunks}
 use Rattle.byteorder.specs.Endian.{big_bytes, little_bytes, big_number, little_number}
 use Rattle.aec_params.specs.declared.settings.Settings.{Settings}
@@ -52,6 +52,11 @@ samples_of_groups s i (g ∷ gs) = sample_before (sample_of_number s (number_in 
 -- the samples that bytes are, or the index of the first that is none
 abbrev pub samples_of_bytes : Settings → List ℕ → Result (List ℤ) ℕ
 samples_of_bytes s bytes = samples_of_groups s 0 (byte_groups s bytes)
+
+-- samples in front of those that bytes are, where these are samples
+abbrev pub samples_behind : List ℤ → Result (List ℤ) ℕ → Result (List ℤ) ℕ
+samples_behind xs (Ok ys) = Ok (xs ++ ys)
+samples_behind xs (Err k) = Err k
 
 -- What a reading of stored samples answers, seen by view: the samples, or want of memory in their place; where a
 -- sample is none of the settings, its index and nothing else.

@@ -9,6 +9,7 @@ mod params;
 mod samples;
 mod settings;
 mod stored;
+mod stored_lists;
 #[cfg(test)]
 mod tests;
 
@@ -18,4 +19,5 @@ pub use limits::Limits;
 pub use params::Params;
 pub use samples::Samples;
 pub use settings::Settings;
-pub use stored::{collect_samples, first_bad, put_sample, read_samples, sample_of};
+pub use stored::{put_sample, sample_of};
+pub use stored_lists::{append_samples, collect_samples, first_bad, put_samples, read_samples};

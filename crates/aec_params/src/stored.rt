@@ -1,55 +1,12 @@
-//! Samples as they are stored: bytes into samples, and a sample into its bytes.
+//! One sample as it is stored: its bytes into it, and back.
 
-ghost use Rattle.std.specs.Prelude.{None, Ok, IfSome, IfOk, IfErr, ◌≡◌, ◌<◌, ◌≤◌, ◌^◌, ◌*◌, ◌%◌, ◌++◌, drop, length};
+ghost use Rattle.std.specs.Prelude.{IfSome, ◌≡◌, ◌<◌, ◌≤◌, ◌^◌, ◌*◌, ◌%◌, ◌++◌, drop, length};
 ghost use Rattle.byteorder.specs.Endian.{big_number, little_number, big_bytes, little_bytes};
-ghost use Rattle.aec_params.specs.declared.fault.Fault.TheVariants.{Memory};
 ghost use Rattle.aec_params.specs.Params.{IsHeld, pattern_value, storage_len};
-ghost use Rattle.std.specs.Result.{result_err};
-ghost use Rattle.aec_params.specs.Stored.{samples_of_bytes, stored_bytes, stored_number, AnswersSamples, has_sign_above, number_in, sample_of_number};
+ghost use Rattle.aec_params.specs.Stored.{stored_bytes, stored_number, has_sign_above, number_in, sample_of_number};
 
-use crate::fault::Fault;
 use crate::params::Params;
 use byteorder::{BigEndian, ByteOrder, LittleEndian};
-use std::alloc::Global;
-
-/// The samples that bytes hold, `storage` bytes each; bytes at the end that form no whole sample are ignored.
-///
-/// `SampleRange` with the index of the first sample whose unused bits are not what its width allows, which is judged
-/// for the whole input before any memory is taken; then `Memory`.
-pub fn read_samples(alloc: Global, params: &Params, bytes: &[u8]) -> Result<Vec<i64>, Fault>
-    ensures { AnswersSamples (λ v. v.items) (samples_of_bytes params.now bytes.now) result }
-{
-    if let Some(index) = first_bad(params, bytes) {
-        return Err(Fault::SampleRange { index });
-    }
-    collect_samples(alloc, params, bytes)
-}
-
-/// The samples of bytes that hold no bad one, as `first_bad` tells; `Memory` where a growth is refused.
-pub fn collect_samples(alloc: Global, params: &Params, bytes: &[u8]) -> Result<Vec<i64>, Fault>
-    requires { result_err (samples_of_bytes params.now bytes.now) ≡ None }
-    ensures ok { IfOk result (λ v. samples_of_bytes params.now bytes.now ≡ Ok v.items) }
-    ensures err { IfErr result (λ e. e ≡ Memory) }
-{
-    let width = params.storage();
-    let mut samples = Vec::with_capacity(alloc, bytes.len() / width)?;
-    for group in bytes.chunks_exact(width) {
-        samples.push(low_value(params, number_of(params, group)))?;
-    }
-    Ok(samples)
-}
-
-/// The index of the first sample whose unused bits are not what its width allows. Takes no memory.
-pub fn first_bad(params: &Params, bytes: &[u8]) -> Option<u64>
-    ensures { result ≡ result_err (samples_of_bytes params.now bytes.now) }
-{
-    for (index, group) in bytes.chunks_exact(params.storage()).enumerate() {
-        if sample_of(params, group).is_none() {
-            return Some(index as u64);
-        }
-    }
-    None
-}
 
 /// The sample that the bytes of one sample are; `None` where its unused bits are not what its width allows. Takes no
 /// memory.
@@ -120,7 +77,7 @@ fn has_sign_bits(params: &Params, number: u64) -> bool
 }
 
 /// The sample whose pattern is the low n bits of a number.
-fn low_value(params: &Params, number: u64) -> i64
+pub(crate) fn low_value(params: &Params, number: u64) -> i64
     ensures value { result ≡ pattern_value params.now (number % 2 ^ params.now.bits) }
     ensures held { IsHeld params.now result }
 {

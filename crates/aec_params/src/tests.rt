@@ -1,5 +1,6 @@
 mod parameters;
 mod stored;
+mod stored_lists;
 
 use crate::edit::Edit;
 use crate::fault::Fault;

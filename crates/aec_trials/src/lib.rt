@@ -31,6 +31,8 @@ mod mixed_edits;
 #[cfg(test)]
 mod octets;
 #[cfg(test)]
+mod plain_reader;
+#[cfg(test)]
 mod ranges;
 #[cfg(test)]
 mod refused_files;
@@ -44,6 +46,8 @@ mod shared;
 mod steps;
 #[cfg(test)]
 mod tables;
+#[cfg(test)]
+mod turned_bits;
 #[cfg(test)]
 mod unsynced_files;
 #[cfg(test)]

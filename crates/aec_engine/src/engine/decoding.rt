@@ -47,9 +47,8 @@ fn decode_bits<W: Sink>(
         SettlesOne (DecodesBits params.now count limits.samples bits.now.list) put result }
 {
     let mut reader = StreamReader::new(alloc, *params, bits, count, limits.samples())?;
-    let mut samples = Vec::new(alloc);
-    let total = count_samples(params, &mut reader, &mut samples)?;
-    write_range(alloc, params, &mut reader, 0, total, samples, sink)
+    let total = count_samples(params, &mut reader)?;
+    write_range(alloc, params, &mut reader, 0, total, sink)
 }
 
 /// Reads the source whole, and writes the bytes of the samples that it codes: with a count the first `count`, without one

@@ -40,10 +40,9 @@ fn range_bits<W: Sink>(
         SettlesOne (CutsBits params.now count limits.samples first len bits.now.list) put result }
 {
     let mut reader = StreamReader::new(alloc, *params, bits, count, limits.samples())?;
-    let mut samples = Vec::new(alloc);
-    let total = count_samples(params, &mut reader, &mut samples)?;
+    let total = count_samples(params, &mut reader)?;
     judge_range(first, len, total)?;
-    write_range(alloc, params, &mut reader, first, len, samples, sink)
+    write_range(alloc, params, &mut reader, first, len, sink)
 }
 
 /// Reads the source whole, and writes the bytes of `len` of the samples that it codes, from place `first` on. The refusals

@@ -14,15 +14,11 @@ ghost use Rattle.aec_engine.specs.ReadingTwice.{AreSamplesOf, HaveSamples, PutsP
 use crate::engine::intake::PIECE;
 use aec_bits::{Sink, put_all};
 use aec_interval::StreamReader;
-use aec_params::{Fault, Params, put_sample};
+use aec_params::{Fault, Params, put_samples};
 use std::alloc::Global;
 
-/// Reads all samples from the first bit on and keeps none of them. How many there are.
-pub(crate) fn count_samples(
-    params: &Params,
-    reader: &mut StreamReader,
-    samples: &mut Vec<i64>,
-) -> Result<u64, Fault>
+/// Goes over all samples from the first bit on. How many there are. Takes no memory.
+pub(crate) fn count_samples(params: &Params, reader: &mut StreamReader) -> Result<u64, Fault>
     requires settings { reader.old.settings ≡ params.now }
     requires block { reader.old.block ≡ 0 }
     requires bit { reader.old.bit ≡ 0 }
@@ -33,8 +29,8 @@ pub(crate) fn count_samples(
     // What the parameters promise is told by their calls.
     let _len = params.interval_len();
     let mut total = 0;
-    while reader.next(samples)? {
-        total += samples.len() as u64;
+    while let Some(len) = reader.skip()? {
+        total += len;
     }
     reader.restart();
     Ok(total)
@@ -56,11 +52,11 @@ fn append_stored(params: &Params, samples: &[i64], bytes: &mut Vec<u8>)
     ensures len { vec_len bytes.new ≤ vec_len bytes.old + 4 * length samples.now }
     ensures capacity { vec_capacity bytes.old ≤ vec_capacity bytes.new }
 {
-    let mut group = [0u8; 4];
-    for x in samples {
-        let width = put_sample(params, *x, &mut group);
-        bytes.extend_from_slice(&group[..width]).unwrap();
-    }
+    let start = bytes.len();
+    bytes
+        .resize(start + params.storage() * samples.len(), 0)
+        .unwrap();
+    put_samples(params, samples, &mut bytes[start..]);
 }
 
 /// Puts the bytes of samples behind those that wait, as soon as they are a piece; else they wait too.
@@ -87,7 +83,8 @@ fn put_part<W: Sink>(
     Ok(())
 }
 
-/// Reads the samples again and puts the bytes of `len` of them from place `first` on. Takes no memory.
+/// Reads the samples again, up to the last that is asked for, and puts the bytes of `len` of them from place `first` on. Takes
+/// no memory.
 fn put_range<W: Sink>(
     params: &Params,
     reader: &mut StreamReader,
@@ -113,7 +110,7 @@ fn put_range<W: Sink>(
     let _len = params.interval_len();
     let mut skip = first;
     let mut left = len;
-    while reader.next(samples)? {
+    while left > 0 && reader.next(samples)? {
         let part = part_of(samples, skip, left);
         left -= part.len() as u64;
         put_part(params, part, bytes, sink)?;
@@ -148,17 +145,15 @@ fn deliver_range<W: Sink>(
     put_range(params, reader, first, len, samples, bytes, sink)
 }
 
-/// Room for the samples of an interval, made in a vector that is used again, and for their bytes behind a piece.
-fn buffers(alloc: Global, params: &Params, samples: Vec<i64>) -> Result<(Vec<i64>, Vec<u8>), Fault>
+/// Room for the samples of an interval, and for their bytes behind a piece.
+fn buffers(alloc: Global, params: &Params) -> Result<(Vec<i64>, Vec<u8>), Fault>
     ensures room { IfOk result (λ made. interval_len params.now ≤ vec_capacity made.0) }
     ensures empty { IfOk result (λ made. vec_len made.1 ≡ 0) }
     ensures buffer { IfOk result (λ made. 65536 + 4 * interval_len params.now ≤ vec_capacity made.1) }
     ensures fault { IfErr result (λ e. e ≡ Memory) }
 {
     let len = params.interval_len() as usize;
-    let mut samples = samples;
-    samples.clear();
-    samples.reserve(len)?;
+    let samples = Vec::with_capacity(alloc, len)?;
     let bytes = Vec::with_capacity(alloc, PIECE + 4 * len)?;
     Ok((samples, bytes))
 }
@@ -171,7 +166,6 @@ pub(crate) fn write_range<W: Sink>(
     reader: &mut StreamReader,
     first: u64,
     len: u64,
-    samples: Vec<i64>,
     sink: &mut W,
 ) -> Result<(), Fault>
     requires settings { reader.old.settings ≡ params.now }
@@ -179,6 +173,6 @@ pub(crate) fn write_range<W: Sink>(
     ensures { let put : Putting = putting_of W.taken W.begun W.failed sink.old sink.new in
         (xs : List ℤ) → AreSamplesOf reader.old xs → SettlesOne (StoresPart params.now first len xs) put result }
 {
-    let (mut samples, mut bytes) = buffers(alloc, params, samples)?;
+    let (mut samples, mut bytes) = buffers(alloc, params)?;
     deliver_range(params, reader, first, len, &mut samples, &mut bytes, sink)
 }

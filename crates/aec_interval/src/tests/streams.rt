@@ -60,7 +60,19 @@ fn read_by_steps(alloc: Global, reader: &mut StreamReader) -> Result<Vec<i64>, F
     Ok(all)
 }
 
-/// Reads bytes with a count or without one, at once and twice in steps, and compares the samples.
+/// How many samples a reader has that goes over the intervals.
+fn len_by_steps(reader: &mut StreamReader) -> Result<u64, Fault> {
+    let mut all = 0u64;
+    for _ in 0..MOST {
+        match reader.skip()? {
+            None => break,
+            Some(len) => all = all.saturating_add(len),
+        }
+    }
+    Ok(all)
+}
+
+/// Reads bytes with a count or without one, at once, twice in steps and without the samples, and compares.
 pub fn expect_read(
     rt: &impl Abort,
     alloc: Global,
@@ -78,6 +90,7 @@ pub fn expect_read(
         assert_eq!(rt; steps.as_slice(), samples);
         reader.restart();
     }
+    assert_eq!(rt; len_by_steps(&mut reader)?, samples.len() as u64);
     Ok(())
 }
 
@@ -112,7 +125,24 @@ fn samples_by_steps(
     }
 }
 
-/// Reads bytes at once and in steps, and compares the refusals.
+/// How many samples bits have that are gone over in steps, or their refusal, which comes again where the step is made again.
+fn len_without_samples(
+    alloc: Global,
+    params: Params,
+    bits: &BitBuf,
+    count: Option<u64>,
+    limit: u64,
+) -> Result<u64, Fault>
+    requires { limit ≤ 2 ^ 32 }
+{
+    let mut reader = StreamReader::new(alloc, params, bits, count, limit)?;
+    match len_by_steps(&mut reader) {
+        Ok(len) => Ok(len),
+        Err(_) => len_by_steps(&mut reader),
+    }
+}
+
+/// Reads bytes at once, in steps and without the samples, and compares the refusals.
 pub fn expect_refusal(
     rt: &impl Abort,
     alloc: Global,
@@ -131,6 +161,10 @@ pub fn expect_refusal(
     }
     match samples_by_steps(alloc, Params::new(settings)?, &bits, count, limit) {
         Ok(_) => assert!(rt; false, "samples are read in steps"),
+        Err(refusal) => assert_eq!(rt; refusal, fault),
+    }
+    match len_without_samples(alloc, Params::new(settings)?, &bits, count, limit) {
+        Ok(_) => assert!(rt; false, "samples are gone over"),
         Err(refusal) => assert_eq!(rt; refusal, fault),
     }
     Ok(())

@@ -1,35 +1,37 @@
-use Rattle.std.proofs.Common.{◌≡◌, ◌-◌, ◌/◌, ◌^◌, suc, ◌∙◌, arith}
-use Rattle.std.proofs.lemmas.Result.{err_from_is_err_and}
-use Rattle.aec_block.specs.Gathering.{bits_at, pair_block}
-use Rattle.aec_block.proofs.GatheringLemmas.{members_at-fails}
-use Rattle.aec_block.proofs.ReadCdsLemmas.{pairs_answered}
-use Rattle.aec_block.proofs.SetLemmas.{block_size-some}
+use Rattle.std.proofs.Common.{◌≡◌, ◌/◌, ◌*◌, ◌+◌, ◌∙◌, [], true, sym, ap, length, arith}
+use Rattle.aec_block.specs.ReadAt.{map_taken, members_at}
+use Rattle.aec_block.specs.Gathering.{bits_at, members_gathered}
+use Rattle.aec_block.proofs.GatheringLemmas.{length-value_put, pair_placed, MembersGathered-next, MembersGathered-done}
 use Rattle.aec_block.proofs.reading_values.read_pairs.Goals as goal
+
+pub loop-i-preserved : goal.loop-i-preserved
+loop-i-preserved c =
+    let limit = c.value_limit-limit.result in
+    let i = c.loop-i.i in
+    let one = c.put_value in
+    let two = c.put_value-in-loop-i in
+    let p = c.pair_of-first in
+    let kept = c.kept_member-kept in
+    let before = c.loop-i.values in
+    let between = one.new.values in
+    let first_len : length between ≡ length before = ap length one.ensures.values ∙ length-value_put limit before (2 * i) kept.result in
+    let len : length two.new.values ≡ length between = ap length two.ensures.values ∙ length-value_put limit between (2 * i + 1) p.result.1 in
+    record {
+      moved = record { list = c.in_ok-read_sequence.ensures.list ∙ c.loop-i.invariant.moved.list; within = c.in_ok-read_sequence.ensures.within };
+      placed = pair_placed limit c.args.is_ref before between two.new.values i p.result.0 p.result.1 kept.result kept.ensures
+          one.ensures.values two.ensures.values c.loop-i.invariant.placed;
+      len = len ∙ (first_len ∙ c.loop-i.invariant.len);
+      taken = MembersGathered-next limit c.args.is_ref (length c.args.values.now / 2) (bits_at c.args.reader.now) before between two.new.values i
+          c.loop-i.fit one.result two.result (bits_at c.loop-i.reader) (bits_at c.read_sequence.new.reader)
+          p.result.0 p.result.1 kept.result c.in_ok-read_sequence.field-0 (omega arith) (omega arith) c.in_ok-read_sequence.ensures.taken
+          p.ensures.first p.ensures.second kept.ensures one.ensures.fits one.ensures.values two.ensures.fits two.ensures.values
+          c.loop-i.invariant.taken;
+    }
 
 pub returns-clause-taken : goal.returns-clause-taken
 returns-clause-taken c =
-    let s = c.args.params.now in
-    let new = c.new-block in
-    let first = c.push_first_member-first_fits in
-    let second = c.push_value-second_fits in
-    let pair = c.pair_of-first in
-    let some = block_size-some s c.block_size-pairs.ensures.allowed in
-    let same = c.block_size-pairs.ensures.value in
-    let count : s.block_size / 2 ≡ suc (c.block_size-pairs.result / 2 - 1) = omega arith in
-    pairs_answered s.bits c.value_limit-limit.result (s.block_size / 2) (c.block_size-pairs.result / 2 - 1) c.in_ok-read_sequence.field-0 c.args.reference
-    (bits_at c.args.reader.now) (bits_at c.read_sequence.new.reader) (bits_at c.read_later_pairs.new.reader) new.result first.new.block.values
-    second.new.block.values pair.result.0 pair.result.1 first.result second.result c.in_ok-later_fit.later_fit c.read_later_pairs.new.block c.fitting.result
-    c.value_limit-limit.ensures.value count c.in_ok-read_sequence.ensures.taken pair.ensures.first pair.ensures.second
-    new.ensures.reference new.ensures.values first.ensures.fits first.ensures.values second.ensures.fits second.ensures.values
-    c.in_ok-later_fit.ensures.taken
-    (c.in_ok-later_fit.ensures.reference ∙ (second.ensures.reference ∙ (first.ensures.reference ∙ new.ensures.reference))) c.fitting.ensures
-
-pub returns-in_err-read_sequence-clause-taken : goal.returns-in_err-read_sequence-clause-taken
-returns-in_err-read_sequence-clause-taken c =
-    let s = c.args.params.now in
-    let some = block_size-some s c.block_size-pairs.ensures.allowed in
-    let count : s.block_size / 2 ≡ suc (s.block_size / 2 - 1) = omega arith in
-    let none = members_at-fails (pair_block (2 ^ s.bits) c.args.reference) (s.block_size / 2) (s.block_size / 2 - 1) (bits_at c.args.reader.now) count
-    c.in_err-read_sequence.ensures.taken in
-    let p = err_from_is_err_and c.from_residual.result c.from_residual.ensures.1 in
-    rw p.1 none
+    let n = length c.args.values.now / 2 in
+    let is_limit = c.value_limit-limit.ensures.value in
+    ap (λ l. map_taken (members_gathered l [] true c.args.is_ref) (members_at n (bits_at c.args.reader.now))) (sym is_limit)
+    ∙ MembersGathered-done c.value_limit-limit.result c.args.is_ref n (bits_at c.args.reader.now) c.loop-i.values c.loop-i.i c.loop-i.fit
+    (bits_at c.loop-i.reader) (omega arith) (omega arith) (omega (arith, c.loop-i.invariant.len)) c.loop-i.invariant.taken

@@ -6,31 +6,31 @@ use Rattle.aec_interval.specs.NextBlock.{last_sample}
 use Rattle.aec_interval.proofs.NextFillLemmas.{held-last_sample, values-below, fills_block_plain, fills_block_reference}
 use Rattle.aec_interval.proofs.filling.push_block.Goals as goal
 
-pub push_unmapped-requires-clause-prediction : goal.push_unmapped-requires-clause-prediction
-push_unmapped-requires-clause-prediction c =
+pub unmap_all-requires-clause-prediction : goal.unmap_all-requires-clause-prediction
+unmap_all-requires-clause-prediction c =
     let fits : FitsSigned w64 c.previous_of-previous.result = search (rules, c.previous_of-previous.type_inv) in
     subst (λ (x : ℤ). IsHeld c.args.params.now x) (sym (to_z-of_z w64 c.previous_of-previous.result fits ∙ (c.previous_of-previous.ensures ∙ ap last_sample c.deref.ensures.value)))
     (held-last_sample c.args.params.now c.args.samples.now.items c.requires.allowed c.requires.held)
 
-pub push_unmapped-requires-clause-small : goal.push_unmapped-requires-clause-small
-push_unmapped-requires-clause-small c = values-below c.args.params.now c.args.block.now c.args.samples.now.items c.values.result.now c.requires.next c.values.ensures.value
+pub unmap_all-requires-clause-mapped : goal.unmap_all-requires-clause-mapped
+unmap_all-requires-clause-mapped c = values-below c.args.params.now c.args.block.now c.args.samples.now.items c.values.result.now c.requires.next c.values.ensures.value
 
 pub returns-in-None-clause-items : goal.returns-in-None-clause-items
 returns-in-None-clause-items c =
     let fits : FitsSigned w64 c.previous_of-previous.result = search (rules, c.previous_of-previous.type_inv) in
-    fills_block_plain c.args.params.now c.args.samples.now.items c.push_unmapped.new.samples.items c.args.block.now
+    fills_block_plain c.args.params.now c.args.samples.now.items c.unmap_all.new.samples.items c.args.block.now
     (to_z w64 (of_z w64 c.previous_of-previous.result)) c.values.result.now c.requires.allowed c.requires.next (sym c.in-None.ensures.value)
     (to_z-of_z w64 c.previous_of-previous.result fits ∙ (c.previous_of-previous.ensures ∙ ap last_sample c.deref.ensures.value)) c.values.ensures.value
-    c.push_unmapped.ensures.items
+    c.unmap_all.ensures.items
 
 pub returns-in-Some-clause-items : goal.returns-in-Some-clause-items
 returns-in-Some-clause-items c =
     let fits : FitsSigned w64 c.value-first.result = search (rules, c.value-first.type_inv) in
     let kept : to_z w64 (of_z w64 c.value-first.result) ≡ c.value-first.result = to_z-of_z w64 c.value-first.result fits in
-    fills_block_reference c.args.params.now c.args.samples.now.items _ c.push_unmapped-in-Some.new.samples.items c.args.block.now c.in-Some.pattern
+    fills_block_reference c.args.params.now c.args.samples.now.items _ c.unmap_all-in-Some.new.samples.items c.args.block.now c.in-Some.pattern
     (to_z w64 (of_z w64 c.value-first.result)) _ c.requires.allowed c.requires.next (sym c.in-Some.ensures.value)
     (subst (λ (x : ℤ). IsHeld c.args.params.now x) (sym kept) c.value-first.ensures.held)
     (ap (λ (x : ℤ). sample_pattern c.args.params.now x) kept ∙ c.value-first.ensures.undone)
     (take_all (length c.values-in-Some.result.now - 1) (drop 1 c.values-in-Some.result.now) (omega (arith, length-drop 1 c.values-in-Some.result.now))
     ∙ ap (drop 1) c.values-in-Some.ensures.value)
-    (rw c.unwrap.ensures at c.push.ensures.items) c.push_unmapped-in-Some.ensures.items
+    (rw c.unwrap.ensures at c.push.ensures.items) c.unmap_all-in-Some.ensures.items

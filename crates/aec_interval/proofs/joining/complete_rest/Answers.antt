@@ -1,6 +1,6 @@
 use Rattle.std.proofs.Common.{arith, ◌∙◌}
-use Rattle.std.proofs.lemmas.Result.{err_from_is_err_and}
-use Rattle.aec_interval.proofs.JoiningLemmas.{no_rest, rest_refused, of_refusal, cut_at}
+use Rattle.aec_interval.proofs.RefusalLemmas.{of_refusal}
+use Rattle.aec_interval.proofs.JoiningLemmas.{no_rest, rest_refused, cut_at}
 use Rattle.aec_interval.proofs.joining.complete_rest.Goals as goal
 
 pub returns-then-len-eq0-clause-ok : goal.returns-then-len-eq0-clause-ok
@@ -10,8 +10,7 @@ returns-then-len-eq0-clause-ok c =
 
 pub returns-in_err-joined-clause-stops : goal.returns-in_err-joined-clause-stops
 returns-in_err-joined-clause-stops c =
-    let exit = err_from_is_err_and c.from_residual.result c.from_residual.ensures.1 in
-    of_refusal c.from_residual.result _ exit.0 _ exit.1 exit.2
+    of_refusal _ _ _ c.from_residual.ensures.1
     (rest_refused c.args.params.now c.args.limit c.args.progress.now c.args.rest.now c.as_slice.result.now c.args.piece.now c.split_at.result.0.now
     c.split_at.result.1.now c.args.out.now.list c.join-joined.new.out.list _ c.storage.ensures.allowed
-    (c.as_slice.ensures ∙ c.extend.ensures) (cut_at _ _ _ _ c.split_at.ensures.front c.split_at.ensures.back) c.in_err-joined.ensures.stops)
+    (c.as_slice.ensures ∙ c.extend.ensures) (cut_at _ _ _ _ c.split_at.ensures.front c.split_at.ensures.back) c.in_err-joined.ensures.joins)

@@ -1,5 +1,5 @@
 use Rattle.std.proofs.Common.{◌∙◌, arith}
-use Rattle.std.proofs.lemmas.Result.{err_from_is_err_and}
+use Rattle.aec_interval.proofs.RefusalLemmas.{of_refusal}
 use Rattle.aec_interval.proofs.UpToLemmas.{up_to-reading}
 use Rattle.aec_interval.proofs.ReadNextLemmas.{reached-start, reading-refuses}
 use Rattle.aec_interval.proofs.reading.decode_from.Goals as goal
@@ -14,7 +14,6 @@ loop-reader-init c = record {
 
 pub returns-in_err-block-clause-refuses : goal.returns-in_err-block-clause-refuses
 returns-in_err-block-clause-refuses c =
-    let exit = err_from_is_err_and c.from_residual.result c.from_residual.ensures.1 in
     let whole = up_to-reading _ _ _ _ _ _ _ _ c.in_err-block.ensures.refuses in
-    reading-refuses c.args.params.now c.args.wanted.count c.args.wanted.limit c.args.bits.now.list _ _ _ _ _ _
-    exit.1 exit.2 c.loop-reader.invariant.list (rw c.requires.first at whole)
+    of_refusal _ _ _ c.from_residual.ensures.1
+    (reading-refuses _ _ _ _ _ _ _ _ c.loop-reader.invariant.list (rw c.requires.first at whole))

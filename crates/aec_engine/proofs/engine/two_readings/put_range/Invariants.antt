@@ -3,8 +3,8 @@ use Rattle.aec_params.specs.Params.{interval_len}
 use Rattle.aec_engine.proofs.PutRangeLemmas.{PutsSoFar}
 use Rattle.aec_engine.proofs.engine.two_readings.put_range.Given as goal
 
-abbrev pub invariant-loop-samples : goal.invariant-loop-samples
-invariant-loop-samples g l = record {
+abbrev pub invariant-loop-left : goal.invariant-loop-left
+invariant-loop-left g l = record {
   puts : PutsSoFar l.fn.reader l.reader l.params l.first l.len l.skip l.left (g.W.Sink.taken l.fn.sink) (g.W.Sink.taken l.sink) l.bytes.items;
   begun : g.W.Sink.begun l.sink ≡ g.W.Sink.begun l.fn.sink;
   waiting : vec_len l.bytes < 65536;
@@ -12,5 +12,5 @@ invariant-loop-samples g l = record {
   buffer : 65536 + 4 * interval_len l.params ≤ vec_capacity l.bytes;
 }
 
-abbrev pub decreases-loop-samples : goal.decreases-loop-samples
-decreases-loop-samples g l = 2 ^ 34 - l.reader.block
+abbrev pub decreases-loop-left : goal.decreases-loop-left
+decreases-loop-left g l = 2 ^ 34 - l.reader.block

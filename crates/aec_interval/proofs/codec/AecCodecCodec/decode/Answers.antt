@@ -1,13 +1,4 @@
-use Rattle.std.proofs.lemmas.Result.{err_from_is_err_and}
-use Rattle.aec_interval.proofs.IntervalReadingLemmas.{memory-refuses, read-more}
 use Rattle.aec_interval.proofs.codec.AecCodecCodec.decode.Goals as goal
 
-pub returns-in_err-samples-clause-fault : goal.returns-in_err-samples-clause-fault
-returns-in_err-samples-clause-fault c =
-    let exit = err_from_is_err_and c.from_residual.result c.from_residual.ensures.1 in
-    memory-refuses c.args.self.now.params _ _ _ _ _ _ _ c.args.self.now.allowed exit.1 exit.2 c.in_err-samples.ensures.refuses c.requires
-
-pub returns-clause-ok : goal.returns-clause-ok
-returns-clause-ok c =
-    read-more c.args.self.now.params _ _ _ _ _ _ _ _ c.args.self.now.allowed c.in_ok-extend_from_slice.ensures.items c.deref.ensures.value
-    c.in_ok-samples.ensures.ok
+pub returns-clause-counts : goal.returns-clause-counts
+returns-clause-counts c = c.one_read_more-self.ensures

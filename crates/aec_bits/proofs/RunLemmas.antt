@@ -1,0 +1,55 @@
+-- Codewords that are read one after the other into a list of numbers.
+use Rattle.std.proofs.Common.{◌≡◌, ℕ, zero, suc, ◌+◌, ◌<◌, ◌≤◌, Bool, true, false, List, [], ◌∷◌, ◌++◌, length, take, replicate, set, refl, sym, ap, ◌∙◌, arith, append_assoc}
+use Rattle.std.specs.List.{flat_map}
+use Rattle.std.proofs.lemmas.List.{take_more_set, take_all, length-take-le, append-nil, take-append-le, length-replicate, take-replicate}
+use Rattle.std.proofs.lemmas.List.Concat.{flat_map-append}
+use Rattle.aec_params.specs.Codewords.{fs}
+use Rattle.aec_params.proofs.ListLaws.{all-append}
+use Rattle.aec_bits.specs.BitReader.{has_one, StopsBefore}
+use Rattle.aec_bits.specs.Windows.{StandsBefore}
+use Rattle.aec_bits.proofs.CodewordLemmas.{has_one-zeros}
+
+-- one more number
+pub stands_more : (codeword : ℕ → List Bool) (limit : ℕ) (items : List ℕ) (i v : ℕ) (rest now bits : List Bool) → i < length items → v < limit
+    → now ≡ codeword v ++ rest → StandsBefore codeword limit (take i items) now bits
+    → StandsBefore codeword limit (take (i + 1) (set items i v)) rest bits
+stands_more codeword limit items i v rest now bits within fits here so_far =
+    let more : take (i + 1) (set items i v) ≡ take i items ++ v ∷ [] = take_more_set items i v within in
+    let before : List Bool = flat_map codeword (take i items) in
+    let joined : before ++ codeword v ≡ flat_map codeword (take (i + 1) (set items i v)) =
+    sym (ap (flat_map codeword) more ∙ flat_map-append codeword (take i items) (v ∷ []) ∙ ap (λ l. before ++ l) (append-nil (codeword v))) in
+    record {
+      stands = so_far.stands ∙ ap (λ l. before ++ l) here ∙ sym (append_assoc before (codeword v) rest) ∙ ap (λ l. l ++ rest) joined;
+      below = rw more (all-append (λ n. n < limit) (take i items) (v ∷ []) so_far.below (fits, tt));
+    }
+
+-- all of them
+pub stands_all : (codeword : ℕ → List Bool) (limit : ℕ) (items : List ℕ) (i : ℕ) (rest bits : List Bool) → length items ≤ i
+    → StandsBefore codeword limit (take i items) rest bits → StandsBefore codeword limit items rest bits
+stands_all codeword limit items i rest bits past so_far = rw (take_all i items past) at so_far
+
+-- reading that stops
+pub stops_here : (limit : ℕ) (items : List ℕ) (i count : ℕ) (rest bits : List Bool) → i < count → length items ≡ count
+    → has_one (take 64 rest) ≡ false → StandsBefore fs limit (take i items) rest bits → StopsBefore count bits
+stops_here limit items i count rest bits before same none so_far =
+    record {
+      numbers = take i items;
+      rest = rest;
+      few = omega (arith, length-take-le i items (omega arith));
+      stands = so_far.stands;
+      none = none;
+    }
+
+-- ---- no one among so many bits
+
+pub has_one-take : (n : ℕ) (bits : List Bool) → has_one bits ≡ false → has_one (take n bits) ≡ false
+has_one-take zero bits none = refl
+has_one-take (suc n) [] none = refl
+has_one-take (suc n) (true ∷ bits) none = absurd (cc)
+has_one-take (suc n) (false ∷ bits) none = has_one-take n bits none
+
+pub has_one-far : (n v : ℕ) (bits rest : List Bool) → n ≤ v → bits ≡ fs v ++ rest → has_one (take n bits) ≡ false
+has_one-far n v bits rest far stands =
+    ap (λ l. has_one (take n l)) (stands ∙ append_assoc (replicate v false) (true ∷ []) rest)
+    ∙ ap has_one (take-append-le n (replicate v false) (true ∷ rest) (omega (arith, length-replicate v false)) ∙ take-replicate n v false far)
+    ∙ has_one-zeros n

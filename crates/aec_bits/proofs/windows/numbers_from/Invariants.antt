@@ -1,0 +1,12 @@
+use Rattle.std.proofs.Common.{◌≡◌, ◌+◌, ◌-◌, ◌*◌, ◌^◌, take, drop}
+use Rattle.aec_params.specs.Codewords.{binary}
+use Rattle.aec_bits.specs.Windows.{IsWindow, StandsBefore}
+use Rattle.aec_bits.proofs.windows.numbers_from.Given as goal
+
+abbrev pub invariant-loop-number : goal.invariant-loop-number
+invariant-loop-number l = record {
+  window : IsWindow l.buf.list l.window.word l.window.left l.window.end;
+  place : l.window.end - l.window.left ≡ l.start + l.width * l.number-index;
+  read : StandsBefore (binary l.width) (2 ^ l.width) (take l.number-index l.numbers)
+      (drop (l.window.end - l.window.left) l.buf.list) (drop l.start l.buf.list);
+}

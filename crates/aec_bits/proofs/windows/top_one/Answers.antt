@@ -1,0 +1,8 @@
+use Rattle.aec_bits.proofs.WindowLemmas.{top_place}
+use Rattle.aec_bits.proofs.windows.top_one.Goals as goal
+
+pub returns-clause-least : goal.returns-clause-least
+returns-clause-least c = (top_place c.args.word c.requires c.ranges.word.fits).0
+
+pub returns-clause-most : goal.returns-clause-most
+returns-clause-most c = (top_place c.args.word c.requires c.ranges.word.fits).1

@@ -1,0 +1,21 @@
+-- The next bits of a list as a number, and the numbers that are read from it.
+use Rattle.std.specs.Prelude.{ℕ, ◌≡◌, ◌-◌, ◌≤◌, Bool, false, List, ◌++◌, length, take, drop, replicate}
+use Rattle.std.specs.List.{flat_map}
+use Rattle.aec_params.specs.Codewords.{binary}
+use Rattle.aec_bits.specs.BitReader.{AreBelow}
+
+-- so many bits from a place on, 64 at most; zeros stand past the end of the list
+unfoldable pub bits_from : ℕ → ℕ → List Bool → List Bool
+bits_from place n list = take n (drop place list ++ replicate 64 false)
+
+-- whether the lowest bits of a word, as many as are left of it, are those of a list before a place
+pub record IsWindow (list : List Bool) (word left end : ℕ) : Type 0 where
+  pub size : left ≤ 64
+  pub order : left ≤ end
+  pub within : end - left ≤ length list
+  pub same : binary left word ≡ bits_from (end - left) left list
+
+-- numbers below a limit, whose codewords begin the bits, with the bits behind them
+pub record StandsBefore (codeword : ℕ → List Bool) (limit : ℕ) (numbers : List ℕ) (rest bits : List Bool) : Type 0 where
+  pub stands : bits ≡ flat_map codeword numbers ++ rest
+  pub below : AreBelow limit numbers

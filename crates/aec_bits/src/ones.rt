@@ -1,0 +1,89 @@
+//! The place behind so many ones, found by words.
+
+ghost use Rattle.std.specs.Prelude.{◌≡◌, ◌+◌, ◌*◌, ◌<◌, ◌≤◌, ◌^◌, Some, length, drop, count_ones, IfSome};
+ghost use Rattle.aec_params.specs.Codewords.{binary};
+ghost use Rattle.aec_bits.specs.BitReader.{further, behind_ones};
+ghost use Rattle.aec_bits.specs.WordBits.{word_bits};
+
+use crate::bit_buf::BitBuf;
+
+/// Bits, as a number, in which the `nth` one is looked for, and how many places of the word stand before them.
+#[derive(Clone, Copy)]
+struct Stretch {
+    bits: u64,
+    nth: u32,
+    before: u32,
+}
+
+/// The half of a stretch, of `width` bits, in which the one is.
+#[inline(always)]
+fn half_with_one(stretch: Stretch, width: u32) -> Stretch
+    requires width { width ≤ 32 }
+    requires fits { stretch.bits < 2 ^ (2 * width) }
+    requires some { 0 < stretch.nth }
+    requires there { stretch.nth ≤ count_ones stretch.bits }
+    requires place { stretch.before + 2 * width ≤ 64 }
+    ensures fits { result.bits < 2 ^ width }
+    ensures some { 0 < result.nth }
+    ensures there { result.nth ≤ count_ones result.bits }
+    ensures place { result.before + width ≤ 64 }
+    ensures same { further stretch.before (behind_ones stretch.nth (binary (2 * width) stretch.bits))
+        ≡ further result.before (behind_ones result.nth (binary width result.bits)) }
+{
+    let high = stretch.bits >> width;
+    let ones = high.count_ones();
+    if stretch.nth <= ones {
+        return Stretch {
+            bits: high,
+            ..stretch
+        };
+    }
+    Stretch {
+        bits: stretch.bits % (1 << width),
+        nth: stretch.nth - ones,
+        before: stretch.before + width,
+    }
+}
+
+/// The place behind the `nth` one of a word.
+#[inline(always)]
+fn behind_in_word(word: u64, nth: u32) -> u32
+    requires some { 0 < nth }
+    requires there { nth ≤ count_ones word }
+    ensures place { Some result ≡ behind_ones nth (word_bits word) }
+    ensures small { result ≤ 64 }
+{
+    let whole = Stretch {
+        bits: word,
+        nth,
+        before: 0,
+    };
+    let of_32 = half_with_one(whole, 32);
+    let of_16 = half_with_one(of_32, 16);
+    let of_8 = half_with_one(of_16, 8);
+    let of_4 = half_with_one(of_8, 4);
+    let of_2 = half_with_one(of_4, 2);
+    half_with_one(of_2, 1).before + 1
+}
+
+/// How many bits from place `start` on end with the `count`-th one; `None` where fewer ones follow.
+pub(crate) fn ones_end(buf: &BitBuf, start: u64, count: u64) -> Option<u64>
+    requires within { start ≤ length buf.now.list }
+    requires some { 0 < count }
+    ensures place { result ≡ behind_ones count (drop start buf.now.list) }
+    ensures within { IfSome result (λ gone. start + gone ≤ length buf.now.list) }
+    ensures bound { length buf.now.list ≤ 2 ^ 62 }
+{
+    let mut place = start;
+    let mut left = count;
+    while place < buf.len() {
+        let word = buf.word_from(place);
+        let ones = u64::from(word.count_ones());
+        if left <= ones {
+            return Some(place - start + u64::from(behind_in_word(word, left as u32)));
+        }
+        left -= ones;
+        place += 64;
+    }
+    None
+}

@@ -1,0 +1,240 @@
+//! Several codewords read at once: across words, at the end of the list, and past it.
+
+ghost use Rattle.std.specs.Prelude.{◌≤◌};
+
+use crate::tests::bits::bits_in;
+use crate::{BitBuf, BitReader};
+use aec_params::Fault;
+use std::alloc::Global;
+use std::test::Fail;
+
+/// Zeros, as many bits as the least places of a word.
+fn zeros(alloc: Global, count: u32) -> Result<BitBuf, Fault> {
+    let mut buf = BitBuf::new(alloc);
+    buf.push_bits(0, count.min(64))?;
+    Ok(buf)
+}
+
+/// The fundamental sequences of numbers, `before` bits behind the start.
+fn sequences(alloc: Global, before: u32, numbers: &[u32]) -> Result<BitBuf, Fault> {
+    let mut buf = zeros(alloc, before)?;
+    for number in numbers {
+        buf.push_fs(u64::from(*number))?;
+    }
+    Ok(buf)
+}
+
+/// A reader at a place, or at the start where the list is shorter.
+fn reader_at(buf: &BitBuf, place: u64) -> BitReader<'_> {
+    let mut reader = BitReader::new(buf);
+    if place <= buf.len() {
+        reader.seek(place);
+    }
+    reader
+}
+
+/// The next sequences: the clauses of literal lists stay out of the tests' proofs.
+fn read_sequences(reader: &mut BitReader, numbers: &mut [u32]) -> bool {
+    reader.read_sequences(numbers)
+}
+
+/// The same for numbers.
+fn read_numbers(reader: &mut BitReader, width: u32, numbers: &mut [u32]) -> Result<(), Fault>
+    requires { width ≤ 32 }
+{
+    reader.read_numbers(width, numbers)
+}
+
+#[test]
+fn reads_sequences_by_hand(rt: HostRuntime) -> Result<(), Fail> {
+    // 1 01 001 0001, and six zeros
+    let buf = bits_in(rt.alloc(), &[0xA4, 0x40])?;
+    let mut reader = BitReader::new(&buf);
+    let mut four = [9u32; 4];
+    assert!(rt; read_sequences(&mut reader, &mut four));
+    assert_eq!(rt; four.as_slice(), [0, 1, 2, 3].as_slice());
+    assert_eq!(rt; reader.pos(), 10);
+    let mut none = [0u32; 0];
+    assert!(rt; read_sequences(&mut reader, &mut none));
+    assert_eq!(rt; reader.pos(), 10);
+    let mut one = [9u32; 1];
+    assert!(rt; !read_sequences(&mut reader, &mut one));
+    assert_eq!(rt; reader.pos(), 10);
+    let mut five = [9u32; 5];
+    reader = reader_at(&buf, 0);
+    assert!(rt; !read_sequences(&mut reader, &mut five));
+    assert_eq!(rt; reader.pos(), 0);
+    reader = reader_at(&buf, 16);
+    assert!(rt; !read_sequences(&mut reader, &mut one));
+    assert!(rt; read_sequences(&mut reader, &mut none));
+    assert_eq!(rt; reader.pos(), 16);
+    Ok(())
+}
+
+#[test]
+fn reads_sequences_across_words(rt: HostRuntime) -> Result<(), Fail> {
+    let numbers = [3u32, 0, 63, 0, 0, 62, 1, 61, 63, 63, 2, 0];
+    for before in 0..65 {
+        let buf = sequences(rt.alloc(), before, &numbers)?;
+        let mut reader = reader_at(&buf, u64::from(before));
+        let mut found = [9u32; 12];
+        assert!(rt; read_sequences(&mut reader, &mut found), "{before}");
+        assert_eq!(rt; found.as_slice(), numbers.as_slice(), "{before}");
+        assert_eq!(rt; reader.pos(), buf.len(), "{before}");
+        assert!(rt; !read_sequences(&mut reader, &mut found), "{before}");
+    }
+    Ok(())
+}
+
+#[test]
+fn leaves_long_sequences_to_the_other_call(rt: HostRuntime) -> Result<(), Fail> {
+    for before in 0..65 {
+        let buf = sequences(rt.alloc(), before, &[5, 64, 7])?;
+        let mut reader = reader_at(&buf, u64::from(before));
+        let mut three = [9u32; 3];
+        assert!(rt; !read_sequences(&mut reader, &mut three), "{before}");
+        assert_eq!(rt; reader.pos(), u64::from(before));
+        assert_eq!(rt; reader.read_fs(), Ok(5));
+        let mut one = [9u32; 1];
+        assert!(rt; !read_sequences(&mut reader, &mut one), "{before}");
+        assert_eq!(rt; reader.read_fs(), Ok(64));
+        assert!(rt; read_sequences(&mut reader, &mut one), "{before}");
+        assert_eq!(rt; one.as_slice(), [7].as_slice());
+        assert_eq!(rt; reader.pos(), buf.len());
+    }
+    Ok(())
+}
+
+#[test]
+fn reads_many_sequences(rt: HostRuntime) -> Result<(), Fail> {
+    let mut buf = BitBuf::new(rt.alloc());
+    for i in 0..250000u32 {
+        buf.push_fs(u64::from(i % 9))?;
+    }
+    assert!(rt; buf.len() > 1 << 20);
+    let mut reader = BitReader::new(&buf);
+    let mut ten = [0u32; 10];
+    for i in 0..25000u32 {
+        assert!(rt; read_sequences(&mut reader, &mut ten));
+        for (k, number) in ten.iter().enumerate() {
+            assert_eq!(rt; *number, (10 * i + k as u32) % 9);
+        }
+    }
+    assert!(rt; !read_sequences(&mut reader, &mut ten));
+    assert_eq!(rt; reader.pos(), buf.len());
+    Ok(())
+}
+
+#[test]
+fn reads_numbers_by_hand(rt: HostRuntime) -> Result<(), Fail> {
+    let buf = bits_in(rt.alloc(), &[0x12, 0x34, 0x56, 0x78, 0x9A])?;
+    let mut reader = BitReader::new(&buf);
+    let mut ten = [9u32; 10];
+    assert_eq!(rt; read_numbers(&mut reader, 4, &mut ten), Ok(()));
+    assert_eq!(rt; ten.as_slice(), [1, 2, 3, 4, 5, 6, 7, 8, 9, 10].as_slice());
+    assert_eq!(rt; reader.pos(), 40);
+    let mut one = [9u32; 1];
+    assert_eq!(rt;
+        read_numbers(&mut reader, 1, &mut one),
+        Err(Fault::Truncated { bit: 40 })
+    );
+    assert_eq!(rt; read_numbers(&mut reader, 0, &mut ten), Ok(()));
+    assert_eq!(rt; ten.as_slice(), [0; 10].as_slice());
+    assert_eq!(rt; reader.pos(), 40);
+    Ok(())
+}
+
+#[test]
+fn reads_numbers_from_within_a_byte(rt: HostRuntime) -> Result<(), Fail> {
+    let buf = bits_in(rt.alloc(), &[0x12, 0x34, 0x56, 0x78, 0x9A])?;
+    let mut reader = reader_at(&buf, 4);
+    // 0010 0011 0100 0101 0110 0111 1000 1001 1010 by nine bits
+    let mut four = [9u32; 4];
+    assert_eq!(rt; read_numbers(&mut reader, 9, &mut four), Ok(()));
+    assert_eq!(rt;
+        four.as_slice(),
+        [0b001000110, 0b100010101, 0b100111100, 0b010011010].as_slice()
+    );
+    assert_eq!(rt; reader.pos(), 40);
+    reader = reader_at(&buf, 5);
+    assert_eq!(rt;
+        read_numbers(&mut reader, 9, &mut four),
+        Err(Fault::Truncated { bit: 5 })
+    );
+    assert_eq!(rt; reader.pos(), 5);
+    let mut one = [9u32; 1];
+    assert_eq!(rt; read_numbers(&mut reader, 32, &mut one), Ok(()));
+    // 010 0011 0100 0101 0110 0111 1000 1001 1
+    assert_eq!(rt;
+        one.as_slice(),
+        [0b01000110100010101100111100010011].as_slice()
+    );
+    assert_eq!(rt; reader.pos(), 37);
+    assert_eq!(rt;
+        read_numbers(&mut reader, 32, &mut one),
+        Err(Fault::Truncated { bit: 37 })
+    );
+    Ok(())
+}
+
+/// Nine numbers by turns: all ones, and every second bit a one.
+fn number_at(i: u32) -> u32 {
+    if i % 2 == 0 { u32::MAX } else { 0x55555555 }
+}
+
+/// The lowest bits of nine such numbers, one by one, some bits behind the start.
+fn nine_numbers(alloc: Global, before: u32, width: u32) -> Result<BitBuf, Fault> {
+    let mut buf = zeros(alloc, before)?;
+    for i in 0..9u32 {
+        for k in 0..width.min(32) {
+            let behind = width.min(32) - 1 - k;
+            buf.push_bits(u64::from(number_at(i) >> behind & 1 == 1), 1)?;
+        }
+    }
+    Ok(buf)
+}
+
+#[test]
+fn reads_numbers_across_words(rt: HostRuntime) -> Result<(), Fail> {
+    for width in 1..33u32 {
+        for before in 0..65u32 {
+            let buf = nine_numbers(rt.alloc(), before, width)?;
+            let mut reader = reader_at(&buf, u64::from(before));
+            let mut nine = [9u32; 9];
+            assert_eq!(rt;
+                read_numbers(&mut reader, width, &mut nine),
+                Ok(()),
+                "{width} {before}"
+            );
+            for i in 0..9u32 {
+                let want = number_at(i) << (32 - width) >> (32 - width);
+                assert_eq!(rt; nine[i as usize], want, "{width} {before} {i}");
+            }
+            assert_eq!(rt; reader.pos(), buf.len());
+        }
+    }
+    Ok(())
+}
+
+#[test]
+fn reads_many_numbers(rt: HostRuntime) -> Result<(), Fail> {
+    let mut buf = BitBuf::new(rt.alloc());
+    for i in 0..80000u32 {
+        buf.push_bits(u64::from(i), 17)?;
+    }
+    assert!(rt; buf.len() > 1 << 20);
+    let mut reader = BitReader::new(&buf);
+    let mut ten = [0u32; 10];
+    for i in 0..8000u32 {
+        assert_eq!(rt; read_numbers(&mut reader, 17, &mut ten), Ok(()));
+        for (k, number) in ten.iter().enumerate() {
+            assert_eq!(rt; *number, 10 * i + k as u32);
+        }
+    }
+    assert_eq!(rt;
+        read_numbers(&mut reader, 17, &mut ten),
+        Err(Fault::Truncated { bit: 1360000 })
+    );
+    assert_eq!(rt; reader.pos(), 1360000);
+    Ok(())
+}

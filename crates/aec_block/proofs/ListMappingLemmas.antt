@@ -1,0 +1,236 @@
+-- Lists of samples mapped one behind the other, and samples taken back from lists of values.
+use Rattle.std.proofs.Common.{◌≡◌, ℕ, zero, suc, Bool, if◌then◌else◌, ◌+◌, ◌-◌, ◌<◌, ◌≤◌, ◌^◌, Option, Some, true, false, ℤ, pos, List, [], ◌∷◌, ◌++◌, length, map, take, drop, get_or, slice_set, unwrap_or, refl, sym, ap, ap₂, ◌∙◌, subst, append_assoc, append-nil, drop-cons, arith, w64, FitsSigned}
+use Rattle.std.proofs.lemmas.List.{take_more, take_more_set, take_all, drop_all, drop-set-lt, length-set, map-append}
+use Rattle.std.proofs.lemmas.Int.{ints, fits_signed_from_abs}
+use Rattle.std.specs.Prelude.{◌+ℤ◌, ◌-ℤ◌, ◌≤ℤ◌, neg_ℤ, unsigned_abs}
+use Rattle.std.specs.List.{AllByRecursion, last_or}
+use Rattle.aec_params.specs.declared.settings.Settings.{Settings}
+use Rattle.aec_params.specs.Params.{IsAllowed, IsHeld, x_min, sample_pattern}
+use Rattle.aec_params.specs.Mapping.{mapped_value, mapped_after}
+use Rattle.aec_params.proofs.ParamsLemmas.{pow-halves, bits-least, values-most}
+use Rattle.aec_params.proofs.ListLaws.{all-append}
+use Rattle.aec_block.specs.Offsets.{sample_offset, top_offset, mapped_offset, mapped_offsets}
+use Rattle.aec_block.specs.Unmapping.{Unmaps, UnmapsTo}
+use Rattle.aec_block.proofs.MappingLemmas.{mapped_value-offsets, mapped_value-pattern, sample_offset-le, held-offset, held-between, values-some}
+
+pub last_or-append : {X : Type 0} (o : Option X) (xs ys : List X) → last_or o (xs ++ ys) ≡ last_or (last_or o xs) ys
+last_or-append o [] ys = refl
+last_or-append o (x ∷ xs) ys = last_or-append (Some x) xs ys
+
+some-last_or : (p : ℤ) (xs : List ℤ) → Some (unwrap_or (last_or (Some p) xs) (pos 0)) ≡ last_or (Some p) xs
+some-last_or p [] = refl
+some-last_or p (x ∷ xs) = some-last_or x xs
+
+pub mapped_after-append : (s : Settings) (p : ℤ) (xs ys : List ℤ) → mapped_after s p (xs ++ ys) ≡ mapped_after s p xs ++ mapped_after s (unwrap_or (last_or (Some p) xs) (pos 0)) ys
+mapped_after-append s p [] ys = refl
+mapped_after-append s p (x ∷ xs) ys = ap (λ values. mapped_value s p x ∷ values) (mapped_after-append s x xs ys)
+
+pub length-mapped_after : (s : Settings) (p : ℤ) (xs : List ℤ) → length (mapped_after s p xs) ≡ length xs
+length-mapped_after s p [] = refl
+length-mapped_after s p (x ∷ xs) = omega (arith, length-mapped_after s x xs)
+
+-- without preprocessing all values are patterns
+pub mapped_after-patterns : (s : Settings) (p : ℤ) (xs : List ℤ) → s.preprocess ≡ false → mapped_after s p xs ≡ map (sample_pattern s) xs
+mapped_after-patterns s p [] off = refl
+mapped_after-patterns s p (x ∷ xs) off = ap₂ (λ v vs. v ∷ vs) (mapped_value-pattern s p x off) (mapped_after-patterns s x xs off)
+
+-- ---- values of samples
+
+-- ---- the sample at an offset
+
+sample_offset-at : (lo : ℤ) (k : ℕ) → unsigned_abs ((lo +ℤ pos k) -ℤ lo) ≡ k
+sample_offset-at lo k = omega (arith, ints)
+
+-- samples fit 64 bits
+least-fits : (signed : Bool) (h t k : ℕ) → t ≡ h + h → t ≤ 2 ^ 32 → k < 2 ^ 32 → FitsSigned w64 ((if signed then neg_ℤ (pos h) else pos 0) +ℤ pos k)
+least-fits false h t k halves most small = fits_signed_from_abs w64 (pos 0 +ℤ pos k) (omega (arith, ints))
+least-fits true h t k halves most small = fits_signed_from_abs w64 (neg_ℤ (pos h) +ℤ pos k) (omega (arith, ints))
+
+pub sample_at-fits : (s : Settings) (least above : ℤ) (k : ℕ) → IsAllowed s → least ≡ x_min s → above ≡ pos k → k < 2 ^ 32 → FitsSigned w64 (least +ℤ above)
+sample_at-fits s least above k allowed at_least at_above small =
+    subst (λ (x : ℤ). FitsSigned w64 x) (sym (ap₂ ◌+ℤ◌ at_least at_above))
+    (least-fits s.signed (2 ^ (s.bits - 1)) (2 ^ s.bits) k (pow-halves s.bits (bits-least s allowed)) (values-most s allowed) small)
+
+-- what is coded for an offset at an offset, as samples
+mapped_value-at : (s : Settings) (q k : ℕ) → IsAllowed s → s.preprocess ≡ true → q ≤ top_offset s → k ≤ top_offset s
+    → mapped_value s (x_min s +ℤ pos q) (x_min s +ℤ pos k) ≡ mapped_offset (top_offset s) q k
+mapped_value-at s q k allowed on q_within k_within =
+    mapped_value-offsets s (x_min s +ℤ pos q) (x_min s +ℤ pos k) allowed on (held-offset s (x_min s +ℤ pos q) q allowed q_within refl)
+    (held-offset s (x_min s +ℤ pos k) k allowed k_within refl)
+    ∙ ap₂ (mapped_offset (top_offset s)) (sample_offset-at (x_min s) q) (sample_offset-at (x_min s) k)
+
+-- how far a sample lies above the least one, as numbers that the machine keeps
+pub offset-held : (s : Settings) (x kept least : ℤ) → IsAllowed s → IsHeld s x → kept ≡ x → least ≡ x_min s
+    → (least ≤ℤ kept) × (unsigned_abs (kept -ℤ least) < 2 ^ 32) × (unsigned_abs (kept -ℤ least) ≡ sample_offset s x)
+offset-held s x kept least allowed is_held e least_is =
+    (above, omega (arith, same, within, values-most s allowed, values-some s), same ∙ ap (sample_offset s) e)
+  where
+    held : IsHeld s kept
+    held = subst (λ (y : ℤ). IsHeld s y) (sym e) is_held
+
+    above : least ≤ℤ kept
+    above = subst (λ (y : ℤ). y ≤ℤ kept) (sym least_is) (held-between s kept held).0
+
+    same : unsigned_abs (kept -ℤ least) ≡ sample_offset s kept
+    same = ap (λ (y : ℤ). unsigned_abs (kept -ℤ y)) least_is
+
+    within : sample_offset s kept ≤ top_offset s
+    within = sample_offset-le s kept allowed held
+
+pub held-at : (s : Settings) (xs : List ℤ) (i : ℕ) → i < length xs → AllByRecursion (IsHeld s) xs → IsHeld s (get_or xs i (pos 0))
+held-at s [] i within held = absurd (omega arith)
+held-at s (x ∷ xs) zero within held = held.0
+held-at s (x ∷ xs) (suc i) within held = held-at s xs i (omega arith) held.1
+
+-- one sample more in a loop that puts offsets
+pub offsets-more : (s : Settings) (xs : List ℤ) (i : ℕ) (values : List ℕ) (k : ℕ) → i < length xs → k ≡ sample_offset s (get_or xs i (pos 0))
+    → (take i values ≡ map (sample_offset s) (take i xs)) × (length xs ≡ length values)
+    → (take (i + 1) (slice_set values i k) ≡ map (sample_offset s) (take (i + 1) xs)) × (length xs ≡ length (slice_set values i k))
+offsets-more s xs i values k within at_k so_far = (
+  take_more_set values i k (omega (arith, so_far.1)) ∙ ap₂ (λ vs v. vs ++ v ∷ []) so_far.0 at_k
+      ∙ sym (ap (map (sample_offset s)) (take_more xs i (pos 0) within) ∙ map-append (sample_offset s) (take i xs) (get_or xs i (pos 0) ∷ [])),
+  so_far.1 ∙ sym (length-set values i k),
+)
+
+-- offsets within the greatest, and what is coded for them
+pub offsets-within : (s : Settings) (top : ℕ) (xs : List ℤ) → IsAllowed s → top ≡ top_offset s → AllByRecursion (IsHeld s) xs
+    → AllByRecursion (λ x. x ≤ top) (map (sample_offset s) xs)
+offsets-within s top [] allowed at_top held = tt
+offsets-within s top (x ∷ xs) allowed at_top held =
+    (omega (arith, at_top, sample_offset-le s x allowed held.0), offsets-within s top xs allowed at_top held.1)
+
+pub mapped_after-offsets : (s : Settings) (p : ℤ) (xs : List ℤ) → IsAllowed s → s.preprocess ≡ true → IsHeld s p → AllByRecursion (IsHeld s) xs
+    → mapped_after s p xs ≡ mapped_offsets (top_offset s) (sample_offset s p) (map (sample_offset s) xs)
+mapped_after-offsets s p [] allowed on held_p held = refl
+mapped_after-offsets s p (x ∷ xs) allowed on held_p held =
+    ap₂ (λ v vs. v ∷ vs) (mapped_value-offsets s p x allowed on held_p held.0) (mapped_after-offsets s x xs allowed on held.0 held.1)
+
+-- ---- offsets mapped in their place
+
+-- so far: what is coded for the offsets up to i stands in their place, and p is the last of them
+pub record IsMappedSoFar (top previous p i : ℕ) (old new : List ℕ) : Type 0 where
+  pub behind : drop i new ≡ drop i old
+  pub whole : take i new ++ mapped_offsets top p (drop i old) ≡ mapped_offsets top previous old
+  pub within : p ≤ top
+  pub rest : AllByRecursion (λ x. x ≤ top) (drop i old)
+  pub len : length new ≡ length old
+
+pub is_mapped-none : (top p : ℕ) (values : List ℕ) → p ≤ top → AllByRecursion (λ x. x ≤ top) values → IsMappedSoFar top p p 0 values values
+is_mapped-none top p values within all = record { behind = refl; whole = refl; within = within; rest = all; len = refl }
+
+pub is_mapped-more : (top previous p i x m : ℕ) (old new : List ℕ) → i < length old → x ≡ get_or new i 0 → m ≡ mapped_offset top p x
+    → IsMappedSoFar top previous p i old new → (x ≤ top) × IsMappedSoFar top previous x (i + 1) old (slice_set new i m)
+is_mapped-more top previous p i x m old new within is_x is_m so_far = (
+  small,
+  record {
+    behind = drop-set-lt (i + 1) new i m (omega arith) ∙ behind_next;
+    whole = ap (λ l. l ++ mapped_offsets top x (drop (i + 1) old)) (take_more_set new i m (omega (arith, so_far.len)))
+        ∙ append_assoc (take i new) (m ∷ []) (mapped_offsets top x (drop (i + 1) old))
+        ∙ ap (λ v. take i new ++ (v ∷ mapped_offsets top x (drop (i + 1) old))) is_m
+        ∙ ap (λ l. take i new ++ mapped_offsets top p l) (sym cut) ∙ so_far.whole;
+    within = small;
+    rest = rest_cut.1;
+    len = length-set new i m ∙ so_far.len;
+  },
+)
+  where
+    next : i + 1 ≡ suc i
+    next = omega arith
+
+    cut_new : drop i new ≡ get_or new i 0 ∷ drop (i + 1) new
+    cut_new = rw next (drop-cons new i 0 (omega (arith, so_far.len)))
+
+    cut_old : drop i old ≡ get_or old i 0 ∷ drop (i + 1) old
+    cut_old = rw next (drop-cons old i 0 within)
+
+    both : get_or new i 0 ∷ drop (i + 1) new ≡ get_or old i 0 ∷ drop (i + 1) old
+    both = sym cut_new ∙ so_far.behind ∙ cut_old
+
+    behind_next : drop (i + 1) new ≡ drop (i + 1) old
+    behind_next = ap (drop 1) both
+
+    cut : drop i old ≡ x ∷ drop (i + 1) old
+    cut = cut_old ∙ ap (λ v. v ∷ drop (i + 1) old) (sym (is_x ∙ ap (λ l. get_or l 0 0) both))
+
+    rest_cut : AllByRecursion (λ v. v ≤ top) (x ∷ drop (i + 1) old)
+    rest_cut = subst (AllByRecursion (λ v. v ≤ top)) cut so_far.rest
+
+    small : x ≤ top
+    small = rest_cut.0
+
+pub is_mapped-all : (top previous p i : ℕ) (old new : List ℕ) → length old ≤ i → IsMappedSoFar top previous p i old new
+    → new ≡ mapped_offsets top previous old
+is_mapped-all top previous p i old new done so_far =
+    sym (append-nil new) ∙ ap₂ ◌++◌ (sym (take_all i new (omega (arith, so_far.len)))) (ap (mapped_offsets top p) (sym (drop_all i old done))) ∙ so_far.whole
+
+-- ---- samples of values
+
+pub unmaps-none : (s : Settings) (p : ℤ) (items : List ℤ) → Unmaps s p [] items items
+unmaps-none s p items = record { more = []; appended = sym (append-nil items); held = tt; mapped = refl }
+
+abbrev pub unmaps-more : (s : Settings) (p x : ℤ) (values : List ℕ) (v : ℕ) (old mid : List ℤ) (so_far : Unmaps s p values old mid) → IsHeld s x
+    → mapped_value s (unwrap_or (last_or (Some p) so_far.more) (pos 0)) x ≡ v → Unmaps s p (values ++ v ∷ []) old (mid ++ x ∷ [])
+unmaps-more s p x values v old mid so_far held mapped = record {
+  more = so_far.more ++ x ∷ [];
+  appended = ap (λ items. items ++ x ∷ []) so_far.appended ∙ append_assoc old so_far.more (x ∷ []);
+  held = all-append (IsHeld s) so_far.more (x ∷ []) so_far.held (held, tt);
+  mapped = mapped_after-append s p so_far.more (x ∷ []) ∙ ap₂ (λ vs v. vs ++ v ∷ []) so_far.mapped mapped;
+}
+
+pub unmaps_to-start : (s : Settings) (p : ℤ) (items : List ℤ) → UnmapsTo s p p [] items items
+unmaps_to-start s p items = record {
+  so_far = record { more = []; appended = sym (append-nil items); held = tt; mapped = refl };
+  last_is = refl;
+}
+
+-- values, and others from the last sample on
+abbrev pub unmaps_to-append : (s : Settings) (p q : ℤ) (values others : List ℕ) (old mid new : List ℤ) → UnmapsTo s p q values old mid → Unmaps s q others mid new
+    → Unmaps s p (values ++ others) old new
+unmaps_to-append s p q values others old mid new front rest = record {
+  more = front.so_far.more ++ rest.more;
+  appended = rest.appended ∙ (ap (λ items. items ++ rest.more) front.so_far.appended ∙ append_assoc old front.so_far.more rest.more);
+  held = all-append (IsHeld s) front.so_far.more rest.more front.so_far.held rest.held;
+  mapped = mapped_after-append s p front.so_far.more rest.more
+      ∙ ap₂ ◌++◌ front.so_far.mapped (ap (λ (x : ℤ). mapped_after s x rest.more) (sym front.last_is) ∙ rest.mapped);
+}
+
+pub unmaps_to-join : (s : Settings) (p q r : ℤ) (values others : List ℕ) (old mid new : List ℤ) → UnmapsTo s p q values old mid → UnmapsTo s q r others mid new
+    → UnmapsTo s p r (values ++ others) old new
+unmaps_to-join s p q r values others old mid new front rest = record {
+  so_far = unmaps_to-append s p q values others old mid new front rest.so_far;
+  last_is = rest.last_is ∙ (ap (λ (x : ℤ). unwrap_or (last_or (Some x) rest.so_far.more) (pos 0)) front.last_is ∙ joined);
+}
+  where
+    joined : unwrap_or (last_or (Some (unwrap_or (last_or (Some p) front.so_far.more) (pos 0))) rest.so_far.more) (pos 0)
+        ≡ unwrap_or (last_or (Some p) (front.so_far.more ++ rest.so_far.more)) (pos 0)
+    joined = ap (λ o. unwrap_or (last_or o rest.so_far.more) (pos 0)) (some-last_or p front.so_far.more)
+        ∙ ap (λ o. unwrap_or o (pos 0)) (sym (last_or-append (Some p) front.so_far.more rest.so_far.more))
+
+-- one value more in a loop over offsets: from the offset q to k
+pub unmaps_to-offset : (s : Settings) (p kept : ℤ) (values : List ℕ) (i top q k : ℕ) (old mid new : List ℤ) → IsAllowed s → s.preprocess ≡ true → top ≡ top_offset s
+    → q ≤ top → k ≤ top → i < length values → mapped_offset top q k ≡ get_or values i 0 → kept ≡ x_min s +ℤ pos k → new ≡ mid ++ kept ∷ []
+    → UnmapsTo s p (x_min s +ℤ pos q) (take i values) old mid → UnmapsTo s p (x_min s +ℤ pos k) (take (i + 1) values) old new
+unmaps_to-offset s p kept values i top q k old mid new allowed on at_top q_within k_within within mapped e pushed to =
+    subst (λ new. UnmapsTo s p (x_min s +ℤ pos k) (take (i + 1) values) old new) (sym (pushed ∙ ap (λ x. mid ++ x ∷ []) e))
+    (subst (λ values. UnmapsTo s p (x_min s +ℤ pos k) values old (mid ++ (x_min s +ℤ pos k) ∷ [])) (sym (take_more values i 0 within)) more)
+  where
+    value : mapped_value s (unwrap_or (last_or (Some p) to.so_far.more) (pos 0)) (x_min s +ℤ pos k) ≡ get_or values i 0
+    value = ap (λ (x : ℤ). mapped_value s x (x_min s +ℤ pos k)) (sym to.last_is)
+        ∙ (mapped_value-at s q k allowed on (omega arith) (omega arith) ∙ (ap (λ (t : ℕ). mapped_offset t q k) (sym at_top) ∙ mapped))
+
+    more : UnmapsTo s p (x_min s +ℤ pos k) (take i values ++ get_or values i 0 ∷ []) old (mid ++ (x_min s +ℤ pos k) ∷ [])
+    more = record {
+      so_far = unmaps-more s p (x_min s +ℤ pos k) (take i values) (get_or values i 0) old mid to.so_far
+          (held-offset s (x_min s +ℤ pos k) k allowed (omega arith) refl) value;
+      last_is = ap (λ o. unwrap_or o (pos 0)) (sym (last_or-append (Some p) to.so_far.more ((x_min s +ℤ pos k) ∷ [])));
+    }
+
+-- one pattern more, whatever it is predicted from
+pub unmaps-pattern : (s : Settings) (kept x : ℤ) (values : List ℕ) (i : ℕ) (old mid new : List ℤ) → s.preprocess ≡ false → i < length values → kept ≡ x → IsHeld s x
+    → sample_pattern s x ≡ get_or values i 0 → new ≡ mid ++ kept ∷ [] → ((p : ℤ) → Unmaps s p (take i values) old mid)
+    → (p : ℤ) → Unmaps s p (take (i + 1) values) old new
+unmaps-pattern s kept x values i old mid new off within e held pattern pushed so_far p =
+    subst (λ new. Unmaps s p (take (i + 1) values) old new) (sym (pushed ∙ ap (λ y. mid ++ y ∷ []) e))
+    (subst (λ values. Unmaps s p values old (mid ++ x ∷ [])) (sym (take_more values i 0 within))
+    (unmaps-more s p x (take i values) (get_or values i 0) old mid (so_far p) held
+    (mapped_value-pattern s (unwrap_or (last_or (Some p) (so_far p).more) (pos 0)) x off ∙ pattern)))

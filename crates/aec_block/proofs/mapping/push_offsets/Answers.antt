@@ -1,0 +1,27 @@
+use Rattle.std.proofs.Common.{◌≡◌, ◌-◌, ◌++◌, ℤ, ℕ, List, pos, length, take, drop, subst, sym, ap, ◌∙◌, w64}
+use Rattle.std.proofs.lemmas.Int.{to_z-of_z}
+use Rattle.std.proofs.lemmas.List.{take_rest, take-append-drop}
+use Rattle.std.specs.Prelude.{◌+ℤ◌}
+use Rattle.aec_params.specs.Params.{x_min}
+use Rattle.aec_block.specs.Offsets.{sample_offset}
+use Rattle.aec_block.specs.Unmapping.{Unmaps}
+use Rattle.aec_block.proofs.ListMappingLemmas.{unmaps_to-append}
+use Rattle.aec_block.proofs.MappingLemmas.{sample-offset}
+use Rattle.aec_block.proofs.mapping.push_offsets.Goals as goal
+
+pub returns-clause-items : goal.returns-clause-items
+returns-clause-items c =
+    let s = c.args.params.now in
+    let values = c.args.values.now in
+    let done = c.push_near_fours-offset.result.1 in
+    let old = c.args.samples.now.items in
+    let new = c.push_each.new.samples.items in
+    let at_first : c.offset_of-first.result ≡ sample_offset s c.args.previous =
+    c.offset_of-first.ensures.value ∙ ap (sample_offset s) (to_z-of_z w64 c.args.previous c.ranges.previous) in
+    let previous_is : x_min s +ℤ pos c.offset_of-first.result ≡ c.args.previous =
+    ap (λ (k : ℕ). x_min s +ℤ pos k) at_first ∙ sym (sample-offset s c.args.previous c.requires.prediction) in
+    let whole : take done values ++ take (length values - done) (drop done values) ≡ values =
+    ap (λ (vs : List ℕ). take done values ++ vs) (take_rest values done) ∙ take-append-drop done values in
+    subst (λ (p : ℤ). Unmaps s p values old new) previous_is
+    (subst (λ (vs : List ℕ). Unmaps s (x_min s +ℤ pos c.offset_of-first.result) vs old new) whole
+    (unmaps_to-append s _ _ _ _ _ _ _ c.push_near_fours-offset.ensures.items c.push_each.ensures.items))

@@ -1,0 +1,113 @@
+//! Bits that are gathered in a word, so that a list of bits grows by many at once.
+
+use aec_bits::BitBuf;
+use std::marker::Model;
+
+/// Up to 64 bits that are still to be appended to a list. Contracts see these bits.
+#[derive(Drop)]
+pub(crate) struct Gathered {
+    word: u64,
+    used: u32,
+}
+
+impl Model for Gathered {
+    ghost use Rattle.std.specs.Prelude.{◌≤◌, ◌<◌, ◌^◌, List, Bool};
+    ghost use Rattle.aec_params.specs.Codewords.{binary};
+
+    ghost Value = { List Bool };
+
+    ghost view = { λ g. binary g.used g.word };
+
+    ghost invariant = { λ g. (g.used ≤ 64) × (g.word < 2 ^ g.used) };
+}
+
+#[tactic(auto, using(crate::proofs::GatheredLemmas::gathered_bits))]
+impl Gathered {
+    ghost use Rattle.std.specs.Prelude.{◌≡◌, ◌+◌, ◌<◌, ◌≤◌, ◌^◌, ◌++◌, [], length, nat_le};
+    ghost use Rattle.aec_params.specs.Codewords.{fs, binary};
+
+    /// No bits.
+    #[inline(always)]
+    pub(crate) fn new() -> Gathered
+        ensures { result ≡ [] }
+    {
+        Gathered { word: 0, used: 0 }
+    }
+
+    /// The bits of a number.
+    #[inline(always)]
+    pub(crate) fn of_number(value: u64, width: u32) -> Gathered
+        requires width { width ≤ 64 }
+        requires fits { value < 2 ^ width }
+        ensures { result ≡ binary width value }
+    {
+        Gathered {
+            word: value,
+            used: width,
+        }
+    }
+
+    /// Whether the word has a place for so many bits more.
+    #[inline(always)]
+    fn has_place_for(&self, width: u32) -> bool
+        ensures { result ≡ nat_le (length self.now + width) 64 }
+    {
+        width <= 64 - self.used
+    }
+
+    /// These bits and those of a number, for which the word has a place.
+    #[inline(always)]
+    fn joined(self, value: u64, width: u32) -> Gathered
+        requires width { width < 64 }
+        requires fits { value < 2 ^ width }
+        requires place { length self + width ≤ 64 }
+        ensures { result ≡ self ++ binary width value }
+    {
+        Gathered {
+            word: (self.word << width) + value,
+            used: self.used + width,
+        }
+    }
+
+    /// Appends these bits, for which there is room.
+    #[inline(always)]
+    pub(crate) fn append_to(self, out: &mut BitBuf)
+        requires room { length self ≤ out.old.room }
+        ensures list { out.new.list ≡ out.old.list ++ self }
+        ensures room { out.old.room ≤ out.new.room + length self }
+    {
+        out.push_bits(self.word, self.used).unwrap();
+    }
+
+    /// Gathers the bits of a number too. Where the word has no place for them, those before are appended to the list,
+    /// which has room for all.
+    #[inline(always)]
+    pub(crate) fn put(self, value: u64, width: u32, out: &mut BitBuf) -> Gathered
+        requires width { width < 64 }
+        requires fits { value < 2 ^ width }
+        requires room { length self + width ≤ out.old.room }
+        ensures list { out.new.list ++ result ≡ out.old.list ++ (self ++ binary width value) }
+        ensures room { out.old.room + length result ≤ out.new.room + (length self + width) }
+    {
+        if self.has_place_for(width) {
+            return self.joined(value, width);
+        }
+        self.append_to(out);
+        Gathered::of_number(value, width)
+    }
+
+    /// The same for `v` zeros and a one. Many zeros are appended at once.
+    #[inline(always)]
+    pub(crate) fn put_fs(self, v: u64, out: &mut BitBuf) -> Gathered
+        requires room { length self + (v + 1) ≤ out.old.room }
+        ensures list { out.new.list ++ result ≡ out.old.list ++ (self ++ fs v) }
+        ensures room { out.old.room + length result ≤ out.new.room + (length self + (v + 1)) }
+    {
+        if v < 63 {
+            return self.put(1, v as u32 + 1, out);
+        }
+        self.append_to(out);
+        out.push_fs(v).unwrap();
+        Gathered::new()
+    }
+}

@@ -1,0 +1,100 @@
+//! Fills a block with what is coded for samples, whatever stood in it before.
+
+ghost use Rattle.std.specs.Prelude.{◌≡◌, ◌+◌, ◌≤◌, [], ◌++◌, true, length, map as list_map};
+ghost use Rattle.std.specs.List.{AllByRecursion};
+ghost use Rattle.aec_params.specs.Params.{IsHeld, sample_pattern};
+ghost use Rattle.aec_params.specs.Mapping.{mapped_after};
+ghost use Rattle.aec_params.specs.Places.{placed_values, block_of_values};
+ghost use Rattle.aec_block.specs.Offsets.{sample_offset, mapped_offsets};
+ghost use Rattle.aec_block.specs.BlockShape.{most_values};
+
+use crate::block::{Block, places_before};
+use crate::mapping::{greatest_offset, map_offset, offset_above, offset_of};
+use aec_params::Params;
+
+/// Puts how far samples lie above the least one into `values`.
+fn put_offsets(params: &Params, samples: &[i64], values: &mut [u32])
+    requires held { AllByRecursion (IsHeld params.now) samples.now }
+    requires len { length samples.now ≡ length values.old }
+    ensures { values.new ≡ list_map (sample_offset params.now) samples.now }
+{
+    let least = params.x_min();
+    for i in 0..samples.len() {
+        values[i] = offset_above(least, samples[i]);
+    }
+}
+
+/// Puts what is coded for offsets in their place, each at the one before it, which is `previous` for the first.
+fn map_offsets(top: u32, previous: u32, values: &mut [u32])
+    requires prediction { previous ≤ top }
+    requires offsets { AllByRecursion (λ x. x ≤ top) values.old }
+    ensures { values.new ≡ mapped_offsets top previous values.old }
+{
+    let mut p = previous;
+    for i in 0..values.len() {
+        let x = values[i];
+        values[i] = map_offset(top, p, x);
+        p = x;
+    }
+}
+
+/// Puts what is coded for samples at their predictions, which are the samples before them, into `values`. In two
+/// loops, each of which the compiler can take several values at a time.
+fn map_predicted(params: &Params, previous: i64, samples: &[i64], values: &mut [u32])
+    requires on { params.now.preprocess ≡ true }
+    requires prediction { IsHeld params.now previous }
+    requires held { AllByRecursion (IsHeld params.now) samples.now }
+    requires len { length samples.now ≡ length values.old }
+    ensures { values.new ≡ mapped_after params.now previous samples.now }
+{
+    let top = greatest_offset(params);
+    let p = offset_of(params, previous);
+    put_offsets(params, samples, values);
+    map_offsets(top, p, values);
+}
+
+/// Puts the patterns of samples into `values`.
+fn put_patterns(params: &Params, samples: &[i64], values: &mut [u32])
+    requires held { AllByRecursion (IsHeld params.now) samples.now }
+    requires len { length samples.now ≡ length values.old }
+    ensures { values.new ≡ list_map (sample_pattern params.now) samples.now }
+{
+    for i in 0..samples.len() {
+        values[i] = params.pattern(samples[i]);
+    }
+}
+
+/// Puts what is coded for samples into `values`, each predicted from the one before it, the first from `previous`.
+fn map_list(params: &Params, previous: i64, samples: &[i64], values: &mut [u32])
+    requires prediction { IsHeld params.now previous }
+    requires held { AllByRecursion (IsHeld params.now) samples.now }
+    requires len { length samples.now ≡ length values.old }
+    ensures { values.new ≡ mapped_after params.now previous samples.now }
+{
+    if params.preprocess() {
+        map_predicted(params, previous, samples, values);
+    } else {
+        put_patterns(params, samples, values);
+    }
+}
+
+/// Makes the block that of a reference, where there is one, and of what is coded for samples behind the reference place, whatever
+/// stood in it before. Each sample is predicted from the one before it, the first from `previous`. Without preprocessing their
+/// patterns are coded, and `previous` has no effect. Takes no memory.
+pub fn map_into(
+    params: &Params,
+    reference: Option<u32>,
+    previous: i64,
+    samples: &[i64],
+    block: &mut Block,
+)
+    requires prediction { IsHeld params.now previous }
+    requires held { AllByRecursion (IsHeld params.now) samples.now }
+    requires room { length (placed_values reference []) + length samples.now ≤ most_values }
+    ensures { block.new ≡ block_of_values reference (mapped_after params.now previous samples.now) }
+{
+    let first = places_before(reference);
+    block.restart(reference, first + samples.len());
+    let values = &mut block.values.as_mut_slice()[first..];
+    map_list(params, previous, samples, values);
+}

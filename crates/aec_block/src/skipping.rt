@@ -1,0 +1,108 @@
+//! Goes over one coded data set.
+
+ghost use Rattle.std.specs.Prelude.{◌≡◌, ◌≤◌, length, option_map, IfOk, IfErr, OnErr};
+ghost use Rattle.std.specs.Option.{is_some};
+ghost use Rattle.aec_params.specs.Params.{IsAllowed};
+ghost use Rattle.aec_params.specs.Blocks.{Block as Values};
+ghost use Rattle.aec_params.specs.CodedDataSets.{CodedDataSet};
+ghost use Rattle.aec_params.specs.Faults.{IsNotRead};
+ghost use Rattle.aec_block.specs.declared.cds.RunLen.TheVariants.{Blocks};
+ghost use Rattle.aec_block.specs.ReadAt.{map_taken, body_at, cds_at};
+ghost use Rattle.aec_block.specs.Gathering.{bits_at, as_taken, when};
+ghost use Rattle.aec_block.specs.ReadCds.{as_cds, as_read, HasShortSplit};
+ghost use Rattle.aec_block.specs.SkipCds.{read_len, judged_len, judged_body_len, IsSkippedAs};
+
+use crate::block::Block;
+use crate::cds::{Found, RunLen};
+use crate::reading::{Kind, read_body, read_kind, read_reference};
+use crate::skipping_values::{skip_split, skip_uncompressed};
+use aec_bits::BitReader;
+use aec_params::{Fault, Params};
+
+/// For how many blocks a coded data set stands that was read, where its values fit.
+fn len_read(found: Option<Found>) -> Option<RunLen>
+    ensures { (values : Values) → result ≡ option_map read_len (as_read found values) }
+{
+    match found {
+        None => None,
+        Some(found) => Some(found.stands_for()),
+    }
+}
+
+/// One block, where its values fit.
+fn one_block(fit: bool) -> Option<RunLen>
+    ensures { result ≡ when fit (Blocks 1) }
+{
+    if fit { Some(RunLen::Blocks(1)) } else { None }
+}
+
+/// Goes over what stands behind the identifier and the reference sample. For how many blocks it stands; none where a value
+/// is above the greatest that the width has. Pairs, and values that are split at a bit above the width, are read into the block `values`.
+fn skip_body(
+    params: &Params,
+    reader: &mut BitReader,
+    kind: Kind,
+    reference: Option<u32>,
+    is_ref: bool,
+    values: &mut Block,
+) -> Result<Option<RunLen>, Fault>
+    requires within { reader.old.pos ≤ length reader.old.list }
+    requires short { HasShortSplit kind }
+    requires due { is_some reference ≡ is_ref }
+    ensures taken { map_taken (judged_body_len params.now reference) (body_at params.now is_ref kind (bits_at reader.old))
+        ≡ as_taken result (bits_at reader.new) }
+    ensures list { reader.new.list ≡ reader.old.list }
+    ensures within { reader.new.pos ≤ length reader.new.list }
+{
+    match kind {
+        Kind::NoCompression => {
+            skip_uncompressed(params, reader, is_ref)?;
+            Ok(Some(RunLen::Blocks(1)))
+        }
+        Kind::Split(k) if k <= params.bits() => Ok(one_block(skip_split(
+            params, reader, is_ref, k,
+        )?)),
+        _ => Ok(len_read(read_body(params, reader, kind, reference, is_ref, values)?)),
+    }
+}
+
+/// Goes over one coded data set. For how many blocks it stands; none where a value is above the greatest that the width has.
+fn skip_set(
+    params: &Params,
+    reader: &mut BitReader,
+    is_ref: bool,
+    values: &mut Block,
+) -> Result<Option<RunLen>, Fault>
+    requires within { reader.old.pos ≤ length reader.old.list }
+    ensures taken { map_taken (judged_len params.now) (cds_at params.now is_ref (bits_at reader.old)) ≡ as_taken result (bits_at reader.new) }
+    ensures allowed { IsAllowed params.now }
+    ensures list { reader.new.list ≡ reader.old.list }
+    ensures within { reader.new.pos ≤ length reader.new.list }
+{
+    let kind = read_kind(params, reader)?;
+    let reference = read_reference(params, reader, is_ref)?;
+    skip_body(params, reader, kind, reference, is_ref, values)
+}
+
+/// Goes behind the one coded data set that begins at the reader's place. `values` is a block that it may be read into; what is left in it
+/// isn't said. For how many blocks the coded data set stands: one, those of its run, or all that the segment has left. The refusals are
+/// those of `read_into`; the reader is then where it was. Takes no memory.
+pub fn skip_cds(
+    params: &Params,
+    reader: &mut BitReader,
+    is_ref: bool,
+    values: &mut Block,
+) -> Result<RunLen, Fault>
+    ensures ok { IfOk result (λ len. (c : CodedDataSet) × IsSkippedAs params.now is_ref reader.old reader.new c len) }
+    ensures refuses { IfErr result (IsNotRead params.now is_ref reader.old.list reader.old.pos) }
+    ensures err { OnErr result (reader.new ≡ reader.old) }
+{
+    let start = reader.pos();
+    let fault = match skip_set(params, reader, is_ref, values) {
+        Ok(Some(len)) => return Ok(len),
+        Ok(None) => Fault::ValueTooLarge { bit: start },
+        Err(_) => Fault::Truncated { bit: start },
+    };
+    reader.seek(start);
+    Err(fault)
+}

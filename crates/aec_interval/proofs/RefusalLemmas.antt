@@ -1,0 +1,17 @@
+-- What holds of the refusal of a call holds of the answer that hands it on.
+use Rattle.std.proofs.Common.{◌≡◌, sym, subst, Result, IfErr}
+use Rattle.std.specs.Prelude.{MatchResult}
+use Rattle.std.specs.Result.{IsErrAnd}
+use Rattle.std.proofs.lemmas.Result.{err_from_is_err_and}
+use Rattle.aec_params.specs.declared.fault.Fault.{Fault}
+
+pub of_refusal : {X : Type 0} (result : Result X Fault) (P : Fault → Type 0) (fault : Fault) → IsErrAnd result (λ e. e ≡ fault) → P fault → IfErr result P
+of_refusal result P fault exit h =
+    let refusal = err_from_is_err_and result exit in
+    subst (λ r. IfErr r P) (sym refusal.1) (subst P (sym refusal.2) h)
+
+pub of_answer : {X : Type 0} (result : Result X Fault) (P : X → Type 0) (Q : Fault → Type 0) (fault : Fault) → IsErrAnd result (λ e. e ≡ fault)
+    → Q fault → MatchResult result P Q
+of_answer result P Q fault exit h =
+    let refusal = err_from_is_err_and result exit in
+    subst (λ r. MatchResult r P Q) (sym refusal.1) (subst Q (sym refusal.2) h)

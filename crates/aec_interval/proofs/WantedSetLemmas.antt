@@ -1,0 +1,198 @@
+-- A coded data set that is wanted and was found: the block behind it, or its fault.
+use Rattle.std.proofs.Common.{◌≡◌, ◌+◌, ◌*◌, ◌%◌, ◌^◌, ◌<◌, ◌≤◌, ◌∷◌, ◌++◌, ◌∙◌, if◌then◌else◌}
+use Rattle.std.proofs.Common.{ℕ, lit≤, Bool, true, false, Option, Some, None, List, [], refl, sym, ap, subst, arith, Ok, Err, IfSome, nat_lt}
+use Rattle.std.proofs.Math.Nat.{mod-lt, le-mul_of_pos_right}
+use Rattle.std.proofs.lemmas.Grind.{div_ceil_times}
+use Rattle.std.proofs.lemmas.Bool.{le-leb, lt-leb, leb-true, ltb-true, ltb-false}
+use Rattle.std.proofs.lemmas.Bool.Decides.{nat_tests}
+use Rattle.std.specs.Int.{div_ceil}
+use Rattle.aec_params.specs.declared.settings.Settings.{Settings}
+use Rattle.aec_params.specs.declared.fault.Fault.{Fault}
+use Rattle.aec_params.specs.declared.fault.Fault.TheVariants.{RunTooLong, TooManySamples}
+use Rattle.aec_params.specs.Params.{IsAllowed}
+use Rattle.aec_params.specs.CodedDataSets.{Body, uncompressed_values, value_pairs, split_values, zero_blocks, CodedDataSet}
+use Rattle.aec_params.specs.Places.{segment_left, body_blocks, block_count, is_reference_block, IsLawfulAt}
+use Rattle.aec_params.specs.Reading.{next_block, next_begin, begin_of, is_wanted, keeps_limit, LeadsTo}
+use Rattle.aec_params.specs.Faults.{IsNotRead, IsWrongAt, not_read, too_long, too_many}
+use Rattle.aec_params.proofs.SettingLaws.{block_size-positive, interval-positive}
+use Rattle.aec_params.proofs.StreamLaws.{run_len-some}
+use Rattle.aec_bits.specs.BitReader.{Cursor}
+use Rattle.aec_block.specs.declared.cds.RunLen.{RunLen}
+use Rattle.aec_block.specs.SkipCds.{body_len, IsSkippedAs}
+use Rattle.aec_interval.specs.NextSet.{run_count, block_behind, blocks_before_end}
+use Rattle.aec_interval.specs.Skipping.{IsLedTo, IsFaultBefore}
+use Rattle.aec_interval.proofs.ReadingSteps.{LeadsTo-push}
+use Rattle.aec_interval.proofs.DecodeLemmas.{run_count-run_len_of}
+
+pub block_size-most : (s : Settings) → IsAllowed s → s.block_size ≤ 64
+block_size-most s allowed = let b = allowed.block_size in grind (arith, nat_tests)
+
+-- ---- the block behind, or why there is none
+
+-- so many blocks may stand from block i on
+pub record MayStand (s : Settings) (count : Option ℕ) (limit i z next : ℕ) : Type 0 where
+  pub within : z ≤ segment_left s (i % s.interval)
+  pub keeps : keeps_limit s count limit (i + z) ≡ true
+  pub next_is : next ≡ i + z
+
+pub may_stand : (s : Settings) (count : Option ℕ) (limit i z bit next : ℕ) → Ok next ≡ block_behind s count limit i z bit
+    → MayStand s count limit i z next
+may_stand s count limit i z bit next is = by_place (nat_lt (segment_left s (i % s.interval)) z) refl is
+  where
+    by_limit : (b : Bool) → z ≤ segment_left s (i % s.interval) → keeps_limit s count limit (i + z) ≡ b
+        → Ok next ≡ (if b then Ok (i + z) else Err (TooManySamples limit)) → MayStand s count limit i z next
+    by_limit true within keeps is = record { within = within; keeps = keeps; next_is = cc }
+    by_limit false within keeps is = absurd (cc)
+
+    by_place : (b : Bool) → nat_lt (segment_left s (i % s.interval)) z ≡ b
+        → Ok next ≡ (if b then Err (RunTooLong bit) else (if keeps_limit s count limit (i + z) then Ok (i + z) else Err (TooManySamples limit)))
+        → MayStand s count limit i z next
+    by_place true past is = absurd (cc)
+    by_place false within is =
+        by_limit (keeps_limit s count limit (i + z)) (ltb-false (segment_left s (i % s.interval)) z within) refl is
+
+-- what holds of the two refusals
+pub may_not_stand : (s : Settings) (count : Option ℕ) (limit i z bit : ℕ) (fault : Fault) (P : Fault → Type 0)
+    → Err fault ≡ block_behind s count limit i z bit → (segment_left s (i % s.interval) < z → P (RunTooLong bit))
+    → (z ≤ segment_left s (i % s.interval) → keeps_limit s count limit (i + z) ≡ false → P (TooManySamples limit)) → P fault
+may_not_stand s count limit i z bit fault P is long many = by_place (nat_lt (segment_left s (i % s.interval)) z) refl is
+  where
+    by_limit : (b : Bool) → z ≤ segment_left s (i % s.interval) → keeps_limit s count limit (i + z) ≡ b
+        → Err fault ≡ (if b then Ok (i + z) else Err (TooManySamples limit)) → P fault
+    by_limit true within keeps is = absurd (cc)
+    by_limit false within keeps is =
+        let same : TooManySamples limit ≡ fault = cc in subst P same (many within keeps)
+
+    by_place : (b : Bool) → nat_lt (segment_left s (i % s.interval)) z ≡ b
+        → Err fault ≡ (if b then Err (RunTooLong bit) else (if keeps_limit s count limit (i + z) then Ok (i + z) else Err (TooManySamples limit)))
+        → P fault
+    by_place true past is =
+        let same : RunTooLong bit ≡ fault = cc in subst P same (long (ltb-true (segment_left s (i % s.interval)) z past))
+    by_place false within is =
+        by_limit (keeps_limit s count limit (i + z)) (ltb-false (segment_left s (i % s.interval)) z within) refl is
+
+-- ---- one that was found
+
+pub run_count-body_len : (s : Settings) (p : ℕ) (body : Body) → run_count s p (body_len body) ≡ body_blocks s p body
+run_count-body_len s p (uncompressed_values values) = refl
+run_count-body_len s p (value_pairs members) = refl
+run_count-body_len s p (split_values k values) = refl
+run_count-body_len s p (zero_blocks m) = run_count-run_len_of s p m
+
+count-some : (s : Settings) (p : ℕ) (c : CodedDataSet) → p < s.interval → 1 ≤ block_count s p c
+count-some s p c within = of_body c.body
+  where
+    of_body : (body : Body) → 1 ≤ body_blocks s p body
+    of_body (uncompressed_values values) = lit≤ tt
+    of_body (value_pairs members) = lit≤ tt
+    of_body (split_values k values) = lit≤ tt
+    of_body (zero_blocks m) = run_len-some s p m within
+
+-- lawful coded data sets lead from block `first` to block i, where another is wanted
+module _ (s : Settings) (count : Option ℕ) (limit : ℕ) (first start : ℕ) (old new : Cursor) (i : ℕ) (allowed : IsAllowed s)
+    (led : IsLedTo s count limit old.list first start i old.pos) (wanted : is_wanted s count old.list i old.pos ≡ true) where
+  wrong_here : (fault : Fault) → IsWrongAt s count limit old.list i old.pos fault
+      → IsFaultBefore s count limit old.list first start (i + blocks_before_end s i) fault
+  wrong_here fault wrong = record {
+    wrong = record { sets = led.sets; block = i; bit = old.pos; leads = led.leads; wanted = wanted; wrong = wrong };
+    before = omega (arith, mod-lt i (interval-positive s allowed));
+  }
+
+  -- none is found there
+  pub unread-wrong : (due : Bool) (fault : Fault) → due ≡ is_reference_block s (i % s.interval) → IsNotRead s due old.list old.pos fault
+      → IsFaultBefore s count limit old.list first start (i + blocks_before_end s i) fault
+  unread-wrong due fault due_is none = wrong_here fault (not_read fault (subst (λ b. IsNotRead s b old.list old.pos fault) due_is none))
+
+  -- one is found there
+  module _ (due : Bool) (len : RunLen) (due_is : due ≡ is_reference_block s (i % s.interval))
+      (found_there : (c : CodedDataSet) × IsSkippedAs s due old new c len) where
+    abbrev pub c : CodedDataSet
+    c = found_there.0
+
+    -- for how many blocks it stands
+    abbrev pub blocks : ℕ
+    blocks = run_count s (i % s.interval) len
+
+    pub found : IsSkippedAs s (is_reference_block s (i % s.interval)) old new c len
+    found = subst (λ b. IsSkippedAs s b old new c len) due_is found_there.1
+
+    pub blocks-is : blocks ≡ block_count s (i % s.interval) c
+    blocks-is = ap (run_count s (i % s.interval)) found.told ∙ run_count-body_len s (i % s.interval) c.body
+
+    pub lawful : blocks ≤ segment_left s (i % s.interval) → IsLawfulAt s (i % s.interval) c
+    lawful within = record {
+      shape = found.set.shape;
+      small = found.small;
+      within = le-leb (block_count s (i % s.interval) c) (segment_left s (i % s.interval)) (omega (arith, blocks-is, within));
+    }
+
+    pub keeps-is : (b : Bool) → keeps_limit s count limit (i + blocks) ≡ b → keeps_limit s count limit (next_block s i c) ≡ b
+    keeps-is b is = ap (λ z. keeps_limit s count limit (i + z)) (sym blocks-is) ∙ is
+
+    pub unplaced-wrong : (bit : ℕ) (fault : Fault) → bit ≡ old.pos → Err fault ≡ block_behind s count limit i blocks bit
+        → IsFaultBefore s count limit old.list first start (i + blocks_before_end s i) fault
+    unplaced-wrong bit fault at is =
+        may_not_stand s count limit i blocks bit fault (IsFaultBefore s count limit old.list first start (i + blocks_before_end s i)) is
+        (λ past. subst (λ b. IsFaultBefore s count limit old.list first start (i + blocks_before_end s i) (RunTooLong b)) (sym at)
+        (wrong_here (RunTooLong old.pos) (too_long c found.set found.small
+        (lt-leb (block_count s (i % s.interval) c) (segment_left s (i % s.interval)) (omega (arith, blocks-is, past))))))
+        (λ within many. wrong_here (TooManySamples limit) (too_many c found.set (lawful within) (keeps-is false many)))
+
+    pub blocks-some : 1 ≤ blocks
+    blocks-some = omega (arith, blocks-is, count-some s (i % s.interval) c (mod-lt i (interval-positive s allowed)))
+
+    pub same_list : new.list ≡ old.list
+    same_list = ap (λ (cursor : Cursor). cursor.list) found.behind
+
+    -- what stands behind it
+    module _ (bit next : ℕ) (placed : Ok next ≡ block_behind s count limit i blocks bit) where
+      pub stand : MayStand s count limit i blocks next
+      stand = may_stand s count limit i blocks bit next placed
+
+      pub next-is : next ≡ next_block s i c
+      next-is = stand.next_is ∙ ap (λ z. i + z) blocks-is
+
+      pub forward : i < next
+      forward = omega (arith, stand.next_is, blocks-some)
+
+      pub leads-next : LeadsTo s count limit old.list first start (led.sets ++ c ∷ []) (next_block s i c) (next_begin s old.list i old.pos c)
+      leads-next = LeadsTo-push s count limit old.list first start led.sets i old.pos c led.leads wanted found.set.stands (lawful stand.within)
+          (keeps-is true stand.keeps)
+
+      pub begin-is : (e : ℕ) → e ≡ begin_of s new.list next new.pos → e ≡ next_begin s old.list i old.pos c
+      begin-is e begins =
+          begins ∙ (ap (λ n. begin_of s new.list n new.pos) next-is
+          ∙ (ap (λ bits. begin_of s bits (next_block s i c) new.pos) same_list
+          ∙ ap (begin_of s old.list (next_block s i c)) (ap (λ (cursor : Cursor). cursor.pos) found.behind)))
+
+      pub led-next : (list : List Bool) (e : ℕ) → list ≡ new.list → e ≡ begin_of s new.list next new.pos
+          → IsLedTo s count limit list first start next e
+      led-next list e same begins =
+          subst (λ bits. IsLedTo s count limit bits first start next e) (sym (same ∙ same_list))
+          (subst (λ n. IsLedTo s count limit old.list first start n e) (sym next-is)
+          (subst (λ e. IsLedTo s count limit old.list first start (next_block s i c) e) (sym (begin-is e begins))
+          (record { sets = led.sets ++ c ∷ []; leads = leads-next })))
+
+      pub few : limit ≤ 2 ^ 32 → IfSome count (λ n. n ≤ 2 ^ 32) → next < 2 ^ 34
+      few low counted = by_count count wanted stand.keeps counted
+        where
+          positive : 0 < s.block_size
+          positive = block_size-positive s allowed
+
+          by_count : (count : Option ℕ) → is_wanted s count old.list i old.pos ≡ true → keeps_limit s count limit (i + blocks) ≡ true
+              → IfSome count (λ n. n ≤ 2 ^ 32) → next < 2 ^ 34
+          by_count None wanted keeps counted =
+              let kept = leb-true ((i + blocks) * s.block_size) limit keeps in
+              omega (arith, kept, low, stand.next_is, le-mul_of_pos_right (i + blocks) positive)
+          by_count (Some n) wanted keeps counted =
+              let below = ltb-true i (div_ceil n s.block_size) wanted in
+              omega (
+                arith,
+                below,
+                counted,
+                stand.within,
+                stand.next_is,
+                div_ceil_times n s.block_size positive,
+                le-mul_of_pos_right (div_ceil n s.block_size) positive,
+                block_size-most s allowed,
+              )

@@ -1,0 +1,10 @@
+use Rattle.std.proofs.Common.{◌∙◌, sym}
+use Rattle.aec_interval.proofs.SkippingLemmas.{place-skipped}
+use Rattle.aec_interval.proofs.stream_reader.StreamReader.skip.Goals as goal
+
+pub returns-in-Ok-clause-skipped : goal.returns-in-Ok-clause-skipped
+returns-in-Ok-clause-skipped c =
+    let wanted = sym c.wants_more.ensures ∙ c.if-not-wants_more.false in
+    place-skipped _ _ _ _ c.self.inside.reader.list _ _ c.self.inside.reader.pos _ _ _ _ c.self.view_is c.in-Ok.ensures.allowed c.pos.ensures.value c.in-Ok.ensures.list
+    (c.self.invariant.begins wanted) wanted c.in-Ok.ensures.ok c.in-Ok.ensures.forward c.in-Ok.ensures.within c.in-Ok.ensures.to_end
+    c.count_asked.ensures

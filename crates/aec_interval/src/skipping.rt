@@ -1,0 +1,95 @@
+//! Coded data sets gone over without their samples, from where an interval begins.
+
+ghost use Rattle.std.specs.Prelude.{◌≡◌, ◌≤◌, ◌<◌, ◌+◌, ◌%◌, ◌^◌, true, IfSome, IfOk, IfErr};
+ghost use Rattle.aec_params.specs.Params.{IsAllowed};
+ghost use Rattle.aec_params.specs.Reading.{is_wanted};
+ghost use Rattle.aec_interval.specs.NextSet.{blocks_before_end};
+ghost use Rattle.aec_interval.specs.Skipping.{IsLedTo, IsFaultBefore, asked_len};
+
+use crate::reading::{Wanted, goes_on, has_reference, place_next, skip_padding};
+use aec_bits::BitReader;
+use aec_block::{Block, skip_cds};
+use aec_params::{Fault, Params};
+
+/// Goes over the coded data set of a block that is wanted, which may be read into the block `values`. The number of the block that comes
+/// then. The refusals are those of `read_next`, but for want of memory. Takes no memory.
+fn skip_next(
+    params: &Params,
+    wanted: Wanted,
+    reader: &mut BitReader,
+    block: u64,
+    values: &mut Block,
+) -> Result<u64, Fault>
+    requires led { IsLedTo params.now wanted.count wanted.limit reader.old.list wanted.first wanted.start block reader.old.pos }
+    requires aligned { wanted.first % params.now.interval ≡ 0 }
+    requires wanted { is_wanted params.now wanted.count reader.old.list block reader.old.pos ≡ true }
+    requires few { block < 2 ^ 34 }
+    requires limit { wanted.limit ≤ 2 ^ 32 }
+    requires counted { IfSome wanted.count (λ count. count ≤ 2 ^ 32) }
+    ensures ok { IfOk result (λ next.
+        IsLedTo params.now wanted.count wanted.limit reader.new.list wanted.first wanted.start next reader.new.pos) }
+    ensures refuses { IfErr result (λ fault. IsFaultBefore params.now wanted.count wanted.limit reader.old.list wanted.first wanted.start
+        (block + blocks_before_end params.now block) fault) }
+    ensures list { reader.new.list ≡ reader.old.list }
+    ensures forward { IfOk result (λ next. block < next) }
+    ensures few { IfOk result (λ next. next < 2 ^ 34) }
+    ensures within { IfOk result (λ next. next ≤ block + blocks_before_end params.now block) }
+{
+    let bit = reader.pos();
+    let len = skip_cds(params, reader, has_reference(params, block), values)?;
+    let next = place_next(params, wanted, block, len, bit)?;
+    skip_padding(params, reader, next);
+    Ok(next)
+}
+
+/// Goes over the interval that begins at a block that is wanted, up to its end or as far as blocks are wanted. Each coded data
+/// set may be read into the block `values`. The number of the block that comes then. Takes no memory.
+pub(crate) fn skip_interval(
+    params: &Params,
+    wanted: Wanted,
+    reader: &mut BitReader,
+    values: &mut Block,
+) -> Result<u64, Fault>
+    requires begins { reader.old.pos ≡ wanted.start }
+    requires aligned { wanted.first % params.now.interval ≡ 0 }
+    requires wanted { is_wanted params.now wanted.count reader.old.list wanted.first reader.old.pos ≡ true }
+    requires few { wanted.first < 2 ^ 34 }
+    requires limit { wanted.limit ≤ 2 ^ 32 }
+    requires counted { IfSome wanted.count (λ count. count ≤ 2 ^ 32) }
+    ensures ok { IfOk result (λ next.
+        IsLedTo params.now wanted.count wanted.limit reader.new.list wanted.first wanted.start next reader.new.pos) }
+    ensures refuses { IfErr result (λ fault. IsFaultBefore params.now wanted.count wanted.limit reader.old.list wanted.first wanted.start
+        (wanted.first + params.now.interval) fault) }
+    ensures allowed { IsAllowed params.now }
+    ensures list { reader.new.list ≡ reader.old.list }
+    ensures forward { IfOk result (λ next. wanted.first < next) }
+    ensures within { IfOk result (λ next. next ≤ wanted.first + params.now.interval) }
+    ensures to_end { IfOk result (λ next.
+        is_wanted params.now wanted.count reader.new.list next reader.new.pos ≡ true → next ≡ wanted.first + params.now.interval) }
+    ensures few { IfOk result (λ next. next < 2 ^ 34) }
+    ensures ends { IfOk result (λ next.
+        is_wanted params.now wanted.count reader.new.list next reader.new.pos ≡ true → next % params.now.interval ≡ 0) }
+{
+    let end = wanted.first + u64::from(params.interval());
+    let mut block = wanted.first;
+    loop {
+        block = skip_next(params, wanted, reader, block, values)?;
+        if !goes_on(params, wanted, reader, block, end) {
+            return Ok(block);
+        }
+    }
+}
+
+/// How many samples are asked for of the blocks from `wanted.first` up to another.
+pub(crate) fn count_asked(params: &Params, wanted: Wanted, next: u64) -> u64
+    requires after { wanted.first ≤ next }
+    requires few { next < 2 ^ 34 }
+    ensures { result ≡ asked_len params.now wanted.count wanted.first next }
+{
+    let block_size = u64::from(params.block_size());
+    let all = (next - wanted.first) * block_size;
+    match wanted.count {
+        None => all,
+        Some(count) => all.min(count.saturating_sub(wanted.first * block_size)),
+    }
+}

@@ -1,0 +1,86 @@
+//! Intervals gone over without their samples.
+
+use super::streams::{MOST, padded};
+use crate::StreamReader;
+use aec_bits::BitBuf;
+use aec_params::{Fault, Params, Settings};
+use std::alloc::Global;
+use std::process::Abort;
+use std::test::Fail;
+
+/// Goes over bytes interval by interval, and compares how many samples each has.
+fn expect_lens(
+    rt: &impl Abort,
+    alloc: Global,
+    settings: Settings,
+    bytes: &[u8],
+    count: Option<u64>,
+    lens: &[u64],
+) -> Result<(), Fail> {
+    let bits = BitBuf::from_bytes(alloc, bytes)?;
+    let mut reader = StreamReader::new(alloc, Params::new(settings)?, &bits, count, MOST)?;
+    for len in lens {
+        assert_eq!(rt; reader.skip()?, Some(*len));
+    }
+    assert_eq!(rt; reader.skip()?, None);
+    assert_eq!(rt; reader.skip()?, None);
+    Ok(())
+}
+
+/// Three intervals of two zero blocks.
+const ZEROS: [u8; 6] = [0x00, 0x04, 0x00, 0x10, 0x00, 0x40];
+
+#[test]
+fn counts_the_samples_that_are_asked_for(rt: HostRuntime) -> Result<(), Fail> {
+    let s = Settings::USUAL;
+    expect_lens(&rt, rt.alloc(), s, &ZEROS, None, &[16, 16, 16])?;
+    expect_lens(&rt, rt.alloc(), s, &ZEROS, Some(48), &[16, 16, 16])?;
+    expect_lens(&rt, rt.alloc(), s, &ZEROS, Some(41), &[16, 16, 9])?;
+    expect_lens(&rt, rt.alloc(), s, &ZEROS, Some(33), &[16, 16, 1])?;
+    expect_lens(&rt, rt.alloc(), s, &ZEROS, Some(32), &[16, 16])?;
+    expect_lens(&rt, rt.alloc(), s, &ZEROS, Some(0), &[])?;
+    // An interval that ends where no more is wanted.
+    expect_lens(&rt, rt.alloc(), s, &[0x00, 0x78], None, &[8])?;
+    expect_lens(&rt, rt.alloc(), s, &[0x00, 0x78], Some(5), &[5])?;
+    // Behind padding.
+    expect_lens(
+        &rt,
+        rt.alloc(),
+        padded(),
+        &[0x00, 0x07, 0x00, 0x08],
+        None,
+        &[16, 8],
+    )
+}
+
+#[test]
+fn goes_on_with_the_samples_behind(rt: HostRuntime) -> Result<(), Fail> {
+    let bits = BitBuf::from_bytes(rt.alloc(), &ZEROS)?;
+    let params = Params::new(Settings::USUAL)?;
+    let mut reader = StreamReader::new(rt.alloc(), params, &bits, Some(41), MOST)?;
+    let mut samples = Vec::new(rt.alloc());
+    assert_eq!(&rt; reader.skip()?, Some(16));
+    assert!(&rt; reader.next(&mut samples)?);
+    assert_eq!(&rt; samples.len(), 16);
+    assert_eq!(&rt; reader.skip()?, Some(9));
+    assert!(&rt; !reader.next(&mut samples)?);
+    Ok(())
+}
+
+#[test]
+fn refuses_each_time(rt: HostRuntime) -> Result<(), Fail> {
+    // The third interval is cut within its fundamental sequence.
+    let cut = [0x00, 0x04, 0x00, 0x10, 0x00];
+    let bits = BitBuf::from_bytes(rt.alloc(), &cut)?;
+    let params = Params::new(Settings::USUAL)?;
+    let mut reader = StreamReader::new(rt.alloc(), params, &bits, Some(41), MOST)?;
+    assert_eq!(&rt; reader.skip()?, Some(16));
+    assert_eq!(&rt; reader.skip()?, Some(16));
+    for _ in 0..2 {
+        match reader.skip() {
+            Ok(_) => assert!(&rt; false, "an interval is gone over"),
+            Err(fault) => assert_eq!(&rt; fault, Fault::Truncated { bit: 28 }),
+        }
+    }
+    Ok(())
+}

@@ -1,0 +1,16 @@
+-- What the private functions of `stored_lists` find in numbers of as many bytes each.
+use Rattle.std.specs.Prelude.{ℕ, ◌-◌, ◌*◌, ◌/◌, ◌^◌, ◌<◌, ◌≤◌, ◌⊎◌, if◌then◌else◌, List, length, drop}
+use Rattle.aec_params.specs.declared.settings.Settings.{Settings}
+use Rattle.aec_params.specs.Params.{storage_len}
+
+-- from which number on the unused bits copy the sign; past all numbers where samples are unsigned
+abbrev pub least_extended : Settings → ℕ
+least_extended s = 2 ^ (8 * storage_len s) - (if s.signed then 2 ^ (s.bits - 1) else 0)
+
+-- below `low`, or from `high` on
+abbrev pub IsOutside : ℕ → ℕ → ℕ → Type 0
+IsOutside low high u = (u < low) ⊎ (high ≤ u)
+
+-- the numbers that stand in bytes one after the other, n bytes each, are all outside
+abbrev pub AreOutside : (List ℕ → ℕ) → ℕ → List ℕ → ℕ → ℕ → Type 0
+AreOutside number n bytes low high = (k : ℕ) → k < length bytes / n → IsOutside low high (number (drop (n * k) bytes))

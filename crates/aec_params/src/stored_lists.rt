@@ -1,0 +1,236 @@
+//! Lists of samples as they are stored. The width and the order of their bytes are settled once for a list.
+
+ghost use Rattle.std.specs.Prelude.{None, Ok, IfOk, IfErr, OnOk, OnErr, ◌≡◌, ◌<◌, ◌≤◌, ◌+◌, ◌*◌, ◌/◌, ◌%◌, ◌^◌, ℕ, ℤ, true, length, get_or, vec_len, vec_capacity};
+ghost use Rattle.std.specs.Int.{w64};
+ghost use Rattle.std.specs.List.{AllByRecursion, flat_map};
+ghost use Rattle.std.specs.Result.{result_err};
+ghost use Rattle.byteorder.specs.Endian.{low_bytes, IsReadBy};
+ghost use Rattle.aec_params.specs.declared.fault.Fault.TheVariants.{Memory};
+ghost use Rattle.aec_params.specs.Params.{IsHeld, pattern_value, storage_len};
+ghost use Rattle.aec_params.specs.StoredLists.{AreOutside, least_extended as least_number_extended};
+ghost use Rattle.aec_params.specs.Stored.{samples_of_bytes, samples_behind, stored_bytes, AnswersSamples};
+
+use crate::fault::Fault;
+use crate::params::Params;
+use crate::stored::{low_value, sample_of};
+use byteorder::{BigEndian, ByteOrder, LittleEndian};
+use std::alloc::Global;
+
+/// The samples that bytes hold, `storage` bytes each; bytes at the end that form no whole sample are ignored.
+///
+/// `SampleRange` with the index of the first sample whose unused bits are not what its width allows, which is judged
+/// for the whole input before any memory is taken; then `Memory`.
+pub fn read_samples(alloc: Global, params: &Params, bytes: &[u8]) -> Result<Vec<i64>, Fault>
+    ensures { AnswersSamples (λ v. v.items) (samples_of_bytes params.now bytes.now) result }
+{
+    if let Some(index) = first_bad(params, bytes) {
+        return Err(Fault::SampleRange { index });
+    }
+    collect_samples(alloc, params, bytes)
+}
+
+/// The samples of bytes that hold no bad one, as `first_bad` tells; `Memory` where a growth is refused.
+pub fn collect_samples(alloc: Global, params: &Params, bytes: &[u8]) -> Result<Vec<i64>, Fault>
+    requires { result_err (samples_of_bytes params.now bytes.now) ≡ None }
+    ensures ok { IfOk result (λ v. samples_of_bytes params.now bytes.now ≡ Ok v.items) }
+    ensures err { IfErr result (λ e. e ≡ Memory) }
+{
+    let mut samples = Vec::new(alloc);
+    append_samples(params, bytes, &mut samples)?;
+    Ok(samples)
+}
+
+/// Appends the samples of bytes that hold no bad one, as `first_bad` tells. `Memory` where a growth is refused; nothing
+/// is appended then.
+pub fn append_samples(params: &Params, bytes: &[u8], samples: &mut Vec<i64>) -> Result<(), Fault>
+    requires { result_err (samples_of_bytes params.now bytes.now) ≡ None }
+    ensures ok { OnOk result (samples_behind samples.old.items (samples_of_bytes params.now bytes.now) ≡ Ok samples.new.items) }
+    ensures len { OnOk result (vec_len samples.new ≡ vec_len samples.old + length bytes.now / storage_len params.now) }
+    ensures held { OnOk result (AllByRecursion (IsHeld params.now) samples.old.items → AllByRecursion (IsHeld params.now) samples.new.items) }
+    ensures err { OnErr result (samples.new.items ≡ samples.old.items) }
+    ensures fault { IfErr result (λ e. e ≡ Memory) }
+    ensures full { OnErr result (vec_capacity samples.old < vec_len samples.old + length bytes.now / storage_len params.now) }
+    ensures capacity { vec_capacity samples.old ≤ vec_capacity samples.new }
+{
+    let start = samples.len();
+    samples.resize(start + bytes.len() / params.storage(), 0)?;
+    load_samples(params, bytes, &mut samples[start..]);
+    Ok(())
+}
+
+/// The index of the first sample whose unused bits are not what its width allows. Takes no memory.
+pub fn first_bad(params: &Params, bytes: &[u8]) -> Option<u64>
+    ensures { result ≡ result_err (samples_of_bytes params.now bytes.now) }
+{
+    if are_all_good(params, bytes) {
+        return None;
+    }
+    find_bad(params, bytes)
+}
+
+/// The same, found sample by sample.
+fn find_bad(params: &Params, bytes: &[u8]) -> Option<u64>
+    ensures { result ≡ result_err (samples_of_bytes params.now bytes.now) }
+{
+    for (index, group) in bytes.chunks_exact(params.storage()).enumerate() {
+        if sample_of(params, group).is_none() {
+            return Some(index as u64);
+        }
+    }
+    None
+}
+
+/// From which number on the unused bits copy the sign; past all numbers where samples are unsigned.
+fn least_extended(params: &Params) -> u64
+    ensures { result ≡ least_number_extended params.now }
+{
+    let past = 1u64 << (8 * params.storage());
+    if params.signed() {
+        past - (1u64 << (params.bits() - 1))
+    } else {
+        past
+    }
+}
+
+/// True only where the unused bits of all samples are what their width allows; false says nothing.
+fn are_all_good(params: &Params, bytes: &[u8]) -> bool
+    ensures { result ≡ true → result_err (samples_of_bytes params.now bytes.now) ≡ None }
+{
+    let width = params.storage();
+    let low = 1u64 << params.bits();
+    let high = least_extended(params);
+    if high <= low {
+        return true;
+    }
+    if params.msb_first() {
+        are_outside::<BigEndian>(bytes, width, low, high)
+    } else {
+        are_outside::<LittleEndian>(bytes, width, low, high)
+    }
+}
+
+/// True only where the numbers of `width` bytes are all below `low` or from `high` on; false says nothing.
+fn are_outside<T: ByteOrder>(bytes: &[u8], width: usize, low: u64, high: u64) -> bool
+    requires few { width ≤ 4 }
+    requires some { 1 ≤ width }
+    ensures { result ≡ true → AreOutside (T.number_of width) width bytes.now low high }
+{
+    match width {
+        1 => is_each_outside::<T>(bytes, 1, low, high),
+        2 => is_each_outside::<T>(bytes, 2, low, high),
+        3 => is_each_outside::<T>(bytes, 3, low, high),
+        _ => is_each_outside::<T>(bytes, 4, low, high),
+    }
+}
+
+/// The same, inlined where the width is known.
+#[inline(always)]
+fn is_each_outside<T: ByteOrder>(bytes: &[u8], width: usize, low: u64, high: u64) -> bool
+    requires few { width ≤ 4 }
+    requires some { 1 ≤ width }
+    ensures { result ≡ true → AreOutside (T.number_of width) width bytes.now low high }
+{
+    let mut outside = true;
+    for i in 0..bytes.len() / width {
+        let number = T::read_uint(&bytes[width * i..], width);
+        outside &= (number < low) | (high <= number);
+    }
+    outside
+}
+
+/// Puts the samples of bytes that hold no bad one in the places of as many.
+fn load_samples(params: &Params, bytes: &[u8], out: &mut [i64])
+    requires good { result_err (samples_of_bytes params.now bytes.now) ≡ None }
+    requires room { length out.old ≡ length bytes.now / storage_len params.now }
+    ensures samples { samples_of_bytes params.now bytes.now ≡ Ok out.new }
+    ensures held { AllByRecursion (IsHeld params.now) out.new }
+{
+    let width = params.storage();
+    if params.msb_first() {
+        load_numbers::<BigEndian>(params, bytes, width, out);
+    } else {
+        load_numbers::<LittleEndian>(params, bytes, width, out);
+    }
+}
+
+/// Puts the samples whose patterns are the low n bits of the numbers of `width` bytes in the places of as many.
+fn load_numbers<T: ByteOrder>(params: &Params, bytes: &[u8], width: usize, out: &mut [i64])
+    requires few { width ≤ 4 }
+    requires some { 1 ≤ width }
+    requires room { width * length out.old ≤ length bytes.now }
+    ensures samples { IsReadBy (λ g. pattern_value params.now (T.number_of width g % 2 ^ params.now.bits)) width bytes.now out.new }
+    ensures held { (d : ℤ) (k : ℕ) → k < length out.new → IsHeld params.now (get_or out.new k d) }
+{
+    match width {
+        1 => load_each::<T>(params, bytes, 1, out),
+        2 => load_each::<T>(params, bytes, 2, out),
+        3 => load_each::<T>(params, bytes, 3, out),
+        _ => load_each::<T>(params, bytes, 4, out),
+    }
+}
+
+/// The same, inlined where the width is known.
+#[inline(always)]
+fn load_each<T: ByteOrder>(params: &Params, bytes: &[u8], width: usize, out: &mut [i64])
+    requires few { width ≤ 4 }
+    requires some { 1 ≤ width }
+    requires room { width * length out.old ≤ length bytes.now }
+    ensures samples { IsReadBy (λ g. pattern_value params.now (T.number_of width g % 2 ^ params.now.bits)) width bytes.now out.new }
+    ensures held { (d : ℤ) (k : ℕ) → k < length out.new → IsHeld params.now (get_or out.new k d) }
+{
+    let params = *params;
+    for i in 0..out.len() {
+        out[i] = low_value(&params, T::read_uint(&bytes[width * i..], width));
+    }
+}
+
+/// Writes the bytes of samples, one behind the other. Takes no memory.
+pub fn put_samples(params: &Params, samples: &[i64], out: &mut [u8])
+    requires held { AllByRecursion (IsHeld params.now) samples.now }
+    requires room { length out.old ≡ storage_len params.now * length samples.now }
+    ensures { out.new ≡ flat_map (stored_bytes params.now) samples.now }
+{
+    let width = params.storage();
+    if params.msb_first() {
+        put_numbers::<BigEndian>(samples, width, out);
+    } else {
+        put_numbers::<LittleEndian>(samples, width, out);
+    }
+}
+
+/// Writes the low bytes of samples, `width` of each, one behind the other.
+fn put_numbers<T: ByteOrder>(samples: &[i64], width: usize, out: &mut [u8])
+    requires few { width ≤ 4 }
+    requires some { 1 ≤ width }
+    requires room { length out.old ≡ width * length samples.now }
+    ensures { out.new ≡ flat_map (λ x. T.bytes_of width (low_bytes w64 width x)) samples.now }
+{
+    match width {
+        1 => put_each::<T>(samples, 1, out),
+        2 => put_each::<T>(samples, 2, out),
+        3 => put_each::<T>(samples, 3, out),
+        _ => put_each::<T>(samples, 4, out),
+    }
+}
+
+/// The same, inlined where the width is known.
+#[inline(always)]
+fn put_each<T: ByteOrder>(samples: &[i64], width: usize, out: &mut [u8])
+    requires few { width ≤ 4 }
+    requires some { 1 ≤ width }
+    requires room { length out.old ≡ width * length samples.now }
+    ensures { out.new ≡ flat_map (λ x. T.bytes_of width (low_bytes w64 width x)) samples.now }
+{
+    for i in 0..samples.len() {
+        T::write_uint(&mut out[width * i..], low_number(samples[i], width), width);
+    }
+}
+
+/// The number in the low bytes of a sample.
+fn low_number(x: i64, width: usize) -> u64
+    requires { width ≤ 4 }
+    ensures value { result ≡ low_bytes w64 width x }
+    ensures fits { result < 256 ^ width }
+{
+    x.cast_unsigned() % (1u64 << (8 * width))
+}

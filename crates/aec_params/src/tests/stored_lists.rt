@@ -1,0 +1,112 @@
+use super::stored::{msb_first, three_byte};
+use super::width;
+use crate::params::Params;
+use crate::settings::Settings;
+use crate::stored_lists::{append_samples, first_bad, put_samples};
+use std::alloc::Global;
+use std::process::Abort;
+use std::test::Fail;
+
+// Appends the samples of bytes that hold no bad one to one that is there, and writes those of the bytes over other bytes.
+fn goes_both_ways(
+    rt: &impl Abort,
+    alloc: Global,
+    settings: Settings,
+    wanted: &[i64],
+    bytes: &[u8],
+) -> Result<(), Fail> {
+    let params = Params::new(settings)?;
+    assert!(rt; first_bad(&params, bytes).is_none(), "at {settings:?}");
+    let mut behind = vec![in alloc; 7]?;
+    append_samples(&params, bytes, &mut behind)?;
+    assert_eq!(rt; behind.first().copied(), Some(7));
+    assert_eq!(rt; behind.get(1..), Some(wanted), "at {settings:?}");
+    let mut samples = Vec::new(alloc);
+    append_samples(&params, bytes, &mut samples)?;
+    let mut out = vec![in alloc; 0xaa; bytes.len()]?;
+    assert!(rt; out.len() == params.storage() * samples.len());
+    put_samples(&params, &samples, &mut out);
+    assert_eq!(rt; out.as_slice(), bytes, "at {settings:?}");
+    Ok(())
+}
+
+#[test]
+fn lists_go_both_ways(rt: HostRuntime) -> Result<(), Fail> {
+    let cases: [(Settings, &[i64], &[u8]); 13] = [
+        (width(8, false), &[], &[]),
+        (width(8, false), &[0, 255, 128], &[0x00, 0xff, 0x80]),
+        (width(5, true), &[-1, -16, 15], &[0xff, 0xf0, 0x0f]),
+        (
+            width(12, true),
+            &[-1, 258, -2048],
+            &[0xff, 0xff, 0x02, 0x01, 0x00, 0xf8],
+        ),
+        (
+            msb_first(width(12, true)),
+            &[-1, 258, -2048],
+            &[0xff, 0xff, 0x01, 0x02, 0xf8, 0x00],
+        ),
+        (
+            msb_first(width(16, false)),
+            &[65534, 258],
+            &[0xff, 0xfe, 0x01, 0x02],
+        ),
+        (
+            three_byte(20, true),
+            &[-2, 66051],
+            &[0xfe, 0xff, 0xff, 0x03, 0x02, 0x01],
+        ),
+        (
+            msb_first(three_byte(20, true)),
+            &[-2, 66051],
+            &[0xff, 0xff, 0xfe, 0x01, 0x02, 0x03],
+        ),
+        (
+            three_byte(24, false),
+            &[16777214, 66051],
+            &[0xfe, 0xff, 0xff, 0x03, 0x02, 0x01],
+        ),
+        (
+            width(20, false),
+            &[1048575, 66051],
+            &[0xff, 0xff, 0x0f, 0x00, 0x03, 0x02, 0x01, 0x00],
+        ),
+        (
+            msb_first(width(20, true)),
+            &[-524288, 66051],
+            &[0xff, 0xf8, 0x00, 0x00, 0x00, 0x01, 0x02, 0x03],
+        ),
+        (
+            width(32, true),
+            &[-2147483648, 16909060],
+            &[0x00, 0x00, 0x00, 0x80, 0x04, 0x03, 0x02, 0x01],
+        ),
+        (
+            msb_first(width(32, false)),
+            &[4294967295, 16909060],
+            &[0xff, 0xff, 0xff, 0xff, 0x01, 0x02, 0x03, 0x04],
+        ),
+    ];
+    for (settings, samples, bytes) in cases {
+        goes_both_ways(&rt, rt.alloc(), settings, samples, bytes)?;
+    }
+    Ok(())
+}
+
+// 2^20 + 3 samples of 12 bits, of which the last may be none.
+#[test]
+fn long_lists_are_judged_to_their_end(rt: HostRuntime) -> Result<(), Fail> {
+    let mut samples = Vec::new(rt.alloc());
+    let mut bytes = Vec::new(rt.alloc());
+    for i in 0..1_048_579u32 {
+        let number = (i % 4096) as u16;
+        samples.push(i64::from(number))?;
+        bytes.extend_from_slice(&number.to_be_bytes())?;
+    }
+    let settings = msb_first(width(12, false));
+    goes_both_ways(&rt, rt.alloc(), settings, &samples, &bytes)?;
+    bytes.truncate(2 * 1_048_578);
+    bytes.extend_from_slice(&[0x10, 0x00])?;
+    assert_eq!(rt; first_bad(&Params::new(settings)?, &bytes), Some(1_048_578));
+    Ok(())
+}
