@@ -1,7 +1,7 @@
 # What a user and a developer run. The toolchain's command `rt` has to be on the path.
 PREFIX ?= /usr/local
 
-.PHONY: all example sizes test install bench clean
+.PHONY: all example sizes test wrong-bodies install bench clean
 
 # Proves the program and everything that it stands on, builds it, and leaves it in bin/aec.
 all: bin/aec
@@ -24,6 +24,10 @@ sizes: bin/aec
 # The gate, then the tests of the program that it has built.
 test:
 	sh tests/run.sh
+
+# The wrong bodies that the gate leaves out: each must be refused.
+wrong-bodies: bin/aec
+	python3 tests/wrong_bodies.py
 
 # Time and memory beside the client of libaec, and what edits cost, as tables; no test.
 bench: bin/aec
