@@ -71,12 +71,15 @@ def copy_of(crate, direct, room):
     return here
 
 
+def text_of(folder, path):
+    with open(os.path.join(folder, path), encoding="utf-8") as file:
+        return file.read()
+
+
 def changed_texts(edit, folder):
     """The texts that the edit changes, by their path in the crate."""
     texts, path, old = {}, None, None
-    with open(edit.path, encoding="utf-8") as file:
-        lines = file.read().split("\n")
-    for line in lines:
+    for line in text_of(*os.path.split(edit.path)).split("\n"):
         word, _, rest = line.partition(": ")
         if word == "file":
             path = rest
@@ -84,8 +87,7 @@ def changed_texts(edit, folder):
             old = rest
         elif word.rstrip(":") == "new":
             if path not in texts:
-                with open(os.path.join(folder, path), encoding="utf-8") as file:
-                    texts[path] = file.read()
+                texts[path] = text_of(folder, path)
             if texts[path].count(old) != 1:
                 raise Unusable(f"its old text is in {path} {texts[path].count(old)} times, and not once")
             texts[path] = texts[path].replace(old, rest)
@@ -128,7 +130,7 @@ def tried(edit, folder):
         texts = changed_texts(edit, folder)
     except (Unusable, OSError) as why:
         return False, str(why)
-    before = {path: open(os.path.join(folder, path), encoding="utf-8").read() for path in texts}
+    before = {path: text_of(folder, path) for path in texts}
     try:
         put(folder, texts)
         return verdict(check(folder), set(texts))
