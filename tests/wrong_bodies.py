@@ -36,6 +36,17 @@ class Edit(NamedTuple):
     path: str
 
 
+def text_of(folder, path):
+    with open(os.path.join(folder, path), encoding="utf-8") as file:
+        return file.read()
+
+
+def put(folder, texts):
+    for path, text in texts.items():
+        with open(os.path.join(folder, path), "w", encoding="utf-8") as file:
+            file.write(text)
+
+
 def edits_of(crate):
     folder = os.path.join(TOP, "crates", crate, EDITS)
     names = sorted(os.listdir(folder)) if os.path.isdir(folder) else []
@@ -44,8 +55,7 @@ def edits_of(crate):
 
 def uses():
     """The libraries of the repository that each crate stands on, directly."""
-    with open(os.path.join(TOP, "crates.txt"), encoding="utf-8") as file:
-        lines = [line.partition(":") for line in file if re.match(r"\w+:", line)]
+    lines = [line.partition(":") for line in text_of(TOP, "crates.txt").splitlines() if re.match(r"\w+:", line)]
     named = {crate: rest.split() for crate, _, rest in lines}
     return {crate: [it for it in rest if it in named] for crate, rest in named.items()}
 
@@ -62,18 +72,13 @@ def copy_of(crate, direct, room):
     top, others = os.path.join(room, crate), below(crate, direct)
     os.makedirs(os.path.join(top, "crates"))
     shutil.copy(os.path.join(TOP, "HANDLES"), top)
-    with open(os.path.join(TOP, "crates.txt"), encoding="utf-8") as of_all, open(os.path.join(top, "crates.txt"), "w", encoding="utf-8") as of_these:
-        of_these.writelines(line for line in of_all if line.partition(":")[0] in {crate, *others})
+    lines = text_of(TOP, "crates.txt").splitlines(True)
+    put(top, {"crates.txt": "".join(line for line in lines if line.partition(":")[0] in {crate, *others})})
     for name in others:
         shutil.copytree(os.path.join(TOP, "crates", name), os.path.join(top, "crates", name), copy_function=os.link)
     here = os.path.join(top, "crates", crate)
     shutil.copytree(os.path.join(TOP, "crates", crate), here)
     return here
-
-
-def text_of(folder, path):
-    with open(os.path.join(folder, path), encoding="utf-8") as file:
-        return file.read()
 
 
 def changed_texts(edit, folder):
@@ -94,12 +99,6 @@ def changed_texts(edit, folder):
     if not texts:
         raise Unusable("it changes nothing")
     return texts
-
-
-def put(folder, texts):
-    for path, text in texts.items():
-        with open(os.path.join(folder, path), "w", encoding="utf-8") as file:
-            file.write(text)
 
 
 def check(folder):
