@@ -6,8 +6,9 @@ each edit of must-fail/; these would make it last too long. Each crate is tried 
 `make bin/aec` has kept, with as many crates at a time as there are processors. With names: those crates alone.
 
 Prints for each edit the first thing that the checker refuses. Fails where an edit can't be applied, where the text that it makes
-can't be read, or where the crate is proved all the same. The last line counts what was refused and what wasn't; ends with 1 where
-one wasn't.
+can't be read, where the crate is proved all the same, or is refused only since a proof names what the edit took away; and where the
+crate as it stands isn't proved, before its edits or after them. The last line counts what passed and what failed; ends with 1 where
+something failed.
 """
 
 import os
@@ -22,8 +23,12 @@ from typing import NamedTuple
 TOP = os.path.abspath(os.path.join(os.path.dirname(__file__), ".."))
 EDITS = "more-must-fail"
 REFUSED = "logic=not-proved"
+SECONDS = 900
 # How the checker says that it can't read a text, in a file that is the edit's own.
 UNREAD = re.compile(r"is not in scope|has no field|is no name|operand is missing|expected the end|cannot continue")
+
+# How it says that a proof names what isn't there any more.
+TAKEN_AWAY = re.compile(r"(\./)?proofs/.*(has no field|is not in scope|has no `|was not admitted)")
 
 
 class Unusable(Exception):
@@ -68,42 +73,53 @@ def below(crate, direct):
 
 
 def copy_of(crate, direct, room):
-    """A repository with this crate and what it stands on. The files of the others are shared, for nothing writes to them."""
+    """A repository with this crate and what it stands on. The files of the others are shared: a check replaces and never writes them."""
     top, others = os.path.join(room, crate), below(crate, direct)
     os.makedirs(os.path.join(top, "crates"))
     shutil.copy(os.path.join(TOP, "HANDLES"), top)
     lines = text_of(TOP, "crates.txt").splitlines(True)
     put(top, {"crates.txt": "".join(line for line in lines if line.partition(":")[0] in {crate, *others})})
-    for name in others:
-        shutil.copytree(os.path.join(TOP, "crates", name), os.path.join(top, "crates", name), copy_function=os.link)
-    here = os.path.join(top, "crates", crate)
-    shutil.copytree(os.path.join(TOP, "crates", crate), here)
-    return here
+    shared = {"copy_function": os.link, "ignore": shutil.ignore_patterns("incremental")}
+    for name in (crate, *others):
+        more = {} if name == crate else shared
+        shutil.copytree(os.path.join(TOP, "crates", name), os.path.join(top, "crates", name), **more)
+    return os.path.join(top, "crates", crate)
 
 
 def changed_texts(edit, folder):
     """The texts that the edit changes, by their path in the crate."""
     texts, path, old = {}, None, None
     for line in text_of(*os.path.split(edit.path)).split("\n"):
-        word, _, rest = line.partition(": ")
+        word, is_one, rest = line.partition(":")
+        rest = rest.removeprefix(" ")
+        if not is_one or word not in ("file", "old", "new"):
+            continue
         if word == "file":
             path = rest
         elif word == "old":
             old = rest
-        elif word.rstrip(":") == "new":
+        elif not path or not old:
+            raise Unusable("a new text stands before any file and old text")
+        else:
             if path not in texts:
                 texts[path] = text_of(folder, path)
             if texts[path].count(old) != 1:
                 raise Unusable(f"its old text is in {path} {texts[path].count(old)} times, and not once")
-            texts[path] = texts[path].replace(old, rest)
+            texts[path], old = texts[path].replace(old, rest), None
     if not texts:
         raise Unusable("it changes nothing")
     return texts
 
 
 def check(folder):
-    ran = subprocess.run(["rt", "check", "--jobs", "1"], cwd=folder, stdout=subprocess.PIPE, stderr=subprocess.STDOUT)
-    return ran.stdout.decode(errors="replace").rstrip("\n").split("\n")
+    """The status of a check, and the lines that the checker prints: those of `rt` itself are advice."""
+    words = ["rt", "check", "--jobs", "1"]
+    try:
+        ran = subprocess.run(words, cwd=folder, stdout=subprocess.PIPE, stderr=subprocess.STDOUT, timeout=SECONDS)
+    except subprocess.TimeoutExpired:
+        return None, [f"no answer in {SECONDS} seconds"]
+    lines = ran.stdout.decode(errors="replace").rstrip("\n").split("\n")
+    return ran.returncode, [line for line in lines if not line.startswith("rt: ")]
 
 
 def is_unread(line, paths):
@@ -113,15 +129,20 @@ def is_unread(line, paths):
     return not told[2] or bool(UNREAD.search(re.sub(r"`[^`]*`", "", told[3])))
 
 
-def verdict(said, paths):
+def verdict(status, said, paths):
     """Whether the checker refused what it read, and its first word on it."""
     unread = next((line for line in said if is_unread(line, paths)), None)
     if unread:
         return False, f"the checker can't read the edited text: {unread}"
-    if not any(line.startswith(REFUSED) for line in said):
-        return False, f"not refused: {said[-1]}"
+    last = said[-1] if said else "nothing was printed"
+    if status != 1 or not last.startswith(REFUSED):
+        return False, f"not refused: {last}"
     told = [line for line in said if re.match(r"(note: )?\S+:\d+:\d+:", line)]
-    return True, next((line for line in told if ": error" in line or line.startswith("note: ")), said[-1])
+    told = [line for line in told if ": error" in line or line.startswith("note: ")]
+    if not told:
+        return False, f"refused for nothing that is named: {last}"
+    first = next((line for line in told if not TAKEN_AWAY.match(line)), None)
+    return (True, first) if first else (False, f"refused only because a proof names what the edit took away: {told[0]}")
 
 
 def tried(edit, folder):
@@ -130,31 +151,43 @@ def tried(edit, folder):
     except (Unusable, OSError) as why:
         return False, str(why)
     before = {path: text_of(folder, path) for path in texts}
-    try:
-        put(folder, texts)
-        return verdict(check(folder), set(texts))
-    finally:
-        put(folder, before)
+    put(folder, texts)
+    found = verdict(*check(folder), set(texts))
+    put(folder, before)
+    return found
 
 
 def try_crate(crate, direct, room):
+    """How each edit of a crate ends, by its name. Before them and after them the crate as it stands has to be proved."""
     folder = copy_of(crate, direct, room)
-    return [(edit, *tried(edit, folder)) for edit in edits_of(crate)]
+    ends = {}
+    if check(folder)[0] == 0:
+        for edit in edits_of(crate):
+            ends[f"{crate}/{edit.name}"], said = tried(edit, folder)
+            print(f"{crate}/{edit.name}: {'refused' if ends[f'{crate}/{edit.name}'] else 'NOT REFUSED'}: {said[:200]}", flush=True)
+    if not ends or check(folder)[0] != 0:
+        ends[f"{crate} as it stands, which isn't proved"] = False
+    return ends
+
+
+def asked_crates(direct, names):
+    crates = [crate for crate in names or direct if names or edits_of(crate)]
+    wrong = [crate for crate in crates if crate not in direct or not edits_of(crate)]
+    if wrong or not crates:
+        sys.exit(f"no such edits: {' '.join(wrong)}")
+    return sorted(crates, key=lambda crate: -len(edits_of(crate)))
 
 
 def main():
     direct = uses()
-    crates = [crate for crate in sys.argv[1:] or direct if edits_of(crate)]
-    crates.sort(key=lambda crate: -len(edits_of(crate)))
-    passed, failed = 0, []
+    crates = asked_crates(direct, sys.argv[1:])
+    ends = {}
     os.makedirs(os.path.join(TOP, "bin"), exist_ok=True)
     with tempfile.TemporaryDirectory(dir=os.path.join(TOP, "bin")) as room, ThreadPoolExecutor(os.cpu_count()) as pool:
         for done in as_completed([pool.submit(try_crate, crate, direct, room) for crate in crates]):
-            for edit, is_refused, said in done.result():
-                print(f"{edit.crate}/{edit.name}: {'refused' if is_refused else 'NOT REFUSED'}: {said[:200]}", flush=True)
-                passed += is_refused
-                failed += [] if is_refused else [edit.name]
-    print(f"{passed} passed, {len(failed)} failed" + "".join(f" {name}" for name in failed))
+            ends.update(done.result())
+    failed = [name for name, is_well in ends.items() if not is_well]
+    print("".join(f"FAILED: {name}\n" for name in failed) + f"{len(ends) - len(failed)} passed, {len(failed)} failed")
     return 1 if failed else 0
 
 
