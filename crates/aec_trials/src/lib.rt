@@ -27,6 +27,8 @@ mod library_example;
 #[cfg(test)]
 mod limits;
 #[cfg(test)]
+mod many_intervals;
+#[cfg(test)]
 mod mixed_edits;
 #[cfg(test)]
 mod octets;

@@ -1,0 +1,50 @@
+//! A stream of very many intervals by the real coder, each overwritten once. Its length is worked out by hand.
+
+use aec_edit::Workspace;
+use aec_interval::AecCodec;
+use aec_params::{Edit, Fault, Params, Samples, Settings};
+use std::alloc::Global;
+use std::test::Fail;
+
+/// How many intervals, of one block of 8 samples each.
+const INTERVALS: u64 = 100_000;
+
+/// The bits of an interval of equal samples: an identifier of 4, the reference sample, and a run of one block.
+const BITS: u64 = 13;
+
+/// A workspace of as many zeros as all intervals have.
+fn of_zeros(alloc: Global) -> Result<Workspace<AecCodec>, Fault> {
+    let params = Params::new(Settings {
+        interval: 1,
+        ..Settings::USUAL
+    })?;
+    let mut work = Workspace::new(alloc, AecCodec::new(alloc, params), 8 * INTERVALS);
+    work.apply(&Edit::Append {
+        values: Samples::new(vec![in alloc; 0i64; 800_000]?),
+    })?;
+    Ok(work)
+}
+
+/// Overwrites all samples of an interval by sevens.
+fn put_sevens(alloc: Global, work: &mut Workspace<AecCodec>, index: u64) -> Result<u64, Fault> {
+    work.apply(&Edit::Overwrite {
+        first: index.saturating_mul(8),
+        values: Samples::new(vec![in alloc; 7i64; 8]?),
+    })
+}
+
+#[test]
+fn many_coded_intervals_each_overwritten(rt: HostRuntime) -> Result<(), Fail> {
+    let mut work = of_zeros(rt.alloc())?;
+    assert_eq!(rt; work.stream_bits(), BITS * INTERVALS);
+    for index in 0..INTERVALS {
+        assert_eq!(rt; put_sevens(rt.alloc(), &mut work, index), Ok(1));
+    }
+    // A wholly overwritten interval isn't decoded.
+    assert_eq!(rt; (work.calls(), work.reads()), (2 * INTERVALS, 0));
+    assert_eq!(rt; work.offset(INTERVALS - 1), Some(BITS * (INTERVALS - 1)));
+    assert_eq!(rt; work.stream_bits(), BITS * INTERVALS);
+    let last = work.range(rt.alloc(), 8 * (INTERVALS - 1), 8)?;
+    assert_eq!(rt; last.as_slice(), [7; 8].as_slice());
+    Ok(())
+}
