@@ -12,8 +12,6 @@ mod octets;
 mod ones;
 mod packed;
 mod shift;
-#[cfg(test)]
-mod tests;
 mod windows;
 mod words;
 mod writing;

@@ -31,14 +31,3 @@ pub use mapping::{map, unmap, unmap_all};
 pub use reading::{read_cds, read_into};
 pub use skipping::skip_cds;
 pub use writing::{write_block, write_run};
-
-#[cfg(test)]
-mod reading_tests;
-#[cfg(test)]
-mod reused_block_tests;
-#[cfg(test)]
-mod run_tests;
-#[cfg(test)]
-mod skipping_tests;
-#[cfg(test)]
-mod tests;

@@ -13,8 +13,6 @@ mod rest;
 mod skipping;
 mod stream_coder;
 mod stream_reader;
-#[cfg(test)]
-mod tests;
 mod whole;
 mod whole_reading;
 mod writing_runs;

@@ -10,8 +10,6 @@ mod samples;
 mod settings;
 mod stored;
 mod stored_lists;
-#[cfg(test)]
-mod tests;
 
 pub use edit::Edit;
 pub use fault::Fault;

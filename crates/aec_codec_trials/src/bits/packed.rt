@@ -3,7 +3,7 @@
 ghost use Rattle.std.specs.Prelude.{◌<◌, ◌≤◌, ◌^◌};
 
 use super::bits::{are, bits, bits_in, sample_list};
-use crate::{BitBuf, BitReader};
+use aec_bits::{BitBuf, BitReader};
 use aec_params::Fault;
 use std::alloc::Global;
 use std::test::Fail;

@@ -1,8 +1,5 @@
-use super::stored::{msb_first, three_byte};
-use super::width;
-use crate::params::Params;
-use crate::settings::Settings;
-use crate::stored_lists::{append_samples, first_bad, put_samples};
+use crate::settings::{msb_first, three_byte, width};
+use aec_params::{Params, Settings, append_samples, first_bad, put_samples};
 use std::alloc::Global;
 use std::process::Abort;
 use std::test::Fail;

@@ -1,7 +1,7 @@
 //! Coded data sets spelled by hand, and what is read from them.
 
-use crate::{Cds, RunLen, read_cds};
 use aec_bits::{BitBuf, BitReader};
+use aec_block::{Cds, RunLen, read_cds};
 use aec_params::{Fault, Params, Settings};
 use std::alloc::Global;
 use std::process::Abort;

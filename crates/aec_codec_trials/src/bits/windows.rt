@@ -2,8 +2,8 @@
 
 ghost use Rattle.std.specs.Prelude.{◌≤◌};
 
-use crate::tests::bits::bits_in;
-use crate::{BitBuf, BitReader};
+use super::bits::bits_in;
+use aec_bits::{BitBuf, BitReader};
 use aec_params::Fault;
 use std::alloc::Global;
 use std::test::Fail;
@@ -25,7 +25,7 @@ fn sequences(alloc: Global, before: u32, numbers: &[u32]) -> Result<BitBuf, Faul
 }
 
 /// A reader at a place, or at the start where the list is shorter.
-fn reader_at(buf: &BitBuf, place: u64) -> BitReader<'_> {
+pub fn reader_at(buf: &BitBuf, place: u64) -> BitReader<'_> {
     let mut reader = BitReader::new(buf);
     if place <= buf.len() {
         reader.seek(place);

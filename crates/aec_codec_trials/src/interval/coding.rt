@@ -1,7 +1,7 @@
 //! Samples coded, and read back.
 
 use super::streams::expect_code;
-use crate::encode_all;
+use aec_interval::encode_all;
 use aec_params::{Fault, Params, Settings};
 use std::alloc::Global;
 use std::process::Abort;

@@ -1,9 +1,10 @@
-//! Settings, and what streams are compared with.
+//! What streams are compared with.
 
 ghost use Rattle.std.specs.Prelude.{◌≤◌, ◌^◌};
 
-use crate::{StreamReader, decode_all, encode_all};
+use crate::shared::expect_bits;
 use aec_bits::BitBuf;
+use aec_interval::{StreamReader, decode_all, encode_all};
 use aec_params::{Fault, Params, Settings};
 use std::alloc::Global;
 use std::process::Abort;
@@ -11,41 +12,6 @@ use std::test::Fail;
 
 /// The most samples that may be asked for.
 pub const MOST: u64 = 1 << 32;
-
-/// These settings with intervals of so many blocks.
-pub fn with_interval(interval: u32) -> Settings {
-    Settings {
-        interval,
-        ..Settings::USUAL
-    }
-}
-
-/// These settings without preprocessing, with intervals of so many blocks.
-pub fn unprocessed(interval: u32) -> Settings {
-    Settings {
-        interval,
-        preprocess: false,
-        ..Settings::USUAL
-    }
-}
-
-/// These settings with padding.
-pub fn padded() -> Settings {
-    Settings {
-        pad: true,
-        ..Settings::USUAL
-    }
-}
-
-/// Compares bits with those of bytes, of which the last is filled with zeros.
-pub fn expect_bits(rt: &impl Abort, bits: &BitBuf, len: u64, bytes: &[u8]) {
-    assert_eq!(rt; bits.len(), len);
-    assert_eq!(rt; bits.byte_len(), bytes.len() as u64);
-    for (i, byte) in bytes.iter().enumerate() {
-        assert!(rt; (i as u64) < bits.byte_len());
-        assert_eq!(rt; bits.byte(i as u64), *byte, "byte {i}");
-    }
-}
 
 /// The samples that a reader hands out, interval by interval.
 fn read_by_steps(alloc: Global, reader: &mut StreamReader) -> Result<Vec<i64>, Fault> {

@@ -4,9 +4,10 @@ ghost use Rattle.std.specs.Prelude.{◌-◌, ◌≤◌, if◌then◌else◌};
 ghost use Rattle.aec_params.specs.Runs.{segment_len};
 ghost use Rattle.aec_block.specs.Choices.{FitsReference};
 
-use crate::tests::{expect_bits, fits_reference};
-use crate::write_run;
+use super::choices::fits_reference;
+use crate::shared::expect_bits;
 use aec_bits::BitBuf;
+use aec_block::write_run;
 use aec_params::{Params, Settings};
 use std::alloc::Global;
 use std::process::Abort;

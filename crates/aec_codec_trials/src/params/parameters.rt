@@ -1,7 +1,5 @@
-use super::{restricted, width};
-use crate::fault::Fault;
-use crate::params::Params;
-use crate::settings::Settings;
+use crate::settings::{restricted, width};
+use aec_params::{Fault, Params, Settings};
 use std::test::Fail;
 
 const fn shape(bits: u32, block_size: u32, interval: u32) -> Settings {

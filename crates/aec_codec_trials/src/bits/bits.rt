@@ -1,6 +1,6 @@
 ghost use Rattle.std.specs.Prelude.{◌<◌, ◌≤◌, ◌^◌, length};
 
-use crate::{BitBuf, BitReader};
+use aec_bits::{BitBuf, BitReader};
 use aec_params::Fault;
 use std::alloc::Global;
 use std::test::Fail;
@@ -63,7 +63,7 @@ pub fn sample_list(alloc: Global, len: usize, step: usize) -> Result<Vec<bool>, 
 }
 
 /// Whether a splice leaves what it leaves of a plain list.
-fn splices(
+pub fn splices(
     alloc: Global,
     list: &[bool],
     start: usize,

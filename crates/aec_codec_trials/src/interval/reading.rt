@@ -1,6 +1,7 @@
 //! Bytes read as samples.
 
-use super::streams::{expect_read, expect_zeros, padded, unprocessed, with_interval};
+use super::streams::{expect_read, expect_zeros};
+use crate::settings::{padded, unprocessed, with_interval};
 use aec_params::Settings;
 use std::test::Fail;
 

@@ -2,9 +2,11 @@
 
 ghost use Rattle.std.specs.Prelude.{◌<◌, ◌≤◌, length};
 
-use super::streams::{MOST, expect_bits, unprocessed, with_interval};
-use crate::{StreamCoder, encode_all};
+use super::streams::MOST;
+use crate::settings::{unprocessed, width, with_interval};
+use crate::shared::expect_bits;
 use aec_bits::BitBuf;
+use aec_interval::{StreamCoder, encode_all};
 use aec_params::{Fault, Params, Settings, read_samples};
 use std::alloc::Global;
 use std::process::Abort;
@@ -66,14 +68,6 @@ fn refused(piece: &[u8], fault: Fault, bits: u64) -> Call<'_> {
     }
 }
 
-/// The settings with so many bits per sample.
-fn with_bits(bits: u32) -> Settings {
-    Settings {
-        bits,
-        ..Settings::USUAL
-    }
-}
-
 #[test]
 fn codes_each_interval_when_it_is_complete(rt: HostRuntime) -> Result<(), Fail> {
     let alloc = rt.alloc();
@@ -88,7 +82,7 @@ fn codes_each_interval_when_it_is_complete(rt: HostRuntime) -> Result<(), Fail> 
     expect_calls(&rt, alloc, s, 17, &begun, Ok(()), 27, &all)?;
     expect_calls(&rt, alloc, s, 17, &[], Ok(()), 0, &[])?;
     // A byte that is half a sample is ignored at the end.
-    let wide = with_bits(16);
+    let wide = width(16, false);
     let halves = [taken(&[0], 0, 0), taken(&[0, 0], 1, 0)];
     expect_calls(
         &rt,
@@ -122,13 +116,13 @@ fn answers_a_refusal_for_good(rt: HostRuntime) -> Result<(), Fail> {
         refused(&[0], one, 0),
         refused(&[0], one, 0),
     ];
-    expect_calls(&rt, alloc, with_bits(16), 1, &halves, Err(one), 0, &[])?;
+    expect_calls(&rt, alloc, width(16, false), 1, &halves, Err(one), 0, &[])?;
     let none = Fault::TooManySamples { limit: 0 };
     let empty = [taken(&[], 0, 0), refused(&[0], none, 0)];
     expect_calls(&rt, alloc, s, 0, &empty, Err(none), 0, &[])?;
     // The limit is judged before the range.
     let bad = Fault::SampleRange { index: 1 };
-    let five = with_bits(5);
+    let five = width(5, false);
     expect_calls(
         &rt,
         alloc,
@@ -165,7 +159,7 @@ fn names_the_bad_sample_of_all_pieces(rt: HostRuntime) -> Result<(), Fail> {
         let (first, second) = bytes.split_at(10);
         let bits = if place < 16 { 0 } else { 11 };
         let code: &[u8] = if place < 16 { &[] } else { &[0x00, 0x20] };
-        let five = with_bits(5);
+        let five = width(5, false);
         if place < 10 {
             let calls = [refused(first, fault, 0), refused(second, fault, 0)];
             expect_calls(&rt, alloc, five, MOST, &calls, Err(fault), bits, code)?;

@@ -1,7 +1,7 @@
 //! Coded data sets that are gone over, beside what reading finds in the same bits.
 
-use crate::{Block, Found, RunLen, read_into, skip_cds};
 use aec_bits::{BitBuf, BitReader};
+use aec_block::{Block, Found, RunLen, read_into, skip_cds};
 use aec_params::{Fault, Params, Settings};
 use std::alloc::Global;
 use std::process::Abort;

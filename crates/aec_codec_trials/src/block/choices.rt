@@ -5,8 +5,9 @@ ghost use Rattle.std.specs.Bool.{OnTrue};
 ghost use Rattle.std.specs.List.{AllByRecursion};
 ghost use Rattle.aec_block.specs.Choices.{FitsReference, IsFull};
 
-use crate::{Block, Cds, Choice, Coding, choose, map, read_cds, unmap, write_block};
+use crate::shared::expect_bits;
 use aec_bits::{BitBuf, BitReader};
+use aec_block::{Block, Cds, Choice, Coding, choose, map, read_cds, unmap, write_block};
 use aec_params::{Params, Settings};
 use std::alloc::Global;
 use std::process::Abort;
@@ -29,7 +30,8 @@ fn all_below(values: &[u32], limit: u64) -> bool
     values.iter().all(|v| u64::from(*v) < limit)
 }
 
-pub(crate) fn fits_reference(params: &Params, reference: Option<u32>) -> bool
+/// Whether a number stands as a reference sample.
+pub fn fits_reference(params: &Params, reference: Option<u32>) -> bool
     ensures { OnTrue result (FitsReference params.now reference) }
 {
     match reference {
@@ -49,16 +51,6 @@ fn is_full(params: &Params, block: &Block) -> bool
         return false;
     }
     all_below(block.values(), 1 << params.bits())
-}
-
-/// Compares bits with those of bytes, of which the last is filled with zeros.
-pub(crate) fn expect_bits(rt: &impl Abort, bits: &BitBuf, len: u64, bytes: &[u8]) {
-    assert_eq!(rt; bits.len(), len);
-    assert_eq!(rt; bits.byte_len(), bytes.len() as u64);
-    for (i, byte) in bytes.iter().enumerate() {
-        assert!(rt; (i as u64) < bits.byte_len());
-        assert_eq!(rt; bits.byte(i as u64), *byte, "byte {i}");
-    }
 }
 
 #[test]

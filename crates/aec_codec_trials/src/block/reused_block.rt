@@ -1,7 +1,7 @@
 //! Several coded data sets, spelled by hand, that are read one after the other into the same block.
 
-use crate::{Block, Found, RunLen, read_into};
 use aec_bits::{BitBuf, BitReader};
+use aec_block::{Block, Found, RunLen, read_into};
 use aec_params::{Fault, Params, Settings};
 use std::process::Abort;
 use std::test::Fail;

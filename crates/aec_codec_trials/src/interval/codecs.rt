@@ -1,45 +1,32 @@
 //! Intervals coded by the codec, and decoded again.
 
-ghost use Rattle.std.specs.Prelude.{◌≡◌, ◌++◌, true, OnOk};
+ghost use Rattle.std.specs.Prelude.{◌≡◌};
+ghost use Rattle.std.specs.Bool.{OnTrue};
+ghost use Rattle.std.specs.List.{list_all};
 ghost use Rattle.aec_bits.specs.Codec.{IsInterval};
-ghost use Rattle.aec_interval.specs.IntervalFormat.{interval_format};
 
-use super::streams::{expect_bits, padded};
-use crate::AecCodec;
-use crate::whole::unheld_index;
+use crate::settings::padded;
+use crate::shared::{expect_bits, there_and_back};
 use aec_bits::{BitBuf, Codec};
+use aec_interval::AecCodec;
 use aec_params::{Fault, Params, Settings};
 use std::alloc::Global;
 use std::process::Abort;
 use std::test::Fail;
 
-/// Whether a codec has these samples as an interval.
-#[tactic(auto, using(crate::proofs::IntervalFormatLemmas::interval_of_held))]
-fn is_interval(codec: &AecCodec, samples: &[i64]) -> bool
-    ensures { result ≡ true → IsInterval (interval_format codec.now.params) samples.now }
+/// Whether all numbers are samples.
+fn are_held<C: Codec>(codec: &C, samples: &[i64]) -> bool
+    ensures { result ≡ list_all (C.format codec.now).holds samples.now }
 {
-    if samples.is_empty() || samples.len() as u64 > codec.interval_len() {
-        return false;
-    }
-    match unheld_index(&codec.params(), samples) {
-        None => true,
-        Some(_) => false,
-    }
+    samples.iter().all(|x| codec.holds(*x))
 }
 
-/// Codes an interval behind some bits, and decodes it again.
-fn there_and_back<C: Codec>(
-    codec: &mut C,
-    samples: &[i64],
-    buf: &mut BitBuf,
-    out: &mut Vec<i64>,
-) -> Result<(), Fault>
-    requires { IsInterval (C.format codec.old) samples.now }
-    ensures { OnOk result (out.new.items ≡ out.old.items ++ samples.now) }
+/// Whether a codec has these samples as an interval.
+fn is_interval<C: Codec>(codec: &C, samples: &[i64]) -> bool
+    ensures { OnTrue result (IsInterval (C.format codec.now) samples.now) }
 {
-    let start = buf.len();
-    codec.code(samples, buf)?;
-    codec.decode(buf, start, samples.len() as u64, out)
+    let is_few = samples.len() as u64 <= codec.interval_len();
+    !samples.is_empty() && is_few && are_held(codec, samples)
 }
 
 /// The same for samples that the codec has as an interval.

@@ -1,26 +1,8 @@
-use super::width;
-use crate::fault::Fault;
-use crate::params::Params;
-use crate::settings::Settings;
-use crate::stored::put_sample;
-use crate::stored_lists::read_samples;
+use crate::settings::{msb_first, three_byte, width};
+use aec_params::{Fault, Params, Settings, put_sample, read_samples};
 use std::alloc::Global;
 use std::process::Abort;
 use std::test::Fail;
-
-pub(super) const fn three_byte(bits: u32, signed: bool) -> Settings {
-    Settings {
-        three_byte: true,
-        ..width(bits, signed)
-    }
-}
-
-pub(super) const fn msb_first(settings: Settings) -> Settings {
-    Settings {
-        msb_first: true,
-        ..settings
-    }
-}
 
 #[test]
 fn reads_whole_samples(rt: HostRuntime) -> Result<(), Fail> {

@@ -1,29 +1,5 @@
-mod parameters;
-mod stored;
-mod stored_lists;
-
-use crate::edit::Edit;
-use crate::fault::Fault;
-use crate::limits::Limits;
-use crate::samples::Samples;
-use crate::settings::Settings;
+use aec_params::{Edit, Fault, Limits, Samples};
 use std::test::Fail;
-
-const fn width(bits: u32, signed: bool) -> Settings {
-    Settings {
-        bits,
-        signed,
-        ..Settings::USUAL
-    }
-}
-
-const fn restricted(bits: u32) -> Settings {
-    Settings {
-        bits,
-        restricted: true,
-        ..Settings::USUAL
-    }
-}
 
 #[test]
 fn limits_have_bounds(rt: HostRuntime) {

@@ -1,8 +1,9 @@
 //! Intervals gone over without their samples.
 
-use super::streams::{MOST, padded};
-use crate::StreamReader;
+use super::streams::MOST;
+use crate::settings::padded;
 use aec_bits::BitBuf;
+use aec_interval::StreamReader;
 use aec_params::{Fault, Params, Settings};
 use std::alloc::Global;
 use std::process::Abort;

@@ -1,5 +1,5 @@
 use super::bits::bits_in;
-use crate::{ReadSource, Sink, Source, WriteSink};
+use aec_bits::{ReadSource, Sink, Source, WriteSink};
 use aec_params::Fault;
 use std::alloc::Global;
 use std::io;

@@ -1,0 +1,16 @@
+//! Tests alone: what no clause of `aec_params`, `aec_bits`, `aec_block` and `aec_interval` says, and values from outside.
+//! They stand here because a crate with tests is proved twice, and its must-fail edits wait for both proofs.
+#![tactic(auto)]
+
+#[cfg(test)]
+mod bits;
+#[cfg(test)]
+mod block;
+#[cfg(test)]
+mod interval;
+#[cfg(test)]
+mod params;
+#[cfg(test)]
+mod settings;
+#[cfg(test)]
+mod shared;

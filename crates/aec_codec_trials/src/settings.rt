@@ -1,0 +1,60 @@
+//! Settings that differ from the usual ones in a field or two.
+
+use aec_params::Settings;
+
+/// So many bits per sample.
+pub const fn width(bits: u32, signed: bool) -> Settings {
+    Settings {
+        bits,
+        signed,
+        ..Settings::USUAL
+    }
+}
+
+/// The restricted set of codes, with so many bits per sample.
+pub const fn restricted(bits: u32) -> Settings {
+    Settings {
+        restricted: true,
+        ..width(bits, false)
+    }
+}
+
+/// Samples of 17 to 24 bits in three bytes.
+pub const fn three_byte(bits: u32, signed: bool) -> Settings {
+    Settings {
+        three_byte: true,
+        ..width(bits, signed)
+    }
+}
+
+/// The most significant byte first.
+pub const fn msb_first(settings: Settings) -> Settings {
+    Settings {
+        msb_first: true,
+        ..settings
+    }
+}
+
+/// Intervals of so many blocks.
+pub const fn with_interval(interval: u32) -> Settings {
+    Settings {
+        interval,
+        ..Settings::USUAL
+    }
+}
+
+/// No preprocessing, and intervals of so many blocks.
+pub const fn unprocessed(interval: u32) -> Settings {
+    Settings {
+        preprocess: false,
+        ..with_interval(interval)
+    }
+}
+
+/// With padding.
+pub const fn padded() -> Settings {
+    Settings {
+        pad: true,
+        ..Settings::USUAL
+    }
+}
