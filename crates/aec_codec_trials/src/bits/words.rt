@@ -15,8 +15,9 @@ fn noise(alloc: Global, seed: u64) -> Result<Vec<bool>, Fault> {
     let mut list = Vec::new(alloc);
     let mut word = seed;
     for i in 1..13u64 {
-        for bit in 0..64 {
-            list.push(word >> (63 - bit) & 1 == 1)?;
+        for _ in 0..64 {
+            word = word.rotate_left(1);
+            list.push(word & 1 == 1)?;
         }
         word = word.wrapping_mul(0x9E37_79B9_7F4A_7C15).wrapping_add(i);
     }
