@@ -34,27 +34,3 @@ pub const fn msb_first(settings: Settings) -> Settings {
         ..settings
     }
 }
-
-/// Intervals of so many blocks.
-pub const fn with_interval(interval: u32) -> Settings {
-    Settings {
-        interval,
-        ..Settings::USUAL
-    }
-}
-
-/// No preprocessing, and intervals of so many blocks.
-pub const fn unprocessed(interval: u32) -> Settings {
-    Settings {
-        preprocess: false,
-        ..with_interval(interval)
-    }
-}
-
-/// With padding.
-pub const fn padded() -> Settings {
-    Settings {
-        pad: true,
-        ..Settings::USUAL
-    }
-}

@@ -1,5 +1,5 @@
-//! Tests alone: what no clause of `aec_edit`, `aec_engine` and `aec_cli` says, and values from outside. They stand here
-//! because a crate with tests is proved twice, and its must-fail edits wait for both proofs.
+//! Tests alone: what no clause of `aec_engine` and `aec_cli` says, and values from outside. They stand here because a crate
+//! with tests is proved twice, and its must-fail edits wait for both proofs.
 #![tactic(auto)]
 
 #[cfg(test)]
@@ -23,17 +23,7 @@ mod files;
 #[cfg(test)]
 mod large_inputs;
 #[cfg(test)]
-mod library_example;
-#[cfg(test)]
 mod limits;
-#[cfg(test)]
-mod many_intervals;
-#[cfg(test)]
-mod mixed_edits;
-#[cfg(test)]
-mod octets;
-#[cfg(test)]
-mod plain_reader;
 #[cfg(test)]
 mod ranges;
 #[cfg(test)]
@@ -45,16 +35,10 @@ mod scripts;
 #[cfg(test)]
 mod shared;
 #[cfg(test)]
-mod steps;
-#[cfg(test)]
 mod tables;
-#[cfg(test)]
-mod turned_bits;
 #[cfg(test)]
 mod unsynced_files;
 #[cfg(test)]
 mod widths;
 #[cfg(test)]
 mod words;
-#[cfg(test)]
-mod workspaces;

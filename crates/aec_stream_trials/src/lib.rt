@@ -1,0 +1,28 @@
+//! Tests alone: what no clause of `aec_interval` and `aec_edit` says, and values from outside. They stand here because a crate
+//! with tests is proved twice, and its must-fail edits wait for both proofs.
+#![tactic(auto)]
+
+#[cfg(test)]
+mod interval;
+#[cfg(test)]
+mod library_example;
+#[cfg(test)]
+mod many_intervals;
+#[cfg(test)]
+mod mixed_edits;
+#[cfg(test)]
+mod octets;
+#[cfg(test)]
+mod plain_reader;
+#[cfg(test)]
+mod settings;
+#[cfg(test)]
+mod shared;
+#[cfg(test)]
+mod steps;
+#[cfg(test)]
+mod tables;
+#[cfg(test)]
+mod turned_bits;
+#[cfg(test)]
+mod workspaces;

@@ -1,0 +1,36 @@
+//! Settings that differ from the usual ones in a field or two.
+
+use aec_params::Settings;
+
+/// So many bits per sample.
+pub const fn width(bits: u32, signed: bool) -> Settings {
+    Settings {
+        bits,
+        signed,
+        ..Settings::USUAL
+    }
+}
+
+/// Intervals of so many blocks.
+pub const fn with_interval(interval: u32) -> Settings {
+    Settings {
+        interval,
+        ..Settings::USUAL
+    }
+}
+
+/// No preprocessing, and intervals of so many blocks.
+pub const fn unprocessed(interval: u32) -> Settings {
+    Settings {
+        preprocess: false,
+        ..with_interval(interval)
+    }
+}
+
+/// With padding.
+pub const fn padded() -> Settings {
+    Settings {
+        pad: true,
+        ..Settings::USUAL
+    }
+}
