@@ -1,7 +1,7 @@
 //! A reader of bits.
 
 use crate::bit_buf::BitBuf;
-use crate::ones::ones_end;
+use crate::ones::bits_to_one;
 use crate::windows::{numbers_from, sequences_from};
 use aec_params::Fault;
 use std::marker::Model;
@@ -188,7 +188,7 @@ impl<'a> BitReader<'a> {
         if count == 0 {
             return Ok(0);
         }
-        match ones_end(self.buf, start, count) {
+        match bits_to_one(self.buf, start, count) {
             None => Err(Fault::Truncated { bit: start }),
             Some(gone) => {
                 self.pos = start + gone;

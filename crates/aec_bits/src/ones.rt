@@ -67,7 +67,7 @@ fn behind_in_word(word: u64, nth: u32) -> u32
 }
 
 /// How many bits from place `start` on end with the `count`-th one; `None` where fewer ones follow.
-pub(crate) fn ones_end(buf: &BitBuf, start: u64, count: u64) -> Option<u64>
+pub(crate) fn bits_to_one(buf: &BitBuf, start: u64, count: u64) -> Option<u64>
     requires within { start ≤ length buf.now.list }
     requires some { 0 < count }
     ensures place { result ≡ behind_ones count (drop start buf.now.list) }

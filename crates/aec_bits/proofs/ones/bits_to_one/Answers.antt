@@ -1,6 +1,6 @@
 use Rattle.std.proofs.Common.{◌+◌, ◌-◌, arith}
 use Rattle.aec_bits.proofs.OnesLemmas.{found_at, goes_on, none_left, ends_within}
-use Rattle.aec_bits.proofs.ones.ones_end.Goals as goal
+use Rattle.aec_bits.proofs.ones.bits_to_one.Goals as goal
 
 pub returns-then-left-ones-clause-place : goal.returns-then-left-ones-clause-place
 returns-then-left-ones-clause-place c =

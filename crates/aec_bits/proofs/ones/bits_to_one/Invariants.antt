@@ -1,6 +1,6 @@
 use Rattle.std.proofs.Common.{◌≡◌, ◌+◌, ◌-◌, ◌<◌, ◌≤◌, length, drop}
 use Rattle.aec_bits.specs.BitReader.{further, behind_ones}
-use Rattle.aec_bits.proofs.ones.ones_end.Given as goal
+use Rattle.aec_bits.proofs.ones.bits_to_one.Given as goal
 
 abbrev pub invariant-loop-place : goal.invariant-loop-place
 invariant-loop-place l = record {
