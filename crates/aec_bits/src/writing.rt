@@ -1,6 +1,6 @@
 //! The bytes that a list of bits fills, written to a sink.
 
-ghost use Rattle.std.specs.Prelude.{◌≡◌, ◌+◌, ◌-◌, ◌*◌, ◌/◌, ◌<◌, ◌≤◌, min, length, take, drop, OnOk, OnErr, IfErr};
+ghost use Rattle.std.specs.Prelude.{◌≡◌, ◌+◌, ◌-◌, ◌/◌, ◌%◌, ◌<◌, ◌≤◌, min, length, take, drop, OnOk, OnErr, IfErr};
 ghost use Rattle.std.specs.Io.KnownBytes.{Appends};
 ghost use Rattle.aec_params.specs.declared.fault.Fault.TheVariants.{Write as WriteFault};
 ghost use Rattle.aec_params.specs.Codewords.{bytes_of};
@@ -44,18 +44,18 @@ fn fill(buf: &BitBuf, first: u64, piece: &mut [u8]) -> usize
 {
     let left = buf.byte_len() - first;
     let count = piece.len().min(left as usize);
-    fill_eights(buf, first, &mut piece[..count]);
+    fill_eights(buf, first, &mut piece[..count / 8 * 8]);
     for k in count / 8 * 8..count {
         piece[k] = buf.byte(first + k as u64);
     }
     count
 }
 
-/// Puts the bytes from byte `first` on into all of a piece but what is left after eights.
+/// Puts the bytes from byte `first` on into all of a piece that is whole eights.
 fn fill_eights(buf: &BitBuf, first: u64, piece: &mut [u8])
-    requires { first + length piece.old ≤ length (bytes_of buf.now.list) }
-    ensures bytes { take (length piece.old / 8 * 8) piece.new ≡ take (length piece.old / 8 * 8) (drop first (bytes_of buf.now.list)) }
-    ensures len { length piece.new ≡ length piece.old }
+    requires eights { length piece.old % 8 ≡ 0 }
+    requires within { first + length piece.old ≤ length (bytes_of buf.now.list) }
+    ensures { piece.new ≡ take (length piece.old) (drop first (bytes_of buf.now.list)) }
 {
     let _total = buf.byte_len();
     for i in 0..piece.len() / 8 {
