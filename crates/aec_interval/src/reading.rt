@@ -308,8 +308,6 @@ pub(crate) fn decode_from(
             &mut samples,
         )?;
     }
-    if let Some(count) = wanted.count {
-        samples.truncate(count as usize);
-    }
+    cut_to_count(params, wanted, &mut samples);
     Ok(samples)
 }
