@@ -6,6 +6,7 @@ use Rattle.aec_params.specs.declared.fault.Fault.{Fault}
 use Rattle.aec_params.specs.Params.{IsAllowed, IsHeld, interval_len, storage_len}
 use Rattle.aec_interval.specs.Feeding.{Coding, Feeds, StopsFeeding}
 use Rattle.aec_interval.specs.declared.joining.Progress.{Progress}
+use Rattle.aec_interval.specs.declared.joining.Terms.{Terms}
 
 abbrev pub coding_with : Settings → ℕ → Progress → List ℕ → Option Fault → Coding
 coding_with s limit progress rest refusal =
@@ -38,9 +39,9 @@ AnswersPiece c piece before result d after =
     MatchResult result (λ _. Feeds c piece before after d) (λ fault. StopsFeeding c piece before after fault)
 
 -- the same, where no sample is begun
-abbrev pub Joins : {X : Type 0} → Settings → ℕ → Progress → List ℕ → List Bool → Result X Fault → Progress → List Bool → Type 0
-Joins s limit old bytes before result new after =
-    AnswersPiece (coding_at s limit old []) bytes before result (coding_at s limit new []) after
+abbrev pub Joins : {X : Type 0} → Terms → Progress → List ℕ → List Bool → Result X Fault → Progress → List Bool → Type 0
+Joins terms old bytes before result new after =
+    AnswersPiece (coding_at terms.params terms.limit old []) bytes before result (coding_at terms.params terms.limit new []) after
 
 -- a piece completes a sample that was begun, if one was: what it completes comes before `behind`
 pub record CompletesRest (c : Coding) (piece behind : List ℕ) (before after : List Bool) (d : Coding) : Type 0 where

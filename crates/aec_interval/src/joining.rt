@@ -17,6 +17,14 @@ use aec_bits::BitBuf;
 use aec_params::{Fault, Params, append_samples, first_bad, sample_of};
 use std::alloc::Global;
 
+/// What samples are joined under: how they are coded, and how many of them there may be.
+#[derive(Debug, Drop)]
+pub(crate) struct Terms {
+    pub(crate) alloc: Global,
+    pub(crate) params: Params,
+    pub(crate) limit: u64,
+}
+
 /// The samples of the interval that is not complete, and how many samples there were so far.
 #[derive(Debug, Drop)]
 pub(crate) struct Progress {
@@ -26,100 +34,80 @@ pub(crate) struct Progress {
 
 /// Appends the code of the samples that are held once they are an interval's, and then none are held. `Memory` where a
 /// growth was refused; nothing is appended then.
-fn code_complete(
-    alloc: Global,
-    params: &Params,
-    held: &mut Vec<i64>,
-    out: &mut BitBuf,
-) -> Result<(), Fault>
-    requires samples { AllByRecursion (IsHeld params.now) held.old.items }
-    requires most { length held.old.items ≤ interval_len params.now }
-    ensures ok { OnOk result (held.new.items ≡ left_behind (interval_len params.now) held.old.items) }
+fn code_complete(terms: &Terms, held: &mut Vec<i64>, out: &mut BitBuf) -> Result<(), Fault>
+    requires samples { AllByRecursion (IsHeld terms.now.params) held.old.items }
+    requires most { length held.old.items ≤ interval_len terms.now.params }
+    ensures ok { OnOk result (held.new.items ≡ left_behind (interval_len terms.now.params) held.old.items) }
     ensures bits { OnOk result
-        (out.new.list ≡ out.old.list ++ stream_of params.now (whole_front (interval_len params.now) held.old.items)) }
-    ensures few { AreHeldFew params.now held.new.items }
+        (out.new.list ≡ out.old.list ++ stream_of terms.now.params (whole_front (interval_len terms.now.params) held.old.items)) }
+    ensures few { AreHeldFew terms.now.params held.new.items }
     ensures err { OnErr result (out.new.list ≡ out.old.list) }
     ensures fault { IfErr result (λ e. e ≡ Memory) }
 {
-    if (held.len() as u64) < params.interval_len() {
+    if (held.len() as u64) < terms.params.interval_len() {
         return Ok(());
     }
-    let coded = append_interval(alloc, params, held, out);
+    let coded = append_interval(terms.alloc, &terms.params, held, out);
     held.clear();
     coded
 }
 
 /// Holds a sample more. With the last sample of an interval its code is appended, and none are held. `Memory` where a
 /// growth was refused; nothing is appended then.
-fn push_sample(
-    alloc: Global,
-    params: &Params,
-    held: &mut Vec<i64>,
-    x: i64,
-    out: &mut BitBuf,
-) -> Result<(), Fault>
-    requires few { AreHeldFew params.now held.old.items }
-    requires sample { IsHeld params.now x }
-    ensures ok { OnOk result (held.new.items ≡ left_behind (interval_len params.now) (held.old.items ++ x ∷ [])) }
+fn push_sample(terms: &Terms, held: &mut Vec<i64>, x: i64, out: &mut BitBuf) -> Result<(), Fault>
+    requires few { AreHeldFew terms.now.params held.old.items }
+    requires sample { IsHeld terms.now.params x }
+    ensures ok { OnOk result (held.new.items ≡ left_behind (interval_len terms.now.params) (held.old.items ++ x ∷ [])) }
     ensures bits { OnOk result
-        (out.new.list ≡ out.old.list ++ stream_of params.now (whole_front (interval_len params.now) (held.old.items ++ x ∷ []))) }
-    ensures few { AreHeldFew params.now held.new.items }
+        (out.new.list ≡ out.old.list ++ stream_of terms.now.params (whole_front (interval_len terms.now.params) (held.old.items ++ x ∷ []))) }
+    ensures few { AreHeldFew terms.now.params held.new.items }
     ensures err { OnErr result (out.new.list ≡ out.old.list) }
     ensures fault { IfErr result (λ e. e ≡ Memory) }
 {
     held.push(x)?;
-    code_complete(alloc, params, held, out)
+    code_complete(terms, held, out)
 }
 
 /// The sample of the bytes of one, behind `count` others. `TooManySamples` where the limit is reached, then `SampleRange`.
-fn judge(params: &Params, limit: u64, count: u64, group: &[u8]) -> Result<i64, Fault>
-    requires { length group.now ≡ storage_len params.now }
-    ensures value { result ≡ judged_sample params.now limit count group.now }
-    ensures held { IfOk result (λ x. IsHeld params.now x) }
-    ensures within { OnOk result (count < limit) }
+fn judge(terms: &Terms, count: u64, group: &[u8]) -> Result<i64, Fault>
+    requires { length group.now ≡ storage_len terms.now.params }
+    ensures value { result ≡ judged_sample terms.now.params terms.now.limit count group.now }
+    ensures held { IfOk result (λ x. IsHeld terms.now.params x) }
+    ensures within { OnOk result (count < terms.now.limit) }
 {
-    if count >= limit {
-        return Err(Fault::TooManySamples { limit });
+    if count >= terms.limit {
+        return Err(Fault::TooManySamples { limit: terms.limit });
     }
-    sample_of(params, group).ok_or(Fault::SampleRange { index: count })
+    sample_of(&terms.params, group).ok_or(Fault::SampleRange { index: count })
 }
 
 /// Takes the bytes of one sample. The refusals of `judge`, then `Memory`.
-fn join(
-    alloc: Global,
-    params: &Params,
-    limit: u64,
-    progress: &mut Progress,
-    group: &[u8],
-    out: &mut BitBuf,
-) -> Result<(), Fault>
-    requires progress { IsProgress params.now limit progress.old }
-    requires whole { length group.now ≡ storage_len params.now }
-    ensures joins { Joins params.now limit progress.old group.now out.old.list result progress.new out.new.list }
-    ensures progress { IsProgress params.now limit progress.new }
+fn join(terms: &Terms, progress: &mut Progress, group: &[u8], out: &mut BitBuf) -> Result<(), Fault>
+    requires progress { IsProgress terms.now.params terms.now.limit progress.old }
+    requires whole { length group.now ≡ storage_len terms.now.params }
+    ensures joins { Joins terms.now progress.old group.now out.old.list result progress.new out.new.list }
+    ensures progress { IsProgress terms.now.params terms.now.limit progress.new }
 {
-    let x = judge(params, limit, progress.count, group)?;
-    push_sample(alloc, params, &mut progress.held, x, out)?;
+    let x = judge(terms, progress.count, group)?;
+    push_sample(terms, &mut progress.held, x, out)?;
     progress.count += 1;
     Ok(())
 }
 
 /// Takes the bytes of whole samples one by one, up to the first that is refused.
 fn join_each(
-    alloc: Global,
-    params: &Params,
-    limit: u64,
+    terms: &Terms,
     progress: &mut Progress,
     bytes: &[u8],
     out: &mut BitBuf,
 ) -> Result<(), Fault>
-    requires progress { IsProgress params.now limit progress.old }
-    requires whole { length bytes.now % storage_len params.now ≡ 0 }
-    ensures joins { Joins params.now limit progress.old bytes.now out.old.list result progress.new out.new.list }
-    ensures progress { IsProgress params.now limit progress.new }
+    requires progress { IsProgress terms.now.params terms.now.limit progress.old }
+    requires whole { length bytes.now % storage_len terms.now.params ≡ 0 }
+    ensures joins { Joins terms.now progress.old bytes.now out.old.list result progress.new out.new.list }
+    ensures progress { IsProgress terms.now.params terms.now.limit progress.new }
 {
-    for group in bytes.chunks_exact(params.storage()) {
-        join(alloc, params, limit, progress, group, out)?;
+    for group in bytes.chunks_exact(terms.params.storage()) {
+        join(terms, progress, group, out)?;
     }
     Ok(())
 }
@@ -127,79 +115,73 @@ fn join_each(
 /// Takes the bytes of some samples, no more than the interval has places, of which none is refused. `Memory` where a growth
 /// was refused.
 fn join_good(
-    alloc: Global,
-    params: &Params,
-    limit: u64,
+    terms: &Terms,
     progress: &mut Progress,
     part: &[u8],
     out: &mut BitBuf,
 ) -> Result<(), Fault>
-    requires progress { IsProgress params.now limit progress.old }
-    requires samples { ArePart params.now progress.old.held.items part.now }
-    requires good { result_err (samples_of_bytes params.now part.now) ≡ None }
-    requires within { progress.old.count + length part.now / storage_len params.now ≤ limit }
-    ensures joins { Joins params.now limit progress.old part.now out.old.list result progress.new out.new.list }
-    ensures progress { IsProgress params.now limit progress.new }
+    requires progress { IsProgress terms.now.params terms.now.limit progress.old }
+    requires samples { ArePart terms.now.params progress.old.held.items part.now }
+    requires good { result_err (samples_of_bytes terms.now.params part.now) ≡ None }
+    requires within { progress.old.count + length part.now / storage_len terms.now.params ≤ terms.now.limit }
+    ensures joins { Joins terms.now progress.old part.now out.old.list result progress.new out.new.list }
+    ensures progress { IsProgress terms.now.params terms.now.limit progress.new }
 {
-    append_samples(params, part, &mut progress.held)?;
-    code_complete(alloc, params, &mut progress.held, out)?;
-    progress.count += (part.len() / params.storage()) as u64;
+    append_samples(&terms.params, part, &mut progress.held)?;
+    code_complete(terms, &mut progress.held, out)?;
+    progress.count += (part.len() / terms.params.storage()) as u64;
     Ok(())
 }
 
 /// Takes the bytes of some samples, no more than the interval has places: at once where none is refused, else up to the
 /// first that is.
 fn join_part(
-    alloc: Global,
-    params: &Params,
-    limit: u64,
+    terms: &Terms,
     progress: &mut Progress,
     part: &[u8],
     out: &mut BitBuf,
 ) -> Result<(), Fault>
-    requires progress { IsProgress params.now limit progress.old }
-    requires samples { ArePart params.now progress.old.held.items part.now }
-    ensures joins { Joins params.now limit progress.old part.now out.old.list result progress.new out.new.list }
-    ensures progress { IsProgress params.now limit progress.new }
+    requires progress { IsProgress terms.now.params terms.now.limit progress.old }
+    requires samples { ArePart terms.now.params progress.old.held.items part.now }
+    ensures joins { Joins terms.now progress.old part.now out.old.list result progress.new out.new.list }
+    ensures progress { IsProgress terms.now.params terms.now.limit progress.new }
 {
-    let count = (part.len() / params.storage()) as u64;
-    if count <= limit - progress.count && first_bad(params, part).is_none() {
-        join_good(alloc, params, limit, progress, part, out)
+    let count = (part.len() / terms.params.storage()) as u64;
+    if count <= terms.limit - progress.count && first_bad(&terms.params, part).is_none() {
+        join_good(terms, progress, part, out)
     } else {
-        join_each(alloc, params, limit, progress, part, out)
+        join_each(terms, progress, part, out)
     }
 }
 
 /// How many of the bytes of whole samples, at least one, the interval has places for.
-fn part_len(params: &Params, progress: &Progress, bytes: &[u8]) -> usize
-    requires few { length progress.now.held.items < interval_len params.now }
-    requires whole { length bytes.now % storage_len params.now ≡ 0 }
+fn part_len(terms: &Terms, progress: &Progress, bytes: &[u8]) -> usize
+    requires few { length progress.now.held.items < interval_len terms.now.params }
+    requires whole { length bytes.now % storage_len terms.now.params ≡ 0 }
     requires some { 0 < length bytes.now }
-    ensures part { ArePart params.now progress.now.held.items (take result bytes.now) }
+    ensures part { ArePart terms.now.params progress.now.held.items (take result bytes.now) }
     ensures within { result ≤ length bytes.now }
 {
-    let places = params.interval_len() as usize - progress.held.len();
-    bytes.len().min(places * params.storage())
+    let places = terms.params.interval_len() as usize - progress.held.len();
+    bytes.len().min(places * terms.params.storage())
 }
 
 /// Takes the bytes of whole samples, up to the first that is refused.
 fn join_all(
-    alloc: Global,
-    params: &Params,
-    limit: u64,
+    terms: &Terms,
     progress: &mut Progress,
     bytes: &[u8],
     out: &mut BitBuf,
 ) -> Result<(), Fault>
-    requires progress { IsProgress params.now limit progress.old }
-    requires whole { length bytes.now % storage_len params.now ≡ 0 }
-    ensures joins { Joins params.now limit progress.old bytes.now out.old.list result progress.new out.new.list }
-    ensures progress { IsProgress params.now limit progress.new }
+    requires progress { IsProgress terms.now.params terms.now.limit progress.old }
+    requires whole { length bytes.now % storage_len terms.now.params ≡ 0 }
+    ensures joins { Joins terms.now progress.old bytes.now out.old.list result progress.new out.new.list }
+    ensures progress { IsProgress terms.now.params terms.now.limit progress.new }
 {
     let mut left = bytes;
     while !left.is_empty() {
-        let (part, behind) = left.split_at(part_len(params, progress, left));
-        join_part(alloc, params, limit, progress, part, out)?;
+        let (part, behind) = left.split_at(part_len(terms, progress, left));
+        join_part(terms, progress, part, out)?;
         left = behind;
     }
     Ok(())
@@ -208,31 +190,29 @@ fn join_all(
 /// Completes the sample of which bytes are there, with the front of a piece that is long enough. The bytes of the piece
 /// behind it.
 fn complete_rest<'a>(
-    alloc: Global,
-    params: &Params,
-    limit: u64,
+    terms: &Terms,
     progress: &mut Progress,
     rest: &mut Rest,
     piece: &'a [u8],
     out: &mut BitBuf,
 ) -> Result<&'a [u8], Fault>
-    requires progress { IsProgress params.now limit progress.old }
-    requires short { length rest.old < storage_len params.now }
-    requires enough { storage_len params.now ≤ length rest.old + length piece.now }
+    requires progress { IsProgress terms.now.params terms.now.limit progress.old }
+    requires short { length rest.old < storage_len terms.now.params }
+    requires enough { storage_len terms.now.params ≤ length rest.old + length piece.now }
     ensures ok { IfOk result (λ behind.
-        CompletesRest (coding_at params.now limit progress.old rest.old) piece.now behind.now out.old.list out.new.list
-        (coding_at params.now limit progress.new [])) }
+        CompletesRest (coding_at terms.now.params terms.now.limit progress.old rest.old) piece.now behind.now out.old.list out.new.list
+        (coding_at terms.now.params terms.now.limit progress.new [])) }
     ensures stops { IfErr result (λ fault.
-        StopsFeeding (coding_at params.now limit progress.old rest.old) piece.now out.old.list out.new.list fault) }
-    ensures progress { IsProgress params.now limit progress.new }
+        StopsFeeding (coding_at terms.now.params terms.now.limit progress.old rest.old) piece.now out.old.list out.new.list fault) }
+    ensures progress { IsProgress terms.now.params terms.now.limit progress.new }
     ensures empty { rest.new ≡ [] }
 {
     if rest.len() == 0 {
         return Ok(piece);
     }
-    let (front, behind) = piece.split_at(params.storage() - rest.len());
+    let (front, behind) = piece.split_at(terms.params.storage() - rest.len());
     rest.extend(front);
-    let joined = join(alloc, params, limit, progress, rest.as_slice(), out);
+    let joined = join(terms, progress, rest.as_slice(), out);
     rest.clear();
     joined?;
     Ok(behind)
@@ -240,29 +220,27 @@ fn complete_rest<'a>(
 
 /// Takes a piece: completes the sample that was begun, takes all whole samples, and keeps the bytes that are left.
 pub(crate) fn take_piece(
-    alloc: Global,
-    params: &Params,
-    limit: u64,
+    terms: &Terms,
     progress: &mut Progress,
     rest: &mut Rest,
     piece: &[u8],
     out: &mut BitBuf,
 ) -> Result<(), Fault>
-    requires progress { IsProgress params.now limit progress.old }
-    requires short { length rest.old < storage_len params.now }
-    ensures takes { AnswersPiece (coding_at params.now limit progress.old rest.old) piece.now out.old.list result
-        (coding_at params.now limit progress.new rest.new) out.new.list }
-    ensures progress { IsProgress params.now limit progress.new }
-    ensures short { length rest.new < storage_len params.now }
+    requires progress { IsProgress terms.now.params terms.now.limit progress.old }
+    requires short { length rest.old < storage_len terms.now.params }
+    ensures takes { AnswersPiece (coding_at terms.now.params terms.now.limit progress.old rest.old) piece.now out.old.list result
+        (coding_at terms.now.params terms.now.limit progress.new rest.new) out.new.list }
+    ensures progress { IsProgress terms.now.params terms.now.limit progress.new }
+    ensures short { length rest.new < storage_len terms.now.params }
 {
-    let width = params.storage();
+    let width = terms.params.storage();
     if piece.len() < width - rest.len() {
         rest.extend(piece);
         return Ok(());
     }
-    let bytes = complete_rest(alloc, params, limit, progress, rest, piece, out)?;
+    let bytes = complete_rest(terms, progress, rest, piece, out)?;
     let (whole, left) = bytes.split_at(bytes.len() - bytes.len() % width);
-    join_all(alloc, params, limit, progress, whole, out)?;
+    join_all(terms, progress, whole, out)?;
     rest.extend(left);
     Ok(())
 }

@@ -1,7 +1,7 @@
 //! A coder of samples that come in pieces.
 
 use crate::interval::append_interval;
-use crate::joining::{Progress, take_piece};
+use crate::joining::{Progress, Terms, take_piece};
 use crate::rest::Rest;
 use aec_bits::BitBuf;
 use aec_params::{Fault, Params};
@@ -13,12 +13,10 @@ use std::marker::Model;
 /// has. It answers its first refusal for good.
 #[derive(Debug, Drop)]
 pub struct StreamCoder {
-    params: Params,
-    limit: u64,
+    terms: Terms,
     progress: Progress,
     rest: Rest,
     refusal: Option<Fault>,
-    alloc: Global,
 }
 
 impl Model for StreamCoder {
@@ -29,9 +27,9 @@ impl Model for StreamCoder {
 
     ghost Value = { Coding };
 
-    ghost view = { λ c. coding_with c.params c.limit c.progress c.rest c.refusal };
+    ghost view = { λ c. coding_with c.terms.params c.terms.limit c.progress c.rest c.refusal };
 
-    ghost invariant = { λ c. (length c.rest < storage_len c.params) × IsProgress c.params c.limit c.progress };
+    ghost invariant = { λ c. (length c.rest < storage_len c.terms.params) × IsProgress c.terms.params c.terms.limit c.progress };
 }
 
 impl StreamCoder {
@@ -49,15 +47,17 @@ impl StreamCoder {
         // What the parameters promise is told by their calls.
         let _len = params.interval_len();
         StreamCoder {
-            params,
-            limit,
+            terms: Terms {
+                alloc,
+                params,
+                limit,
+            },
             progress: Progress {
                 held: Vec::new(alloc),
                 count: 0,
             },
             rest: Rest::new(),
             refusal: None,
-            alloc,
         }
     }
 
@@ -87,15 +87,7 @@ impl StreamCoder {
         if let Some(fault) = self.refusal {
             return Err(fault);
         }
-        let taken = take_piece(
-            self.alloc,
-            &self.params,
-            self.limit,
-            &mut self.progress,
-            &mut self.rest,
-            piece,
-            out,
-        );
+        let taken = take_piece(&self.terms, &mut self.progress, &mut self.rest, piece, out);
         self.refusal = taken.err();
         taken
     }
@@ -114,6 +106,11 @@ impl StreamCoder {
         if self.progress.held.is_empty() {
             return Ok(());
         }
-        append_interval(self.alloc, &self.params, &self.progress.held, out)
+        append_interval(
+            self.terms.alloc,
+            &self.terms.params,
+            &self.progress.held,
+            out,
+        )
     }
 }

@@ -7,25 +7,25 @@ use Rattle.aec_interval.proofs.joining.code_complete.Goals as goal
 
 pub returns-then-len-interval_len-clause-ok : goal.returns-then-len-interval_len-clause-ok
 returns-then-len-interval_len-clause-ok c =
-    sym (left_behind-few_all (interval_len c.args.params.now) c.args.held.now.items
+    sym (left_behind-few_all (interval_len c.args.terms.now.params) c.args.held.now.items
     (omega (arith, c.if-len-interval_len.true, c.len.ensures, c.interval_len.ensures.value)))
 
 pub returns-then-len-interval_len-clause-bits : goal.returns-then-len-interval_len-clause-bits
 returns-then-len-interval_len-clause-bits c =
-    no_bits c.args.params.now c.args.out.now.list c.args.held.now.items c.interval_len.ensures.allowed
+    no_bits c.args.terms.now.params c.args.out.now.list c.args.held.now.items c.interval_len.ensures.allowed
     (omega (arith, c.if-len-interval_len.true, c.len.ensures, c.interval_len.ensures.value))
 
 pub returns-clause-ok : goal.returns-clause-ok
 returns-clause-ok c =
     on_ok_weaker c.append_interval-coded.result
-    (λ _. c.clear.ensures.items ∙ none_held c.args.params.now c.args.held.now.items c.interval_len.ensures.allowed
+    (λ _. c.clear.ensures.items ∙ none_held c.args.terms.now.params c.args.held.now.items c.interval_len.ensures.allowed
     (omega (arith, c.if-len-interval_len.false, c.len.ensures, c.interval_len.ensures.value, c.requires.most)))
     c.append_interval-coded.ensures.ok
 
 pub returns-clause-bits : goal.returns-clause-bits
 returns-clause-bits c =
     on_ok_weaker c.append_interval-coded.result
-    (λ e. e ∙ complete_bits c.args.params.now c.args.out.now.list c.args.held.now.items c.deref.result.now c.interval_len.ensures.allowed
+    (λ e. e ∙ complete_bits c.args.terms.now.params c.args.out.now.list c.args.held.now.items c.deref.result.now c.interval_len.ensures.allowed
     c.deref.ensures.value
     (omega (arith, c.if-len-interval_len.false, c.len.ensures, c.interval_len.ensures.value, c.requires.most)))
     c.append_interval-coded.ensures.ok

@@ -8,7 +8,7 @@ use Rattle.aec_interval.proofs.joining.join_all.Goals as goal
 pub loop-left-init : goal.loop-left-init
 loop-left-init c = record {
   progress = c.requires.progress;
-  so_far = joined-begun c.args.params.now c.args.limit c.args.progress.now c.args.bytes.now c.args.bytes.now c.args.out.now.list c.requires.progress
+  so_far = joined-begun c.args.terms.now.params c.args.terms.now.limit c.args.progress.now c.args.bytes.now c.args.bytes.now c.args.out.now.list c.requires.progress
       c.requires.whole refl;
 }
 
@@ -31,4 +31,4 @@ returns-clause-joins c =
     let test = c.loop-left-test.false in
     let tested = c.is_empty.ensures in
     let none : length c.loop-left.left.now ≡ 0 = grind (arith, nat_tests) in
-    joined-end _ _ _ _ _ _ c.loop-left.invariant.so_far (omega (arith, none, storage-least c.args.params.now c.requires.progress.held.allowed))
+    joined-end _ _ _ _ _ _ c.loop-left.invariant.so_far (omega (arith, none, storage-least c.args.terms.now.params c.requires.progress.held.allowed))

@@ -5,6 +5,6 @@ use Rattle.aec_interval.proofs.joining.part_len.Goals as goal
 pub returns-clause-part : goal.returns-clause-part
 returns-clause-part c =
     let len = c.args.progress.now.held.ok in
-    places_part c.args.params.now c.args.progress.now.held.items c.args.bytes.now _ c.storage.result c.min.result c.requires.whole c.requires.some
+    places_part c.args.terms.now.params c.args.progress.now.held.items c.args.bytes.now _ c.storage.result c.min.result c.requires.whole c.requires.some
     c.storage.ensures.value (omega (arith, c.requires.few, c.len.ensures, c.interval_len.ensures.value, len))
     (omega (arith, c.requires.few, c.len.ensures, c.interval_len.ensures.value, len)) c.min.ensures
