@@ -1,6 +1,6 @@
 //! Stored samples joined to those of an interval that is not complete, which is coded once it is.
 
-ghost use Rattle.std.specs.Prelude.{◌≡◌, ◌+◌, ◌<◌, ◌≤◌, ◌%◌, ◌/◌, [], ◌∷◌, ◌++◌, None, length, take, OnOk, OnErr, IfOk, IfErr};
+ghost use Rattle.std.specs.Prelude.{◌≡◌, ◌+◌, ◌-◌, ◌*◌, ◌<◌, ◌≤◌, ◌%◌, ◌/◌, [], ◌∷◌, ◌++◌, None, length, take, min, OnOk, OnErr, IfOk, IfErr};
 ghost use Rattle.aec_params.specs.declared.fault.Fault.TheVariants.{Memory};
 ghost use Rattle.std.specs.List.{AllByRecursion};
 ghost use Rattle.std.specs.Result.{result_err};
@@ -159,8 +159,9 @@ fn part_len(terms: &Terms, progress: &Progress, bytes: &[u8]) -> usize
     requires few { length progress.now.held.items < interval_len terms.now.params }
     requires whole { length bytes.now % storage_len terms.now.params ≡ 0 }
     requires some { 0 < length bytes.now }
+    ensures value { result
+        ≡ min (length bytes.now) ((interval_len terms.now.params - length progress.now.held.items) * storage_len terms.now.params) }
     ensures part { ArePart terms.now.params progress.now.held.items (take result bytes.now) }
-    ensures within { result ≤ length bytes.now }
 {
     let places = terms.params.interval_len() as usize - progress.held.len();
     bytes.len().min(places * terms.params.storage())
