@@ -29,9 +29,10 @@ use Rattle.aec_interval.proofs.ReachedLemmas.{length-stream_blocks, AreFilled-re
 use Rattle.aec_block.specs.declared.cds.RunLen.{RunLen}
 use Rattle.aec_block.specs.SkipCds.{body_len, read_len, IsSkippedAs}
 use Rattle.aec_block.specs.ReadCds.{answer_of}
+use Rattle.aec_interval.specs.Steps.{ComesNext}
 use Rattle.aec_interval.specs.Skipping.{IsLedTo, IsFaultBefore}
 use Rattle.aec_interval.proofs.DecodeLemmas.{next-answer_of, front-answer_of}
-use Rattle.aec_interval.proofs.WantedSetLemmas.{MayStand, may_stand, unplaced-wrong, lawful, keeps-is, next-is, forward, few, leads-next, begin-is}
+use Rattle.aec_interval.proofs.WantedSetLemmas.{MayStand, may_stand, unplaced-wrong, lawful, keeps-is, next-is, forward, comes-next as behind, leads-next, begin-is}
 
 -- a fault before a block is a refusal up to it
 pub refuses-fault : (s : Settings) (count : Option ℕ) (limit : ℕ) (bits : List Bool) (first start end : ℕ) (fault : Fault)
@@ -103,11 +104,11 @@ module _ (s : Settings) (count : Option ℕ) (limit : ℕ) (first start : ℕ) (
     count-is : next - i ≡ block_count s (i % s.interval) c
     count-is = omega (arith, next-is s count limit first start old new i allowed led wanted due len due_is found_there bit next placed)
 
-    pub forward-next : i < next
+    forward-next : i < next
     forward-next = forward s count limit first start old new i allowed led wanted due len due_is found_there bit next placed
 
-    pub few-next : limit ≤ 2 ^ 32 → IfSome count (λ n. n ≤ 2 ^ 32) → next < 2 ^ 34
-    few-next = few s count limit first start old new i allowed led wanted due len due_is found_there bit next placed
+    pub comes-next : next ≤ i + blocks_before_end s i → limit ≤ 2 ^ 32 → IfSome count (λ n. n ≤ 2 ^ 32) → ComesNext s i next
+    comes-next = behind s count limit first start old new i allowed led wanted due len due_is found_there bit next placed
 
     pub memory-refuses : (fault : Fault) → next ≤ i + blocks_before_end s i → fault ≡ Memory
         → RefusesUpTo s count limit old.list first start (i + blocks_before_end s i) fault

@@ -20,6 +20,7 @@ use Rattle.aec_bits.specs.BitReader.{Cursor}
 use Rattle.aec_block.specs.declared.cds.RunLen.{RunLen}
 use Rattle.aec_block.specs.SkipCds.{body_len, IsSkippedAs}
 use Rattle.aec_interval.specs.NextSet.{run_count, block_behind, blocks_before_end}
+use Rattle.aec_interval.specs.Steps.{ComesNext}
 use Rattle.aec_interval.specs.Skipping.{IsLedTo, IsFaultBefore}
 use Rattle.aec_interval.proofs.ReadingSteps.{LeadsTo-push}
 use Rattle.aec_interval.proofs.DecodeLemmas.{run_count-run_len_of}
@@ -173,7 +174,7 @@ module _ (s : Settings) (count : Option ℕ) (limit : ℕ) (first start : ℕ) (
           (subst (λ e. IsLedTo s count limit old.list first start (next_block s i c) e) (sym (begin-is e begins))
           (record { sets = led.sets ++ c ∷ []; leads = leads-next })))
 
-      pub few : limit ≤ 2 ^ 32 → IfSome count (λ n. n ≤ 2 ^ 32) → next < 2 ^ 34
+      few : limit ≤ 2 ^ 32 → IfSome count (λ n. n ≤ 2 ^ 32) → next < 2 ^ 34
       few low counted = by_count count wanted stand.keeps counted
         where
           positive : 0 < s.block_size
@@ -196,3 +197,6 @@ module _ (s : Settings) (count : Option ℕ) (limit : ℕ) (first start : ℕ) (
                 le-mul_of_pos_right (div_ceil n s.block_size) positive,
                 block_size-most s allowed,
               )
+
+      pub comes-next : next ≤ i + blocks_before_end s i → limit ≤ 2 ^ 32 → IfSome count (λ n. n ≤ 2 ^ 32) → ComesNext s i next
+      comes-next within low counted = record { forward = forward; within = within; few = few low counted }

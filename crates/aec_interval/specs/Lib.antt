@@ -12,3 +12,4 @@ pub mod Progress
 pub mod CutLaws
 pub mod PieceLaws
 pub mod Skipping
+pub mod Steps

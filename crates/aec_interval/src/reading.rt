@@ -12,6 +12,7 @@ ghost use Rattle.aec_block.specs.ReadCds.{as_cds};
 ghost use Rattle.aec_interval.specs.NextBlock.{FillsNext};
 ghost use Rattle.aec_interval.specs.NextSet.{run_count, block_behind, kept_count, IsNextCds, cds_front, blocks_before_end};
 ghost use Rattle.aec_interval.specs.Pieces.{counted_from};
+ghost use Rattle.aec_interval.specs.Steps.{IsWantedNext, ComesNext, IsGoneOver};
 ghost use Rattle.aec_interval.specs.Reached.{AreFilled, IsReached, IsReadFrom, RefusesReading, RefusesUpTo};
 
 use crate::filling::push_block;
@@ -195,20 +196,14 @@ fn read_next(
     samples: &mut Vec<i64>,
 ) -> Result<u64, Fault>
     requires reached { IsReached params.now wanted.count wanted.limit reader.old.list wanted.first wanted.start block reader.old.pos samples.old.items }
-    requires aligned { wanted.first % params.now.interval ≡ 0 }
     requires after { wanted.first ≤ block }
-    requires wanted { is_wanted params.now wanted.count reader.old.list block reader.old.pos ≡ true }
-    requires few { block < 2 ^ 34 }
-    requires limit { wanted.limit ≤ 2 ^ 32 }
-    requires counted { IfSome wanted.count (λ count. count ≤ 2 ^ 32) }
+    requires wanted { IsWantedNext params.now wanted.count wanted.limit reader.old.list wanted.first block reader.old.pos }
     ensures ok { IfOk result (λ next.
         IsReached params.now wanted.count wanted.limit reader.new.list wanted.first wanted.start next reader.new.pos samples.new.items) }
     ensures refuses { IfErr result (λ fault. RefusesUpTo params.now wanted.count wanted.limit reader.old.list wanted.first wanted.start
         (block + blocks_before_end params.now block) fault) }
     ensures list { reader.new.list ≡ reader.old.list }
-    ensures forward { IfOk result (λ next. block < next) }
-    ensures few { IfOk result (λ next. next < 2 ^ 34) }
-    ensures within { IfOk result (λ next. next ≤ block + blocks_before_end params.now block) }
+    ensures next { IfOk result (λ next. ComesNext params.now block next) }
     ensures len { IfOk result (λ next. vec_len samples.new ≤ vec_len samples.old + (next - block) * params.now.block_size) }
     ensures capacity { vec_capacity samples.old ≤ vec_capacity samples.new }
     ensures full { IfErr result (λ fault. fault ≡ Memory
@@ -235,23 +230,13 @@ pub(crate) fn read_interval(
 ) -> Result<u64, Fault>
     requires begins { reader.old.pos ≡ wanted.start }
     requires empty { samples.old.items ≡ [] }
-    requires aligned { wanted.first % params.now.interval ≡ 0 }
-    requires wanted { is_wanted params.now wanted.count reader.old.list wanted.first reader.old.pos ≡ true }
-    requires few { wanted.first < 2 ^ 34 }
-    requires limit { wanted.limit ≤ 2 ^ 32 }
-    requires counted { IfSome wanted.count (λ count. count ≤ 2 ^ 32) }
+    requires wanted { IsWantedNext params.now wanted.count wanted.limit reader.old.list wanted.first wanted.first reader.old.pos }
     ensures ok { IfOk result (λ next.
         IsReached params.now wanted.count wanted.limit reader.new.list wanted.first wanted.start next reader.new.pos samples.new.items) }
     ensures refuses { IfErr result (λ fault. RefusesUpTo params.now wanted.count wanted.limit reader.old.list wanted.first wanted.start
         (wanted.first + params.now.interval) fault) }
     ensures list { reader.new.list ≡ reader.old.list }
-    ensures forward { IfOk result (λ next. wanted.first < next) }
-    ensures within { IfOk result (λ next. next ≤ wanted.first + params.now.interval) }
-    ensures to_end { IfOk result (λ next.
-        is_wanted params.now wanted.count reader.new.list next reader.new.pos ≡ true → next ≡ wanted.first + params.now.interval) }
-    ensures few { IfOk result (λ next. next < 2 ^ 34) }
-    ensures ends { IfOk result (λ next.
-        is_wanted params.now wanted.count reader.new.list next reader.new.pos ≡ true → next % params.now.interval ≡ 0) }
+    ensures over { IfOk result (λ next. IsGoneOver params.now wanted.count reader.new.list wanted.first next reader.new.pos) }
     ensures len { IfOk result (λ _. vec_len samples.new ≤ interval_len params.now) }
     ensures capacity { vec_capacity samples.old ≤ vec_capacity samples.new }
     ensures full { IfErr result (λ fault. fault ≡ Memory → vec_capacity samples.old < interval_len params.now) }

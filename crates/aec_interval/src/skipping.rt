@@ -4,6 +4,7 @@ ghost use Rattle.std.specs.Prelude.{◌≡◌, ◌≤◌, ◌<◌, ◌+◌, ◌%
 ghost use Rattle.aec_params.specs.Params.{IsAllowed};
 ghost use Rattle.aec_params.specs.Reading.{is_wanted};
 ghost use Rattle.aec_interval.specs.NextSet.{blocks_before_end};
+ghost use Rattle.aec_interval.specs.Steps.{IsWantedNext, ComesNext, IsGoneOver};
 ghost use Rattle.aec_interval.specs.Skipping.{IsLedTo, IsFaultBefore, asked_len};
 
 use crate::reading::{Wanted, goes_on, has_reference, place_next, skip_padding};
@@ -21,19 +22,13 @@ fn skip_next(
     values: &mut Block,
 ) -> Result<u64, Fault>
     requires led { IsLedTo params.now wanted.count wanted.limit reader.old.list wanted.first wanted.start block reader.old.pos }
-    requires aligned { wanted.first % params.now.interval ≡ 0 }
-    requires wanted { is_wanted params.now wanted.count reader.old.list block reader.old.pos ≡ true }
-    requires few { block < 2 ^ 34 }
-    requires limit { wanted.limit ≤ 2 ^ 32 }
-    requires counted { IfSome wanted.count (λ count. count ≤ 2 ^ 32) }
+    requires wanted { IsWantedNext params.now wanted.count wanted.limit reader.old.list wanted.first block reader.old.pos }
     ensures ok { IfOk result (λ next.
         IsLedTo params.now wanted.count wanted.limit reader.new.list wanted.first wanted.start next reader.new.pos) }
     ensures refuses { IfErr result (λ fault. IsFaultBefore params.now wanted.count wanted.limit reader.old.list wanted.first wanted.start
         (block + blocks_before_end params.now block) fault) }
     ensures list { reader.new.list ≡ reader.old.list }
-    ensures forward { IfOk result (λ next. block < next) }
-    ensures few { IfOk result (λ next. next < 2 ^ 34) }
-    ensures within { IfOk result (λ next. next ≤ block + blocks_before_end params.now block) }
+    ensures next { IfOk result (λ next. ComesNext params.now block next) }
 {
     let bit = reader.pos();
     let len = skip_cds(params, reader, has_reference(params, block), values)?;
@@ -51,24 +46,14 @@ pub(crate) fn skip_interval(
     values: &mut Block,
 ) -> Result<u64, Fault>
     requires begins { reader.old.pos ≡ wanted.start }
-    requires aligned { wanted.first % params.now.interval ≡ 0 }
-    requires wanted { is_wanted params.now wanted.count reader.old.list wanted.first reader.old.pos ≡ true }
-    requires few { wanted.first < 2 ^ 34 }
-    requires limit { wanted.limit ≤ 2 ^ 32 }
-    requires counted { IfSome wanted.count (λ count. count ≤ 2 ^ 32) }
+    requires wanted { IsWantedNext params.now wanted.count wanted.limit reader.old.list wanted.first wanted.first reader.old.pos }
     ensures ok { IfOk result (λ next.
         IsLedTo params.now wanted.count wanted.limit reader.new.list wanted.first wanted.start next reader.new.pos) }
     ensures refuses { IfErr result (λ fault. IsFaultBefore params.now wanted.count wanted.limit reader.old.list wanted.first wanted.start
         (wanted.first + params.now.interval) fault) }
     ensures allowed { IsAllowed params.now }
     ensures list { reader.new.list ≡ reader.old.list }
-    ensures forward { IfOk result (λ next. wanted.first < next) }
-    ensures within { IfOk result (λ next. next ≤ wanted.first + params.now.interval) }
-    ensures to_end { IfOk result (λ next.
-        is_wanted params.now wanted.count reader.new.list next reader.new.pos ≡ true → next ≡ wanted.first + params.now.interval) }
-    ensures few { IfOk result (λ next. next < 2 ^ 34) }
-    ensures ends { IfOk result (λ next.
-        is_wanted params.now wanted.count reader.new.list next reader.new.pos ≡ true → next % params.now.interval ≡ 0) }
+    ensures over { IfOk result (λ next. IsGoneOver params.now wanted.count reader.new.list wanted.first next reader.new.pos) }
 {
     let end = wanted.first + u64::from(params.interval());
     let mut block = wanted.first;

@@ -1,16 +1,13 @@
-use Rattle.std.proofs.Common.{◌≡◌, ◌≤◌, ◌<◌, ◌-◌, ◌*◌, ◌^◌, true, vec_len, vec_capacity}
-use Rattle.aec_params.specs.Reading.{is_wanted}
+use Rattle.std.proofs.Common.{◌≡◌, ◌≤◌, ◌-◌, ◌*◌, ◌^◌, vec_len, vec_capacity}
 use Rattle.aec_interval.specs.Reached.{IsReached}
+use Rattle.aec_interval.proofs.ReadIntervalLemmas.{IsInside}
 use Rattle.aec_interval.proofs.reading.read_interval.Given as goal
 
 abbrev pub invariant-loop-block : goal.invariant-loop-block
 invariant-loop-block l = record {
   reached : IsReached l.params l.wanted.count l.wanted.limit l.fn.reader.list l.wanted.first l.wanted.start l.block l.reader.pos l.samples.items;
   list : l.reader.list ≡ l.fn.reader.list;
-  wanted : is_wanted l.params l.wanted.count l.fn.reader.list l.block l.reader.pos ≡ true;
-  after : l.wanted.first ≤ l.block;
-  below : l.block < l.end;
-  few : l.block < 2 ^ 34;
+  inside : IsInside l.params l.wanted.count l.wanted.limit l.fn.reader.list l.wanted.first l.block l.reader.pos l.end;
   len : vec_len l.samples ≤ (l.block - l.wanted.first) * l.params.block_size;
   capacity : vec_capacity l.fn.samples ≤ vec_capacity l.samples;
 }

@@ -6,7 +6,7 @@ use Rattle.aec_interval.specs.Reached.{AreFilled}
 use Rattle.aec_interval.proofs.ReachedLemmas.{AreFilled-reached}
 use Rattle.aec_interval.proofs.RefusalLemmas.{of_refusal}
 use Rattle.aec_interval.proofs.WantedSetLemmas.{unread-wrong}
-use Rattle.aec_interval.proofs.ReadNextLemmas.{refuses-fault, led-reached, unplaced-refuses, memory-refuses, kept-bounds, next-cds, reached-next, few-wanted, forward-next, few-next}
+use Rattle.aec_interval.proofs.ReadNextLemmas.{refuses-fault, led-reached, unplaced-refuses, memory-refuses, kept-bounds, next-cds, reached-next, few-wanted, comes-next}
 use Rattle.aec_interval.proofs.reading.read_next.Goals as goal
 
 pub returns-in_err-found-clause-refuses : goal.returns-in_err-found-clause-refuses
@@ -14,26 +14,26 @@ returns-in_err-found-clause-refuses c =
     of_refusal _ _ _ c.from_residual.ensures.1
     (refuses-fault _ _ _ _ _ _ _ _
     (unread-wrong _ _ _ _ _ c.args.reader.now c.args.reader.now _ c.has_reference.ensures.allowed
-    (led-reached _ _ _ _ _ _ _ _ _ c.requires.reached) c.requires.wanted _ _ c.has_reference.ensures.value c.in_err-found.ensures.refuses))
+    (led-reached _ _ _ _ _ _ _ _ _ c.requires.reached) c.requires.wanted.wanted _ _ c.has_reference.ensures.value c.in_err-found.ensures.refuses))
 
 pub returns-in_err-next-clause-refuses : goal.returns-in_err-next-clause-refuses
 returns-in_err-next-clause-refuses c =
     of_refusal _ _ _ c.from_residual-in_err-next.ensures.1
-    (unplaced-refuses _ _ _ _ _ c.args.reader.now c.read_into.new.reader _ _ c.has_reference.ensures.allowed c.requires.reached c.requires.wanted
+    (unplaced-refuses _ _ _ _ _ c.args.reader.now c.read_into.new.reader _ _ c.has_reference.ensures.allowed c.requires.reached c.requires.wanted.wanted
     _ _ _ c.has_reference.ensures.value (c.stands_for.ensures _) c.in_ok-found.ensures.ok _ _ c.pos-bit.ensures.value c.in_err-next.ensures.value)
 
 pub blocks_kept-kept-requires : goal.blocks_kept-kept-requires
 blocks_kept-kept-requires c =
-    few-wanted c.args.params.now c.args.wanted.count c.args.reader.now.list c.args.block c.args.reader.now.pos c.requires.wanted
+    few-wanted c.args.params.now c.args.wanted.count c.args.reader.now.list c.args.block c.args.reader.now.pos c.requires.wanted.wanted
 
 pub push_cds-requires-clause-filled : goal.push_cds-requires-clause-filled
 push_cds-requires-clause-filled c =
     subst (AreFilled c.args.params.now _) (sym c.reserve_blocks.ensures.items)
-    (AreFilled-reached _ _ _ _ _ _ _ _ _ c.has_reference.ensures.allowed c.requires.reached c.requires.wanted)
+    (AreFilled-reached _ _ _ _ _ _ _ _ _ c.has_reference.ensures.allowed c.requires.reached c.requires.wanted.wanted)
 
 pub push_cds-requires-clause-some : goal.push_cds-requires-clause-some
 push_cds-requires-clause-some c =
-    (kept-bounds _ _ _ _ _ c.args.reader.now c.read_into.new.reader _ _ c.has_reference.ensures.allowed c.requires.reached c.requires.wanted
+    (kept-bounds _ _ _ _ _ c.args.reader.now c.read_into.new.reader _ _ c.has_reference.ensures.allowed c.requires.reached c.requires.wanted.wanted
     _ _ _ c.has_reference.ensures.value (c.stands_for.ensures _) c.in_ok-found.ensures.ok _ _ c.in_ok-next.ensures.value _ c.blocks_kept-kept.ensures).0
 
 pub push_cds-requires-clause-next : goal.push_cds-requires-clause-next
@@ -41,33 +41,29 @@ push_cds-requires-clause-next c =
     let cds = as_cds c.in_ok-found.found c.read_into.new.block in
     subst (λ samples. IsNextCds c.args.params.now (c.args.block - c.args.wanted.first) samples c.blocks_kept-kept.result cds)
     (sym c.reserve_blocks.ensures.items)
-    (next-cds _ _ _ _ _ c.args.reader.now c.read_into.new.reader _ _ c.has_reference.ensures.allowed c.requires.reached c.requires.wanted
+    (next-cds _ _ _ _ _ c.args.reader.now c.read_into.new.reader _ _ c.has_reference.ensures.allowed c.requires.reached c.requires.wanted.wanted
     _ _ _ c.has_reference.ensures.value (c.stands_for.ensures _) c.in_ok-found.ensures.ok _ _ c.in_ok-next.ensures.value
-    _ _ c.requires.aligned refl c.blocks_kept-kept.ensures)
+    _ _ c.requires.wanted.aligned refl c.blocks_kept-kept.ensures)
 
 pub returns-in_err-reserve_blocks-clause-refuses : goal.returns-in_err-reserve_blocks-clause-refuses
 returns-in_err-reserve_blocks-clause-refuses c =
     of_refusal _ _ _ c.from_residual-in_err-reserve_blocks.ensures.1
-    (memory-refuses _ _ _ _ _ c.args.reader.now c.read_into.new.reader _ _ c.has_reference.ensures.allowed c.requires.reached c.requires.wanted
+    (memory-refuses _ _ _ _ _ c.args.reader.now c.read_into.new.reader _ _ c.has_reference.ensures.allowed c.requires.reached c.requires.wanted.wanted
     _ _ _ c.has_reference.ensures.value (c.stands_for.ensures _) c.in_ok-found.ensures.ok _ _ c.in_ok-next.ensures.value
     _ c.in_ok-next.ensures.within c.in_err-reserve_blocks.ensures.fault)
 
 pub returns-clause-ok : goal.returns-clause-ok
 returns-clause-ok c =
     let cds = as_cds c.in_ok-found.found c.read_into.new.block in
-    reached-next _ _ _ _ _ c.args.reader.now c.read_into.new.reader _ _ c.has_reference.ensures.allowed c.requires.reached c.requires.wanted
+    reached-next _ _ _ _ _ c.args.reader.now c.read_into.new.reader _ _ c.has_reference.ensures.allowed c.requires.reached c.requires.wanted.wanted
     _ _ _ c.has_reference.ensures.value (c.stands_for.ensures _) c.in_ok-found.ensures.ok _ _ c.in_ok-next.ensures.value
     _ _ _ _ c.blocks_kept-kept.ensures
     (subst (λ old. FillsNext c.args.params.now old c.push_cds.new.samples.items (cds_front c.args.params.now c.blocks_kept-kept.result cds))
     c.reserve_blocks.ensures.items c.push_cds.ensures.items)
     c.skip_padding.ensures.list c.skip_padding.ensures.pos
 
-pub returns-clause-forward : goal.returns-clause-forward
-returns-clause-forward c =
-    forward-next _ _ _ _ _ c.args.reader.now c.read_into.new.reader _ _ c.has_reference.ensures.allowed c.requires.reached c.requires.wanted
+pub returns-clause-next : goal.returns-clause-next
+returns-clause-next c =
+    comes-next _ _ _ _ _ c.args.reader.now c.read_into.new.reader _ _ c.has_reference.ensures.allowed c.requires.reached c.requires.wanted.wanted
     _ _ _ c.has_reference.ensures.value (c.stands_for.ensures _) c.in_ok-found.ensures.ok _ _ c.in_ok-next.ensures.value
-
-pub returns-clause-few : goal.returns-clause-few
-returns-clause-few c =
-    few-next _ _ _ _ _ c.args.reader.now c.read_into.new.reader _ _ c.has_reference.ensures.allowed c.requires.reached c.requires.wanted
-    _ _ _ c.has_reference.ensures.value (c.stands_for.ensures _) c.in_ok-found.ensures.ok _ _ c.in_ok-next.ensures.value c.requires.limit c.requires.counted
+    c.in_ok-next.ensures.within c.requires.wanted.low c.requires.wanted.counted
