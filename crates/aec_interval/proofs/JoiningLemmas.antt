@@ -25,6 +25,7 @@ use Rattle.aec_interval.proofs.TakingLemmas.{all_taken, good_of, taken_groups-go
 use Rattle.aec_interval.specs.Feeding.{Coding, whole_front, left_behind, taken_of, samples_with, fed, Feeds, StopsFeeding, refused, no_memory}
 use Rattle.aec_interval.specs.Progress.{ArePart, IsProgress, CompletesRest, coding_at}
 use Rattle.aec_interval.specs.declared.joining.Progress.{Progress}
+use Rattle.aec_interval.specs.declared.joining.Terms.{Terms}
 use Rattle.aec_interval.proofs.PieceLemmas.{whole_front-few, left_behind-few_all, whole_front-all, left_behind-none, stream_of-none, byte_groups-one}
 use Rattle.aec_interval.proofs.FeedingLemmas.{coding_of, same_coding, feeds_both, stops_later, stops_before}
 
@@ -63,57 +64,58 @@ taken_one s limit count g r a whole e =
     ap (taken_groups s limit count) (byte_groups-one s g a whole) ∙ ap (λ r. taken_before r (none_taken None)) (sym e)
 
 -- it is refused
-pub one_refused : (s : Settings) (limit : ℕ) (p : Progress) (g : List ℕ) (bits : List Bool) (r : Result ℤ Fault) (fault : Fault) → IsProgress s limit p
-    → length g ≡ storage_len s → r ≡ judged_sample s limit p.count g → r ≡ Err fault → StopsFeeding (coding_at s limit p []) g bits bits fault
-one_refused s limit p g bits r fault h whole e is =
-    let none = taken_one s limit p.count g (Err fault) h.held.allowed whole (sym is ∙ e) in
+pub one_refused : (u : Terms) (p : Progress) (g : List ℕ) (bits : List Bool) (r : Result ℤ Fault) (fault : Fault) → IsProgress u p
+    → length g ≡ storage_len u.params → r ≡ judged_sample u.params u.limit p.count g → r ≡ Err fault → StopsFeeding (coding_at u p []) g bits bits fault
+one_refused u p g bits r fault h whole e is =
+    let none = taken_one u.params u.limit p.count g (Err fault) h.held.allowed whole (sym is ∙ e) in
     refused fault (ap (λ (t : Taken). t.refusal) none)
-    (no_bits s bits p.held.items h.held.allowed h.held.few
-    ∙ ap (λ l. bits ++ stream_of s (whole_front (interval_len s) l)) (sym (ap (λ (t : Taken). p.held.items ++ t.samples) none ∙ append-nil p.held.items)))
+    (no_bits u.params bits p.held.items h.held.allowed h.held.few
+    ∙ ap (λ l. bits ++ stream_of u.params (whole_front (interval_len u.params) l))
+    (sym (ap (λ (t : Taken). p.held.items ++ t.samples) none ∙ append-nil p.held.items)))
 
 -- want of memory at samples that are not refused, and nothing was appended
-pub no_memory_here : (s : Settings) (limit : ℕ) (p : Progress) (g : List ℕ) (before after : List Bool) (xs : List ℤ) (fault : Fault)
-    → IsProgress s limit p → taken_groups s limit p.count (byte_groups s g) ≡ all_taken xs → 0 < length xs → fault ≡ Memory → after ≡ before
-    → StopsFeeding (coding_at s limit p []) g before after fault
-no_memory_here s limit p g before after xs fault h taken some memory same =
-    let c : Coding = coding_at s limit p [] in
+pub no_memory_here : (u : Terms) (p : Progress) (g : List ℕ) (before after : List Bool) (xs : List ℤ) (fault : Fault)
+    → IsProgress u p → taken_groups u.params u.limit p.count (byte_groups u.params g) ≡ all_taken xs → 0 < length xs → fault ≡ Memory → after ≡ before
+    → StopsFeeding (coding_at u p []) g before after fault
+no_memory_here u p g before after xs fault h taken some memory same =
+    let c : Coding = coding_at u p [] in
     let len = ap (λ (t : Taken). length t.samples) taken in
     subst (StopsFeeding c g before after) (sym memory)
     (no_memory 0 [] (samples_with c g) refl (omega arith)
     (omega (arith, len, some, length-append p.held.items (taken_of c g).samples)) (omega (arith, len, some))
-    (same ∙ sym (append-nil before) ∙ ap (λ l. before ++ l) (sym (stream_of-none s h.held.allowed))))
+    (same ∙ sym (append-nil before) ∙ ap (λ l. before ++ l) (sym (stream_of-none u.params h.held.allowed))))
 
-pub no_memory_one : (s : Settings) (limit : ℕ) (p : Progress) (g : List ℕ) (before after : List Bool) (r : Result ℤ Fault) (x : ℤ) (fault : Fault)
-    → IsProgress s limit p → length g ≡ storage_len s → r ≡ judged_sample s limit p.count g → r ≡ Ok x → fault ≡ Memory → after ≡ before
-    → StopsFeeding (coding_at s limit p []) g before after fault
-no_memory_one s limit p g before after r x fault h whole e is memory same =
-    no_memory_here s limit p g before after (x ∷ []) fault h (taken_one s limit p.count g (Ok x) h.held.allowed whole (sym is ∙ e)) (omega arith) memory same
+pub no_memory_one : (u : Terms) (p : Progress) (g : List ℕ) (before after : List Bool) (r : Result ℤ Fault) (x : ℤ) (fault : Fault)
+    → IsProgress u p → length g ≡ storage_len u.params → r ≡ judged_sample u.params u.limit p.count g → r ≡ Ok x → fault ≡ Memory → after ≡ before
+    → StopsFeeding (coding_at u p []) g before after fault
+no_memory_one u p g before after r x fault h whole e is memory same =
+    no_memory_here u p g before after (x ∷ []) fault h (taken_one u.params u.limit p.count g (Ok x) h.held.allowed whole (sym is ∙ e)) (omega arith) memory same
 
 -- samples are taken
-pub samples_fed : (s : Settings) (limit : ℕ) (p : Progress) (kept : List ℤ) (many n : ℕ) (g : List ℕ) (before after : List Bool) (xs : List ℤ)
-    → IsProgress s limit p → length g ≡ n * storage_len s → taken_groups s limit p.count (byte_groups s g) ≡ all_taken xs
-    → kept ≡ left_behind (interval_len s) (p.held.items ++ xs) → many ≡ p.count + length xs
-    → after ≡ before ++ stream_of s (whole_front (interval_len s) (p.held.items ++ xs))
-    → Feeds (coding_at s limit p []) g before after (coding_of s limit kept [] many None)
-samples_fed s limit p kept many n g before after xs h whole taken held count bits =
-    let c : Coding = coding_at s limit p [] in
+pub samples_fed : (u : Terms) (p : Progress) (kept : List ℤ) (many n : ℕ) (g : List ℕ) (before after : List Bool) (xs : List ℤ)
+    → IsProgress u p → length g ≡ n * storage_len u.params → taken_groups u.params u.limit p.count (byte_groups u.params g) ≡ all_taken xs
+    → kept ≡ left_behind (interval_len u.params) (p.held.items ++ xs) → many ≡ p.count + length xs
+    → after ≡ before ++ stream_of u.params (whole_front (interval_len u.params) (p.held.items ++ xs))
+    → Feeds (coding_at u p []) g before after (coding_of u.params u.limit kept [] many None)
+samples_fed u p kept many n g before after xs h whole taken held count bits =
+    let c : Coding = coding_at u p [] in
     record {
       taken = ap (λ (t : Taken). t.refusal) taken;
-      bits = bits ∙ ap (λ (t : Taken). before ++ stream_of s (whole_front (interval_len s) (p.held.items ++ t.samples))) (sym taken);
-      coder = same_coding s limit kept (fed c g).held [] (fed c g).rest many (fed c g).count None (fed c g).refusal
-          (held ∙ ap (λ (t : Taken). left_behind (interval_len s) (p.held.items ++ t.samples)) (sym taken))
-          (sym (left_behind-none (storage_len s) n g (omega (arith, storage-least s h.held.allowed)) whole))
+      bits = bits ∙ ap (λ (t : Taken). before ++ stream_of u.params (whole_front (interval_len u.params) (p.held.items ++ t.samples))) (sym taken);
+      coder = same_coding u.params u.limit kept (fed c g).held [] (fed c g).rest many (fed c g).count None (fed c g).refusal
+          (held ∙ ap (λ (t : Taken). left_behind (interval_len u.params) (p.held.items ++ t.samples)) (sym taken))
+          (sym (left_behind-none (storage_len u.params) n g (omega (arith, storage-least u.params h.held.allowed)) whole))
           (count ∙ ap (λ (t : Taken). p.count + length t.samples) (sym taken)) (sym (ap (λ (t : Taken). t.refusal) taken));
     }
 
-pub one_fed : (s : Settings) (limit : ℕ) (p : Progress) (kept : List ℤ) (many : ℕ) (g : List ℕ) (before after : List Bool) (r : Result ℤ Fault) (x y : ℤ)
-    → IsProgress s limit p → length g ≡ storage_len s → r ≡ judged_sample s limit p.count g → r ≡ Ok x → y ≡ x
-    → kept ≡ left_behind (interval_len s) (p.held.items ++ y ∷ []) → many ≡ p.count + 1
-    → after ≡ before ++ stream_of s (whole_front (interval_len s) (p.held.items ++ y ∷ []))
-    → Feeds (coding_at s limit p []) g before after (coding_of s limit kept [] many None)
-one_fed s limit p kept many g before after r x y h whole e is same held count bits =
-    samples_fed s limit p kept many 1 g before after (y ∷ []) h (omega arith)
-    (taken_one s limit p.count g (Ok y) h.held.allowed whole (ap Ok same ∙ sym is ∙ e)) held (omega arith) bits
+pub one_fed : (u : Terms) (p : Progress) (kept : List ℤ) (many : ℕ) (g : List ℕ) (before after : List Bool) (r : Result ℤ Fault) (x y : ℤ)
+    → IsProgress u p → length g ≡ storage_len u.params → r ≡ judged_sample u.params u.limit p.count g → r ≡ Ok x → y ≡ x
+    → kept ≡ left_behind (interval_len u.params) (p.held.items ++ y ∷ []) → many ≡ p.count + 1
+    → after ≡ before ++ stream_of u.params (whole_front (interval_len u.params) (p.held.items ++ y ∷ []))
+    → Feeds (coding_at u p []) g before after (coding_of u.params u.limit kept [] many None)
+one_fed u p kept many g before after r x y h whole e is same held count bits =
+    samples_fed u p kept many 1 g before after (y ∷ []) h (omega arith)
+    (taken_one u.params u.limit p.count g (Ok y) h.held.allowed whole (ap Ok same ∙ sym is ∙ e)) held (omega arith) bits
 
 -- ---- the bytes of some samples of which none is refused
 
@@ -121,35 +123,38 @@ good_samples : (t : Result (List ℤ) ℕ) → result_err t ≡ None → (xs : L
 good_samples (Ok xs) good = (xs, refl)
 good_samples (Err k) good = absurd (cc)
 
-good_taken : (s : Settings) (limit : ℕ) (p : Progress) (part : List ℕ) (xs : List ℤ) → samples_of_bytes s part ≡ Ok xs
-    → p.count + length part / storage_len s ≤ limit → taken_groups s limit p.count (byte_groups s part) ≡ all_taken xs
-good_taken s limit p part xs read within =
-    taken_groups-good s limit p.count 0 (byte_groups s part) xs read (omega (arith, within, length-samples_of_bytes s part xs read))
+good_taken : (u : Terms) (p : Progress) (part : List ℕ) (xs : List ℤ) → samples_of_bytes u.params part ≡ Ok xs
+    → p.count + length part / storage_len u.params ≤ u.limit → taken_groups u.params u.limit p.count (byte_groups u.params part) ≡ all_taken xs
+good_taken u p part xs read within =
+    taken_groups-good u.params u.limit p.count 0 (byte_groups u.params part) xs read (omega (arith, within, length-samples_of_bytes u.params part xs read))
 
 part_count : (s : Settings) (held : List ℤ) (part : List ℕ) → IsAllowed s → (h : ArePart s held part) → length part / storage_len s ≡ h.samples
 part_count s held part a h = div-eq_of_eq-mul_left (omega (arith, storage-least s a)) h.whole
 
 -- want of memory for them
-pub part_no_memory : (s : Settings) (limit : ℕ) (p : Progress) (part : List ℕ) (before after : List Bool) (fault : Fault) → IsProgress s limit p
-    → ArePart s p.held.items part → result_err (samples_of_bytes s part) ≡ None → p.count + length part / storage_len s ≤ limit → fault ≡ Memory
-    → after ≡ before → StopsFeeding (coding_at s limit p []) part before after fault
-part_no_memory s limit p part before after fault h k good within memory same =
-    let read = good_samples (samples_of_bytes s part) good in
-    let some : 0 < length read.0 = omega (arith, length-samples_of_bytes s part read.0 read.1, part_count s p.held.items part h.held.allowed k, k.some) in
-    no_memory_here s limit p part before after read.0 fault h (good_taken s limit p part read.0 read.1 within) some memory same
+pub part_no_memory : (u : Terms) (p : Progress) (part : List ℕ) (before after : List Bool) (fault : Fault) → IsProgress u p
+    → ArePart u.params p.held.items part → result_err (samples_of_bytes u.params part) ≡ None → p.count + length part / storage_len u.params ≤ u.limit
+    → fault ≡ Memory → after ≡ before → StopsFeeding (coding_at u p []) part before after fault
+part_no_memory u p part before after fault h k good within memory same =
+    let read = good_samples (samples_of_bytes u.params part) good in
+    let some : 0 < length read.0 =
+    omega (arith, length-samples_of_bytes u.params part read.0 read.1, part_count u.params p.held.items part h.held.allowed k, k.some) in
+    no_memory_here u p part before after read.0 fault h (good_taken u p part read.0 read.1 within) some memory same
 
 -- they are taken
-pub part_fed : (s : Settings) (limit : ℕ) (p : Progress) (kept more : List ℤ) (many w : ℕ) (part : List ℕ) (before after : List Bool) → IsProgress s limit p
-    → ArePart s p.held.items part → result_err (samples_of_bytes s part) ≡ None → p.count + length part / storage_len s ≤ limit → w ≡ storage_len s
-    → samples_behind p.held.items (samples_of_bytes s part) ≡ Ok more → kept ≡ left_behind (interval_len s) more → many ≡ p.count + length part / w
-    → after ≡ before ++ stream_of s (whole_front (interval_len s) more) → Feeds (coding_at s limit p []) part before after (coding_of s limit kept [] many None)
-part_fed s limit p kept more many w part before after h k good within width behind held count bits =
-    let read = good_samples (samples_of_bytes s part) good in
+pub part_fed : (u : Terms) (p : Progress) (kept more : List ℤ) (many w : ℕ) (part : List ℕ) (before after : List Bool) → IsProgress u p
+    → ArePart u.params p.held.items part → result_err (samples_of_bytes u.params part) ≡ None → p.count + length part / storage_len u.params ≤ u.limit
+    → w ≡ storage_len u.params → samples_behind p.held.items (samples_of_bytes u.params part) ≡ Ok more
+    → kept ≡ left_behind (interval_len u.params) more → many ≡ p.count + length part / w
+    → after ≡ before ++ stream_of u.params (whole_front (interval_len u.params) more)
+    → Feeds (coding_at u p []) part before after (coding_of u.params u.limit kept [] many None)
+part_fed u p kept more many w part before after h k good within width behind held count bits =
+    let read = good_samples (samples_of_bytes u.params part) good in
     let joined : more ≡ p.held.items ++ read.0 = ap good_of (sym behind ∙ ap (samples_behind p.held.items) read.1) in
-    let len = length-samples_of_bytes s part read.0 read.1 in
-    samples_fed s limit p kept many k.samples part before after read.0 h k.whole (good_taken s limit p part read.0 read.1 within)
-    (held ∙ ap (left_behind (interval_len s)) joined) (count ∙ ap (λ w. p.count + length part / w) width ∙ ap (λ n. p.count + n) (sym len))
-    (bits ∙ ap (λ l. before ++ stream_of s (whole_front (interval_len s) l)) joined)
+    let len = length-samples_of_bytes u.params part read.0 read.1 in
+    samples_fed u p kept many k.samples part before after read.0 h k.whole (good_taken u p part read.0 read.1 within)
+    (held ∙ ap (left_behind (interval_len u.params)) joined) (count ∙ ap (λ w. p.count + length part / w) width ∙ ap (λ n. p.count + n) (sym len))
+    (bits ∙ ap (λ l. before ++ stream_of u.params (whole_front (interval_len u.params) l)) joined)
 
 -- ---- the bytes of whole samples
 
@@ -162,39 +167,39 @@ pub record JoinedSoFar (c : Coding) (bytes left : List ℕ) (before after : List
   pub feeds : Feeds c front before after d
 
 -- no sample is complete
-pub short_fed : (s : Settings) (limit : ℕ) (p : Progress) (rest piece longer : List ℕ) (bits : List Bool) → IsProgress s limit p
-    → longer ≡ rest ++ piece → length rest + length piece < storage_len s
-    → Feeds (coding_at s limit p rest) piece bits bits (coding_at s limit p longer)
-short_fed s limit p rest piece longer bits h longer_is few =
-    let short : length (rest ++ piece) < storage_len s = omega (arith, length-append rest piece, few) in
-    let c : Coding = coding_at s limit p rest in
-    let none : taken_groups s limit p.count (byte_groups s (rest ++ piece)) ≡ none_taken None =
-    ap (taken_groups s limit p.count) (byte_groups-short s (rest ++ piece) short) in
+pub short_fed : (u : Terms) (p : Progress) (rest piece longer : List ℕ) (bits : List Bool) → IsProgress u p
+    → longer ≡ rest ++ piece → length rest + length piece < storage_len u.params
+    → Feeds (coding_at u p rest) piece bits bits (coding_at u p longer)
+short_fed u p rest piece longer bits h longer_is few =
+    let short : length (rest ++ piece) < storage_len u.params = omega (arith, length-append rest piece, few) in
+    let c : Coding = coding_at u p rest in
+    let none : taken_groups u.params u.limit p.count (byte_groups u.params (rest ++ piece)) ≡ none_taken None =
+    ap (taken_groups u.params u.limit p.count) (byte_groups-short u.params (rest ++ piece) short) in
     let same : p.held.items ≡ samples_with c piece = sym (ap (λ (t : Taken). p.held.items ++ t.samples) none ∙ append-nil p.held.items) in
     record {
       taken = ap (λ (t : Taken). t.refusal) none;
-      bits = no_bits s bits p.held.items h.held.allowed h.held.few ∙ ap (λ l. bits ++ stream_of s (whole_front (interval_len s) l)) same;
-      coder = same_coding s limit p.held.items (fed c piece).held longer (fed c piece).rest p.count (fed c piece).count None (fed c piece).refusal
-          (sym (left_behind-few_all (interval_len s) p.held.items h.held.few) ∙ ap (left_behind (interval_len s)) same)
-          (longer_is ∙ sym (left_behind-few_all (storage_len s) (rest ++ piece) short))
+      bits = no_bits u.params bits p.held.items h.held.allowed h.held.few ∙ ap (λ l. bits ++ stream_of u.params (whole_front (interval_len u.params) l)) same;
+      coder = same_coding u.params u.limit p.held.items (fed c piece).held longer (fed c piece).rest p.count (fed c piece).count None (fed c piece).refusal
+          (sym (left_behind-few_all (interval_len u.params) p.held.items h.held.few) ∙ ap (left_behind (interval_len u.params)) same)
+          (longer_is ∙ sym (left_behind-few_all (storage_len u.params) (rest ++ piece) short))
           (omega (arith, ap (λ (t : Taken). length t.samples) none)) (sym (ap (λ (t : Taken). t.refusal) none));
     }
 
 -- nothing is taken yet
-nothing_fed : (s : Settings) (limit : ℕ) (p : Progress) (bits : List Bool) → IsProgress s limit p
-    → Feeds (coding_at s limit p []) [] bits bits (coding_at s limit p [])
-nothing_fed s limit p bits h = short_fed s limit p [] [] [] bits h refl (omega (arith, storage-least s h.held.allowed))
+nothing_fed : (u : Terms) (p : Progress) (bits : List Bool) → IsProgress u p
+    → Feeds (coding_at u p []) [] bits bits (coding_at u p [])
+nothing_fed u p bits h = short_fed u p [] [] [] bits h refl (omega (arith, storage-least u.params h.held.allowed))
 
-pub joined-begun : (s : Settings) (limit : ℕ) (p : Progress) (bytes left : List ℕ) (bits : List Bool) → IsProgress s limit p
-    → length bytes % storage_len s ≡ 0 → left ≡ bytes
-    → JoinedSoFar (coding_at s limit p []) bytes left bits bits (coding_at s limit p [])
-joined-begun s limit p bytes left bits h whole e =
+pub joined-begun : (u : Terms) (p : Progress) (bytes left : List ℕ) (bits : List Bool) → IsProgress u p
+    → length bytes % storage_len u.params ≡ 0 → left ≡ bytes
+    → JoinedSoFar (coding_at u p []) bytes left bits bits (coding_at u p [])
+joined-begun u p bytes left bits h whole e =
     record {
       front = [];
       cut = sym e;
-      samples = length bytes / storage_len s;
-      whole = omega (arith, ap length e, div-add-mod' (length bytes) (storage_len s));
-      feeds = nothing_fed s limit p bits h;
+      samples = length bytes / storage_len u.params;
+      whole = omega (arith, ap length e, div-add-mod' (length bytes) (storage_len u.params));
+      feeds = nothing_fed u p bits h;
     }
 
 sub-mul : (m n w : ℕ) → (m - n) * w ≡ m * w - n * w
@@ -266,24 +271,24 @@ pub cut_at : (n : ℕ) (xs front behind : List ℕ) → front ≡ take n xs → 
 cut_at n xs front behind e f = sym (take-append-drop n xs) ∙ ap (λ l. l ++ drop n xs) (sym e) ∙ ap (λ l. front ++ l) (sym f)
 
 -- the bytes that were left and those of the piece make a sample together
-rest_stops : (s : Settings) (limit : ℕ) (p : Progress) (rest front : List ℕ) (before after : List Bool) (fault : Fault)
-    → StopsFeeding (coding_at s limit p []) (rest ++ front) before after fault → StopsFeeding (coding_at s limit p rest) front before after fault
-rest_stops s limit p rest front before after fault (refused f refusal bits) = refused f refusal bits
-rest_stops s limit p rest front before after fault (no_memory k whole behind cut len left some bits) = no_memory k whole behind cut len left some bits
+rest_stops : (u : Terms) (p : Progress) (rest front : List ℕ) (before after : List Bool) (fault : Fault)
+    → StopsFeeding (coding_at u p []) (rest ++ front) before after fault → StopsFeeding (coding_at u p rest) front before after fault
+rest_stops u p rest front before after fault (refused f refusal bits) = refused f refusal bits
+rest_stops u p rest front before after fault (no_memory k whole behind cut len left some bits) = no_memory k whole behind cut len left some bits
 
-pub no_rest : (s : Settings) (limit : ℕ) (p : Progress) (rest piece : List ℕ) (bits : List Bool) → IsProgress s limit p → length rest ≡ 0
-    → CompletesRest (coding_at s limit p rest) piece piece bits bits (coding_at s limit p [])
-no_rest s limit p rest piece bits h none =
-    subst (λ r. CompletesRest (coding_at s limit p r) piece piece bits bits (coding_at s limit p [])) (sym (nil_from_length rest none))
-    (record { front = []; cut = refl; feeds = nothing_fed s limit p bits h })
+pub no_rest : (u : Terms) (p : Progress) (rest piece : List ℕ) (bits : List Bool) → IsProgress u p → length rest ≡ 0
+    → CompletesRest (coding_at u p rest) piece piece bits bits (coding_at u p [])
+no_rest u p rest piece bits h none =
+    subst (λ r. CompletesRest (coding_at u p r) piece piece bits bits (coding_at u p [])) (sym (nil_from_length rest none))
+    (record { front = []; cut = refl; feeds = nothing_fed u p bits h })
 
-pub rest_refused : (s : Settings) (limit : ℕ) (p : Progress) (rest g piece front behind : List ℕ) (before after : List Bool) (fault : Fault)
-    → IsAllowed s → g ≡ rest ++ front → piece ≡ front ++ behind → StopsFeeding (coding_at s limit p []) g before after fault
-    → StopsFeeding (coding_at s limit p rest) piece before after fault
-rest_refused s limit p rest g piece front behind before after fault a e cut stops =
-    subst (λ l. StopsFeeding (coding_at s limit p rest) l before after fault) (sym cut)
-    (stops_before (coding_at s limit p rest) front behind before after fault a
-    (rest_stops s limit p rest front before after fault (subst (λ l. StopsFeeding (coding_at s limit p []) l before after fault) e stops)))
+pub rest_refused : (u : Terms) (p : Progress) (rest g piece front behind : List ℕ) (before after : List Bool) (fault : Fault)
+    → IsAllowed u.params → g ≡ rest ++ front → piece ≡ front ++ behind → StopsFeeding (coding_at u p []) g before after fault
+    → StopsFeeding (coding_at u p rest) piece before after fault
+rest_refused u p rest g piece front behind before after fault a e cut stops =
+    subst (λ l. StopsFeeding (coding_at u p rest) l before after fault) (sym cut)
+    (stops_before (coding_at u p rest) front behind before after fault a
+    (rest_stops u p rest front before after fault (subst (λ l. StopsFeeding (coding_at u p []) l before after fault) e stops)))
 
 pub left_few : (w v m k : ℕ) → 1 ≤ w → v ≡ w → k + (m - m % v) ≡ m → k < w
 left_few w v m k some same e = omega (arith, mod_below m v (omega (arith, some, same)))

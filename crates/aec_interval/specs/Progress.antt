@@ -8,12 +8,18 @@ use Rattle.aec_interval.specs.Feeding.{Coding, Feeds, StopsFeeding}
 use Rattle.aec_interval.specs.declared.joining.Progress.{Progress}
 use Rattle.aec_interval.specs.declared.joining.Terms.{Terms}
 
-abbrev pub coding_with : Settings → ℕ → Progress → List ℕ → Option Fault → Coding
-coding_with s limit progress rest refusal =
-    record { settings = s; limit = limit; held = progress.held.items; rest = rest; count = progress.count; refusal = refusal }
+abbrev pub coding_with : Terms → Progress → List ℕ → Option Fault → Coding
+coding_with terms progress rest refusal = record {
+  settings = terms.params;
+  limit = terms.limit;
+  held = progress.held.items;
+  rest = rest;
+  count = progress.count;
+  refusal = refusal;
+}
 
-abbrev pub coding_at : Settings → ℕ → Progress → List ℕ → Coding
-coding_at s limit progress rest = coding_with s limit progress rest None
+abbrev pub coding_at : Terms → Progress → List ℕ → Coding
+coding_at terms progress rest = coding_with terms progress rest None
 
 -- samples of an interval that isn't complete
 pub record AreHeldFew (s : Settings) (held : List ℤ) : Type 0 where
@@ -22,9 +28,9 @@ pub record AreHeldFew (s : Settings) (held : List ℤ) : Type 0 where
   pub few : length held < interval_len s
 
 -- samples of an interval that isn't complete, no more of them so far than the limit
-pub record IsProgress (s : Settings) (limit : ℕ) (progress : Progress) : Type 0 where
-  pub held : AreHeldFew s progress.held.items
-  pub within : progress.count ≤ limit
+pub record IsProgress (terms : Terms) (progress : Progress) : Type 0 where
+  pub held : AreHeldFew terms.params progress.held.items
+  pub within : progress.count ≤ terms.limit
 
 -- bytes of whole samples, at least one, for which the interval has places
 pub record ArePart (s : Settings) (held : List ℤ) (bytes : List ℕ) : Type 0 where
@@ -41,7 +47,7 @@ AnswersPiece c piece before result d after =
 -- the same, where no sample is begun
 abbrev pub Joins : {X : Type 0} → Terms → Progress → List ℕ → List Bool → Result X Fault → Progress → List Bool → Type 0
 Joins terms old bytes before result new after =
-    AnswersPiece (coding_at terms.params terms.limit old []) bytes before result (coding_at terms.params terms.limit new []) after
+    AnswersPiece (coding_at terms old []) bytes before result (coding_at terms new []) after
 
 -- a piece completes a sample that was begun, if one was: what it completes comes before `behind`
 pub record CompletesRest (c : Coding) (piece behind : List ℕ) (before after : List Bool) (d : Coding) : Type 0 where

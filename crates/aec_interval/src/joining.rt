@@ -37,9 +37,10 @@ pub(crate) struct Progress {
 fn code_complete(terms: &Terms, held: &mut Vec<i64>, out: &mut BitBuf) -> Result<(), Fault>
     requires samples { AllByRecursion (IsHeld terms.now.params) held.old.items }
     requires most { length held.old.items ≤ interval_len terms.now.params }
-    ensures ok { OnOk result (held.new.items ≡ left_behind (interval_len terms.now.params) held.old.items) }
-    ensures bits { OnOk result
-        (out.new.list ≡ out.old.list ++ stream_of terms.now.params (whole_front (interval_len terms.now.params) held.old.items)) }
+    ensures ok { OnOk result
+        (held.new.items ≡ left_behind (interval_len terms.now.params) held.old.items) }
+    ensures bits { OnOk result (out.new.list ≡ out.old.list ++ stream_of terms.now.params
+        (whole_front (interval_len terms.now.params) held.old.items)) }
     ensures few { AreHeldFew terms.now.params held.new.items }
     ensures err { OnErr result (out.new.list ≡ out.old.list) }
     ensures fault { IfErr result (λ e. e ≡ Memory) }
@@ -57,9 +58,10 @@ fn code_complete(terms: &Terms, held: &mut Vec<i64>, out: &mut BitBuf) -> Result
 fn push_sample(terms: &Terms, held: &mut Vec<i64>, x: i64, out: &mut BitBuf) -> Result<(), Fault>
     requires few { AreHeldFew terms.now.params held.old.items }
     requires sample { IsHeld terms.now.params x }
-    ensures ok { OnOk result (held.new.items ≡ left_behind (interval_len terms.now.params) (held.old.items ++ x ∷ [])) }
-    ensures bits { OnOk result
-        (out.new.list ≡ out.old.list ++ stream_of terms.now.params (whole_front (interval_len terms.now.params) (held.old.items ++ x ∷ []))) }
+    ensures ok { OnOk result
+        (held.new.items ≡ left_behind (interval_len terms.now.params) (held.old.items ++ x ∷ [])) }
+    ensures bits { OnOk result (out.new.list ≡ out.old.list ++ stream_of terms.now.params
+        (whole_front (interval_len terms.now.params) (held.old.items ++ x ∷ []))) }
     ensures few { AreHeldFew terms.now.params held.new.items }
     ensures err { OnErr result (out.new.list ≡ out.old.list) }
     ensures fault { IfErr result (λ e. e ≡ Memory) }
@@ -83,10 +85,11 @@ fn judge(terms: &Terms, count: u64, group: &[u8]) -> Result<i64, Fault>
 
 /// Takes the bytes of one sample. The refusals of `judge`, then `Memory`.
 fn join(terms: &Terms, progress: &mut Progress, group: &[u8], out: &mut BitBuf) -> Result<(), Fault>
-    requires progress { IsProgress terms.now.params terms.now.limit progress.old }
+    requires progress { IsProgress terms.now progress.old }
     requires whole { length group.now ≡ storage_len terms.now.params }
-    ensures joins { Joins terms.now progress.old group.now out.old.list result progress.new out.new.list }
-    ensures progress { IsProgress terms.now.params terms.now.limit progress.new }
+    ensures joins { Joins terms.now progress.old group.now out.old.list result
+        progress.new out.new.list }
+    ensures progress { IsProgress terms.now progress.new }
 {
     let x = judge(terms, progress.count, group)?;
     push_sample(terms, &mut progress.held, x, out)?;
@@ -101,10 +104,11 @@ fn join_each(
     bytes: &[u8],
     out: &mut BitBuf,
 ) -> Result<(), Fault>
-    requires progress { IsProgress terms.now.params terms.now.limit progress.old }
+    requires progress { IsProgress terms.now progress.old }
     requires whole { length bytes.now % storage_len terms.now.params ≡ 0 }
-    ensures joins { Joins terms.now progress.old bytes.now out.old.list result progress.new out.new.list }
-    ensures progress { IsProgress terms.now.params terms.now.limit progress.new }
+    ensures joins { Joins terms.now progress.old bytes.now out.old.list result
+        progress.new out.new.list }
+    ensures progress { IsProgress terms.now progress.new }
 {
     for group in bytes.chunks_exact(terms.params.storage()) {
         join(terms, progress, group, out)?;
@@ -120,12 +124,14 @@ fn join_good(
     part: &[u8],
     out: &mut BitBuf,
 ) -> Result<(), Fault>
-    requires progress { IsProgress terms.now.params terms.now.limit progress.old }
+    requires progress { IsProgress terms.now progress.old }
     requires samples { ArePart terms.now.params progress.old.held.items part.now }
     requires good { result_err (samples_of_bytes terms.now.params part.now) ≡ None }
-    requires within { progress.old.count + length part.now / storage_len terms.now.params ≤ terms.now.limit }
-    ensures joins { Joins terms.now progress.old part.now out.old.list result progress.new out.new.list }
-    ensures progress { IsProgress terms.now.params terms.now.limit progress.new }
+    requires within { progress.old.count + length part.now / storage_len terms.now.params
+        ≤ terms.now.limit }
+    ensures joins { Joins terms.now progress.old part.now out.old.list result
+        progress.new out.new.list }
+    ensures progress { IsProgress terms.now progress.new }
 {
     append_samples(&terms.params, part, &mut progress.held)?;
     code_complete(terms, &mut progress.held, out)?;
@@ -141,10 +147,11 @@ fn join_part(
     part: &[u8],
     out: &mut BitBuf,
 ) -> Result<(), Fault>
-    requires progress { IsProgress terms.now.params terms.now.limit progress.old }
+    requires progress { IsProgress terms.now progress.old }
     requires samples { ArePart terms.now.params progress.old.held.items part.now }
-    ensures joins { Joins terms.now progress.old part.now out.old.list result progress.new out.new.list }
-    ensures progress { IsProgress terms.now.params terms.now.limit progress.new }
+    ensures joins { Joins terms.now progress.old part.now out.old.list result
+        progress.new out.new.list }
+    ensures progress { IsProgress terms.now progress.new }
 {
     let count = (part.len() / terms.params.storage()) as u64;
     if count <= terms.limit - progress.count && first_bad(&terms.params, part).is_none() {
@@ -159,8 +166,9 @@ fn part_len(terms: &Terms, progress: &Progress, bytes: &[u8]) -> usize
     requires few { length progress.now.held.items < interval_len terms.now.params }
     requires whole { length bytes.now % storage_len terms.now.params ≡ 0 }
     requires some { 0 < length bytes.now }
-    ensures value { result
-        ≡ min (length bytes.now) ((interval_len terms.now.params - length progress.now.held.items) * storage_len terms.now.params) }
+    ensures value { result ≡ min (length bytes.now)
+        ((interval_len terms.now.params - length progress.now.held.items)
+        * storage_len terms.now.params) }
     ensures part { ArePart terms.now.params progress.now.held.items (take result bytes.now) }
 {
     let places = terms.params.interval_len() as usize - progress.held.len();
@@ -174,10 +182,11 @@ fn join_all(
     bytes: &[u8],
     out: &mut BitBuf,
 ) -> Result<(), Fault>
-    requires progress { IsProgress terms.now.params terms.now.limit progress.old }
+    requires progress { IsProgress terms.now progress.old }
     requires whole { length bytes.now % storage_len terms.now.params ≡ 0 }
-    ensures joins { Joins terms.now progress.old bytes.now out.old.list result progress.new out.new.list }
-    ensures progress { IsProgress terms.now.params terms.now.limit progress.new }
+    ensures joins { Joins terms.now progress.old bytes.now out.old.list result
+        progress.new out.new.list }
+    ensures progress { IsProgress terms.now progress.new }
 {
     let mut left = bytes;
     while !left.is_empty() {
@@ -197,15 +206,16 @@ fn complete_rest<'a>(
     piece: &'a [u8],
     out: &mut BitBuf,
 ) -> Result<&'a [u8], Fault>
-    requires progress { IsProgress terms.now.params terms.now.limit progress.old }
+    requires progress { IsProgress terms.now progress.old }
     requires short { length rest.old < storage_len terms.now.params }
     requires enough { storage_len terms.now.params ≤ length rest.old + length piece.now }
     ensures ok { IfOk result (λ behind.
-        CompletesRest (coding_at terms.now.params terms.now.limit progress.old rest.old) piece.now behind.now out.old.list out.new.list
-        (coding_at terms.now.params terms.now.limit progress.new [])) }
+        CompletesRest (coding_at terms.now progress.old rest.old) piece.now behind.now
+        out.old.list out.new.list (coding_at terms.now progress.new [])) }
     ensures stops { IfErr result (λ fault.
-        StopsFeeding (coding_at terms.now.params terms.now.limit progress.old rest.old) piece.now out.old.list out.new.list fault) }
-    ensures progress { IsProgress terms.now.params terms.now.limit progress.new }
+        StopsFeeding (coding_at terms.now progress.old rest.old) piece.now
+        out.old.list out.new.list fault) }
+    ensures progress { IsProgress terms.now progress.new }
     ensures empty { rest.new ≡ [] }
 {
     if rest.len() == 0 {
@@ -227,11 +237,11 @@ pub(crate) fn take_piece(
     piece: &[u8],
     out: &mut BitBuf,
 ) -> Result<(), Fault>
-    requires progress { IsProgress terms.now.params terms.now.limit progress.old }
+    requires progress { IsProgress terms.now progress.old }
     requires short { length rest.old < storage_len terms.now.params }
-    ensures takes { AnswersPiece (coding_at terms.now.params terms.now.limit progress.old rest.old) piece.now out.old.list result
-        (coding_at terms.now.params terms.now.limit progress.new rest.new) out.new.list }
-    ensures progress { IsProgress terms.now.params terms.now.limit progress.new }
+    ensures takes { AnswersPiece (coding_at terms.now progress.old rest.old) piece.now
+        out.old.list result (coding_at terms.now progress.new rest.new) out.new.list }
+    ensures progress { IsProgress terms.now progress.new }
     ensures short { length rest.new < storage_len terms.now.params }
 {
     let width = terms.params.storage();

@@ -197,7 +197,8 @@ fn read_next(
 ) -> Result<u64, Fault>
     requires reached { IsReached params.now wanted.count wanted.limit reader.old.list wanted.first wanted.start block reader.old.pos samples.old.items }
     requires after { wanted.first ≤ block }
-    requires wanted { IsWantedNext params.now wanted.count wanted.limit reader.old.list wanted.first block reader.old.pos }
+    requires wanted { IsWantedNext params.now wanted.count wanted.limit reader.old.list
+        wanted.first block reader.old.pos }
     ensures ok { IfOk result (λ next.
         IsReached params.now wanted.count wanted.limit reader.new.list wanted.first wanted.start next reader.new.pos samples.new.items) }
     ensures refuses { IfErr result (λ fault. RefusesUpTo params.now wanted.count wanted.limit reader.old.list wanted.first wanted.start
@@ -230,13 +231,15 @@ pub(crate) fn read_interval(
 ) -> Result<u64, Fault>
     requires begins { reader.old.pos ≡ wanted.start }
     requires empty { samples.old.items ≡ [] }
-    requires wanted { IsWantedNext params.now wanted.count wanted.limit reader.old.list wanted.first wanted.first reader.old.pos }
+    requires wanted { IsWantedNext params.now wanted.count wanted.limit reader.old.list
+        wanted.first wanted.first reader.old.pos }
     ensures ok { IfOk result (λ next.
         IsReached params.now wanted.count wanted.limit reader.new.list wanted.first wanted.start next reader.new.pos samples.new.items) }
     ensures refuses { IfErr result (λ fault. RefusesUpTo params.now wanted.count wanted.limit reader.old.list wanted.first wanted.start
         (wanted.first + params.now.interval) fault) }
     ensures list { reader.new.list ≡ reader.old.list }
-    ensures over { IfOk result (λ next. IsGoneOver params.now wanted.count reader.new.list wanted.first next reader.new.pos) }
+    ensures over { IfOk result (λ next.
+        IsGoneOver params.now wanted.count reader.new.list wanted.first next reader.new.pos) }
     ensures len { IfOk result (λ _. vec_len samples.new ≤ interval_len params.now) }
     ensures capacity { vec_capacity samples.old ≤ vec_capacity samples.new }
     ensures full { IfErr result (λ fault. fault ≡ Memory → vec_capacity samples.old < interval_len params.now) }

@@ -22,7 +22,8 @@ fn skip_next(
     values: &mut Block,
 ) -> Result<u64, Fault>
     requires led { IsLedTo params.now wanted.count wanted.limit reader.old.list wanted.first wanted.start block reader.old.pos }
-    requires wanted { IsWantedNext params.now wanted.count wanted.limit reader.old.list wanted.first block reader.old.pos }
+    requires wanted { IsWantedNext params.now wanted.count wanted.limit reader.old.list
+        wanted.first block reader.old.pos }
     ensures ok { IfOk result (λ next.
         IsLedTo params.now wanted.count wanted.limit reader.new.list wanted.first wanted.start next reader.new.pos) }
     ensures refuses { IfErr result (λ fault. IsFaultBefore params.now wanted.count wanted.limit reader.old.list wanted.first wanted.start
@@ -46,14 +47,16 @@ pub(crate) fn skip_interval(
     values: &mut Block,
 ) -> Result<u64, Fault>
     requires begins { reader.old.pos ≡ wanted.start }
-    requires wanted { IsWantedNext params.now wanted.count wanted.limit reader.old.list wanted.first wanted.first reader.old.pos }
+    requires wanted { IsWantedNext params.now wanted.count wanted.limit reader.old.list
+        wanted.first wanted.first reader.old.pos }
     ensures ok { IfOk result (λ next.
         IsLedTo params.now wanted.count wanted.limit reader.new.list wanted.first wanted.start next reader.new.pos) }
     ensures refuses { IfErr result (λ fault. IsFaultBefore params.now wanted.count wanted.limit reader.old.list wanted.first wanted.start
         (wanted.first + params.now.interval) fault) }
     ensures allowed { IsAllowed params.now }
     ensures list { reader.new.list ≡ reader.old.list }
-    ensures over { IfOk result (λ next. IsGoneOver params.now wanted.count reader.new.list wanted.first next reader.new.pos) }
+    ensures over { IfOk result (λ next.
+        IsGoneOver params.now wanted.count reader.new.list wanted.first next reader.new.pos) }
 {
     let end = wanted.first + u64::from(params.interval());
     let mut block = wanted.first;

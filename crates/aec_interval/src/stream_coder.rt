@@ -27,9 +27,10 @@ impl Model for StreamCoder {
 
     ghost Value = { Coding };
 
-    ghost view = { λ c. coding_with c.terms.params c.terms.limit c.progress c.rest c.refusal };
+    ghost view = { λ c. coding_with c.terms c.progress c.rest c.refusal };
 
-    ghost invariant = { λ c. (length c.rest < storage_len c.terms.params) × IsProgress c.terms.params c.terms.limit c.progress };
+    ghost invariant = { λ c.
+        (length c.rest < storage_len c.terms.params) × IsProgress c.terms c.progress };
 }
 
 impl StreamCoder {

@@ -8,7 +8,7 @@ use Rattle.aec_interval.proofs.joining.join_all.Goals as goal
 pub loop-left-init : goal.loop-left-init
 loop-left-init c = record {
   progress = c.requires.progress;
-  so_far = joined-begun c.args.terms.now.params c.args.terms.now.limit c.args.progress.now c.args.bytes.now c.args.bytes.now c.args.out.now.list c.requires.progress
+  so_far = joined-begun c.args.terms.now c.args.progress.now c.args.bytes.now c.args.bytes.now c.args.out.now.list c.requires.progress
       c.requires.whole refl;
 }
 

@@ -5,8 +5,8 @@ use Rattle.aec_interval.proofs.joining.join_all.Given as goal
 
 abbrev pub invariant-loop-left : goal.invariant-loop-left
 invariant-loop-left l = record {
-  progress : IsProgress l.terms.params l.terms.limit l.progress;
-  so_far : JoinedSoFar (coding_at l.terms.params l.terms.limit l.fn.progress []) l.fn.bytes l.left l.fn.out.list l.out.list (coding_at l.terms.params l.terms.limit l.progress []);
+  progress : IsProgress l.terms l.progress;
+  so_far : JoinedSoFar (coding_at l.terms l.fn.progress []) l.fn.bytes l.left l.fn.out.list l.out.list (coding_at l.terms l.progress []);
 }
 
 abbrev pub decreases-loop-left : goal.decreases-loop-left

@@ -10,7 +10,7 @@ loop-group-init c =
     record {
       size = ap chunks_exact_size same ∙ c.chunks_exact-group-items.ensures.size ∙ c.storage.ensures.value;
       progress = c.requires.progress;
-      so_far = joined-begun c.args.terms.now.params c.args.terms.now.limit c.args.progress.now c.args.bytes.now _ c.args.out.now.list c.requires.progress c.requires.whole
+      so_far = joined-begun c.args.terms.now c.args.progress.now c.args.bytes.now _ c.args.out.now.list c.requires.progress c.requires.whole
           (ap chunks_exact_rest same ∙ c.chunks_exact-group-items.ensures.rest);
     }
 

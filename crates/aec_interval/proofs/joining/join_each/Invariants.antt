@@ -8,7 +8,7 @@ use Rattle.aec_interval.proofs.joining.join_each.Given as goal
 abbrev pub invariant-loop-group : goal.invariant-loop-group
 invariant-loop-group l = record {
   size : chunks_exact_size l.group-iterator ≡ storage_len l.terms.params;
-  progress : IsProgress l.terms.params l.terms.limit l.progress;
-  so_far : JoinedSoFar (coding_at l.terms.params l.terms.limit l.initial.progress []) l.fn.bytes (chunks_exact_rest l.group-iterator) l.initial.out.list l.out.list
-      (coding_at l.terms.params l.terms.limit l.progress []);
+  progress : IsProgress l.terms l.progress;
+  so_far : JoinedSoFar (coding_at l.terms l.initial.progress []) l.fn.bytes (chunks_exact_rest l.group-iterator) l.initial.out.list l.out.list
+      (coding_at l.terms l.progress []);
 }

@@ -6,7 +6,7 @@ use Rattle.aec_interval.proofs.joining.take_piece.Goals as goal
 
 pub returns-then-piece-width-clause-takes : goal.returns-then-piece-width-clause-takes
 returns-then-piece-width-clause-takes c =
-    short_fed c.args.terms.now.params c.args.terms.now.limit c.args.progress.now c.args.rest.now c.args.piece.now c.extend.new.self c.args.out.now.list c.requires.progress
+    short_fed c.args.terms.now c.args.progress.now c.args.rest.now c.args.piece.now c.extend.new.self c.args.out.now.list c.requires.progress
     c.extend.ensures (omega (arith, c.if-piece-width.true, c.len.ensures, c.storage-width.ensures.value, c.requires.short))
 
 pub returns-in_err-bytes-clause-takes : goal.returns-in_err-bytes-clause-takes
@@ -22,7 +22,7 @@ pub returns-clause-takes : goal.returns-clause-takes
 returns-clause-takes c =
     piece_fed _ _ _ _ _ _ _ _ _ _ _ c.storage-width.ensures.allowed c.in_ok-bytes.ensures.ok
     (cut_at _ _ _ _ c.split_at.ensures.front c.split_at.ensures.back) c.in_ok-join_all.ensures.joins
-    (short_fed c.args.terms.now.params c.args.terms.now.limit c.join_all.new.progress [] c.split_at.result.1.now c.extend-2.new.self c.join_all.new.out.list
+    (short_fed c.args.terms.now c.join_all.new.progress [] c.split_at.result.1.now c.extend-2.new.self c.join_all.new.out.list
     c.in_ok-join_all.ensures.progress (c.extend-2.ensures ∙ ap (λ r. r ++ c.split_at.result.1.now) c.complete_rest.ensures.empty)
     (omega (
       arith,
