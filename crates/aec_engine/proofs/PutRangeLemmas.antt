@@ -19,7 +19,7 @@ use Rattle.aec_interval.proofs.ReadingLemmas.{bits_are_read_in_one_way}
 use Rattle.aec_interval.proofs.PieceReadingLemmas.{has_read_more, has_read_all, has_read_front, lacks_memory_only, has_read_nothing, piece_is_held}
 use Rattle.aec_interval.proofs.BlockLemmas.{all_left, all_right}
 use Rattle.aec_engine.specs.Output.{all_stored, samples_from}
-use Rattle.aec_engine.specs.ReadingTwice.{AreSamplesOf, PutsPart}
+use Rattle.aec_engine.specs.ReadingTwice.{AreSamplesOf, PutsPart, PutsAllOrFront}
 use Rattle.aec_engine.proofs.ReadTwiceLemmas.{place_from, settings-same, same_next}
 
 -- ---- parts of lists
@@ -68,16 +68,29 @@ pub record PutsSoFar (start p : Place) (s : Settings) (first len skip left : ℕ
   pub skip_is : skip ≡ first - length samples
   pub left_is : left ≡ len - (length samples - first)
 
-pub puts_none : (start : Place) (s : Settings) (first len : ℕ) (known : Option (List ℕ)) (waiting : List ℕ) → waiting ≡ [] → (samples : List ℤ) × AreSamplesOf start samples
-    → PutsSoFar start start s first len first len known known waiting
-puts_none start s first len known waiting none given = record {
+-- a sink that kept its bytes when it was begun
+begun_then : (before mid after : Option (List ℕ)) (bytes : List ℕ) → Keeps before mid → Appends mid after bytes → Appends before after bytes
+begun_then None mid after bytes kept appended = tt
+begun_then (Some xs) None after bytes kept appended = absurd kept
+begun_then (Some xs) (Some ys) None bytes kept appended = appended
+begun_then (Some xs) (Some ys) (Some zs) bytes kept appended = appended ∙ ap (λ l. l ++ bytes) kept
+
+-- one that failed when it was begun
+pub begun_front : (r : Result (Unit {0}) Fault) (fault : Fault) (before after : Option (List ℕ)) (bytes : List ℕ) → r ≡ Err fault → Keeps before after
+    → PutsAllOrFront before after bytes r
+begun_front r fault before after bytes is kept =
+    subst (PutsAllOrFront before after bytes) (sym is) (0, begun_then before after after [] kept (Appends-nil after))
+
+pub puts_none : (start : Place) (s : Settings) (first len : ℕ) (before after : Option (List ℕ)) (waiting : List ℕ) → Keeps before after → waiting ≡ []
+    → (samples : List ℤ) × AreSamplesOf start samples → PutsSoFar start start s first len first len before after waiting
+puts_none start s first len before after waiting kept none given = record {
   samples = [];
   read = subst (λ p. HasRead p []) (sym at_start) (has_read_nothing start.settings start.count start.limit start.bits);
   same = refl;
   few = omega (arith, given.1.first_block);
   begins = λ _. ap (λ i. i % start.settings.interval) given.1.first_block ∙ zero-mod start.settings.interval;
   put = [];
-  appended = Appends-nil known;
+  appended = begun_then before after after [] kept (Appends-nil after);
   all = none ∙ sym (ap (all_stored s) (nothing first len));
   skip_is = omega arith;
   left_is = omega arith;
@@ -219,24 +232,22 @@ range_taken start p s first len skip left before after waiting xs a so_far ends 
     none_wanted : is_wanted_at p ≡ false → samples_from first len so_far.samples ≡ samples_from first len xs
     none_wanted done = ap (samples_from first len) (all_read start p s first len skip left before after waiting xs a so_far done given)
 
-pub puts_all : (start p : Place) (s : Settings) (first len skip left : ℕ) (before mid after : Option (List ℕ)) (waiting bytes : List ℕ) (r : Result (Unit {0}) Fault)
+pub puts_rest : (start p : Place) (s : Settings) (first len skip left : ℕ) (before mid after : Option (List ℕ)) (waiting bytes : List ℕ) (r : Result (Unit {0}) Fault)
     → IsAllowed start.settings → PutsSoFar start p s first len skip left before mid waiting → (left ≡ 0) ⊎ (is_wanted_at p ≡ false) → bytes ≡ waiting
-    → OnOk r (Appends mid after bytes) → (xs : List ℤ) → AreSamplesOf start xs → OnOk r (Appends before after (all_stored s (samples_from first len xs)))
-puts_all start p s first len skip left before mid after waiting bytes (Ok u) a so_far ends is puts xs given =
-    subst (Appends before after) (ap (λ l. so_far.put ++ l) is ∙ so_far.all
-    ∙ ap (all_stored s) (range_taken start p s first len skip left before mid waiting xs a so_far ends given))
-    (Appends-trans before mid after so_far.put bytes so_far.appended puts)
-puts_all start p s first len skip left before mid after waiting bytes (Err e) a so_far ends is puts xs given = tt
+    → OnOk r (Appends mid after bytes) → OnErr r (AppendsFront mid after bytes)
+    → (xs : List ℤ) → AreSamplesOf start xs → PutsAllOrFront before after (all_stored s (samples_from first len xs)) r
+puts_rest start p s first len skip left before mid after waiting bytes r a so_far ends is puts front xs given = by_result r puts front
+  where
+    all : so_far.put ++ bytes ≡ all_stored s (samples_from first len xs)
+    all = ap (λ l. so_far.put ++ l) is ∙ so_far.all
+        ∙ ap (all_stored s) (range_taken start p s first len skip left before mid waiting xs a so_far ends given)
 
-pub puts_last_front : (start p : Place) (s : Settings) (first len skip left : ℕ) (before mid after : Option (List ℕ)) (waiting bytes : List ℕ)
-    (r : Result (Unit {0}) Fault) → IsAllowed start.settings → PutsSoFar start p s first len skip left before mid waiting
-    → (left ≡ 0) ⊎ (is_wanted_at p ≡ false) → bytes ≡ waiting → OnErr r (AppendsFront mid after bytes)
-    → (xs : List ℤ) → AreSamplesOf start xs → OnErr r (AppendsFront before after (all_stored s (samples_from first len xs)))
-puts_last_front start p s first len skip left before mid after waiting bytes (Ok u) a so_far ends is puts xs given = tt
-puts_last_front start p s first len skip left before mid after waiting bytes (Err e) a so_far ends is puts xs given =
-    front_more before mid after so_far.put bytes [] (all_stored s (samples_from first len xs)) so_far.appended puts
-    (sym (ap (λ l. so_far.put ++ l) (append-nil bytes ∙ is) ∙ so_far.all
-    ∙ ap (all_stored s) (range_taken start p s first len skip left before mid waiting xs a so_far ends given)))
+    by_result : (r : Result (Unit {0}) Fault) → OnOk r (Appends mid after bytes) → OnErr r (AppendsFront mid after bytes)
+        → PutsAllOrFront before after (all_stored s (samples_from first len xs)) r
+    by_result (Ok u) puts front = subst (Appends before after) all (Appends-trans before mid after so_far.put bytes so_far.appended puts)
+    by_result (Err e) puts front =
+        front_more before mid after so_far.put bytes [] (all_stored s (samples_from first len xs)) so_far.appended front
+        (sym (ap (λ l. so_far.put ++ l) (append-nil bytes) ∙ all))
 
 -- ---- in the form in which the code has the facts
 
@@ -253,24 +264,7 @@ pub puts_front_err : (r : Result (Unit {0}) Fault) (fault : Fault) (start p q : 
     (waiting : List ℕ) (ys part : List ℤ) → r ≡ Err fault
     → IsAllowed start.settings → PutsSoFar start p s first len skip left before mid waiting → ReadsInterval p ys q
     → (is_wanted_at q ≡ true → q.block % q.settings.interval ≡ 0) → part ≡ samples_from skip left ys → AppendsFront mid after (waiting ++ all_stored s part)
-    → (xs : List ℤ) → AreSamplesOf start xs → OnErr r (AppendsFront before after (all_stored s (samples_from first len xs)))
+    → (xs : List ℤ) → AreSamplesOf start xs → PutsAllOrFront before after (all_stored s (samples_from first len xs)) r
 puts_front_err r fault start p q s first len skip left before mid after waiting ys part is a so_far step begins part_is front xs given =
-    subst (λ r. OnErr r (AppendsFront before after (all_stored s (samples_from first len xs)))) (sym is)
+    subst (λ r. PutsAllOrFront before after (all_stored s (samples_from first len xs)) r) (sym is)
     (puts_front start p q s first len skip left before mid after waiting ys part xs a so_far step begins part_is front given)
-
--- a sink that kept its bytes when it was begun
-begun_then : (before mid after : Option (List ℕ)) (bytes : List ℕ) → Keeps before mid → Appends mid after bytes → Appends before after bytes
-begun_then None mid after bytes kept appended = tt
-begun_then (Some xs) None after bytes kept appended = absurd kept
-begun_then (Some xs) (Some ys) None bytes kept appended = appended
-begun_then (Some xs) (Some ys) (Some zs) bytes kept appended = appended ∙ ap (λ l. l ++ bytes) kept
-
-pub begun_ok : (before mid after : Option (List ℕ)) (bytes : List ℕ) (r : Result (Unit {0}) Fault) → Keeps before mid → OnOk r (Appends mid after bytes)
-    → OnOk r (Appends before after bytes)
-begun_ok before mid after bytes (Ok u) kept ok = begun_then before mid after bytes kept ok
-begun_ok before mid after bytes (Err e) kept ok = tt
-
-pub begun_err : (before mid after : Option (List ℕ)) (bytes : List ℕ) (r : Result (Unit {0}) Fault) → Keeps before mid → OnErr r (AppendsFront mid after bytes)
-    → OnErr r (AppendsFront before after bytes)
-begun_err before mid after bytes (Ok u) kept front = tt
-begun_err before mid after bytes (Err e) kept front = (front.0, begun_then before mid after (take front.0 bytes) kept front.1)

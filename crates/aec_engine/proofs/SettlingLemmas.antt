@@ -15,7 +15,7 @@ use Rattle.aec_engine.specs.Output.{IsDecoded, decoded, IsRanged, outside, cut_o
 use Rattle.aec_engine.specs.Transfers.{Input, Taking, are_past, Putting, RefusesIntake, IsTakenWhole, GivesAnswer, given, Settles, not_begun, Leaves}
 use Rattle.aec_engine.specs.ReadingTwice as twice
 use Rattle.aec_engine.specs.Transfers as transfers
-use Rattle.aec_engine.specs.ReadingTwice.{GaveWhole, AreSamplesOf, HaveSamples, StoresPart, DecodesBits, CutsBits, SettlesOne}
+use Rattle.aec_engine.specs.ReadingTwice.{GaveWhole, AreSamplesOf, HaveSamples, StoresPart, DecodesBits, CutsBits, SettlesOne, PutsAllOrFront}
 use Rattle.aec_engine.proofs.RangingLemmas.{refused_as_decoding}
 use Rattle.aec_engine.proofs.OutputLemmas.{Keeps-same, settles_delivered, leaves_settled, refused_intake, refused_decoding, read_samples}
 
@@ -30,10 +30,21 @@ settles_refusal answers r fault f before begun failures is same answered =
 
 -- bytes that are written
 pub settles_written : (answers : Result (List ℕ) Fault → Type 0) (r : Result (Unit {0}) Fault) (bytes : List ℕ) (sink : Putting) → answers (Ok bytes)
-    → OnOk r (Appends sink.before sink.after bytes) → OnErr r (AppendsFront sink.before sink.after bytes) → sink.begun_after ≡ counted sink.begun_before
+    → PutsAllOrFront sink.before sink.after bytes r → sink.begun_after ≡ counted sink.begun_before
     → IfErr r (λ e. (e ≡ Write) × (sink.failures ≡ 1)) → SettlesOne answers sink r
-settles_written answers r bytes sink answered ok front begun fault =
-    record { answer = Ok bytes; answered = answered; settles = settles_delivered {X = List ℕ} (λ b. b) (Ok bytes) r bytes bytes sink refl refl ok front begun fault }
+settles_written answers r bytes sink answered puts begun fault = record {
+  answer = Ok bytes;
+  answered = answered;
+  settles = settles_delivered {X = List ℕ} (λ b. b) (Ok bytes) r bytes bytes sink refl refl (all_put r puts) (front_put r puts) begun fault;
+}
+  where
+    all_put : (r : Result (Unit {0}) Fault) → PutsAllOrFront sink.before sink.after bytes r → OnOk r (Appends sink.before sink.after bytes)
+    all_put (Ok u) puts = puts
+    all_put (Err e) puts = tt
+
+    front_put : (r : Result (Unit {0}) Fault) → PutsAllOrFront sink.before sink.after bytes r → OnErr r (AppendsFront sink.before sink.after bytes)
+    front_put (Ok u) puts = tt
+    front_put (Err e) puts = puts
 
 settles_map : (answers others : Result (List ℕ) Fault → Type 0) (sink : Putting) (r : Result (Unit {0}) Fault)
     → ((answer : Result (List ℕ) Fault) → answers answer → others answer) → SettlesOne answers sink r → SettlesOne others sink r

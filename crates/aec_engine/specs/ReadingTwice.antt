@@ -1,11 +1,12 @@
 -- What the parts of decoding give: the bits of a source, and what their two readings answer.
-use Rattle.std.specs.Prelude.{◌≡◌, ℕ, ◌+◌, ◌<◌, ◌≤◌, Bool, true, Option, None, Result, Ok, Err, ℤ, List, ◌++◌, length}
+use Rattle.std.specs.Prelude.{◌≡◌, ℕ, ◌+◌, ◌<◌, ◌≤◌, Bool, true, Option, None, Result, Ok, Err, MatchResult, ℤ, List, ◌++◌, length}
 use Rattle.std.specs.Io.KnownBytes.{Appends}
 use Rattle.aec_params.specs.declared.settings.Settings.{Settings}
 use Rattle.aec_params.specs.declared.fault.Fault.{Fault}
 use Rattle.aec_params.specs.declared.fault.Fault.TheVariants.{OutOfRange, Memory}
 use Rattle.aec_params.specs.Codewords.{bits_of_bytes}
 use Rattle.aec_params.specs.Reading.{IsReading}
+use Rattle.aec_bits.specs.Devices.{AppendsFront}
 use Rattle.aec_interval.specs.Reached.{count_refusal, RefusesDecoding}
 use Rattle.aec_interval.specs.Pieces.{Place}
 use Rattle.aec_engine.specs.Transfers.{input_of, Taking, are_past, Gave, IsTakenWhole, Putting, Settles}
@@ -68,3 +69,7 @@ pub record PutsPart (before after : Option (List ℕ)) (waited more waiting : Li
   pub put : List ℕ
   pub appended : Appends before after put
   pub all : put ++ waiting ≡ waited ++ more
+
+-- bytes are put to a sink, or where it failed a front of them
+abbrev pub PutsAllOrFront : {X : Type 0} → Option (List ℕ) → Option (List ℕ) → List ℕ → Result X Fault → Type 0
+PutsAllOrFront before after bytes result = MatchResult result (λ _. Appends before after bytes) (λ _. AppendsFront before after bytes)

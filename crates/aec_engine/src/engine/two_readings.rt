@@ -1,6 +1,6 @@
 //! Coded bits read twice: once to judge them, and once to write the samples that they stand for.
 
-ghost use Rattle.std.specs.Prelude.{◌≡◌, ℕ, ◌+◌, ◌*◌, ◌<◌, ◌≤◌, ◌++◌, List, ℤ, length, vec_len, vec_capacity, IfOk, IfErr, OnOk, OnErr};
+ghost use Rattle.std.specs.Prelude.{◌≡◌, ℕ, ◌+◌, ◌*◌, ◌<◌, ◌≤◌, ◌++◌, [], List, ℤ, length, vec_len, vec_capacity, IfOk, IfErr, OnOk, OnErr};
 ghost use Rattle.std.specs.List.{AllByRecursion};
 ghost use Rattle.std.specs.Io.KnownBytes.{Appends};
 ghost use Rattle.aec_params.specs.declared.fault.Fault.TheVariants.{Memory, Write as WriteFault};
@@ -9,7 +9,7 @@ ghost use Rattle.aec_bits.specs.Devices.{counted, AppendsFront};
 ghost use Rattle.aec_interval.specs.Reached.{RefusesReading};
 ghost use Rattle.aec_engine.specs.Output.{all_stored, samples_from};
 ghost use Rattle.aec_engine.specs.Transfers.{Putting, putting_of};
-ghost use Rattle.aec_engine.specs.ReadingTwice.{AreSamplesOf, HaveSamples, PutsPart, SettlesOne, StoresPart};
+ghost use Rattle.aec_engine.specs.ReadingTwice.{AreSamplesOf, HaveSamples, PutsPart, PutsAllOrFront, SettlesOne, StoresPart};
 
 use crate::engine::intake::PIECE;
 use aec_bits::{Sink, put_all};
@@ -59,6 +59,20 @@ fn append_stored(params: &Params, samples: &[i64], bytes: &mut Vec<u8>)
     put_samples(params, samples, &mut bytes[start..]);
 }
 
+/// Puts all bytes that wait, and then none do.
+fn put_waiting<W: Sink>(bytes: &mut Vec<u8>, sink: &mut W) -> Result<(), Fault>
+    ensures ok { OnOk result (Appends (W.taken sink.old) (W.taken sink.new) bytes.old.items) }
+    ensures front { OnErr result (AppendsFront (W.taken sink.old) (W.taken sink.new) bytes.old.items) }
+    ensures none { OnOk result (bytes.new.items ≡ []) }
+    ensures begun { W.begun sink.new ≡ W.begun sink.old }
+    ensures fault { IfErr result (λ e. (e ≡ WriteFault) × (W.failed sink.new ≡ 1)) }
+    ensures capacity { vec_capacity bytes.old ≤ vec_capacity bytes.new }
+{
+    put_all(sink, bytes)?;
+    bytes.clear();
+    Ok(())
+}
+
 /// Puts the bytes of samples behind those that wait, as soon as they are a piece; else they wait too.
 fn put_part<W: Sink>(
     params: &Params,
@@ -77,49 +91,13 @@ fn put_part<W: Sink>(
 {
     append_stored(params, samples, bytes);
     if bytes.len() >= PIECE {
-        put_all(sink, bytes)?;
-        bytes.clear();
+        put_waiting(bytes, sink)?;
     }
     Ok(())
 }
 
-/// Reads the samples again, up to the last that is asked for, and puts the bytes of `len` of them from place `first` on. Takes
-/// no memory.
-fn put_range<W: Sink>(
-    params: &Params,
-    reader: &mut StreamReader,
-    first: u64,
-    len: u64,
-    samples: &mut Vec<i64>,
-    bytes: &mut Vec<u8>,
-    sink: &mut W,
-) -> Result<(), Fault>
-    requires settings { reader.old.settings ≡ params.now }
-    requires read { (xs : List ℤ) × AreSamplesOf reader.old xs }
-    requires room { interval_len params.now ≤ vec_capacity samples.old }
-    requires empty { vec_len bytes.old ≡ 0 }
-    requires buffer { 65536 + 4 * interval_len params.now ≤ vec_capacity bytes.old }
-    ensures ok { (xs : List ℤ) → AreSamplesOf reader.old xs
-        → OnOk result (Appends (W.taken sink.old) (W.taken sink.new) (all_stored params.now (samples_from first len xs))) }
-    ensures front { (xs : List ℤ) → AreSamplesOf reader.old xs
-        → OnErr result (AppendsFront (W.taken sink.old) (W.taken sink.new) (all_stored params.now (samples_from first len xs))) }
-    ensures begun { W.begun sink.new ≡ W.begun sink.old }
-    ensures fault { IfErr result (λ e. (e ≡ WriteFault) × (W.failed sink.new ≡ 1)) }
-{
-    // What the parameters promise is told by their calls.
-    let _len = params.interval_len();
-    let mut skip = first;
-    let mut left = len;
-    while left > 0 && reader.next(samples)? {
-        let part = part_of(samples, skip, left);
-        left -= part.len() as u64;
-        put_part(params, part, bytes, sink)?;
-        skip = skip.saturating_sub(samples.len() as u64);
-    }
-    put_all(sink, bytes)
-}
-
-/// Begins, and puts the bytes of `len` samples from place `first` on. Takes no memory.
+/// Begins, reads the samples again, up to the last that is asked for, and puts the bytes of `len` of them from place
+/// `first` on. Takes no memory.
 fn deliver_range<W: Sink>(
     params: &Params,
     reader: &mut StreamReader,
@@ -134,15 +112,24 @@ fn deliver_range<W: Sink>(
     requires room { interval_len params.now ≤ vec_capacity samples.old }
     requires empty { vec_len bytes.old ≡ 0 }
     requires buffer { 65536 + 4 * interval_len params.now ≤ vec_capacity bytes.old }
-    ensures ok { (xs : List ℤ) → AreSamplesOf reader.old xs
-        → OnOk result (Appends (W.taken sink.old) (W.taken sink.new) (all_stored params.now (samples_from first len xs))) }
-    ensures front { (xs : List ℤ) → AreSamplesOf reader.old xs
-        → OnErr result (AppendsFront (W.taken sink.old) (W.taken sink.new) (all_stored params.now (samples_from first len xs))) }
+    ensures puts { (xs : List ℤ) → AreSamplesOf reader.old xs
+        → PutsAllOrFront (W.taken sink.old) (W.taken sink.new)
+        (all_stored params.now (samples_from first len xs)) result }
     ensures begun { W.begun sink.new ≡ counted (W.begun sink.old) }
     ensures fault { IfErr result (λ e. (e ≡ WriteFault) × (W.failed sink.new ≡ 1)) }
 {
+    // What the parameters promise is told by their calls.
+    let _len = params.interval_len();
     sink.begin()?;
-    put_range(params, reader, first, len, samples, bytes, sink)
+    let mut skip = first;
+    let mut left = len;
+    while left > 0 && reader.next(samples)? {
+        let part = part_of(samples, skip, left);
+        left -= part.len() as u64;
+        put_part(params, part, bytes, sink)?;
+        skip = skip.saturating_sub(samples.len() as u64);
+    }
+    put_all(sink, bytes)
 }
 
 /// Room for the samples of an interval, and for their bytes behind a piece.

@@ -15,4 +15,4 @@ returns-in_err-samples g c xs given =
 pub returns : goal.returns
 returns g c xs given =
     settles_written _ c.deliver_range.result (all_stored c.args.params.now (samples_from c.args.first c.args.len xs)) _ stored
-    (c.deliver_range.ensures.ok xs given) (c.deliver_range.ensures.front xs given) c.deliver_range.ensures.begun c.deliver_range.ensures.fault
+    (c.deliver_range.ensures.puts xs given) c.deliver_range.ensures.begun c.deliver_range.ensures.fault
