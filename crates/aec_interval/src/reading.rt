@@ -1,6 +1,6 @@
 //! Samples read from coded bits, one coded data set after another, from where an interval begins.
 
-ghost use Rattle.std.specs.Prelude.{◌≡◌, ◌≤◌, ◌<◌, ◌+◌, ◌-◌, ◌*◌, ◌%◌, ◌^◌, ◌&&◌, nat_lt, min, true, [], length, vec_len, vec_capacity};
+ghost use Rattle.std.specs.Prelude.{◌≡◌, ◌≤◌, ◌<◌, ◌+◌, ◌-◌, ◌*◌, ◌%◌, ◌^◌, ◌&&◌, nat_lt, min, [], length, vec_len, vec_capacity};
 ghost use Rattle.std.specs.Prelude.{Some, None, OnOk, OnErr, IfSome, IfOk, IfErr};
 ghost use Rattle.std.specs.Int.{div_ceil};
 ghost use Rattle.aec_params.specs.declared.fault.Fault.TheVariants.{Memory};

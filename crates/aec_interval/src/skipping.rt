@@ -1,8 +1,7 @@
 //! Coded data sets gone over without their samples, from where an interval begins.
 
-ghost use Rattle.std.specs.Prelude.{◌≡◌, ◌≤◌, ◌<◌, ◌+◌, ◌%◌, ◌^◌, true, IfSome, IfOk, IfErr};
+ghost use Rattle.std.specs.Prelude.{◌≡◌, ◌≤◌, ◌<◌, ◌+◌, ◌^◌, IfOk, IfErr};
 ghost use Rattle.aec_params.specs.Params.{IsAllowed};
-ghost use Rattle.aec_params.specs.Reading.{is_wanted};
 ghost use Rattle.aec_interval.specs.NextSet.{blocks_before_end};
 ghost use Rattle.aec_interval.specs.Steps.{IsWantedNext, ComesNext, IsGoneOver};
 ghost use Rattle.aec_interval.specs.Skipping.{IsLedTo, IsFaultBefore, asked_len};
