@@ -17,10 +17,6 @@ pub last_or-append : {X : Type 0} (o : Option X) (xs ys : List X) → last_or o 
 last_or-append o [] ys = refl
 last_or-append o (x ∷ xs) ys = last_or-append (Some x) xs ys
 
-some-last_or : (p : ℤ) (xs : List ℤ) → Some (unwrap_or (last_or (Some p) xs) (pos 0)) ≡ last_or (Some p) xs
-some-last_or p [] = refl
-some-last_or p (x ∷ xs) = some-last_or x xs
-
 pub mapped_after-append : (s : Settings) (p : ℤ) (xs ys : List ℤ) → mapped_after s p (xs ++ ys) ≡ mapped_after s p xs ++ mapped_after s (unwrap_or (last_or (Some p) xs) (pos 0)) ys
 mapped_after-append s p [] ys = refl
 mapped_after-append s p (x ∷ xs) ys = ap (λ values. mapped_value s p x ∷ values) (mapped_after-append s x xs ys)
@@ -191,20 +187,16 @@ unmaps_to-append s p q values others old mid new front rest = record {
   appended = rest.appended ∙ (ap (λ items. items ++ rest.more) front.so_far.appended ∙ append_assoc old front.so_far.more rest.more);
   held = all-append (IsHeld s) front.so_far.more rest.more front.so_far.held rest.held;
   mapped = mapped_after-append s p front.so_far.more rest.more
-      ∙ ap₂ ◌++◌ front.so_far.mapped (ap (λ (x : ℤ). mapped_after s x rest.more) (sym front.last_is) ∙ rest.mapped);
+      ∙ ap₂ ◌++◌ front.so_far.mapped (ap (λ (o : Option ℤ). mapped_after s (unwrap_or o (pos 0)) rest.more) front.last_is ∙ rest.mapped);
 }
 
 pub unmaps_to-join : (s : Settings) (p q r : ℤ) (values others : List ℕ) (old mid new : List ℤ) → UnmapsTo s p q values old mid → UnmapsTo s q r others mid new
     → UnmapsTo s p r (values ++ others) old new
 unmaps_to-join s p q r values others old mid new front rest = record {
   so_far = unmaps_to-append s p q values others old mid new front rest.so_far;
-  last_is = rest.last_is ∙ (ap (λ (x : ℤ). unwrap_or (last_or (Some x) rest.so_far.more) (pos 0)) front.last_is ∙ joined);
+  last_is = last_or-append (Some p) front.so_far.more rest.so_far.more
+      ∙ (ap (λ (o : Option ℤ). last_or o rest.so_far.more) front.last_is ∙ rest.last_is);
 }
-  where
-    joined : unwrap_or (last_or (Some (unwrap_or (last_or (Some p) front.so_far.more) (pos 0))) rest.so_far.more) (pos 0)
-        ≡ unwrap_or (last_or (Some p) (front.so_far.more ++ rest.so_far.more)) (pos 0)
-    joined = ap (λ o. unwrap_or (last_or o rest.so_far.more) (pos 0)) (some-last_or p front.so_far.more)
-        ∙ ap (λ o. unwrap_or o (pos 0)) (sym (last_or-append (Some p) front.so_far.more rest.so_far.more))
 
 -- one value more in a loop over offsets: from the offset q to k
 pub unmaps_to-offset : (s : Settings) (p kept : ℤ) (values : List ℕ) (i top q k : ℕ) (old mid new : List ℤ) → IsAllowed s → s.preprocess ≡ true → top ≡ top_offset s
@@ -215,14 +207,14 @@ unmaps_to-offset s p kept values i top q k old mid new allowed on at_top q_withi
     (subst (λ values. UnmapsTo s p (x_min s +ℤ pos k) values old (mid ++ (x_min s +ℤ pos k) ∷ [])) (sym (take_more values i 0 within)) more)
   where
     value : mapped_value s (unwrap_or (last_or (Some p) to.so_far.more) (pos 0)) (x_min s +ℤ pos k) ≡ get_or values i 0
-    value = ap (λ (x : ℤ). mapped_value s x (x_min s +ℤ pos k)) (sym to.last_is)
+    value = ap (λ (o : Option ℤ). mapped_value s (unwrap_or o (pos 0)) (x_min s +ℤ pos k)) to.last_is
         ∙ (mapped_value-at s q k allowed on (omega arith) (omega arith) ∙ (ap (λ (t : ℕ). mapped_offset t q k) (sym at_top) ∙ mapped))
 
     more : UnmapsTo s p (x_min s +ℤ pos k) (take i values ++ get_or values i 0 ∷ []) old (mid ++ (x_min s +ℤ pos k) ∷ [])
     more = record {
       so_far = unmaps-more s p (x_min s +ℤ pos k) (take i values) (get_or values i 0) old mid to.so_far
           (held-offset s (x_min s +ℤ pos k) k allowed (omega arith) refl) value;
-      last_is = ap (λ o. unwrap_or o (pos 0)) (sym (last_or-append (Some p) to.so_far.more ((x_min s +ℤ pos k) ∷ [])));
+      last_is = last_or-append (Some p) to.so_far.more ((x_min s +ℤ pos k) ∷ []);
     }
 
 -- one pattern more, whatever it is predicted from

@@ -1,5 +1,5 @@
 -- Samples taken back from values, one behind the other.
-use Rattle.std.specs.Prelude.{◌≡◌, ℕ, ℤ, pos, List, ◌++◌, Some, unwrap_or}
+use Rattle.std.specs.Prelude.{◌≡◌, ℕ, ℤ, List, ◌++◌, Some}
 use Rattle.std.specs.List.{AllByRecursion, last_or}
 use Rattle.aec_params.specs.declared.settings.Settings.{Settings}
 use Rattle.aec_params.specs.Params.{IsHeld}
@@ -15,4 +15,4 @@ pub record Unmaps (s : Settings) (p : ℤ) (values : List ℕ) (old new : List �
 -- the same, `last` being the last of them, or p where there are none
 pub record UnmapsTo (s : Settings) (p last : ℤ) (values : List ℕ) (old new : List ℤ) : Type 0 where
   pub so_far : Unmaps s p values old new
-  pub last_is : last ≡ unwrap_or (last_or (Some p) so_far.more) (pos 0)
+  pub last_is : last_or (Some p) so_far.more ≡ Some last
