@@ -7,6 +7,7 @@ ghost use Rattle.aec_params.specs.Codewords.{fs, binary};
 ghost use Rattle.aec_params.specs.CodedDataSets.{pair_bits, reference_bits, cds_bits};
 ghost use Rattle.aec_params.specs.Spellings.{written_values, uncompressed, paired, split};
 ghost use Rattle.aec_params.specs.Runs.{segment_len, run_code};
+ghost use Rattle.aec_block.specs.BlockShape.{most_values};
 ghost use Rattle.aec_block.specs.Lengths.{reference_len};
 ghost use Rattle.aec_block.specs.Choices.{FitsReference, IsFull, IsChoice};
 ghost use Rattle.aec_block.specs.Written.{high_parts, low_parts, shortest_bits, run_bits};
@@ -16,7 +17,7 @@ use crate::choice::{Choice, Coding};
 use crate::gathered::Gathered;
 use crate::high_words::high_word;
 use crate::lengths::{head_len, pair_len};
-use crate::low_words::{low_word_of_eight, low_word_of_four, low_word_of_two};
+use crate::low_words::low_word;
 use aec_bits::BitBuf;
 use aec_params::{Fault, Params};
 
@@ -76,56 +77,31 @@ fn put_each_low_part(
     gathered
 }
 
-/// Gathers the lowest `width` bits of the values two at a time: of all but the last, where one is left.
-fn put_low_twos(values: &[u32], width: u32, mut gathered: Gathered, out: &mut BitBuf) -> Gathered
-    requires width { width < 32 }
+/// Gathers the lowest `width` bits of each value: of `N` values at a time, and one by one of the last few, fewer than `N`.
+#[tactic(auto, using(crate::proofs::WritingLemmas::behind))]
+fn put_low_groups<const N: usize>(
+    values: &[u32],
+    width: u32,
+    mut gathered: Gathered,
+    out: &mut BitBuf,
+) -> Gathered
+    requires some { 0 < N }
+    requires most { N ≤ most_values }
+    requires width { width ≤ 32 }
+    requires few { N * width < 64 }
     requires room { length (gathered ++ low_parts width values.now) ≤ out.old.room }
-    ensures list { out.new.list ++ (result ++ low_parts width (drop (2 * (length values.now / 2)) values.now))
-        ≡ out.old.list ++ (gathered ++ low_parts width values.now) }
-    ensures room { out.old.room + length (result ++ low_parts width (drop (2 * (length values.now / 2)) values.now))
-        ≤ out.new.room + length (gathered ++ low_parts width values.now) }
+    ensures list { out.new.list ++ result ≡ out.old.list ++ (gathered ++ low_parts width values.now) }
+    ensures room { out.old.room + length result ≤ out.new.room + length (gathered ++ low_parts width values.now) }
 {
-    for i in 0..values.len() / 2 {
-        let word = low_word_of_two(values, 2 * i, width);
-        gathered = gathered.put(word, 2 * width, out);
+    for i in 0..values.len() / N {
+        let word = low_word(&values[N * i..N * (i + 1)], width);
+        gathered = gathered.put(word, N as u32 * width, out);
     }
-    gathered
-}
-
-/// Gathers the lowest `width` bits of the values four at a time: of all but the last few, fewer than four.
-fn put_low_fours(values: &[u32], width: u32, mut gathered: Gathered, out: &mut BitBuf) -> Gathered
-    requires width { width < 16 }
-    requires room { length (gathered ++ low_parts width values.now) ≤ out.old.room }
-    ensures list { out.new.list ++ (result ++ low_parts width (drop (4 * (length values.now / 4)) values.now))
-        ≡ out.old.list ++ (gathered ++ low_parts width values.now) }
-    ensures room { out.old.room + length (result ++ low_parts width (drop (4 * (length values.now / 4)) values.now))
-        ≤ out.new.room + length (gathered ++ low_parts width values.now) }
-{
-    for i in 0..values.len() / 4 {
-        let word = low_word_of_four(values, 4 * i, width);
-        gathered = gathered.put(word, 4 * width, out);
-    }
-    gathered
-}
-
-/// Gathers the lowest `width` bits of the values eight at a time: of all but the last few, fewer than eight.
-fn put_low_eights(values: &[u32], width: u32, mut gathered: Gathered, out: &mut BitBuf) -> Gathered
-    requires width { width < 8 }
-    requires room { length (gathered ++ low_parts width values.now) ≤ out.old.room }
-    ensures list { out.new.list ++ (result ++ low_parts width (drop (8 * (length values.now / 8)) values.now))
-        ≡ out.old.list ++ (gathered ++ low_parts width values.now) }
-    ensures room { out.old.room + length (result ++ low_parts width (drop (8 * (length values.now / 8)) values.now))
-        ≤ out.new.room + length (gathered ++ low_parts width values.now) }
-{
-    for i in 0..values.len() / 8 {
-        let word = low_word_of_eight(values, 8 * i, width);
-        gathered = gathered.put(word, 8 * width, out);
-    }
-    gathered
+    let whole = N * (values.len() / N);
+    put_each_low_part(&values[whole..], width, gathered, out)
 }
 
 /// Gathers the lowest `width` bits of each value, as many values at a time as fit a word with those of two, four or eight.
-#[tactic(auto, using(crate::proofs::WritingLemmas::behind))]
 fn put_low_parts(values: &[u32], width: u32, gathered: Gathered, out: &mut BitBuf) -> Gathered
     requires width { width ≤ 32 }
     requires room { length (gathered ++ low_parts width values.now) ≤ out.old.room }
@@ -133,19 +109,13 @@ fn put_low_parts(values: &[u32], width: u32, gathered: Gathered, out: &mut BitBu
     ensures room { out.old.room + length result ≤ out.new.room + length (gathered ++ low_parts width values.now) }
 {
     if width < 8 {
-        let whole = 8 * (values.len() / 8);
-        let eights = put_low_eights(values, width, gathered, out);
-        return put_each_low_part(&values[whole..], width, eights, out);
+        return put_low_groups::<8>(values, width, gathered, out);
     }
     if width < 16 {
-        let whole = 4 * (values.len() / 4);
-        let fours = put_low_fours(values, width, gathered, out);
-        return put_each_low_part(&values[whole..], width, fours, out);
+        return put_low_groups::<4>(values, width, gathered, out);
     }
     if width < 32 {
-        let whole = 2 * (values.len() / 2);
-        let twos = put_low_twos(values, width, gathered, out);
-        return put_each_low_part(&values[whole..], width, twos, out);
+        return put_low_groups::<2>(values, width, gathered, out);
     }
     put_each_low_part(values, width, gathered, out)
 }

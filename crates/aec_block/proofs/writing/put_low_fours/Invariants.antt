@@ -1,9 +1,0 @@
-use Rattle.std.proofs.Common.{◌++◌, ◌*◌, drop}
-use Rattle.aec_block.specs.Written.{low_parts}
-use Rattle.aec_block.proofs.WritingLemmas.{Appending}
-use Rattle.aec_block.proofs.writing.put_low_fours.Given as goal
-
-abbrev pub invariant-loop-i : goal.invariant-loop-i
-invariant-loop-i l =
-    Appending l.fn.out.list l.out.list (l.fn.gathered ++ low_parts l.width l.values) (l.gathered ++ low_parts l.width (drop (4 * l.i) l.values))
-    l.fn.out.room l.out.room
