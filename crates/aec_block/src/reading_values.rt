@@ -22,12 +22,13 @@ pub(crate) fn value_limit(params: &Params) -> u64
 
 /// The number above the greatest high part of a value below `limit`.
 pub(crate) fn high_limit(limit: u64, k: u32) -> u64
+    requires some { 0 < limit }
     requires limit { limit ≤ 2 ^ 32 }
     requires shift { k < 32 }
     ensures value { result ≡ (limit - 1) / 2 ^ k + 1 }
     ensures most { result ≤ 2 ^ 32 }
 {
-    (limit.saturating_sub(1) >> k) + 1
+    ((limit - 1) >> k) + 1
 }
 
 /// Whether all values are below `limit`.
