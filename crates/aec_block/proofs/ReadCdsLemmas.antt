@@ -109,9 +109,8 @@ plain_taken s reference n start rest block read =
     ap (λ t. map_taken (checked_body s reference) (map_taken uncompressed_values t)) m.before
     ∙ ap (λ o. taken o rest) (plain_checked s reference m.value spelled.all ∙ ap (λ b. Some (Single b)) m.after)
 
-pub plain_body : (s : Settings) (reference : Option ℕ) (is_reference : Bool) (kind : Kind) (n : ℕ) (start rest : List Bool) (block : Block)
-    → kind ≡ NoCompression → n ≡ written_count s (is_some reference) → is_some reference ≡ is_reference
-    → map_taken (block_of_values reference) (values_at (binary_at s.bits) n start) ≡ taken block rest
-    → map_taken (checked_body s reference) (body_at s is_reference kind start) ≡ taken (Some (Single block)) rest
-plain_body s reference is_reference kind n start rest block is_kind count due read =
-    rw (is_kind, ← due, ← count) (plain_taken s reference n start rest block read)
+pub plain_body : (s : Settings) (reference : Option ℕ) (kind : Kind) (start rest : List Bool) (block : Block) → kind ≡ NoCompression
+    → map_taken (block_of_values reference) (values_at (binary_at s.bits) (written_count s (is_some reference)) start) ≡ taken block rest
+    → map_taken (checked_body s reference) (body_at s (is_some reference) kind start) ≡ taken (Some (Single block)) rest
+plain_body s reference kind start rest block is_kind read =
+    rw is_kind (plain_taken s reference (written_count s (is_some reference)) start rest block read)

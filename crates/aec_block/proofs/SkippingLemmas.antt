@@ -1,5 +1,6 @@
 -- Values that are gone over: their length alone where nothing judges them, and split values by their high parts.
 use Rattle.std.proofs.Common.{◌≡◌, ℕ, zero, suc, ◌+◌, ◌-◌, ◌*◌, ◌/◌, ◌^◌, ◌<◌, ◌≤◌, Bool, true, false, Option, Some, None, Result, Ok, Err, List, [], ◌∷◌, length, take, drop, refl, sym, ap, ◌∙◌, inl, inr, arith}
+use Rattle.std.specs.Option.{is_some}
 use Rattle.std.specs.Prelude.{OnOk, MatchResult}
 use Rattle.std.proofs.lemmas.Bool.{cases_Bool, le-leb, lt-ltb}
 use Rattle.std.proofs.lemmas.List.{length-drop, drop-drop}
@@ -143,19 +144,20 @@ split_gone_over bits limit high_limit k n start middle rest fit is_limit is_high
 
 -- ---- what stands behind the reference sample
 
-pub uncompressed_body : (s : Settings) (reference : Option ℕ) (is_reference : Bool) (kind : Kind) (start rest : List Bool) → kind ≡ NoCompression
+pub uncompressed_body : (s : Settings) (reference : Option ℕ) (is_reference : Bool) (kind : Kind) (start rest : List Bool)
+    → is_reference ≡ is_some reference → kind ≡ NoCompression
     → map_taken no_values (values_at (binary_at s.bits) (written_count s is_reference) start) ≡ taken tt rest
-    → map_taken (judged_body_len s reference) (body_at s is_reference kind start) ≡ taken (Some (Blocks 1)) rest
-uncompressed_body s reference is_reference kind start rest is_kind read =
+    → map_taken (judged_body_len s reference) (body_at s (is_some reference) kind start) ≡ taken (Some (Blocks 1)) rest
+uncompressed_body s reference is_reference kind start rest due is_kind read =
     let n = written_count s is_reference in
     let m = map_taken-mapped no_values (values_at (binary_at s.bits) n start) tt rest read in
     let spelled = values_at-spelled (binary s.bits) (λ v. v < 2 ^ s.bits) (binary_at s.bits) (binary_reader s.bits) n start m.value rest m.before in
-    rw (is_kind, m.before) (ap (λ b. taken (when b (Blocks 1)) rest) (test-from_below (2 ^ s.bits) m.value spelled.all))
+    rw (← due, is_kind, m.before) (ap (λ b. taken (when b (Blocks 1)) rest) (test-from_below (2 ^ s.bits) m.value spelled.all))
 
 pub split_body : (s : Settings) (reference : Option ℕ) (is_reference : Bool) (kind : Kind) (k : ℕ) (start rest : List Bool) (fit : Bool)
     (answer : Option RunLen)
-    → kind ≡ Split k → answer ≡ when fit (Blocks 1) → map_taken (all_below (2 ^ s.bits)) (split_at k (written_count s is_reference) start) ≡ taken fit rest
-    → map_taken (judged_body_len s reference) (body_at s is_reference kind start) ≡ taken answer rest
-split_body s reference is_reference kind k start rest fit answer is_kind is_answer read =
+    → is_reference ≡ is_some reference → kind ≡ Split k → answer ≡ when fit (Blocks 1) → map_taken (all_below (2 ^ s.bits)) (split_at k (written_count s is_reference) start) ≡ taken fit rest
+    → map_taken (judged_body_len s reference) (body_at s (is_some reference) kind start) ≡ taken answer rest
+split_body s reference is_reference kind k start rest fit answer due is_kind is_answer read =
     let m = map_taken-mapped (all_below (2 ^ s.bits)) (split_at k (written_count s is_reference) start) fit rest read in
-    rw (is_kind, is_answer, m.before) (ap (λ b. taken (when b (Blocks 1)) rest) m.after)
+    rw (← due, is_kind, is_answer, m.before) (ap (λ b. taken (when b (Blocks 1)) rest) m.after)

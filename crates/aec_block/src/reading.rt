@@ -97,13 +97,11 @@ pub(crate) fn read_body(
     reader: &mut BitReader,
     kind: Kind,
     reference: Option<u32>,
-    is_ref: bool,
     block: &mut Block,
 ) -> Result<Option<Found>, Fault>
     requires within { reader.old.pos ≤ length reader.old.list }
     requires short { HasShortSplit kind }
-    requires due { is_some reference ≡ is_ref }
-    ensures taken { map_taken (checked_body params.now reference) (body_at params.now is_ref kind (bits_at reader.old))
+    ensures taken { map_taken (checked_body params.now reference) (body_at params.now (is_some reference) kind (bits_at reader.old))
         ≡ as_taken_by (λ found. as_read found block.new) result (bits_at reader.new) }
     ensures list { reader.new.list ≡ reader.old.list }
     ensures within { reader.new.pos ≤ length reader.new.list }
@@ -138,7 +136,7 @@ fn read_set(
 {
     let kind = read_kind(params, reader)?;
     let reference = read_reference(params, reader, is_ref)?;
-    read_body(params, reader, kind, reference, is_ref, block)
+    read_body(params, reader, kind, reference, block)
 }
 
 /// Reads the one coded data set that begins at the reader's place, of a block with a reference sample or of another, and

@@ -43,17 +43,16 @@ fn skip_body(
     reader: &mut BitReader,
     kind: Kind,
     reference: Option<u32>,
-    is_ref: bool,
     values: &mut Block,
 ) -> Result<Option<RunLen>, Fault>
     requires within { reader.old.pos ≤ length reader.old.list }
     requires short { HasShortSplit kind }
-    requires due { is_some reference ≡ is_ref }
-    ensures taken { map_taken (judged_body_len params.now reference) (body_at params.now is_ref kind (bits_at reader.old))
+    ensures taken { map_taken (judged_body_len params.now reference) (body_at params.now (is_some reference) kind (bits_at reader.old))
         ≡ as_taken result (bits_at reader.new) }
     ensures list { reader.new.list ≡ reader.old.list }
     ensures within { reader.new.pos ≤ length reader.new.list }
 {
+    let is_ref = reference.is_some();
     match kind {
         Kind::NoCompression => {
             skip_uncompressed(params, reader, is_ref)?;
@@ -62,7 +61,7 @@ fn skip_body(
         Kind::Split(k) if k <= params.bits() => Ok(one_block(skip_split(
             params, reader, is_ref, k,
         )?)),
-        _ => Ok(len_read(read_body(params, reader, kind, reference, is_ref, values)?)),
+        _ => Ok(len_read(read_body(params, reader, kind, reference, values)?)),
     }
 }
 
@@ -81,7 +80,7 @@ fn skip_set(
 {
     let kind = read_kind(params, reader)?;
     let reference = read_reference(params, reader, is_ref)?;
-    skip_body(params, reader, kind, reference, is_ref, values)
+    skip_body(params, reader, kind, reference, values)
 }
 
 /// Goes behind the one coded data set that begins at the reader's place. `values` is a block that it may be read into; what is left in it
