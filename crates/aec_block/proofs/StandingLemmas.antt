@@ -118,8 +118,10 @@ pub skipped_as : (s : Settings) (is_reference : Bool) (old new : Cursor) (len : 
     → new.list ≡ old.list → map_taken (judged_len s) (cds_at s is_reference (bits_at old)) ≡ taken (Some len) (bits_at new)
     → (c : CodedDataSet) × IsSkippedAs s is_reference old new c len
 skipped_as s is_reference old new len allowed inside_old inside_new same read =
-    let t = told_by set_len s is_reference old new len allowed inside_old inside_new same read in
-    (t.0, record { set = t.1.set; small = t.1.small; behind = t.1.behind; told = t.1.answer_is })
+    let t = told_by set_len s is_reference old new len allowed inside_old inside_new same read in (
+      t.0,
+      record { read = record { set = t.1.set; small = t.1.small; behind = t.1.behind; answer = refl }; told = t.1.answer_is },
+    )
 
 pub refused_large : {Y : Type 0} (told : CodedDataSet → Y) (s : Settings) (is_reference : Bool) (old new : Cursor) (answer : Option Y) (pos : ℕ)
     (fault : Fault) → IsAllowed s → fault ≡ ValueTooLarge pos → pos ≡ old.pos → answer ≡ None

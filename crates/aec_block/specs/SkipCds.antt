@@ -1,8 +1,7 @@
 -- What going over a coded data set answers: for how many blocks the one stands that begins at the position.
-use Rattle.std.specs.Prelude.{◌≡◌, ℕ, ◌+◌, Bool, true, Option, length}
+use Rattle.std.specs.Prelude.{◌≡◌, ℕ, Bool, Option}
 use Rattle.aec_params.specs.declared.settings.Settings.{Settings}
-use Rattle.aec_params.specs.CodedDataSets.{Body, uncompressed_values, value_pairs, split_values, zero_blocks, CodedDataSet, cds_bits, has_small_values}
-use Rattle.aec_params.specs.Faults.{IsSetAt}
+use Rattle.aec_params.specs.CodedDataSets.{Body, uncompressed_values, value_pairs, split_values, zero_blocks, CodedDataSet, has_small_values}
 use Rattle.aec_bits.specs.BitReader.{Cursor}
 use Rattle.aec_block.specs.declared.cds.Cds.{Cds}
 use Rattle.aec_block.specs.declared.cds.Cds.TheVariants.{Single, Zeros}
@@ -10,7 +9,7 @@ use Rattle.aec_block.specs.declared.cds.RunLen.{RunLen}
 use Rattle.aec_block.specs.declared.cds.RunLen.TheVariants.{Blocks}
 use Rattle.aec_block.specs.ReadAt.{set_of}
 use Rattle.aec_block.specs.Gathering.{when}
-use Rattle.aec_block.specs.ReadCds.{run_len_of}
+use Rattle.aec_block.specs.ReadCds.{run_len_of, cds_of, IsReadAs}
 
 -- for how many blocks it stands; without a place the rest of the segment is no number
 abbrev pub body_len : Body → RunLen
@@ -34,9 +33,7 @@ judged_len s c = when (has_small_values s c) (set_len c)
 abbrev pub judged_body_len : Settings → Option ℕ → Body → Option RunLen
 judged_body_len s reference body = judged_len s (set_of reference body)
 
--- the coded data set c, whose values are at most 2^n - 1, stands for so many blocks, and the cursor moves behind it
+-- the coded data set c, whose values are at most 2^n - 1, is gone over as `IsReadAs` has it, and stands for so many blocks
 pub record IsSkippedAs (s : Settings) (is_reference : Bool) (old new : Cursor) (c : CodedDataSet) (len : RunLen) : Type 0 where
-  pub set : IsSetAt s is_reference old.list old.pos c
-  pub small : has_small_values s c ≡ true
-  pub behind : new ≡ record { list = old.list; pos = old.pos + length (cds_bits s c) }
-  pub told : len ≡ body_len c.body
+  pub read : IsReadAs s is_reference old new c (cds_of c)
+  pub told : len ≡ set_len c

@@ -53,9 +53,7 @@ read_len-answer_of reference (zero_blocks m) = refl
 skipped-read : (s : Settings) (due : Bool) (old new : Cursor) (c : CodedDataSet) (cds : Cds) (len : RunLen) → len ≡ read_len cds
     → IsReadAs s due old new c cds → IsSkippedAs s due old new c len
 skipped-read s due old new c cds len len_is read = record {
-  set = read.set;
-  small = read.small;
-  behind = read.behind;
+  read = record { set = read.set; small = read.small; behind = read.behind; answer = refl };
   told = len_is ∙ (ap read_len read.answer ∙ read_len-answer_of c.reference c.body);
 }
 

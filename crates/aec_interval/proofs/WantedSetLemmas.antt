@@ -122,8 +122,8 @@ module _ (s : Settings) (count : Option ℕ) (limit : ℕ) (first start : ℕ) (
 
     pub lawful : blocks ≤ segment_left s (i % s.interval) → IsLawfulAt s (i % s.interval) c
     lawful within = record {
-      shape = found.set.shape;
-      small = found.small;
+      shape = found.read.set.shape;
+      small = found.read.small;
       within = le-leb (block_count s (i % s.interval) c) (segment_left s (i % s.interval)) (omega (arith, blocks-is, within));
     }
 
@@ -135,15 +135,15 @@ module _ (s : Settings) (count : Option ℕ) (limit : ℕ) (first start : ℕ) (
     unplaced-wrong bit fault at is =
         may_not_stand s count limit i blocks bit fault (IsFaultBefore s count limit old.list first start (i + blocks_before_end s i)) is
         (λ past. subst (λ b. IsFaultBefore s count limit old.list first start (i + blocks_before_end s i) (RunTooLong b)) (sym at)
-        (wrong_here (RunTooLong old.pos) (too_long c found.set found.small
+        (wrong_here (RunTooLong old.pos) (too_long c found.read.set found.read.small
         (lt-leb (block_count s (i % s.interval) c) (segment_left s (i % s.interval)) (omega (arith, blocks-is, past))))))
-        (λ within many. wrong_here (TooManySamples limit) (too_many c found.set (lawful within) (keeps-is false many)))
+        (λ within many. wrong_here (TooManySamples limit) (too_many c found.read.set (lawful within) (keeps-is false many)))
 
     pub blocks-some : 1 ≤ blocks
     blocks-some = omega (arith, blocks-is, count-some s (i % s.interval) c (mod-lt i (interval-positive s allowed)))
 
     pub same_list : new.list ≡ old.list
-    same_list = ap (λ (cursor : Cursor). cursor.list) found.behind
+    same_list = ap (λ (cursor : Cursor). cursor.list) found.read.behind
 
     -- what stands behind it
     module _ (bit next : ℕ) (placed : Ok next ≡ block_behind s count limit i blocks bit) where
@@ -157,14 +157,14 @@ module _ (s : Settings) (count : Option ℕ) (limit : ℕ) (first start : ℕ) (
       forward = omega (arith, stand.next_is, blocks-some)
 
       pub leads-next : LeadsTo s count limit old.list first start (led.sets ++ c ∷ []) (next_block s i c) (next_begin s old.list i old.pos c)
-      leads-next = LeadsTo-push s count limit old.list first start led.sets i old.pos c led.leads wanted found.set.stands (lawful stand.within)
+      leads-next = LeadsTo-push s count limit old.list first start led.sets i old.pos c led.leads wanted found.read.set.stands (lawful stand.within)
           (keeps-is true stand.keeps)
 
       pub begin-is : (e : ℕ) → e ≡ begin_of s new.list next new.pos → e ≡ next_begin s old.list i old.pos c
       begin-is e begins =
           begins ∙ (ap (λ n. begin_of s new.list n new.pos) next-is
           ∙ (ap (λ bits. begin_of s bits (next_block s i c) new.pos) same_list
-          ∙ ap (begin_of s old.list (next_block s i c)) (ap (λ (cursor : Cursor). cursor.pos) found.behind)))
+          ∙ ap (begin_of s old.list (next_block s i c)) (ap (λ (cursor : Cursor). cursor.pos) found.read.behind)))
 
       pub led-next : (list : List Bool) (e : ℕ) → list ≡ new.list → e ≡ begin_of s new.list next new.pos
           → IsLedTo s count limit list first start next e
