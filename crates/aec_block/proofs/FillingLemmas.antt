@@ -14,7 +14,7 @@ use Rattle.aec_params.specs.CodedDataSets.{written_count}
 use Rattle.aec_params.specs.Places.{placed_values, block_of_values}
 use Rattle.aec_block.specs.BlockShape.{most_values, IsSound}
 use Rattle.aec_block.specs.ReadAt.{Taken, nothing, taken, map_taken, binary_at, values_at, members_at, split_at}
-use Rattle.aec_block.specs.Gathering.{as_taken_by, when, all_below, small_values, kept_members, members_gathered, small_block, pair_block}
+use Rattle.aec_block.specs.Gathering.{as_taken_by, when, all_below, small_values, kept_members, small_members, small_block, pair_block}
 
 -- ---- what a result stands for
 
@@ -123,7 +123,7 @@ abbrev block_with : Option ℕ → List ℕ → Block
 block_with reference values = record { reference = reference; values = values }
 
 pair_block-members : (limit : ℕ) (reference : Option ℕ) → 0 < limit → (members : List ℕ)
-    → pair_block limit reference members ≡ option_map (block_with reference) (members_gathered limit [] true (is_some reference) members)
+    → pair_block limit reference members ≡ option_map (block_with reference) (small_members limit (is_some reference) members)
 pair_block-members limit None some members = sym (option_map-when (block_with None) (all_below limit members) members)
 pair_block-members limit (Some r) some members =
     rw (lt-ltb 0 limit some) (sym (option_map-when (block_with (Some r)) (all_below limit (drop 1 members)) (0 ∷ drop 1 members)))
@@ -131,16 +131,16 @@ pair_block-members limit (Some r) some members =
 pub pairs_filled : (reference : Option ℕ) (placed : Bool) (limit count n : ℕ) (start rest : List Bool) (values : List ℕ) (block : Block)
     (result : Result Bool Fault)
     → 0 < limit → placed ≡ is_some reference → n ≡ count → block_with reference values ≡ block
-    → map_taken (members_gathered limit [] true placed) (members_at n start) ≡ as_taken_by (λ fit. when fit values) result rest
+    → map_taken (small_members limit placed) (members_at n start) ≡ as_taken_by (λ fit. when fit values) result rest
     → map_taken (pair_block limit reference) (members_at count start) ≡ as_taken_by (λ fit. when fit block) result rest
 pairs_filled reference placed limit count n start rest values block result some is_placed same filled read =
-    map_taken-twice (members_gathered limit [] true (is_some reference)) (option_map (block_with reference)) (pair_block limit reference)
+    map_taken-twice (small_members limit (is_some reference)) (option_map (block_with reference)) (pair_block limit reference)
     (members_at count start) (pair_block-members limit reference some)
     ∙ map_taken-as (option_map (block_with reference)) (λ fit. when fit values) (λ fit. when fit block)
-    (map_taken (members_gathered limit [] true (is_some reference)) (members_at count start)) result rest
+    (map_taken (small_members limit (is_some reference)) (members_at count start)) result rest
     (λ fit. option_map-when (block_with reference) fit values ∙ ap (when fit) filled)
-    (ap (λ m. map_taken (members_gathered limit [] true (is_some reference)) (members_at m start)) (sym same)
-    ∙ (ap (λ b. map_taken (members_gathered limit [] true b) (members_at n start)) (sym is_placed) ∙ read))
+    (ap (λ m. map_taken (small_members limit (is_some reference)) (members_at m start)) (sym same)
+    ∙ (ap (λ b. map_taken (small_members limit b) (members_at n start)) (sym is_placed) ∙ read))
 
 -- all values written at once
 refilled_all : (n : ℕ) (reference inside : Option ℕ) (items values : List ℕ) → HasBegun n reference inside items → length values ≡ n

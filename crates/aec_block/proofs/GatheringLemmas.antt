@@ -1,10 +1,10 @@
 -- Values that are gathered one after another while they are small enough.
-use Rattle.std.proofs.Common.{◌≡◌, ℕ, zero, suc, ◌+◌, ◌*◌, ◌<◌, ◌≤◌, Bool, true, false, ◌&&◌, ◌==◌, nat_lt, if◌then◌else◌, Some, List, [], ◌∷◌, ◌++◌, ◌-◌, length, take, drop, set, refl, sym, ap, ◌∙◌, append_assoc, append-nil, inl, inr, arith}
+use Rattle.std.proofs.Common.{◌≡◌, ℕ, zero, suc, ◌+◌, ◌*◌, ◌<◌, ◌≤◌, Bool, true, false, ◌&&◌, ◌==◌, nat_lt, if◌then◌else◌, Option, Some, List, [], ◌∷◌, ◌++◌, ◌-◌, length, take, drop, set, refl, sym, ap, ◌∙◌, append_assoc, append-nil, inl, inr, arith}
 use Rattle.std.proofs.lemmas.Bool.{cases_Bool}
 use Rattle.std.proofs.lemmas.List.{take_all, take_more_set, length-set}
 use Rattle.aec_bits.specs.BitReader.{Cursor}
 use Rattle.aec_block.specs.ReadAt.{Taken, nothing, taken, map_taken, fs_at, values_at, members_at, pair_with_number, before_members}
-use Rattle.aec_block.specs.Gathering.{when, gathered, kept_members, members_gathered}
+use Rattle.aec_block.specs.Gathering.{when, all_below, small_values, kept_members, small_members}
 
 -- a reader that has moved in its list
 pub record HasMoved (start now : Cursor) : Type 0 where
@@ -49,6 +49,13 @@ pub members_at-done : {Y : Type 0} (f : List ℕ → Y) (n : ℕ) (bits : List B
 members_at-done f n bits count = rw count refl
 
 -- ---- values that are kept while they are below a limit
+
+-- the values of before with later ones behind them, where the test has held for all and the later ones keep it
+abbrev pub gathered : ℕ → List ℕ → Bool → List ℕ → Option (List ℕ)
+gathered limit before fit later = when (fit && all_below limit later) (before ++ later)
+
+abbrev pub members_gathered : ℕ → List ℕ → Bool → Bool → List ℕ → Option (List ℕ)
+members_gathered limit before fit placed members = gathered limit before fit (kept_members placed members)
 
 pub gathered-next : (limit : ℕ) (before before_later : List ℕ) (fit : Bool) (v : ℕ) → (nat_lt v limit ≡ true → before_later ≡ before ++ v ∷ [])
     → (later : List ℕ) → gathered limit before fit (v ∷ later) ≡ gathered limit before_later (fit && nat_lt v limit) later
@@ -144,7 +151,7 @@ later_pair false (suc i) some = refl
 -- of the members that begin the bits of start, those of the first i pairs are in place, and the others begin the bits
 abbrev pub MembersGathered : ℕ → Bool → ℕ → List Bool → List ℕ → ℕ → Bool → List Bool → Type 0
 MembersGathered limit placed n start values i fit bits =
-    map_taken (members_gathered limit [] true placed) (members_at n start)
+    map_taken (small_members limit placed) (members_at n start)
     ≡ map_taken (members_gathered limit (take (2 * i) values) fit (placed && (i == 0))) (members_at (n - i) bits)
 
 pub MembersGathered-next : (limit : ℕ) (placed : Bool) (n : ℕ) (start : List Bool) (before between values : List ℕ) (i : ℕ)
@@ -167,7 +174,7 @@ MembersGathered-next limit placed n start before between values i fit first_fits
 
 pub MembersGathered-done : (limit : ℕ) (placed : Bool) (n : ℕ) (start : List Bool) (values : List ℕ) (i : ℕ) (fit : Bool) (bits : List Bool)
     → n ≤ i → 0 < n → length values ≤ 2 * n → MembersGathered limit placed n start values i fit bits
-    → map_taken (members_gathered limit [] true placed) (members_at n start) ≡ taken (when fit values) bits
+    → map_taken (small_members limit placed) (members_at n start) ≡ taken (when fit values) bits
 MembersGathered-done limit placed n start values i fit bits past some all so_far =
     so_far ∙ (ap (λ b. map_taken (members_gathered limit (take (2 * i) values) fit b) (members_at (n - i) bits)) (later_pair placed i (omega arith))
     ∙ (members_at-done (gathered limit (take (2 * i) values) fit) (n - i) bits (omega arith)
@@ -178,7 +185,7 @@ MembersGathered-done limit placed n start values i fit bits past some all so_far
 -- of the high parts that begin the bits of start, those up to i are in place, and the others begin the bits
 abbrev pub HighsGathered : ℕ → List Bool → List ℕ → ℕ → Bool → List Bool → Type 0
 HighsGathered limit start highs i fit bits =
-    map_taken (gathered limit [] true) (values_at fs_at (length highs) start)
+    map_taken (small_values limit) (values_at fs_at (length highs) start)
     ≡ map_taken (gathered limit (take i highs) fit) (values_at fs_at (length highs - i) bits)
 
 pub HighsGathered-next : (limit : ℕ) (start : List Bool) (highs later_highs : List ℕ) (i v : ℕ) (fit : Bool) (bits rest : List Bool)
@@ -187,14 +194,14 @@ pub HighsGathered-next : (limit : ℕ) (start : List Bool) (highs later_highs : 
     → HighsGathered limit start highs i fit bits → HighsGathered limit start later_highs (i + 1) (fit && nat_lt v limit) rest
 HighsGathered-next limit start highs later_highs i v fit bits rest within same first kept so_far =
     let left : length highs - i ≡ suc (length later_highs - (i + 1)) = omega arith in
-    ap (λ n. map_taken (gathered limit [] true) (values_at fs_at n start)) same
+    ap (λ n. map_taken (small_values limit) (values_at fs_at n start)) same
     ∙ (so_far ∙ values_at-next fs_at (gathered limit (take i highs) fit) (gathered limit (take (i + 1) later_highs) (fit && nat_lt v limit))
     (length highs - i) (length later_highs - (i + 1)) v bits rest left first (gathered-next limit (take i highs) (take (i + 1) later_highs) fit v kept))
 
 pub HighsGathered-done : (limit n : ℕ) (start : List Bool) (highs : List ℕ) (i : ℕ) (fit : Bool) (bits : List Bool) → length highs ≡ n → n ≤ i
-    → HighsGathered limit start highs i fit bits → map_taken (gathered limit [] true) (values_at fs_at n start) ≡ taken (when fit highs) bits
+    → HighsGathered limit start highs i fit bits → map_taken (small_values limit) (values_at fs_at n start) ≡ taken (when fit highs) bits
 HighsGathered-done limit n start highs i fit bits same all so_far =
     let past : length highs ≤ i = omega arith in
-    ap (λ m. map_taken (gathered limit [] true) (values_at fs_at m start)) (sym same)
+    ap (λ m. map_taken (small_values limit) (values_at fs_at m start)) (sym same)
     ∙ (so_far ∙ (values_at-done fs_at (gathered limit (take i highs) fit) (length highs - i) bits (omega arith)
     ∙ ap (λ o. taken o bits) (gathered-done limit (take i highs) fit ∙ ap (when fit) (take_all i highs past))))

@@ -1,5 +1,5 @@
 -- What the parts of a coded data set stand for, from what was taken of them.
-use Rattle.std.proofs.Common.{◌≡◌, ℕ, ◌+◌, ◌-◌, ◌/◌, ◌^◌, ◌<◌, ◌≤◌, Bool, true, false, Option, Some, None, List, [], refl, sym, ap, ◌∙◌, arith}
+use Rattle.std.proofs.Common.{◌≡◌, ℕ, ◌+◌, ◌-◌, ◌/◌, ◌^◌, ◌<◌, ◌≤◌, Bool, true, false, Option, Some, None, List, refl, sym, ap, ◌∙◌, arith}
 use Rattle.std.specs.Option.{is_some}
 use Rattle.std.specs.List.{AllByRecursion}
 use Rattle.std.proofs.lemmas.Nat.{pow_pos}
@@ -13,7 +13,7 @@ use Rattle.aec_block.specs.declared.reading.Kind.{Kind}
 use Rattle.aec_block.specs.declared.reading.Kind.TheVariants.{NoCompression}
 use Rattle.aec_bits.specs.BitReader.{AreBelow}
 use Rattle.aec_block.specs.ReadAt.{taken, map_taken, fs_at, binary_at, values_at, split_at, joined_values, body_at}
-use Rattle.aec_block.specs.Gathering.{when, all_below, gathered, small_values}
+use Rattle.aec_block.specs.Gathering.{when, all_below, small_values}
 use Rattle.aec_block.specs.ReadCds.{checked_body}
 use Rattle.aec_block.proofs.CodewordLemmas.{map_taken-mapped, binary_reader, fs_reader, values_at-spelled}
 use Rattle.aec_block.proofs.JoiningLemmas.{below-from_test, test-from_below, highs_below, joined_below, high_fails}
@@ -36,10 +36,10 @@ pub record AreRead (limit n : ℕ) (start middle : List Bool) (highs : List ℕ)
   pub test : all_below limit highs ≡ fit
 
 pub highs_read : (limit n : ℕ) (start middle : List Bool) (highs : List ℕ) (fit : Bool)
-    → map_taken (gathered limit [] true) (values_at fs_at n start) ≡ taken (when fit highs) middle
+    → map_taken (small_values limit) (values_at fs_at n start) ≡ taken (when fit highs) middle
     → (read : List ℕ) × (AreRead limit n start middle read fit × (fit ≡ true → read ≡ highs))
 highs_read limit n start middle highs fit read =
-    let m = map_taken-mapped (gathered limit [] true) (values_at fs_at n start) (when fit highs) middle read in
+    let m = map_taken-mapped (small_values limit) (values_at fs_at n start) (when fit highs) middle read in
     let same = when_same (all_below limit m.value) fit m.value highs m.after in
     (m.value, (record { read = m.before; test = same.test }, λ small. same.value (same.test ∙ small)))
 
@@ -51,7 +51,7 @@ split_read limit k n start middle rest highs lows high_read low_read = rw (high_
 
 pub split_large : (bits limit high_limit k n : ℕ) (start middle rest : List Bool) (highs lows : List ℕ) (fit : Bool)
     → limit ≡ 2 ^ bits → high_limit ≡ (limit - 1) / 2 ^ k + 1 → fit ≡ false
-    → map_taken (gathered high_limit [] true) (values_at fs_at n start) ≡ taken (when fit highs) middle
+    → map_taken (small_values high_limit) (values_at fs_at n start) ≡ taken (when fit highs) middle
     → values_at (binary_at k) n middle ≡ taken lows rest → map_taken (small_values (2 ^ bits)) (split_at k n start) ≡ taken None rest
 split_large bits limit high_limit k n start middle rest highs lows fit is_limit is_high_limit large high_read low_read =
     let some : 0 < limit = omega (arith, is_limit, pow_pos bits) in
@@ -63,7 +63,7 @@ split_large bits limit high_limit k n start middle rest highs lows fit is_limit 
     rw (← is_limit) (split_read limit k n start middle rest h.0 lows h.1.0.read low_read ∙ ap (λ b. taken (when b (joined_values k h.0 lows)) rest) fails)
 
 pub split_small : (bits limit high_limit k n : ℕ) (start middle rest : List Bool) (highs lows values : List ℕ) (fit : Bool)
-    → limit ≡ 2 ^ bits → fit ≡ true → map_taken (gathered high_limit [] true) (values_at fs_at n start) ≡ taken (when fit highs) middle
+    → limit ≡ 2 ^ bits → fit ≡ true → map_taken (small_values high_limit) (values_at fs_at n start) ≡ taken (when fit highs) middle
     → values_at (binary_at k) n middle ≡ taken lows rest → values ≡ joined_values k highs lows
     → map_taken (small_values (2 ^ bits)) (split_at k n start) ≡ taken (when (all_below limit values) values) rest
 split_small bits limit high_limit k n start middle rest highs lows values fit is_limit small high_read low_read joined =
@@ -73,7 +73,7 @@ split_small bits limit high_limit k n start middle rest highs lows values fit is
 -- small high parts are below a power of two
 pub small_highs : (m limit high_limit k n : ℕ) (start middle : List Bool) (highs : List ℕ) (fit : Bool)
     → k ≤ m → 0 < limit → limit ≤ 2 ^ m → high_limit ≡ (limit - 1) / 2 ^ k + 1 → fit ≡ true
-    → map_taken (gathered high_limit [] true) (values_at fs_at n start) ≡ taken (when fit highs) middle → AreBelow (2 ^ (m - k)) highs
+    → map_taken (small_values high_limit) (values_at fs_at n start) ≡ taken (when fit highs) middle → AreBelow (2 ^ (m - k)) highs
 small_highs m limit high_limit k n start middle highs fit within some fits is_high_limit small high_read =
     let h = highs_read high_limit n start middle highs fit high_read in
     let test : all_below ((limit - 1) / 2 ^ k + 1) highs ≡ true =
@@ -83,7 +83,7 @@ small_highs m limit high_limit k n start middle highs fit within some fits is_hi
 -- where k is at most the width, they make small values
 pub split_fits : (bits limit high_limit k n : ℕ) (start middle rest : List Bool) (highs lows values : List ℕ) (fit : Bool)
     → limit ≡ 2 ^ bits → high_limit ≡ (limit - 1) / 2 ^ k + 1 → k ≤ bits → fit ≡ true
-    → map_taken (gathered high_limit [] true) (values_at fs_at n start) ≡ taken (when fit highs) middle
+    → map_taken (small_values high_limit) (values_at fs_at n start) ≡ taken (when fit highs) middle
     → values_at (binary_at k) n middle ≡ taken lows rest → AreBelow (2 ^ k) lows → values ≡ joined_values k highs lows
     → map_taken (small_values (2 ^ bits)) (split_at k n start) ≡ taken (Some values) rest
 split_fits bits limit high_limit k n start middle rest highs lows values fit is_limit is_high_limit within small high_read low_read below joined =

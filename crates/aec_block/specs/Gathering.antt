@@ -1,6 +1,6 @@
--- How the private functions of reading answer: what was taken, in the place of a result, and values that are gathered while
--- they are small enough.
-use Rattle.std.specs.Prelude.{ℕ, Bool, ◌&&◌, nat_lt, true, false, if◌then◌else◌, Option, Some, None, Result, Ok, Err, List, ◌∷◌, ◌++◌, drop}
+-- How the private functions of reading answer: what was taken, in the place of a result, and values where they are small
+-- enough.
+use Rattle.std.specs.Prelude.{ℕ, Bool, nat_lt, true, false, if◌then◌else◌, Option, Some, None, Result, Ok, Err, List, ◌∷◌, drop}
 use Rattle.std.specs.List.{list_all}
 use Rattle.aec_bits.specs.BitReader.{Cursor}
 use Rattle.aec_params.specs.Blocks.{Block}
@@ -33,10 +33,6 @@ when b x = if b then Some x else None
 abbrev pub all_below : ℕ → List ℕ → Bool
 all_below limit values = list_all (λ v. nat_lt v limit) values
 
--- the values of before with later ones behind them, where the test has held for all and the later ones keep it
-abbrev pub gathered : ℕ → List ℕ → Bool → List ℕ → Option (List ℕ)
-gathered limit before fit later = when (fit && all_below limit later) (before ++ later)
-
 -- values, where they are below the limit
 abbrev pub small_values : ℕ → List ℕ → Option (List ℕ)
 small_values limit values = when (all_below limit values) values
@@ -46,8 +42,9 @@ abbrev pub kept_members : Bool → List ℕ → List ℕ
 kept_members true members = 0 ∷ drop 1 members
 kept_members false members = members
 
-abbrev pub members_gathered : ℕ → List ℕ → Bool → Bool → List ℕ → Option (List ℕ)
-members_gathered limit before fit placed members = gathered limit before fit (kept_members placed members)
+-- the members of pairs that are kept, where they are below the limit
+abbrev pub small_members : ℕ → Bool → List ℕ → Option (List ℕ)
+small_members limit placed members = small_values limit (kept_members placed members)
 
 -- the block of such values, where they are below the limit
 abbrev pub small_block : ℕ → Option ℕ → List ℕ → Option Block

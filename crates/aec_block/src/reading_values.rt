@@ -1,10 +1,10 @@
 //! Reads values into a list. A value above the greatest that the width has is noted, and reading goes on behind it.
 
-ghost use Rattle.std.specs.Prelude.{◌≡◌, ◌≤◌, ◌<◌, ◌+◌, ◌-◌, ◌*◌, ◌/◌, ◌^◌, [], true, nat_lt, if◌then◌else◌, length, slice_set};
+ghost use Rattle.std.specs.Prelude.{◌≡◌, ◌≤◌, ◌<◌, ◌+◌, ◌-◌, ◌*◌, ◌/◌, ◌^◌, nat_lt, if◌then◌else◌, length, slice_set};
 ghost use Rattle.aec_bits.specs.BitReader.{AreBelow};
 ghost use Rattle.aec_block.specs.BlockShape.{most_values};
 ghost use Rattle.aec_block.specs.ReadAt.{map_taken, fs_at, values_at, members_at, joined_values, split_at};
-ghost use Rattle.aec_block.specs.Gathering.{bits_at, as_taken_by, when, all_below, gathered, small_values, kept_members, members_gathered};
+ghost use Rattle.aec_block.specs.Gathering.{bits_at, as_taken_by, when, all_below, small_values, kept_members, small_members};
 
 use crate::block::MOST_VALUES;
 use crate::reading_codewords::{pair_of, read_numbers, read_sequence, read_short_sequences};
@@ -76,7 +76,7 @@ pub(crate) fn read_pairs(
     requires pairs { length values.old ≡ 2 * (length values.old / 2) }
     requires some { 0 < length values.old }
     requires placed { values.old ≡ kept_members is_ref values.old }
-    ensures taken { map_taken (members_gathered (2 ^ params.now.bits) [] true is_ref) (members_at (length values.old / 2) (bits_at reader.old))
+    ensures taken { map_taken (small_members (2 ^ params.now.bits) is_ref) (members_at (length values.old / 2) (bits_at reader.old))
         ≡ as_taken_by (λ fit. when fit values.new) result (bits_at reader.new) }
     ensures placed { values.new ≡ kept_members is_ref values.new }
     ensures len { length values.new ≡ length values.old }
@@ -98,7 +98,7 @@ pub(crate) fn read_pairs(
 fn read_long_highs(reader: &mut BitReader, highs: &mut [u32], limit: u64) -> Result<bool, Fault>
     requires within { reader.old.pos ≤ length reader.old.list }
     requires limit { limit ≤ 2 ^ 32 }
-    ensures taken { map_taken (gathered limit [] true) (values_at fs_at (length highs.old) (bits_at reader.old))
+    ensures taken { map_taken (small_values limit) (values_at fs_at (length highs.old) (bits_at reader.old))
         ≡ as_taken_by (λ fit. when fit highs.new) result (bits_at reader.new) }
     ensures len { length highs.new ≡ length highs.old }
     ensures list { reader.new.list ≡ reader.old.list }
@@ -125,7 +125,7 @@ pub(crate) fn read_highs(
     requires within { reader.old.pos ≤ length reader.old.list }
     requires least { 0 < limit }
     requires limit { limit ≤ 2 ^ 32 }
-    ensures taken { map_taken (gathered limit [] true) (values_at fs_at (length highs.old) (bits_at reader.old))
+    ensures taken { map_taken (small_values limit) (values_at fs_at (length highs.old) (bits_at reader.old))
         ≡ as_taken_by (λ fit. when fit highs.new) result (bits_at reader.new) }
     ensures len { length highs.new ≡ length highs.old }
     ensures list { reader.new.list ≡ reader.old.list }
