@@ -33,18 +33,18 @@ gathering-more old new next done held kept todo codeword rest before after later
       omega arith;
 }
 
--- a head and one part, and a head and two parts
+-- a part behind what was gathered, and one more
+pub parts-joined : (old middle new held between kept first second : List Bool) → middle ++ between ≡ old ++ (held ++ first)
+    → new ++ kept ≡ middle ++ (between ++ second) → new ++ kept ≡ old ++ (held ++ (first ++ second))
+parts-joined old middle new held between kept first second begun added =
+    added ∙ sym (append_assoc middle between second) ∙ ap (λ (bits : List Bool). bits ++ second) begun
+    ∙ append_assoc old (held ++ first) second ∙ ap (λ (bits : List Bool). old ++ bits) (append_assoc held first second)
+
+-- a head and its values
 pub gathered-part : (old at_head at_part new head_held part_held head part : List Bool) → at_head ++ head_held ≡ old ++ head
     → at_part ++ part_held ≡ at_head ++ (head_held ++ part) → new ≡ at_part ++ part_held → new ≡ old ++ (head ++ part)
 gathered-part old at_head at_part new head_held part_held head part begun added is =
     is ∙ added ∙ sym (append_assoc at_head head_held part) ∙ ap (λ (bits : List Bool). bits ++ part) begun ∙ append_assoc old head part
-
-pub gathered-parts : (old at_head at_high at_low new head_held high_held low_held head high low : List Bool) → at_head ++ head_held ≡ old ++ head
-    → at_high ++ high_held ≡ at_head ++ (head_held ++ high) → at_low ++ low_held ≡ at_high ++ (high_held ++ low) → new ≡ at_low ++ low_held
-    → new ≡ old ++ (head ++ (high ++ low))
-gathered-parts old at_head at_high at_low new head_held high_held low_held head high low begun first second is =
-    let before = gathered-part old at_head at_high (at_high ++ high_held) head_held high_held head high begun first refl in
-    gathered-part old at_high at_low new high_held low_held (head ++ high) low before second is ∙ ap (λ (bits : List Bool). old ++ bits) (append_assoc head high low)
 
 flat_map-drop : (f : ℕ → List Bool) (values : List ℕ) (i j : ℕ) → j ≡ i + 1 → i < length values
     → flat_map f (drop i values) ≡ f (get_or values i 0) ++ flat_map f (drop j values)
@@ -115,5 +115,7 @@ pub low_parts-written : (s : Settings) (b : Block) → IsFull s b
 low_parts-written s b full = low_parts-plain s.bits (written_values b) (after_reference-small s.bits b.reference b.values full.values)
 
 pub ruleset behind = (take_rest)
+
+pub ruleset both = (length-append, parts-joined)
 
 pub ruleset parts = (append_assoc, length-append, length-binary, length-fs, length-reference_bits, low_parts-written)

@@ -1,5 +1,5 @@
 -- What is written for a block's values and for a run, in parts.
-use Rattle.std.specs.Prelude.{ℕ, ◌/◌, ◌%◌, ◌^◌, Bool, Option, List}
+use Rattle.std.specs.Prelude.{ℕ, ◌/◌, ◌%◌, ◌^◌, Bool, Option, List, ◌++◌}
 use Rattle.std.specs.List.{flat_map}
 use Rattle.aec_params.specs.declared.settings.Settings.{Settings}
 use Rattle.aec_params.specs.Codewords.{fs, binary}
@@ -8,12 +8,15 @@ use Rattle.aec_params.specs.CodedDataSets.{zero_blocks, cds_bits}
 use Rattle.aec_params.specs.Spellings.{shortest_spelling}
 use Rattle.aec_params.specs.Runs.{run_code}
 
--- the values without their k low bits, and these bits
+-- the values without their k low bits, these bits, and both
 abbrev pub high_parts : ℕ → List ℕ → List Bool
 high_parts k values = flat_map (λ v. fs (v / 2 ^ k)) values
 
 abbrev pub low_parts : ℕ → List ℕ → List Bool
 low_parts k values = flat_map (λ v. binary k (v % 2 ^ k)) values
+
+abbrev pub split_parts : ℕ → List ℕ → List Bool
+split_parts k values = high_parts k values ++ low_parts k values
 
 -- the bits of the shortest spelling of a block
 abbrev pub shortest_bits : Settings → Block → List Bool

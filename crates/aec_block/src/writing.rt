@@ -10,7 +10,7 @@ ghost use Rattle.aec_params.specs.Runs.{segment_len, run_code};
 ghost use Rattle.aec_block.specs.BlockShape.{most_values};
 ghost use Rattle.aec_block.specs.Lengths.{reference_len};
 ghost use Rattle.aec_block.specs.Choices.{FitsReference, IsFull, IsChoice};
-ghost use Rattle.aec_block.specs.Written.{high_parts, low_parts, shortest_bits, run_bits};
+ghost use Rattle.aec_block.specs.Written.{high_parts, low_parts, split_parts, shortest_bits, run_bits};
 
 use crate::block::Block;
 use crate::choice::{Choice, Coding};
@@ -153,6 +153,26 @@ fn put_high_parts(
     put_each_high_part(values, k, gathered, out)
 }
 
+/// Gathers the values split at bit `k`: each without its `k` low bits, which are `len` bits in all, and then the low bits.
+#[tactic(auto, using(crate::proofs::WritingLemmas::both))]
+fn put_split_values(
+    values: &[u32],
+    k: u32,
+    len: u64,
+    gathered: Gathered,
+    out: &mut BitBuf,
+) -> Gathered
+    requires k { k < 32 }
+    requires len { len ≡ length (high_parts k values.now) }
+    requires room { length gathered + length (split_parts k values.now) ≤ out.old.room }
+    ensures list { out.new.list ++ result ≡ out.old.list ++ (gathered ++ split_parts k values.now) }
+    ensures room { out.old.room + length result
+        ≤ out.new.room + (length gathered + length (split_parts k values.now)) }
+{
+    let high = put_high_parts(values, k, len, gathered, out);
+    put_low_parts(values, k, high, out)
+}
+
 /// Gathers the codewords of consecutive pairs.
 fn put_pairs(values: &[u32], mut gathered: Gathered, out: &mut BitBuf) -> Gathered
     requires fits { length (pair_bits values.now) < 2 ^ 64 }
@@ -215,8 +235,7 @@ fn put_split(params: &Params, block: &Block, k: u32, bits: u64, out: &mut BitBuf
 {
     let len = high_len(params, block, k, bits);
     let head = put_head(params, block.reference(), k + 1, params.id_len(), out);
-    let high = put_high_parts(block.written(), k, len, head, out);
-    put_low_parts(block.written(), k, high, out).append_to(out);
+    put_split_values(block.written(), k, len, head, out).append_to(out);
 }
 
 /// Appends the coded data set of a block that is in no run, by the option of `choose`. `Memory` where a growth was
