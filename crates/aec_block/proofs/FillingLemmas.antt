@@ -51,13 +51,13 @@ begun n reference inside items block view is_reference count place =
     }
 
 -- how many values stand behind the reference place
-pub count_behind : (n first : ℕ) (reference inside : Option ℕ) (items shown : List ℕ) → HasBegun n reference inside items → shown ≡ items → first ≤ n
+count_behind : (n first : ℕ) (reference inside : Option ℕ) (items shown : List ℕ) → HasBegun n reference inside items → shown ≡ items → first ≤ n
     → length (take (length shown - first) (drop first shown)) ≡ n - first
 count_behind n first reference inside items shown b same within =
     let all : length shown ≡ n = ap length same ∙ b.count in
     length-take-le (length shown - first) (drop first shown) (omega (arith, length-drop first shown)) ∙ omega arith
 
-pub places-due : (s : Settings) (first : ℕ) (reference : Option ℕ) → first ≡ length (placed_values reference [])
+places-due : (s : Settings) (first : ℕ) (reference : Option ℕ) → first ≡ length (placed_values reference [])
     → s.block_size - first ≡ written_count s (is_some reference)
 places-due s first None is = omega arith
 places-due s first (Some r) is = omega arith
@@ -92,6 +92,22 @@ pub block_filled : (n first : ℕ) (reference inside : Option ℕ) (items shown 
     } in block_of_values reference values ≡ block
 block_filled n first reference inside items shown values behind b same is_first within count =
     rw (b.same, refilled n first reference inside items shown values behind b same is_first within count) refl
+
+-- the block that has begun anew, and the values behind its reference place, as many as a coded data set writes
+pub record IsFilled (s : Settings) (first : ℕ) (reference inside : Option ℕ) (items shown values behind : List ℕ) : Type 0 where
+  pub count : length (take (length shown - first) (drop first shown)) ≡ written_count s (is_some reference)
+  pub block : block_of_values reference values
+      ≡ record { reference = inside; values = refill (length items) items (take first shown ++ (values ++ behind)) }
+
+pub filled_behind : (s : Settings) (n first : ℕ) (reference inside : Option ℕ) (items shown values behind : List ℕ) → HasBegun n reference inside items
+    → shown ≡ items → first ≡ length (placed_values reference []) → first ≤ n → n ≡ s.block_size
+    → length values ≡ length (take (length shown - first) (drop first shown)) → IsFilled s first reference inside items shown values behind
+filled_behind s n first reference inside items shown values behind b same is_first within size len =
+    let count = count_behind n first reference inside items shown b same within in
+    record {
+      count = count ∙ (ap (λ m. m - first) size ∙ places-due s first reference is_first);
+      block = block_filled n first reference inside items shown values behind b same is_first within (len ∙ count);
+    }
 
 -- ---- by each option
 
