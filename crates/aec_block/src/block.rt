@@ -35,7 +35,8 @@ impl Model for Block {
 
     ghost view = { λ b. record { reference = b.reference; values = b.values.items } };
 
-    ghost invariant = { λ b. (b.values.capacity ≡ most_values) × IsSound (record { reference = b.reference; values = b.values.items }) };
+    ghost invariant = { λ b. (b.values.capacity ≡ most_values)
+        × IsSound (record { reference = b.reference; values = b.values.items }) };
 }
 
 impl Block {
@@ -57,8 +58,8 @@ impl Block {
         Block { reference, values }
     }
 
-    /// Begins anew with so many values, of which the one in the reference place is 0, where there is a reference. What the
-    /// others are isn't said.
+    /// Begins anew with so many values, of which the one in the reference place is 0, where there is a reference. What
+    /// the others are isn't said.
     #[inline(always)]
     pub(crate) fn restart(&mut self, reference: Option<u32>, len: usize)
         requires most { len ≤ most_values }

@@ -27,8 +27,8 @@ pub fn one_set_stands()
     ensures { OneSetStands }
 {}
 
-/// No coded data set that stands for a block by a single option is shorter than the block's shortest spelling, also with
-/// any first member of a reference pair.
+/// No coded data set that stands for a block by a single option is shorter than the block's shortest spelling, also
+/// with any first member of a reference pair.
 pub fn no_option_is_shorter()
     ensures { NoOptionIsShorter }
 {}

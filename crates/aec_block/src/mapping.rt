@@ -24,8 +24,8 @@ pub(crate) fn map_offset(top: u32, p: u32, x: u32) -> u32
     distance + distance.min(room) - u32::from((x < p) & (distance <= room))
 }
 
-/// The offset for which `m` is coded at the prediction `p`. What it would be on either side of the room's end is computed
-/// before one is taken, so that no branch depends on the sign or parity.
+/// The offset for which `m` is coded at the prediction `p`. What it would be on either side of the room's end is
+/// computed before one is taken, so that no branch depends on the sign or parity.
 fn unmap_offset(top: u32, p: u32, m: u32) -> u32
     requires prediction { p ≤ top }
     requires mapped { m ≤ top }
@@ -122,7 +122,8 @@ fn push_each(params: &Params, offset: u32, values: &[u32], samples: &mut Vec<i64
     requires within { offset ≤ top_offset params.now }
     requires mapped { AllByRecursion (λ v. v < 2 ^ params.now.bits) values.now }
     requires room { vec_len samples.old + length values.now ≤ vec_capacity samples.old }
-    ensures items { Unmaps params.now (x_min params.now +ℤ pos offset) values.now samples.old.items samples.new.items }
+    ensures items { Unmaps params.now
+        (x_min params.now +ℤ pos offset) values.now samples.old.items samples.new.items }
     ensures len { vec_len samples.new ≡ vec_len samples.old + length values.now }
     ensures capacity { vec_capacity samples.new ≡ vec_capacity samples.old }
 {
@@ -135,8 +136,8 @@ fn push_each(params: &Params, offset: u32, values: &[u32], samples: &mut Vec<i64
     }
 }
 
-/// Appends the samples for which values are coded, where samples are predicted: those of the near ones in front four at a
-/// time, the rest one by one. Takes no memory.
+/// Appends the samples for which values are coded, where samples are predicted: those of the near ones in front four at
+/// a time, the rest one by one. Takes no memory.
 fn push_offsets(params: &Params, previous: i64, values: &[u32], samples: &mut Vec<i64>)
     requires on { params.now.preprocess ≡ true }
     requires prediction { IsHeld params.now previous }
@@ -165,8 +166,8 @@ fn push_values(params: &Params, patterns: &[u32], samples: &mut Vec<i64>)
     }
 }
 
-/// Appends the samples for which values are coded, each predicted from the one before it, the first from `previous`. Without
-/// preprocessing the values are patterns, and `previous` has no effect. Takes no memory.
+/// Appends the samples for which values are coded, each predicted from the one before it, the first from `previous`.
+/// Without preprocessing the values are patterns, and `previous` has no effect. Takes no memory.
 pub fn unmap_all(params: &Params, previous: i64, values: &[u32], samples: &mut Vec<i64>)
     requires prediction { IsHeld params.now previous }
     requires mapped { AllByRecursion (λ v. v < 2 ^ params.now.bits) values.now }

@@ -1,5 +1,5 @@
-//! Values taken back to samples four at a time, where all of them stand for differences within the room on both sides of
-//! their prediction: there a difference is known from its value alone.
+//! Values taken back to samples four at a time, where all of them stand for differences within the room on both sides
+//! of their prediction: there a difference is known from its value alone.
 
 ghost use Rattle.std.specs.Prelude.{◌≡◌, ◌+◌, ◌*◌, ◌/◌, ◌%◌, ◌^◌, ◌<◌, ◌≤◌, ◌++◌, ◌+ℤ◌, true, pos, ℕ, length, take, vec_len, vec_capacity};
 ghost use Rattle.aec_params.specs.Params.{x_min};
@@ -22,7 +22,8 @@ fn near_difference(value: u32) -> u64
 /// The offset for which a near value is coded.
 #[inline(always)]
 fn near_place(offset: u64, value: u32) -> u64
-    ensures near { (top : ℕ) → top < 2 ^ 32 → offset ≤ top → value ≤ 2 * offset_room top offset → result ≡ near_offset offset value }
+    ensures near { (top : ℕ) → top < 2 ^ 32 → offset ≤ top → value ≤ 2 * offset_room top offset
+        → result ≡ near_offset offset value }
 {
     offset.wrapping_add(near_difference(value))
 }
@@ -31,13 +32,15 @@ fn near_place(offset: u64, value: u32) -> u64
 /// hold for both.
 #[inline(always)]
 fn both_sides(offset: u64, value: u32) -> u64
-    ensures near { (top : ℕ) → top < 2 ^ 32 → offset ≤ top → result ≤ top → value ≤ 2 * offset_room top offset }
+    ensures near { (top : ℕ) → top < 2 ^ 32 → offset ≤ top → result ≤ top
+        → value ≤ 2 * offset_room top offset }
 {
     let difference = near_difference(value);
     offset.wrapping_add(difference) | offset.wrapping_sub(difference)
 }
 
-/// True only where all values are near, each predicted from the one before it; false says nothing. No branch depends on them.
+/// True only where all values are near, each predicted from the one before it; false says nothing. No branch depends on
+/// them.
 #[inline(always)]
 fn are_near(top: u32, offset: u32, values: &[u32]) -> bool
     requires { offset ≤ top }
@@ -60,7 +63,8 @@ fn push_near(params: &Params, offset: u32, values: &[u32], samples: &mut Vec<i64
     requires near { AreNear (top_offset params.now) offset values.now }
     requires room { vec_len samples.old + length values.now ≤ vec_capacity samples.old }
     ensures within { result ≤ top_offset params.now }
-    ensures items { UnmapsTo params.now (x_min params.now +ℤ pos offset) (x_min params.now +ℤ pos result) values.now samples.old.items samples.new.items }
+    ensures items { UnmapsTo params.now (x_min params.now +ℤ pos offset)
+        (x_min params.now +ℤ pos result) values.now samples.old.items samples.new.items }
     ensures len { vec_len samples.new ≡ vec_len samples.old + length values.now }
     ensures capacity { vec_capacity samples.new ≡ vec_capacity samples.old }
 {
@@ -84,8 +88,8 @@ fn four_at(values: &[u32], i: usize) -> [u32; 4]
     [values[i], values[i + 1], values[i + 2], values[i + 3]]
 }
 
-/// Appends the samples of the values in front, four at a time as long as all four are near, and tells the offset of the last
-/// and how many they are. Takes no memory.
+/// Appends the samples of the values in front, four at a time as long as all four are near, and tells the offset of the
+/// last and how many they are. Takes no memory.
 pub(crate) fn push_near_fours(
     params: &Params,
     offset: u32,
@@ -97,7 +101,8 @@ pub(crate) fn push_near_fours(
     requires room { vec_len samples.old + length values.now ≤ vec_capacity samples.old }
     ensures count { result.1 ≤ length values.now }
     ensures within { result.0 ≤ top_offset params.now }
-    ensures items { UnmapsTo params.now (x_min params.now +ℤ pos offset) (x_min params.now +ℤ pos result.0) (take result.1 values.now)
+    ensures items { UnmapsTo params.now (x_min params.now +ℤ pos offset)
+        (x_min params.now +ℤ pos result.0) (take result.1 values.now)
         samples.old.items samples.new.items }
     ensures len { vec_len samples.new ≡ vec_len samples.old + result.1 }
     ensures capacity { vec_capacity samples.new ≡ vec_capacity samples.old }

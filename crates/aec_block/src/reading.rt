@@ -30,7 +30,8 @@ pub(crate) enum Kind {
 /// The kind that the next bits identify.
 pub(crate) fn read_kind(params: &Params, reader: &mut BitReader) -> Result<Kind, Fault>
     requires within { reader.old.pos ≤ length reader.old.list }
-    ensures taken { kind_at (id_len params.now) (bits_at reader.old) ≡ as_taken result (bits_at reader.new) }
+    ensures taken { kind_at (id_len params.now) (bits_at reader.old)
+        ≡ as_taken result (bits_at reader.new) }
     ensures short { IfOk result HasShortSplit }
     ensures allowed { IsAllowed params.now }
     ensures list { reader.new.list ≡ reader.old.list }
@@ -60,7 +61,8 @@ pub(crate) fn read_reference(
     is_ref: bool,
 ) -> Result<Option<u32>, Fault>
     requires within { reader.old.pos ≤ length reader.old.list }
-    ensures taken { reference_at params.now is_ref (bits_at reader.old) ≡ as_taken result (bits_at reader.new) }
+    ensures taken { reference_at params.now is_ref (bits_at reader.old)
+        ≡ as_taken result (bits_at reader.new) }
     ensures due { IfOk result (λ reference. is_some reference ≡ is_ref) }
     ensures list { reader.new.list ≡ reader.old.list }
     ensures within { reader.new.pos ≤ length reader.new.list }
@@ -101,7 +103,8 @@ pub(crate) fn read_body(
 ) -> Result<Option<Found>, Fault>
     requires within { reader.old.pos ≤ length reader.old.list }
     requires short { HasShortSplit kind }
-    ensures taken { map_taken (checked_body params.now reference) (body_at params.now (is_some reference) kind (bits_at reader.old))
+    ensures taken { map_taken (checked_body params.now reference)
+        (body_at params.now (is_some reference) kind (bits_at reader.old))
         ≡ as_taken_by (λ found. as_read found block.new) result (bits_at reader.new) }
     ensures list { reader.new.list ≡ reader.old.list }
     ensures within { reader.new.pos ≤ length reader.new.list }
@@ -139,11 +142,11 @@ fn read_set(
     read_body(params, reader, kind, reference, block)
 }
 
-/// Reads the one coded data set that begins at the reader's place, of a block with a reference sample or of another, and
-/// goes behind it. Where it is of one block, that stands in `block` then, whatever stood there before. `Truncated` where
-/// none begins there, and `ValueTooLarge` where the one that does has a value above the greatest that the width has; the
-/// reader is then where it was, and the place of the refusal is that one. What stands in `block` after a run or a refusal
-/// isn't said. Takes no memory.
+/// Reads the one coded data set that begins at the reader's place, of a block with a reference sample or of another,
+/// and goes behind it. Where it is of one block, that stands in `block` then, whatever stood there before. `Truncated`
+/// where none begins there, and `ValueTooLarge` where the one that does has a value above the greatest that the width
+/// has; the reader is then where it was, and the place of the refusal is that one. What stands in `block` after a run
+/// or a refusal isn't said. Takes no memory.
 pub fn read_into(
     params: &Params,
     reader: &mut BitReader,
@@ -151,7 +154,8 @@ pub fn read_into(
     block: &mut Block,
 ) -> Result<Found, Fault>
     ensures ok { IfOk result (λ found.
-        (c : CodedDataSet) × IsReadAs params.now is_ref reader.old reader.new c (as_cds found block.new)) }
+        (c : CodedDataSet)
+        × IsReadAs params.now is_ref reader.old reader.new c (as_cds found block.new)) }
     ensures refuses { IfErr result (IsNotRead params.now is_ref reader.old.list reader.old.pos) }
     ensures err { OnErr result (reader.new ≡ reader.old) }
 {
@@ -175,17 +179,18 @@ fn cds_found(found: Found, block: Block) -> Cds
     }
 }
 
-/// Reads the one coded data set that begins at the reader's place, of a block with a reference sample or of another, and
-/// goes behind it. `Truncated` where none begins there, and `ValueTooLarge` where the one that does has a value above
-/// the greatest that the width has; the reader is then where it was, and the place of the refusal is that one. Takes no
-/// memory.
+/// Reads the one coded data set that begins at the reader's place, of a block with a reference sample or of another,
+/// and goes behind it. `Truncated` where none begins there, and `ValueTooLarge` where the one that does has a value
+/// above the greatest that the width has; the reader is then where it was, and the place of the refusal is that one.
+/// Takes no memory.
 pub fn read_cds(
     alloc: Global,
     params: &Params,
     reader: &mut BitReader,
     is_ref: bool,
 ) -> Result<Cds, Fault>
-    ensures ok { IfOk result (λ cds. (c : CodedDataSet) × IsReadAs params.now is_ref reader.old reader.new c cds) }
+    ensures ok { IfOk result
+        (λ cds. (c : CodedDataSet) × IsReadAs params.now is_ref reader.old reader.new c cds) }
     ensures refuses { IfErr result (IsNotRead params.now is_ref reader.old.list reader.old.pos) }
     ensures err { OnErr result (reader.new ≡ reader.old) }
 {

@@ -33,7 +33,8 @@ pub(crate) fn fill_uncompressed(
 ) -> Result<(), Fault>
     requires within { reader.old.pos ≤ length reader.old.list }
     ensures taken { map_taken (block_of_values reference)
-        (values_at (binary_at params.now.bits) (written_count params.now (is_some reference)) (bits_at reader.old))
+        (values_at (binary_at params.now.bits) (written_count params.now (is_some reference))
+        (bits_at reader.old))
         ≡ as_taken_by (λ _. block.new) result (bits_at reader.new) }
     ensures list { reader.new.list ≡ reader.old.list }
     ensures within { reader.new.pos ≤ length reader.new.list }
@@ -73,7 +74,8 @@ pub(crate) fn fill_pairs(
     block: &mut Block,
 ) -> Result<bool, Fault>
     requires within { reader.old.pos ≤ length reader.old.list }
-    ensures taken { map_taken (pair_block (2 ^ params.now.bits) reference) (members_at (params.now.block_size / 2) (bits_at reader.old))
+    ensures taken { map_taken (pair_block (2 ^ params.now.bits) reference)
+        (members_at (params.now.block_size / 2) (bits_at reader.old))
         ≡ as_taken_by (λ fit. when fit block.new) result (bits_at reader.new) }
     ensures list { reader.new.list ≡ reader.old.list }
     ensures within { reader.new.pos ≤ length reader.new.list }

@@ -47,10 +47,11 @@ pub(crate) fn read_numbers(
     reader.read_numbers(width, numbers)
 }
 
-/// Puts the numbers of the fundamental sequences that come next into `numbers`, where all are short. Else false, and the
-/// reader stays.
+/// Puts the numbers of the fundamental sequences that come next into `numbers`, where all are short. Else false, and
+/// the reader stays.
 pub(crate) fn read_short_sequences(reader: &mut BitReader, numbers: &mut [u32]) -> bool
-    ensures taken { result ≡ true → values_at fs_at (length numbers.old) (bits_at reader.old) ≡ taken numbers.new (bits_at reader.new) }
+    ensures taken { result ≡ true → values_at fs_at (length numbers.old) (bits_at reader.old)
+        ≡ taken numbers.new (bits_at reader.new) }
     ensures stays { result ≡ false → reader.new ≡ reader.old }
     ensures len { length numbers.new ≡ length numbers.old }
     ensures list { reader.new.list ≡ reader.old.list }

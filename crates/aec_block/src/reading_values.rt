@@ -48,7 +48,8 @@ fn put_value(values: &mut [u32], place: usize, value: u64, limit: u64) -> bool
     requires place { place < length values.old }
     requires limit { limit ≤ 2 ^ 32 }
     ensures fits { result ≡ nat_lt value limit }
-    ensures values { values.new ≡ (if nat_lt value limit then slice_set values.old place value else values.old) }
+    ensures values { values.new
+        ≡ (if nat_lt value limit then slice_set values.old place value else values.old) }
 {
     if value >= limit {
         return false;
@@ -64,8 +65,8 @@ fn kept_member(in_reference_place: bool, member: u64) -> u64
     if in_reference_place { 0 } else { member }
 }
 
-/// Fills `values` with the members of the next pairs. Whether all are at most the greatest that the width has; else some stay as they
-/// are. Where the first value is the reference place it is 0, and any number may stand there.
+/// Fills `values` with the members of the next pairs. Whether all are at most the greatest that the width has; else
+/// some stay as they are. Where the first value is the reference place it is 0, and any number may stand there.
 pub(crate) fn read_pairs(
     params: &Params,
     reader: &mut BitReader,
@@ -76,7 +77,8 @@ pub(crate) fn read_pairs(
     requires pairs { length values.old ≡ 2 * (length values.old / 2) }
     requires some { 0 < length values.old }
     requires placed { values.old ≡ kept_members is_ref values.old }
-    ensures taken { map_taken (small_members (2 ^ params.now.bits) is_ref) (members_at (length values.old / 2) (bits_at reader.old))
+    ensures taken { map_taken (small_members (2 ^ params.now.bits) is_ref)
+        (members_at (length values.old / 2) (bits_at reader.old))
         ≡ as_taken_by (λ fit. when fit values.new) result (bits_at reader.new) }
     ensures placed { values.new ≡ kept_members is_ref values.new }
     ensures len { length values.new ≡ length values.old }
@@ -98,7 +100,8 @@ pub(crate) fn read_pairs(
 fn read_long_highs(reader: &mut BitReader, highs: &mut [u32], limit: u64) -> Result<bool, Fault>
     requires within { reader.old.pos ≤ length reader.old.list }
     requires limit { limit ≤ 2 ^ 32 }
-    ensures taken { map_taken (small_values limit) (values_at fs_at (length highs.old) (bits_at reader.old))
+    ensures taken { map_taken (small_values limit)
+        (values_at fs_at (length highs.old) (bits_at reader.old))
         ≡ as_taken_by (λ fit. when fit highs.new) result (bits_at reader.new) }
     ensures len { length highs.new ≡ length highs.old }
     ensures list { reader.new.list ≡ reader.old.list }
@@ -125,7 +128,8 @@ pub(crate) fn read_highs(
     requires within { reader.old.pos ≤ length reader.old.list }
     requires least { 0 < limit }
     requires limit { limit ≤ 2 ^ 32 }
-    ensures taken { map_taken (small_values limit) (values_at fs_at (length highs.old) (bits_at reader.old))
+    ensures taken { map_taken (small_values limit)
+        (values_at fs_at (length highs.old) (bits_at reader.old))
         ≡ as_taken_by (λ fit. when fit highs.new) result (bits_at reader.new) }
     ensures len { length highs.new ≡ length highs.old }
     ensures list { reader.new.list ≡ reader.old.list }
@@ -160,8 +164,8 @@ fn join(values: &mut [u32], lows: &[u32], k: u32)
     }
 }
 
-/// Fills `values` with the next values, split at bit `k`. Whether all are at most the greatest that the width has. Where
-/// `k` is at most the width, small high parts make small values.
+/// Fills `values` with the next values, split at bit `k`. Whether all are at most the greatest that the width has.
+/// Where `k` is at most the width, small high parts make small values.
 pub(crate) fn read_split(
     params: &Params,
     reader: &mut BitReader,
@@ -171,7 +175,8 @@ pub(crate) fn read_split(
     requires within { reader.old.pos ≤ length reader.old.list }
     requires shift { k < 32 }
     requires most { length values.old ≤ most_values }
-    ensures taken { map_taken (small_values (2 ^ params.now.bits)) (split_at k (length values.old) (bits_at reader.old))
+    ensures taken { map_taken (small_values (2 ^ params.now.bits))
+        (split_at k (length values.old) (bits_at reader.old))
         ≡ as_taken_by (λ fit. when fit values.new) result (bits_at reader.new) }
     ensures len { length values.new ≡ length values.old }
     ensures list { reader.new.list ≡ reader.old.list }

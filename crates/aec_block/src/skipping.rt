@@ -36,8 +36,9 @@ fn one_block(fit: bool) -> Option<RunLen>
     if fit { Some(RunLen::Blocks(1)) } else { None }
 }
 
-/// Goes over what stands behind the identifier and the reference sample. For how many blocks it stands; none where a value
-/// is above the greatest that the width has. Pairs, and values that are split at a bit above the width, are read into the block `values`.
+/// Goes over what stands behind the identifier and the reference sample. For how many blocks it stands; none where a
+/// value is above the greatest that the width has. Pairs, and values that are split at a bit above the width, are read
+/// into the block `values`.
 fn skip_body(
     params: &Params,
     reader: &mut BitReader,
@@ -47,7 +48,8 @@ fn skip_body(
 ) -> Result<Option<RunLen>, Fault>
     requires within { reader.old.pos ≤ length reader.old.list }
     requires short { HasShortSplit kind }
-    ensures taken { map_taken (judged_body_len params.now reference) (body_at params.now (is_some reference) kind (bits_at reader.old))
+    ensures taken { map_taken (judged_body_len params.now reference)
+        (body_at params.now (is_some reference) kind (bits_at reader.old))
         ≡ as_taken result (bits_at reader.new) }
     ensures list { reader.new.list ≡ reader.old.list }
     ensures within { reader.new.pos ≤ length reader.new.list }
@@ -65,7 +67,8 @@ fn skip_body(
     }
 }
 
-/// Goes over one coded data set. For how many blocks it stands; none where a value is above the greatest that the width has.
+/// Goes over one coded data set. For how many blocks it stands; none where a value is above the greatest that the width
+/// has.
 fn skip_set(
     params: &Params,
     reader: &mut BitReader,
@@ -73,7 +76,8 @@ fn skip_set(
     values: &mut Block,
 ) -> Result<Option<RunLen>, Fault>
     requires within { reader.old.pos ≤ length reader.old.list }
-    ensures taken { map_taken (judged_len params.now) (cds_at params.now is_ref (bits_at reader.old)) ≡ as_taken result (bits_at reader.new) }
+    ensures taken { map_taken (judged_len params.now)
+        (cds_at params.now is_ref (bits_at reader.old)) ≡ as_taken result (bits_at reader.new) }
     ensures allowed { IsAllowed params.now }
     ensures list { reader.new.list ≡ reader.old.list }
     ensures within { reader.new.pos ≤ length reader.new.list }
@@ -83,16 +87,17 @@ fn skip_set(
     skip_body(params, reader, kind, reference, values)
 }
 
-/// Goes behind the one coded data set that begins at the reader's place. `values` is a block that it may be read into; what is left in it
-/// isn't said. For how many blocks the coded data set stands: one, those of its run, or all that the segment has left. The refusals are
-/// those of `read_into`; the reader is then where it was. Takes no memory.
+/// Goes behind the one coded data set that begins at the reader's place. `values` is a block that it may be read into;
+/// what is left in it isn't said. For how many blocks the coded data set stands: one, those of its run, or all that the
+/// segment has left. The refusals are those of `read_into`; the reader is then where it was. Takes no memory.
 pub fn skip_cds(
     params: &Params,
     reader: &mut BitReader,
     is_ref: bool,
     values: &mut Block,
 ) -> Result<RunLen, Fault>
-    ensures ok { IfOk result (λ len. (c : CodedDataSet) × IsSkippedAs params.now is_ref reader.old reader.new c len) }
+    ensures ok { IfOk result
+        (λ len. (c : CodedDataSet) × IsSkippedAs params.now is_ref reader.old reader.new c len) }
     ensures refuses { IfErr result (IsNotRead params.now is_ref reader.old.list reader.old.pos) }
     ensures err { OnErr result (reader.new ≡ reader.old) }
 {

@@ -34,21 +34,23 @@ fn skip_numbers(reader: &mut BitReader, width: u32, count: usize) -> Result<(), 
     requires width { width ≤ 32 }
     requires most { count ≤ most_values }
     requires within { reader.old.pos ≤ length reader.old.list }
-    ensures taken { map_taken no_values (values_at (binary_at width) count (bits_at reader.old)) ≡ as_taken result (bits_at reader.new) }
+    ensures taken { map_taken no_values (values_at (binary_at width) count (bits_at reader.old))
+        ≡ as_taken result (bits_at reader.new) }
     ensures list { reader.new.list ≡ reader.old.list }
     ensures within { reader.new.pos ≤ length reader.new.list }
 {
     reader.skip_bits(numbers_len(width, count))
 }
 
-/// Goes over so many high parts. Whether all are below `limit`: none is above their sum, which is what the bits gone over
-/// have besides the ones. Where that isn't below, they are read.
+/// Goes over so many high parts. Whether all are below `limit`: none is above their sum, which is what the bits gone
+/// over have besides the ones. Where that isn't below, they are read.
 fn skip_highs(reader: &mut BitReader, count: usize, limit: u64) -> Result<bool, Fault>
     requires most { count ≤ most_values }
     requires least { 0 < limit }
     requires limit { limit ≤ 2 ^ 32 }
     requires within { reader.old.pos ≤ length reader.old.list }
-    ensures taken { map_taken (all_below limit) (values_at fs_at count (bits_at reader.old)) ≡ as_taken result (bits_at reader.new) }
+    ensures taken { map_taken (all_below limit) (values_at fs_at count (bits_at reader.old))
+        ≡ as_taken result (bits_at reader.new) }
     ensures list { reader.new.list ≡ reader.old.list }
     ensures within { reader.new.pos ≤ length reader.new.list }
 {
@@ -69,7 +71,9 @@ pub(crate) fn skip_uncompressed(
     is_ref: bool,
 ) -> Result<(), Fault>
     requires within { reader.old.pos ≤ length reader.old.list }
-    ensures taken { map_taken no_values (values_at (binary_at params.now.bits) (written_count params.now is_ref) (bits_at reader.old))
+    ensures taken { map_taken no_values
+        (values_at (binary_at params.now.bits) (written_count params.now is_ref)
+        (bits_at reader.old))
         ≡ as_taken result (bits_at reader.new) }
     ensures list { reader.new.list ≡ reader.old.list }
     ensures within { reader.new.pos ≤ length reader.new.list }
@@ -77,8 +81,8 @@ pub(crate) fn skip_uncompressed(
     skip_numbers(reader, params.bits(), count_written(params, is_ref))
 }
 
-/// Goes over the next values, split at bit `k`, which is at most the width. Whether all are at most the greatest that the
-/// width has: the high parts alone say so.
+/// Goes over the next values, split at bit `k`, which is at most the width. Whether all are at most the greatest that
+/// the width has: the high parts alone say so.
 pub(crate) fn skip_split(
     params: &Params,
     reader: &mut BitReader,
@@ -88,7 +92,8 @@ pub(crate) fn skip_split(
     requires within { reader.old.pos ≤ length reader.old.list }
     requires shift { k < 32 }
     requires inside { k ≤ params.now.bits }
-    ensures taken { map_taken (all_below (2 ^ params.now.bits)) (split_at k (written_count params.now is_ref) (bits_at reader.old))
+    ensures taken { map_taken (all_below (2 ^ params.now.bits))
+        (split_at k (written_count params.now is_ref) (bits_at reader.old))
         ≡ as_taken result (bits_at reader.new) }
     ensures list { reader.new.list ≡ reader.old.list }
     ensures within { reader.new.pos ≤ length reader.new.list }

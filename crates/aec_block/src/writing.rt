@@ -30,8 +30,10 @@ fn put_reference(
 ) -> Gathered
     requires reference { FitsReference params.now reference }
     requires room { length gathered + reference_len params.now reference ≤ out.old.room }
-    ensures list { out.new.list ++ result ≡ out.old.list ++ (gathered ++ reference_bits params.now reference) }
-    ensures room { out.old.room + length result ≤ out.new.room + (length gathered + reference_len params.now reference) }
+    ensures list { out.new.list ++ result
+        ≡ out.old.list ++ (gathered ++ reference_bits params.now reference) }
+    ensures room { out.old.room + length result
+        ≤ out.new.room + (length gathered + reference_len params.now reference) }
 {
     match reference {
         None => gathered,
@@ -52,8 +54,10 @@ fn put_head(
     requires fits { id < 2 ^ width }
     requires reference { FitsReference params.now reference }
     requires room { width + reference_len params.now reference ≤ out.old.room }
-    ensures list { out.new.list ++ result ≡ out.old.list ++ (binary width id ++ reference_bits params.now reference) }
-    ensures room { out.old.room + length result ≤ out.new.room + (width + reference_len params.now reference) }
+    ensures list { out.new.list ++ result
+        ≡ out.old.list ++ (binary width id ++ reference_bits params.now reference) }
+    ensures room { out.old.room + length result
+        ≤ out.new.room + (width + reference_len params.now reference) }
 {
     let id = Gathered::of_number(u64::from(id), width);
     put_reference(params, reference, id, out)
@@ -68,8 +72,10 @@ fn put_each_low_part(
 ) -> Gathered
     requires width { width ≤ 32 }
     requires room { length (gathered ++ low_parts width values.now) ≤ out.old.room }
-    ensures list { out.new.list ++ result ≡ out.old.list ++ (gathered ++ low_parts width values.now) }
-    ensures room { out.old.room + length result ≤ out.new.room + length (gathered ++ low_parts width values.now) }
+    ensures list { out.new.list ++ result
+        ≡ out.old.list ++ (gathered ++ low_parts width values.now) }
+    ensures room { out.old.room + length result
+        ≤ out.new.room + length (gathered ++ low_parts width values.now) }
 {
     for v in values {
         gathered = gathered.put(u64::from(*v) % (1 << width), width, out);
@@ -77,7 +83,8 @@ fn put_each_low_part(
     gathered
 }
 
-/// Gathers the lowest `width` bits of each value: of `N` values at a time, and one by one of the last few, fewer than `N`.
+/// Gathers the lowest `width` bits of each value: of `N` values at a time, and one by one of the last few, fewer than
+/// `N`.
 #[tactic(auto, using(crate::proofs::WritingLemmas::behind))]
 fn put_low_groups<const N: usize>(
     values: &[u32],
@@ -90,8 +97,10 @@ fn put_low_groups<const N: usize>(
     requires width { width ≤ 32 }
     requires few { N * width < 64 }
     requires room { length (gathered ++ low_parts width values.now) ≤ out.old.room }
-    ensures list { out.new.list ++ result ≡ out.old.list ++ (gathered ++ low_parts width values.now) }
-    ensures room { out.old.room + length result ≤ out.new.room + length (gathered ++ low_parts width values.now) }
+    ensures list { out.new.list ++ result
+        ≡ out.old.list ++ (gathered ++ low_parts width values.now) }
+    ensures room { out.old.room + length result
+        ≤ out.new.room + length (gathered ++ low_parts width values.now) }
 {
     for i in 0..values.len() / N {
         let word = low_word(&values[N * i..N * (i + 1)], width);
@@ -101,12 +110,15 @@ fn put_low_groups<const N: usize>(
     put_each_low_part(&values[whole..], width, gathered, out)
 }
 
-/// Gathers the lowest `width` bits of each value, as many values at a time as fit a word with those of two, four or eight.
+/// Gathers the lowest `width` bits of each value, as many values at a time as fit a word with those of two, four or
+/// eight.
 fn put_low_parts(values: &[u32], width: u32, gathered: Gathered, out: &mut BitBuf) -> Gathered
     requires width { width ≤ 32 }
     requires room { length (gathered ++ low_parts width values.now) ≤ out.old.room }
-    ensures list { out.new.list ++ result ≡ out.old.list ++ (gathered ++ low_parts width values.now) }
-    ensures room { out.old.room + length result ≤ out.new.room + length (gathered ++ low_parts width values.now) }
+    ensures list { out.new.list ++ result
+        ≡ out.old.list ++ (gathered ++ low_parts width values.now) }
+    ensures room { out.old.room + length result
+        ≤ out.new.room + length (gathered ++ low_parts width values.now) }
 {
     if width < 8 {
         return put_low_groups::<8>(values, width, gathered, out);
@@ -125,7 +137,8 @@ fn put_each_high_part(values: &[u32], k: u32, mut gathered: Gathered, out: &mut 
     requires k { k < 32 }
     requires room { length (gathered ++ high_parts k values.now) ≤ out.old.room }
     ensures list { out.new.list ++ result ≡ out.old.list ++ (gathered ++ high_parts k values.now) }
-    ensures room { out.old.room + length result ≤ out.new.room + length (gathered ++ high_parts k values.now) }
+    ensures room { out.old.room + length result
+        ≤ out.new.room + length (gathered ++ high_parts k values.now) }
 {
     for v in values {
         gathered = gathered.put_fs(u64::from(*v >> k), out);
@@ -145,7 +158,8 @@ fn put_high_parts(
     requires len { len ≡ length (high_parts k values.now) }
     requires room { length (gathered ++ high_parts k values.now) ≤ out.old.room }
     ensures list { out.new.list ++ result ≡ out.old.list ++ (gathered ++ high_parts k values.now) }
-    ensures room { out.old.room + length result ≤ out.new.room + length (gathered ++ high_parts k values.now) }
+    ensures room { out.old.room + length result
+        ≤ out.new.room + length (gathered ++ high_parts k values.now) }
 {
     if len < 64 {
         return gathered.put(high_word(values, k), len as u32, out);
@@ -153,7 +167,8 @@ fn put_high_parts(
     put_each_high_part(values, k, gathered, out)
 }
 
-/// Gathers the values split at bit `k`: each without its `k` low bits, which are `len` bits in all, and then the low bits.
+/// Gathers the values split at bit `k`: each without its `k` low bits, which are `len` bits in all, and then the low
+/// bits.
 #[tactic(auto, using(crate::proofs::WritingLemmas::both))]
 fn put_split_values(
     values: &[u32],
@@ -178,7 +193,8 @@ fn put_pairs(values: &[u32], mut gathered: Gathered, out: &mut BitBuf) -> Gather
     requires fits { length (pair_bits values.now) < 2 ^ 64 }
     requires room { length (gathered ++ pair_bits values.now) ≤ out.old.room }
     ensures list { out.new.list ++ result ≡ out.old.list ++ (gathered ++ pair_bits values.now) }
-    ensures room { out.old.room + length result ≤ out.new.room + length (gathered ++ pair_bits values.now) }
+    ensures room { out.old.room + length result
+        ≤ out.new.room + length (gathered ++ pair_bits values.now) }
 {
     for i in 0..values.len() / 2 {
         let number = pair_len(values[2 * i], values[2 * i + 1]) - 1;
@@ -193,7 +209,8 @@ fn put_uncompressed(params: &Params, block: &Block, out: &mut BitBuf)
     requires full { IsFull params.now block.now }
     requires room { length (cds_bits params.now (uncompressed block.now)) ≤ out.old.room }
     ensures list { out.new.list ≡ out.old.list ++ cds_bits params.now (uncompressed block.now) }
-    ensures room { out.old.room ≤ out.new.room + length (cds_bits params.now (uncompressed block.now)) }
+    ensures room { out.old.room
+        ≤ out.new.room + length (cds_bits params.now (uncompressed block.now)) }
 {
     let width = params.id_len();
     let head = put_head(params, block.reference(), (1 << width) - 1, width, out);
@@ -249,7 +266,8 @@ pub fn write_block(
     requires full { IsFull params.now block.now }
     requires choice { IsChoice params.now block.now choice }
     ensures ok { OnOk result (out.new.list ≡ out.old.list ++ shortest_bits params.now block.now) }
-    ensures room { OnOk result (out.old.room ≤ out.new.room + length (shortest_bits params.now block.now)) }
+    ensures room { OnOk result
+        (out.old.room ≤ out.new.room + length (shortest_bits params.now block.now)) }
     ensures err { OnErr result (out.new ≡ out.old) }
     ensures full { OnErr result (out.old.room < length (shortest_bits params.now block.now)) }
     ensures fault { IfErr result (λ e. e ≡ Memory) }
@@ -291,8 +309,10 @@ pub fn write_run(
     requires reference { FitsReference params.now reference }
     requires least { 1 ≤ z }
     requires most { z ≤ (if to_end then segment_len else segment_len - 1) }
-    ensures ok { OnOk result (out.new.list ≡ out.old.list ++ run_bits params.now reference z to_end) }
-    ensures room { OnOk result (out.old.room ≤ out.new.room + length (run_bits params.now reference z to_end)) }
+    ensures ok { OnOk result
+        (out.new.list ≡ out.old.list ++ run_bits params.now reference z to_end) }
+    ensures room { OnOk result
+        (out.old.room ≤ out.new.room + length (run_bits params.now reference z to_end)) }
     ensures err { OnErr result (out.new ≡ out.old) }
     ensures full { OnErr result (out.old.room < length (run_bits params.now reference z to_end)) }
     ensures fault { IfErr result (λ e. e ≡ Memory) }
