@@ -1,13 +1,15 @@
 -- The first k that one more doesn't make shorter is the best.
 use Rattle.std.proofs.Common.{◌≡◌, ℕ, zero, suc, ap, ◌∙◌, ◌+◌, ◌-◌, ◌*◌, ◌/◌, ◌^◌, ◌<◌, ◌≤◌, subst, arith, ⊎_elim, inl, inr, List, [], ◌∷◌, length}
 use Rattle.std.proofs.lemmas.Bool.{cases_lt}
-use Rattle.std.proofs.lemmas.Nat.{shr-shr, pow_pos}
-use Rattle.std.proofs.Math.Nat.{lt-div-mul-add, add-mul, mul-le-mul_right}
+use lib.Count.{count_leading_zeros, leading_of_zero}
+use Rattle.std.proofs.Math.Pow.{pow_mono}
+use Rattle.std.proofs.lemmas.Nat.{shr-shr, pow_pos, pow-add, leading_le, leading_top, leading_length}
+use Rattle.std.proofs.Math.Nat.{lt-div-mul-add, add-mul, mul-le-mul_right, mul-lt-mul_of_pos_right}
 use Rattle.std.proofs.lemmas.List.Sums.{sum_by-cons}
 use Rattle.aec_block.specs.Lengths.{sum_of_shifted, split_values_length, IsBestSplit}
 
 -- the sum falls by half at least
-sum_of_shifted-halved : (k : ℕ) (values : List ℕ) → 2 * sum_of_shifted (k + 1) values ≤ sum_of_shifted k values
+pub sum_of_shifted-halved : (k : ℕ) (values : List ℕ) → 2 * sum_of_shifted (k + 1) values ≤ sum_of_shifted k values
 sum_of_shifted-halved k [] = omega arith
 sum_of_shifted-halved k (v ∷ values) =
     let rest = sum_of_shifted-halved k values in
@@ -114,6 +116,25 @@ falls_to-first (suc k) sum values is past =
     let before = falls_to-first k sum values is (λ j h. past j (omega arith)) in
     subst (λ i. FallsTo i values) (omega arith)
     (falls_to-next k values before (longer_before k values (subst (λ t. 3 * length values * 2 ^ k < t) is (past k (omega arith)))))
+
+-- a number of fewer bits than another, with so many zeros behind it as make up for them, is less
+pub wider : (sum most j : ℕ) → sum < 2 ^ 64 → most < 2 ^ 64 → j < count_leading_zeros 64 most - count_leading_zeros 64 sum → most * 2 ^ j < sum
+wider zero most j sum_fits fits before =
+    let none = leading_of_zero 64 in
+    let few = leading_le 64 most in
+    absurd (omega arith)
+wider (suc n) most j sum_fits fits before =
+    let top = leading_top 64 (suc n) (omega arith) sum_fits in
+    let digits = leading_length 64 most fits in
+    let product : most * 2 ^ j < 2 ^ digits.0 * 2 ^ j = mul-lt-mul_of_pos_right digits.2 (pow_pos j) in
+    let sum_of_powers : 2 ^ (digits.0 + j) ≡ 2 ^ digits.0 * 2 ^ j = pow-add 2 digits.0 j in
+    let at_top = top.1 in
+    let at_digits = digits.1 in
+    let power : 2 ^ (digits.0 + j) ≤ 2 ^ top.0 = pow_mono (omega arith) in
+    let least = top.2 in
+    omega arith
+
+pub ruleset widths = (wider)
 
 pub best-stopped : (options k sum next : ℕ) (values : List ℕ) → FallsTo k values → k < options → sum ≡ sum_of_shifted k values
     → next ≡ sum_of_shifted (k + 1) values → sum ≤ next + length values → IsBestSplit options k values

@@ -45,6 +45,16 @@ fn is_past(sum: u64, count: u64, k: u32) -> bool
     (3 * count) << k < sum
 }
 
+/// Where to look for the k to begin with, by the widths of two numbers: each one before it is longer than the next.
+#[tactic(auto, using(crate::proofs::SplittingLemmas::widths))]
+fn near_first(sum: u64, count: u64) -> u32
+    requires count { count ≤ most_values }
+    ensures before { (j : ℕ) → j < result → 3 * count * 2 ^ j < sum }
+{
+    let zeros = (3 * count).leading_zeros();
+    zeros.saturating_sub(sum.leading_zeros())
+}
+
 /// The k to begin with, by the sum of the values: each one before it is longer than the next.
 fn first_k(sum: u64, count: u64, last: u32) -> u32
     requires count { count ≤ most_values }
@@ -52,7 +62,7 @@ fn first_k(sum: u64, count: u64, last: u32) -> u32
     ensures within { result ≤ last }
     ensures before { (j : ℕ) → j < result → 3 * count * 2 ^ j < sum }
 {
-    for k in 0..last {
+    for k in near_first(sum, count).min(last)..last {
         if !is_past(sum, count, k) {
             return k;
         }
