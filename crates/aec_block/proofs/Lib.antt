@@ -23,3 +23,4 @@ pub mod ReadCdsLemmas
 pub mod StandingLemmas
 pub mod SkippingLemmas
 pub mod ShortestLemmas
+pub mod ThreeSumsLemmas

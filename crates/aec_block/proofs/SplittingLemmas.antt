@@ -1,10 +1,10 @@
 -- The first k that one more doesn't make shorter is the best.
-use Rattle.std.proofs.Common.{◌≡◌, ℕ, zero, suc, ap, ◌∙◌, ◌+◌, ◌-◌, ◌*◌, ◌/◌, ◌^◌, ◌<◌, ◌≤◌, subst, arith, ⊎_elim, inl, inr, List, [], ◌∷◌, length}
+use Rattle.std.proofs.Common.{◌≡◌, ℕ, zero, suc, refl, sym, ap, ◌∙◌, ◌+◌, ◌-◌, ◌*◌, ◌/◌, ◌^◌, ◌<◌, ◌≤◌, subst, arith, ⊎_elim, inl, inr, List, [], ◌∷◌, length}
 use Rattle.std.proofs.lemmas.Bool.{cases_lt}
 use lib.Count.{count_leading_zeros, leading_of_zero}
 use Rattle.std.proofs.Math.Pow.{pow_mono}
 use Rattle.std.proofs.lemmas.Nat.{shr-shr, pow_pos, pow-add, leading_le, leading_top, leading_length}
-use Rattle.std.proofs.Math.Nat.{lt-div-mul-add, add-mul, mul-le-mul_right, mul-lt-mul_of_pos_right}
+use Rattle.std.proofs.Math.Nat.{lt-div-mul-add, div-mul-le_self, add-mul, mul-le-mul_right, mul-lt-mul_of_pos_right, le_of_mul-le-mul_right}
 use Rattle.std.proofs.lemmas.List.Sums.{sum_by-cons}
 use Rattle.aec_block.specs.Lengths.{sum_of_shifted, split_values_length, IsBestSplit}
 
@@ -144,3 +144,57 @@ best-stopped options k sum next values falls within at_k at_next stop =
 pub best-last : (options k : ℕ) (values : List ℕ) → FallsTo k values → options ≡ k + 1 → IsBestSplit options k values
 best-last options k values falls last =
     record { within = omega arith; before = falls; after = λ j later below. absurd (omega arith) }
+
+-- what is left of the values without k low bits, times 2^k, is no more than the values
+sum_of_shifted-product : (k : ℕ) (values : List ℕ) → sum_of_shifted k values * 2 ^ k ≤ sum_of_shifted 0 values
+sum_of_shifted-product k [] = omega arith
+sum_of_shifted-product k (v ∷ values) =
+    let rest = sum_of_shifted-product k values in
+    let now = sum_by-cons (λ (u : ℕ). u / 2 ^ k) v values in
+    let whole = sum_by-cons (λ (u : ℕ). u / 2 ^ 0) v values in
+    let quotient : v / 2 ^ k * 2 ^ k ≤ v = div-mul-le_self v (2 ^ k) in
+    let sums : (v / 2 ^ k + sum_of_shifted k values) * 2 ^ k ≡ v / 2 ^ k * 2 ^ k + sum_of_shifted k values * 2 ^ k = add-mul _ _ _ in
+    let all_sums = ap (λ (n : ℕ). n * 2 ^ k) now ∙ sums in
+    omega arith
+
+pub sum_of_shifted-few : (k : ℕ) (values : List ℕ) → sum_of_shifted 0 values ≤ 3 * length values * 2 ^ k → sum_of_shifted k values ≤ 3 * length values
+sum_of_shifted-few k values few = le_of_mul-le-mul_right (omega (arith, sum_of_shifted-product k values)) (pow_pos k)
+
+-- the k to begin with, and the two behind it
+abbrev pub Begins : ℕ → List ℕ → Type 0
+Begins k values = (j : ℕ) → j < k → 3 * length values * 2 ^ j < sum_of_shifted 0 values
+
+pub best-first : (k first second : ℕ) (values : List ℕ) → Begins k values → first ≡ sum_of_shifted k values
+    → second ≡ sum_of_shifted (k + 1) values → first ≤ second + length values → (options : ℕ) → k + 2 < options → IsBestSplit options k values
+best-first k first second values begins at_first at_second stop options within =
+    best-stopped options k first second values (falls_to-first k (sum_of_shifted 0 values) values refl begins) (omega arith) at_first at_second stop
+
+falls_to-second : (k first second : ℕ) (values : List ℕ) → Begins k values → first ≡ sum_of_shifted k values
+    → second ≡ sum_of_shifted (k + 1) values → second + length values < first → FallsTo (k + 1) values
+falls_to-second k first second values begins at_first at_second shorter =
+    falls_to-more k first second values (falls_to-first k (sum_of_shifted 0 values) values refl begins) at_first at_second shorter
+
+at_third : (k third : ℕ) (values : List ℕ) → third ≡ sum_of_shifted (k + 2) values → third ≡ sum_of_shifted (k + 1 + 1) values
+at_third k third values is = is ∙ ap (λ i. sum_of_shifted i values) (omega arith)
+
+pub best-second : (k first second third : ℕ) (values : List ℕ) → Begins k values → first ≡ sum_of_shifted k values
+    → second ≡ sum_of_shifted (k + 1) values → third ≡ sum_of_shifted (k + 2) values → second + length values < first
+    → second ≤ third + length values → (options : ℕ) → k + 2 < options → IsBestSplit options (k + 1) values
+best-second k first second third values begins at_first at_second is shorter stop options within =
+    best-stopped options (k + 1) second third values (falls_to-second k first second values begins at_first at_second shorter) (omega arith)
+    at_second (at_third k third values is) stop
+
+pub best-third : (k first second third : ℕ) (values : List ℕ) → Begins k values → first ≡ sum_of_shifted k values
+    → second ≡ sum_of_shifted (k + 1) values → third ≡ sum_of_shifted (k + 2) values → second + length values < first
+    → third + length values < second → first ≤ 3 * length values → (options : ℕ) → k + 2 < options → IsBestSplit options (k + 2) values
+best-third k first second third values begins at_first at_second is shorter again few options within =
+    let two : k + 1 + 1 ≡ k + 2 = omega arith in
+    let falls = falls_to-more (k + 1) second third values (falls_to-second k first second values begins at_first at_second shorter) at_second
+    (at_third k third values is) again in
+    let once = sum_of_shifted-halved k values in
+    let twice = subst (λ i. 2 * sum_of_shifted i values ≤ sum_of_shifted (k + 1) values) two (sum_of_shifted-halved (k + 1) values) in
+    let stop = little first second third (sum_of_shifted (k + 2 + 1) values) few (rw (at_first, at_second) once) (rw (at_second, is) twice) in
+    best-stopped options (k + 2) third (sum_of_shifted (k + 2 + 1) values) values (subst (λ i. FallsTo i values) two falls) within is refl stop
+  where
+    little : (a b c d : ℕ) → a ≤ 3 * length values → 2 * b ≤ a → 2 * c ≤ b → c ≤ d + length values
+    little a b c d h half quarter = omega arith

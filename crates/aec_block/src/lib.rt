@@ -21,6 +21,7 @@ mod reading_values;
 mod skipping;
 mod skipping_values;
 mod splitting;
+mod three_sums;
 mod writing;
 
 pub use block::Block;

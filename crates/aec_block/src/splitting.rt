@@ -5,6 +5,7 @@ ghost use Rattle.aec_block.specs.BlockShape.{most_values};
 ghost use Rattle.aec_block.specs.Lengths.{sum_of_shifted, split_values_length, IsBestSplit};
 
 use crate::lanes::shifted_sum;
+use crate::three_sums::three_sums;
 
 /// A k, and the bits of the values that are split with it.
 #[derive(Clone, Copy, Debug, PartialEq, Eq)]
@@ -61,6 +62,7 @@ fn first_k(sum: u64, count: u64, last: u32) -> u32
     requires last { last < 32 }
     ensures within { result ≤ last }
     ensures before { (j : ℕ) → j < result → 3 * count * 2 ^ j < sum }
+    ensures there { result < last → sum ≤ 3 * count * 2 ^ result }
 {
     for k in near_first(sum, count).min(last)..last {
         if !is_past(sum, count, k) {
@@ -85,9 +87,32 @@ fn sum_from(values: &[u32], total: u64, k: u32) -> u64
     shifted_sum(values, k)
 }
 
+/// The best k, where it is `first`, the next or the one behind that: each before is longer than the next, and the values add
+/// up to three times their number or less without `first` low bits.
+fn best_of_three(values: &[u32], first: u32) -> Splitting
+    requires first { first < 30 }
+    requires len { length values.now ≤ most_values }
+    requires before { (j : ℕ) → j < first → 3 * length values.now * 2 ^ j < sum_of_shifted 0 values.now }
+    requires there { sum_of_shifted 0 values.now ≤ 3 * length values.now * 2 ^ first }
+    ensures best { (options : ℕ) → first + 2 < options → IsBestSplit options result.k values.now }
+    ensures bits { result.bits ≡ split_values_length result.k values.now }
+    ensures bound { result.bits ≤ 2 ^ 40 }
+{
+    let sums = three_sums(values, first);
+    let count = values.len();
+    if !is_shorter_next(sums.first, sums.second, count as u64) {
+        return with_k(sums.first, count, first);
+    }
+    if !is_shorter_next(sums.second, sums.third, count as u64) {
+        return with_k(sums.second, count, first + 1);
+    }
+    with_k(sums.third, count, first + 2)
+}
+
 /// The k below `options` with which the values have the fewest bits, and of equal ones the least; 0 where there are no
 /// options. The sums fall by half at least with each k, so what one more low bit gains never grows: at the first k that
-/// one more doesn't make shorter, no later one does. The sum of the values as they are says where to begin.
+/// one more doesn't make shorter, no later one does. The sum of the values as they are says where to begin, and two further k are enough where it says so
+/// below the last.
 pub(crate) fn best_split(values: &[u32], options: u32) -> Splitting
     requires options { options ≤ 32 }
     requires len { length values.now ≤ most_values }
@@ -98,6 +123,9 @@ pub(crate) fn best_split(values: &[u32], options: u32) -> Splitting
     let last = options.saturating_sub(1);
     let total = shifted_sum(values, 0);
     let first = first_k(total, values.len() as u64, last);
+    if first + 2 <= last {
+        return best_of_three(values, first);
+    }
     let mut sum = sum_from(values, total, first);
     for k in first..last {
         let next = sum_from(values, total, k + 1);

@@ -16,3 +16,6 @@ loop-k-init c =
     let falls = falls_to-first c.first_k-first.result c.shifted_sum-total.result c.args.values.now c.shifted_sum-total.ensures.sum
     c.first_k-first.ensures.before in
     (c.sum_from-sum.ensures.sum, falls, c.sum_from-sum.ensures.bound)
+
+pub returns-then-first-last-clause-best : goal.returns-then-first-last-clause-best
+returns-then-first-last-clause-best c some = c.best_of_three.ensures.best c.args.options (omega arith)

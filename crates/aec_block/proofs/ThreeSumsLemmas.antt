@@ -1,0 +1,42 @@
+-- Three sums in lanes of 32 bits are the sums of the values.
+use Rattle.std.proofs.Common.{◌≡◌, ℕ, ◌+◌, ◌-◌, ◌*◌, ◌/◌, ◌<◌, ◌≤◌, ◌^◌, ◌∙◌, sym, subst, arith, List, length, take, drop}
+use Rattle.std.specs.Simd.Lanes.{sum_l, zip2, fold_l}
+use mir.Syntax.{add, unsigned, w32}
+use borrow.Rule.Simd.Lanes.{act2}
+use borrow.Table.Row.{s_int}
+use Rattle.std.proofs.lemmas.Simd.{adds_fit, sum_fits, sum-zip2, fold-sum, length-zip2}
+use Rattle.std.proofs.lemmas.List.Sums.{sum_by-take-drop}
+use Rattle.aec_block.specs.Lengths.{sum_of_shifted}
+use Rattle.aec_block.proofs.LanesLemmas.{eight_more}
+use Rattle.aec_block.proofs.SplittingLemmas.{sum_of_shifted-halved}
+
+-- what adding lane to lane and adding up the lanes show as
+pub sum_l-added : (xs ys : List ℕ) → length xs ≡ 8 → length ys ≡ 8
+    → sum_l (zip2 (act2 (add unsigned) (s_int w32) (s_int w32) (s_int w32)) xs ys) ≡ sum_l xs + sum_l ys
+sum_l-added xs ys long_x long_y = sum-zip2 xs ys (long_x ∙ sym long_y)
+
+pub fold_l-added : (xs : List ℕ) → fold_l (act2 (add unsigned) (s_int w32) (s_int w32) (s_int w32)) 0 xs ≡ sum_l xs
+fold_l-added xs = omega (arith, fold-sum 0 xs)
+
+pub ruleset additions = (adds_fit, sum_fits, sum_l-added, fold_l-added, length-zip2)
+
+-- a front has no greater sum
+front-le : (k n : ℕ) (values : List ℕ) → sum_of_shifted k (take n values) ≤ sum_of_shifted k values
+front-le k n values = omega (arith, sum_by-take-drop (λ (v : ℕ). v / 2 ^ k) values n)
+
+-- eight values more, which leave the sum small
+pub eight_more-fits : (k i : ℕ) (values : List ℕ) → sum_of_shifted k values < 2 ^ 32
+    → sum_of_shifted k (take (8 * i) values) + sum_of_shifted k (take (8 * i + 8 - 8 * i) (drop (8 * i) values)) < 2 ^ 32
+eight_more-fits k i values small = omega (arith, eight_more k i values, front-le k (8 * (i + 1)) values)
+
+-- one low bit less leaves no more
+pub less-small : (k : ℕ) (values : List ℕ) → sum_of_shifted k values < 2 ^ 32 → sum_of_shifted (k + 1) values < 2 ^ 32
+less-small k values small = omega (arith, sum_of_shifted-halved k values)
+
+pub two_less-small : (k : ℕ) (values : List ℕ) → sum_of_shifted k values < 2 ^ 32 → sum_of_shifted (k + 2) values < 2 ^ 32
+two_less-small k values small =
+    let two : k + 1 + 1 ≡ k + 2 = omega arith in
+    subst (λ i. sum_of_shifted i values < 2 ^ 32) two (less-small (k + 1) values (less-small k values small))
+
+pub front-small : (k n : ℕ) (values : List ℕ) → sum_of_shifted k values < 2 ^ 32 → sum_of_shifted k (take n values) < 2 ^ 32
+front-small k n values small = omega (arith, front-le k n values)
