@@ -1,7 +1,7 @@
 //! The choice of the shortest option for a block.
 
 ghost use Rattle.std.specs.Prelude.{◌≡◌, ◌*◌, ◌^◌, ◌≤◌, ◌&&◌, ◌||◌, nat_lt, nat_le};
-ghost use Rattle.aec_params.specs.Params.{IsAllowed, split_count};
+ghost use Rattle.aec_params.specs.Params.{IsAllowed, split_count, id_len as identifier_len};
 ghost use Rattle.aec_params.specs.Spellings.{written_values};
 ghost use Rattle.aec_block.specs.declared.choice.Coding.TheVariants.{SecondExtension, Split};
 ghost use Rattle.aec_block.specs.BlockShape.{most_values};
@@ -31,13 +31,14 @@ pub struct Choice {
     pub bits: u64,
 }
 
-/// How many sample-splitting options there are.
-fn split_options(params: &Params) -> u32
+/// How many sample-splitting options there are, by the length of identifiers.
+fn split_options(params: &Params, id_len: u32) -> u32
+    requires allowed { IsAllowed params.now }
+    requires id_len { id_len ≡ identifier_len params.now }
     ensures count { result ≡ split_count params.now }
     ensures bound { result ≤ 30 }
-    ensures allowed { IsAllowed params.now }
 {
-    (1 << params.id_len()) - 2
+    (1 << id_len) - 2
 }
 
 /// The option of so many bits, where it is shorter than the best so far, and else that one.
@@ -53,11 +54,12 @@ fn shorter_of(best: Choice, coding: Coding, bits: u64) -> Choice
 
 /// The second extension, where it is shorter than the best so far, and else that one.
 #[tactic(auto, using(crate::proofs::ChoiceLemmas::too_long))]
-fn shorter_of_pairs(params: &Params, block: &Block, best: Choice) -> Choice
-    requires { best.bits ≤ 2 ^ 31 }
+fn shorter_of_pairs(params: &Params, id_len: u32, block: &Block, best: Choice) -> Choice
+    requires id_len { id_len ≡ identifier_len params.now }
+    requires bound { best.bits ≤ 2 ^ 31 }
     ensures { result ≡ shorter_choice best SecondExtension (paired_length params.now block.now) }
 {
-    match paired_len(params, block) {
+    match paired_len(params, id_len, block) {
         Some(bits) => shorter_of(best, Coding::SecondExtension, bits),
         None => best,
     }
@@ -73,12 +75,19 @@ fn pairs_are_longer(options: u32, split: Splitting, count: u64) -> bool
 }
 
 /// Splitting, where it is shorter than the best so far, and else that one.
-fn shorter_of_split(params: &Params, block: &Block, best: Choice, split: Splitting) -> Choice
+fn shorter_of_split(
+    params: &Params,
+    id_len: u32,
+    block: &Block,
+    best: Choice,
+    split: Splitting,
+) -> Choice
+    requires id_len { id_len ≡ identifier_len params.now }
     requires bits { split.bits ≡ split_values_length split.k (written_values block.now) }
     requires bound { split.bits ≤ 2 ^ 40 }
     ensures { result ≡ shorter_choice best (Split split.k) (split_length params.now block.now split.k) }
 {
-    let head = head_len(params, block.reference());
+    let head = head_len(params, id_len, block.reference());
     shorter_of(best, Coding::Split(split.k), u64::from(head) + split.bits)
 }
 
@@ -88,19 +97,20 @@ pub fn choose(params: &Params, block: &Block) -> Choice
     requires { IsFull params.now block.now }
     ensures { IsChoice params.now block.now result }
 {
+    let width = params.id_len();
     let plain = Choice {
         coding: Coding::NoCompression,
-        bits: uncompressed_len(params, block),
+        bits: uncompressed_len(params, width, block),
     };
-    let options = split_options(params);
+    let options = split_options(params, width);
     let values = block.written();
     let split = best_split(values, options);
     if pairs_are_longer(options, split, values.len() as u64) {
-        return shorter_of_split(params, block, plain, split);
+        return shorter_of_split(params, width, block, plain, split);
     }
-    let best = shorter_of_pairs(params, block, plain);
+    let best = shorter_of_pairs(params, width, block, plain);
     if options == 0 {
         return best;
     }
-    shorter_of_split(params, block, best, split)
+    shorter_of_split(params, width, block, best, split)
 }

@@ -1,7 +1,7 @@
 //! The length of each spelling of a block, as a sum, in bits of the whole coded data set.
 
 ghost use Rattle.std.specs.Prelude.{◌≡◌, ◌+◌, ◌*◌, ◌^◌, ◌≤◌, length, IfSome, IfNone};
-ghost use Rattle.aec_params.specs.Params.{IsAllowed};
+ghost use Rattle.aec_params.specs.Params.{IsAllowed, id_len as identifier_len};
 ghost use Rattle.aec_params.specs.CodedDataSets.{pair_number};
 ghost use Rattle.aec_block.specs.BlockShape.{most_values};
 ghost use Rattle.aec_block.specs.Lengths.{head_length, pairs_length, uncompressed_length, paired_length};
@@ -9,14 +9,15 @@ ghost use Rattle.aec_block.specs.Lengths.{head_length, pairs_length, uncompresse
 use crate::block::Block;
 use aec_params::Params;
 
-/// An identifier of the usual length, and the reference sample where there is one.
-pub(crate) fn head_len(params: &Params, reference: Option<u32>) -> u32
+/// An identifier of `id_len` bits, the usual length, and the reference sample where there is one.
+pub(crate) fn head_len(params: &Params, id_len: u32, reference: Option<u32>) -> u32
+    requires id_len { id_len ≡ identifier_len params.now }
     ensures len { result ≡ head_length params.now reference }
     ensures bound { result ≤ 37 }
 {
     match reference {
-        None => params.id_len(),
-        Some(_) => params.id_len() + params.bits(),
+        None => id_len,
+        Some(_) => id_len + params.bits(),
     }
 }
 
@@ -58,19 +59,21 @@ fn pairs_len(values: &[u32]) -> Option<u64>
 }
 
 /// The length by no compression.
-pub(crate) fn uncompressed_len(params: &Params, block: &Block) -> u64
+pub(crate) fn uncompressed_len(params: &Params, id_len: u32, block: &Block) -> u64
+    requires id_len { id_len ≡ identifier_len params.now }
     ensures len { result ≡ uncompressed_length params.now block.now }
     ensures bound { result ≤ 37 + 32 * most_values }
 {
-    u64::from(head_len(params, block.reference()))
+    u64::from(head_len(params, id_len, block.reference()))
         + block.written().len() as u64 * u64::from(params.bits())
 }
 
 /// The length by the second extension, or nothing where a codeword alone is longer than each block by no compression.
-pub(crate) fn paired_len(params: &Params, block: &Block) -> Option<u64>
+pub(crate) fn paired_len(params: &Params, id_len: u32, block: &Block) -> Option<u64>
+    requires id_len { id_len ≡ identifier_len params.now }
     ensures some { IfSome result (λ len. len ≡ paired_length params.now block.now) }
     ensures none { IfNone result (2 ^ 31 ≤ paired_length params.now block.now) }
 {
     let pairs = pairs_len(block.values())?;
-    Some(u64::from(head_len(params, block.reference())) + 1 + pairs)
+    Some(u64::from(head_len(params, id_len, block.reference())) + 1 + pairs)
 }

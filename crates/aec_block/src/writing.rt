@@ -2,7 +2,7 @@
 
 ghost use Rattle.std.specs.Prelude.{◌≡◌, ◌+◌, ◌-◌, ◌*◌, ◌/◌, ◌<◌, ◌≤◌, ◌^◌, ◌++◌, false, length, drop, if◌then◌else◌, OnOk, OnErr, IfErr};
 ghost use Rattle.aec_params.specs.declared.fault.Fault.TheVariants.{Memory};
-ghost use Rattle.aec_params.specs.Params.{IsAllowed, split_count};
+ghost use Rattle.aec_params.specs.Params.{IsAllowed, split_count, id_len as identifier_len};
 ghost use Rattle.aec_params.specs.Codewords.{fs, binary};
 ghost use Rattle.aec_params.specs.CodedDataSets.{pair_bits, reference_bits, cds_bits};
 ghost use Rattle.aec_params.specs.Spellings.{written_values, uncompressed, paired, split};
@@ -231,12 +231,13 @@ fn put_paired(params: &Params, block: &Block, out: &mut BitBuf)
 }
 
 /// How many of the bits of a block that is split with `k` are those of its values without their low bits.
-fn high_len(params: &Params, block: &Block, k: u32, bits: u64) -> u64
+fn high_len(params: &Params, id_len: u32, block: &Block, k: u32, bits: u64) -> u64
+    requires id_len { id_len ≡ identifier_len params.now }
     requires k { k < 32 }
     requires bits { bits ≡ length (cds_bits params.now (split block.now k)) }
     ensures { result ≡ length (high_parts k (written_values block.now)) }
 {
-    let head = u64::from(head_len(params, block.reference()));
+    let head = u64::from(head_len(params, id_len, block.reference()));
     bits - head - block.written().len() as u64 * u64::from(k)
 }
 
@@ -250,8 +251,9 @@ fn put_split(params: &Params, block: &Block, k: u32, bits: u64, out: &mut BitBuf
     ensures list { out.new.list ≡ out.old.list ++ cds_bits params.now (split block.now k) }
     ensures room { out.old.room ≤ out.new.room + length (cds_bits params.now (split block.now k)) }
 {
-    let len = high_len(params, block, k, bits);
-    let head = put_head(params, block.reference(), k + 1, params.id_len(), out);
+    let width = params.id_len();
+    let len = high_len(params, width, block, k, bits);
+    let head = put_head(params, block.reference(), k + 1, width, out);
     put_split_values(block.written(), k, len, head, out).append_to(out);
 }
 
@@ -318,8 +320,9 @@ pub fn write_run(
     ensures fault { IfErr result (λ e. e ≡ Memory) }
 {
     let code = code_of_run(z, to_end);
-    out.reserve(u64::from(head_len(params, reference) + 1 + (code + 1)))?;
-    let head = put_head(params, reference, 0, params.id_len() + 1, out);
+    let width = params.id_len();
+    out.reserve(u64::from(head_len(params, width, reference) + 1 + (code + 1)))?;
+    let head = put_head(params, reference, 0, width + 1, out);
     head.put_fs(u64::from(code), out).append_to(out);
     Ok(())
 }

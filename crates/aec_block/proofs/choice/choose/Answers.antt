@@ -14,7 +14,7 @@ returns-then-pairs_are_longer c =
     let test = subst (λ v. (nat_lt 0 options && (nat_lt 0 split.result.k || nat_le (2 * length v) split.result.bits)) ≡ true) is
     (sym c.pairs_are_longer.ensures ∙ c.if-pairs_are_longer.true) in
     names-unpaired s c.args.block.now options split.result.k split.result.bits c.uncompressed_len.result c.shorter_of_split.result
-    c.split_options-options.ensures.allowed c.requires c.uncompressed_len.ensures.len c.split_options-options.ensures.count
+    c.id_len-width.ensures.allowed c.requires c.uncompressed_len.ensures.len c.split_options-options.ensures.count
     (subst (λ v. 0 < options → IsBestSplit options split.result.k v) is split.ensures.best)
     (subst (λ v. split.result.bits ≡ split_values_length split.result.k v) is split.ensures.bits) test c.shorter_of_split.ensures
 
