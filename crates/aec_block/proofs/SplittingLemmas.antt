@@ -1,5 +1,5 @@
 -- The first k that one more doesn't make shorter is the best.
-use Rattle.std.proofs.Common.{◌≡◌, ℕ, zero, suc, refl, sym, ap, ◌∙◌, ◌+◌, ◌-◌, ◌*◌, ◌/◌, ◌^◌, ◌<◌, ◌≤◌, subst, arith, ⊎_elim, inl, inr, List, [], ◌∷◌, length}
+use Rattle.std.proofs.Common.{◌≡◌, ℕ, zero, suc, refl, ap, ◌∙◌, ◌+◌, ◌-◌, ◌*◌, ◌/◌, ◌^◌, ◌<◌, ◌≤◌, subst, arith, ⊎_elim, inl, inr, List, [], ◌∷◌, length}
 use Rattle.std.proofs.lemmas.Bool.{cases_lt}
 use lib.Count.{count_leading_zeros, leading_of_zero}
 use Rattle.std.proofs.Math.Pow.{pow_mono}
@@ -134,7 +134,37 @@ wider (suc n) most j sum_fits fits before =
     let least = top.2 in
     omega arith
 
-pub ruleset widths = (wider)
+-- and with one zero more it is as great
+pub as_wide : (sum most : ℕ) → sum < 2 ^ 64 → most < 2 ^ 64 → 0 < most
+    → sum ≤ most * 2 ^ (count_leading_zeros 64 most - count_leading_zeros 64 sum + 1)
+as_wide sum most sum_fits fits some =
+    let top = leading_top 64 most some fits in
+    let digits = leading_length 64 sum sum_fits in
+    let zeros = count_leading_zeros 64 most - count_leading_zeros 64 sum + 1 in
+    let product : 2 ^ top.0 * 2 ^ zeros ≤ most * 2 ^ zeros = mul-le-mul_right (2 ^ zeros) top.2 in
+    let sum_of_powers : 2 ^ (top.0 + zeros) ≡ 2 ^ top.0 * 2 ^ zeros = pow-add 2 top.0 zeros in
+    let at_top = top.1 in
+    let at_digits = digits.1 in
+    let power : 2 ^ digits.0 ≤ 2 ^ (top.0 + zeros) = pow_mono (omega arith) in
+    let below = digits.2 in
+    omega arith
+
+pub ruleset widths = (wider, as_wide, leading_le)
+
+-- one k more is past
+pub one_more_past : (k sum count : ℕ) → ((j : ℕ) → j < k → 3 * count * 2 ^ j < sum) → 3 * count * 2 ^ k < sum
+    → (j : ℕ) → j < k + 1 → 3 * count * 2 ^ j < sum
+one_more_past k sum count before past j h =
+    ⊎_elim (before j) (λ e. subst (λ i. 3 * count * 2 ^ i < sum) (omega arith) past) (cases_lt j k)
+
+-- no values are no more than any number of them
+pub close_or_none : (sum count k : ℕ) → (count ≡ 0 → sum ≡ 0) → (0 < count → sum ≤ 3 * count * 2 ^ (k + 1)) → sum ≤ 3 * count * 2 ^ (k + 1)
+close_or_none sum zero k none close = let empty = none refl in omega arith
+close_or_none sum (suc n) k none close = close (omega arith)
+
+pub sum_of_shifted-none : (values : List ℕ) → length values ≡ 0 → sum_of_shifted 0 values ≡ 0
+sum_of_shifted-none [] none = refl
+sum_of_shifted-none (v ∷ values) none = absurd (omega arith)
 
 pub best-stopped : (options k sum next : ℕ) (values : List ℕ) → FallsTo k values → k < options → sum ≡ sum_of_shifted k values
     → next ≡ sum_of_shifted (k + 1) values → sum ≤ next + length values → IsBestSplit options k values

@@ -46,11 +46,13 @@ fn is_past(sum: u64, count: u64, k: u32) -> bool
     (3 * count) << k < sum
 }
 
-/// Where to look for the k to begin with, by the widths of two numbers: each one before it is longer than the next.
+/// The k to begin with or the one before it, by the widths of two numbers.
 #[tactic(auto, using(crate::proofs::SplittingLemmas::widths))]
 fn near_first(sum: u64, count: u64) -> u32
     requires count { count ≤ most_values }
     ensures before { (j : ℕ) → j < result → 3 * count * 2 ^ j < sum }
+    ensures close { 0 < count → sum ≤ 3 * count * 2 ^ (result + 1) }
+    ensures bound { result ≤ 64 }
 {
     let zeros = (3 * count).leading_zeros();
     zeros.saturating_sub(sum.leading_zeros())
@@ -59,17 +61,20 @@ fn near_first(sum: u64, count: u64) -> u32
 /// The k to begin with, by the sum of the values: each one before it is longer than the next.
 fn first_k(sum: u64, count: u64, last: u32) -> u32
     requires count { count ≤ most_values }
+    requires none { count ≡ 0 → sum ≡ 0 }
     requires last { last < 32 }
     ensures within { result ≤ last }
     ensures before { (j : ℕ) → j < result → 3 * count * 2 ^ j < sum }
     ensures there { result < last → sum ≤ 3 * count * 2 ^ result }
 {
-    for k in near_first(sum, count).min(last)..last {
-        if !is_past(sum, count, k) {
-            return k;
-        }
+    let near = near_first(sum, count);
+    if near >= last {
+        return last;
     }
-    last
+    if is_past(sum, count, near) {
+        return near + 1;
+    }
+    near
 }
 
 /// The sum of the values without their `k` low bits, where that of the values as they are is known.

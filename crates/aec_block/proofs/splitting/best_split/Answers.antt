@@ -1,7 +1,7 @@
 use Rattle.std.proofs.Common.{◌+◌, ◌≤◌, sym, subst, arith, length}
 use Rattle.std.proofs.lemmas.Bool.Decides.{nat_tests}
 use Rattle.aec_block.specs.Lengths.{IsBestSplit}
-use Rattle.aec_block.proofs.SplittingLemmas.{best-stopped, falls_to-first}
+use Rattle.aec_block.proofs.SplittingLemmas.{best-stopped, falls_to-first, sum_of_shifted-none}
 use Rattle.aec_block.proofs.splitting.best_split.Goals as goal
 
 pub returns-then-not-is_shorter_next-clause-best : goal.returns-then-not-is_shorter_next-clause-best
@@ -19,3 +19,7 @@ loop-k-init c =
 
 pub returns-then-first-last-clause-best : goal.returns-then-first-last-clause-best
 returns-then-first-last-clause-best c some = c.best_of_three.ensures.best c.args.options (omega arith)
+
+pub first_k-first-requires-clause-none : goal.first_k-first-requires-clause-none
+first_k-first-requires-clause-none c none =
+    omega (arith, c.shifted_sum-total.ensures.sum, sum_of_shifted-none c.args.values.now none)
