@@ -4,8 +4,9 @@
 Runs the program at PATH_OF_AEC ('ours') and the command-line client of libaec ('theirs', named by the environment
 variable LIBAEC, else /usr/bin/aec) on generated samples; both decode the stream that theirs has coded. Prints tables in
 Markdown: seconds of processor time (user and system, the least of five runs in turn, starting included), peak memory (the
-maximum resident set, as /usr/bin/time tells it), the ratios, and how both grow from 1 to 16 MiB of samples. A last table
-has the speeds of each input both ways, theirs divided by ours in seconds, and their geometric mean. Nothing is judged.
+maximum resident set, as /usr/bin/time tells it), the ratios, and how both grow from 1 to 16 MiB of samples. A further table
+has the speeds of each input both ways, theirs divided by ours in seconds, and their geometric mean; the last one the memory
+of both for 16 and 64 MiB of samples, and for a short stream of very many. Nothing is judged.
 
 The inputs are one MiB of samples each, repeated for the greater sizes, so a coder that takes time in proportion to
 its input takes 16 times as long for 16 MiB. With --quick only 1 MiB is run, once.
@@ -159,6 +160,34 @@ def summary(coding, decoding):
     print(f"| geometric mean | | | {means[0]:.2f} | {means[1]:.2f} |")
 
 
+def memory_row(job, what, ours, theirs, words, source, folder):
+    """Prints the memory of one job on one file."""
+    (_, our_mib), (_, their_mib) = measure(job, ours, theirs, words, source, folder, 1)
+    print(f"| {job} | {what} | {os.path.getsize(source)} | {our_mib:.1f} | {their_mib:.1f} |", flush=True)
+
+
+def memory(ours, theirs, piece, folder, sizes, zeros):
+    """Prints the memory for the detector's samples, and for a stream of runs of zero blocks."""
+    print("\n### Memory, in MiB\n")
+    print("| Job | Samples, J, r | bytes of SOURCE | ours | theirs |")
+    print("|---|---|---|---|---|")
+    raw, coded = os.path.join(folder, "raw"), os.path.join(folder, "coded")
+    for size in sizes:
+        words = ["-n", "16", "-j", "16", "-r", "128"]
+        with open(raw, "wb") as file:
+            for _ in range(size):
+                file.write(piece)
+        subprocess.run([theirs, *words, raw, coded], check=True)
+        what = f"{size} MiB, 16-bit detector, 16, 128"
+        memory_row("coding", what, ours, theirs, words, raw, folder)
+        memory_row("decoding", what, ours, theirs, words, coded, folder)
+    words = ["-n", "8", "-j", "64", "-r", "4096"]
+    with open(raw, "wb") as file:
+        file.truncate(zeros * MIB)
+    subprocess.run([ours, *words, raw, coded], check=True)
+    memory_row("decoding", f"{zeros} MiB, 8-bit zeros, 64, 4096", ours, theirs, words, coded, folder)
+
+
 def main():
     quick = "--quick" in sys.argv
     ours, theirs = os.path.abspath(sys.argv[1]), os.environ.get("LIBAEC", "/usr/bin/aec")
@@ -173,7 +202,8 @@ def main():
         speeds = {
             job: table(job, ours, theirs, pieces, folder, sizes, runs) for job in ("decoding", "coding")
         }
-    summary(speeds["coding"], speeds["decoding"])
+        summary(speeds["coding"], speeds["decoding"])
+        memory(ours, theirs, pieces["16-bit detector"], folder, [1] if quick else [16, 64], 1 if quick else 222)
 
 
 if __name__ == "__main__":
