@@ -1,12 +1,12 @@
 //! Intervals coded by the codec, and decoded again.
 
-ghost use Rattle.std.specs.Prelude.{◌≡◌};
+ghost use Rattle.std.specs.Prelude.{◌≡◌, ◌++◌, OnOk};
 ghost use Rattle.std.specs.Bool.{OnTrue};
 ghost use Rattle.std.specs.List.{list_all};
 ghost use Rattle.aec_bits.specs.Codec.{IsInterval};
 
 use crate::settings::padded;
-use crate::shared::{expect_bits, there_and_back};
+use crate::shared::expect_bits;
 use aec_bits::{BitBuf, Codec};
 use aec_interval::AecCodec;
 use aec_params::{Fault, Params, Settings};
@@ -27,6 +27,21 @@ fn is_interval<C: Codec>(codec: &C, samples: &[i64]) -> bool
 {
     let is_few = samples.len() as u64 <= codec.interval_len();
     !samples.is_empty() && is_few && are_held(codec, samples)
+}
+
+/// Codes an interval behind some bits, and decodes it again.
+fn there_and_back<C: Codec>(
+    codec: &mut C,
+    samples: &[i64],
+    buf: &mut BitBuf,
+    out: &mut Vec<i64>,
+) -> Result<(), Fault>
+    requires { IsInterval (C.format codec.old) samples.now }
+    ensures { OnOk result (out.new.items ≡ out.old.items ++ samples.now) }
+{
+    let start = buf.len();
+    codec.code(samples, buf)?;
+    codec.decode(buf, start, samples.len() as u64, out)
 }
 
 /// The same for samples that the codec has as an interval.

@@ -4,7 +4,7 @@ ghost use Rattle.std.specs.Prelude.{◌-◌, ◌≤◌, if◌then◌else◌};
 ghost use Rattle.aec_params.specs.Runs.{segment_len};
 ghost use Rattle.aec_block.specs.Choices.{FitsReference};
 
-use super::choices::fits_reference;
+use crate::choices::fits_reference;
 use crate::shared::expect_bits;
 use aec_bits::BitBuf;
 use aec_block::write_run;

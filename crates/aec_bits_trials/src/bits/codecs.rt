@@ -1,9 +1,28 @@
+//! The interface of a coder, over octets.
+
+ghost use Rattle.std.specs.Prelude.{◌≡◌, ◌++◌, OnOk};
+ghost use Rattle.aec_bits.specs.Codec.{IsInterval};
+
 use super::bits::{bits, bytes};
-use crate::shared::there_and_back;
 use aec_bits::laws::{self, Octets};
 use aec_bits::{BitBuf, Codec};
 use aec_params::Fault;
 use std::test::Fail;
+
+/// Codes an interval behind some bits, and decodes it again.
+fn there_and_back<C: Codec>(
+    codec: &mut C,
+    samples: &[i64],
+    buf: &mut BitBuf,
+    out: &mut Vec<i64>,
+) -> Result<(), Fault>
+    requires { IsInterval (C.format codec.old) samples.now }
+    ensures { OnOk result (out.new.items ≡ out.old.items ++ samples.now) }
+{
+    let start = buf.len();
+    codec.code(samples, buf)?;
+    codec.decode(buf, start, samples.len() as u64, out)
+}
 
 #[test]
 fn codes_octets_and_back(rt: HostRuntime) -> Result<(), Fail> {

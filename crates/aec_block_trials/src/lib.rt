@@ -1,0 +1,16 @@
+//! Tests alone: what no clause of `aec_block` says, and values from outside. They stand here because a crate with
+//! tests is proved twice, and its must-fail edits wait for both proofs.
+#![tactic(auto)]
+
+#[cfg(test)]
+mod choices;
+#[cfg(test)]
+mod reading;
+#[cfg(test)]
+mod reused_block;
+#[cfg(test)]
+mod runs;
+#[cfg(test)]
+mod shared;
+#[cfg(test)]
+mod skipping;
