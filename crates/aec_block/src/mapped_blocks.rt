@@ -80,7 +80,8 @@ fn map_list(params: &Params, previous: i64, samples: &[i64], values: &mut [u32])
 
 /// Makes the block that of a reference, where there is one, and of what is coded for samples behind the reference
 /// place, whatever stood in it before. Each sample is predicted from the one before it, the first from `previous`.
-/// Without preprocessing their patterns are coded, and `previous` has no effect. Takes no memory.
+/// Without preprocessing their patterns are coded, and `previous`, which has to be a sample all the same, has no effect. The
+/// reference place and the samples are at most 64. Takes no memory.
 pub fn map_into(
     params: &Params,
     reference: Option<u32>,

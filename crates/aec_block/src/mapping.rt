@@ -167,7 +167,8 @@ fn push_values(params: &Params, patterns: &[u32], samples: &mut Vec<i64>)
 }
 
 /// Appends the samples for which values are coded, each predicted from the one before it, the first from `previous`.
-/// Without preprocessing the values are patterns, and `previous` has no effect. Takes no memory.
+/// Without preprocessing the values are patterns, and `previous`, which has to be a sample all the same, has no effect. Takes no
+/// memory.
 pub fn unmap_all(params: &Params, previous: i64, values: &[u32], samples: &mut Vec<i64>)
     requires prediction { IsHeld params.now previous }
     requires mapped { AllByRecursion (λ v. v < 2 ^ params.now.bits) values.now }

@@ -54,8 +54,7 @@ pub fn steps_are_the_reading()
     ensures { AllStepsAreTheReading }
 {}
 
-/// Lawful coded data sets stand for samples, from where an interval begins on: each value is coded for a sample, whatever sample
-/// comes before.
+/// Lawful coded data sets stand for samples, from where an interval begins on.
 pub fn coded_data_sets_stand_for_samples()
     ensures { AllSetsStandForSamples }
 {}

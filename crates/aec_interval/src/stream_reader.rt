@@ -10,7 +10,7 @@ use std::alloc::Global;
 use std::marker::Model;
 
 /// Reads the samples that coded bits stand for, as `decode_all` does, and hands them out interval by interval. It keeps
-/// none of them. Contracts see the place where it is.
+/// none of them, but the values of one block. Contracts see the place where it is.
 #[derive(Debug, Drop)]
 pub struct StreamReader<'a> {
     params: Params,

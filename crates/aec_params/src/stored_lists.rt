@@ -184,7 +184,8 @@ fn load_each<T: ByteOrder>(params: &Params, bytes: &[u8], width: usize, out: &mu
     }
 }
 
-/// Writes the bytes of samples, one behind the other. Takes no memory.
+/// Writes the bytes of samples, which the parameters have, one behind the other; `out` is exactly as long as these bytes. Takes no
+/// memory.
 pub fn put_samples(params: &Params, samples: &[i64], out: &mut [u8])
     requires held { AllByRecursion (IsHeld params.now) samples.now }
     requires room { length out.old ≡ storage_len params.now * length samples.now }

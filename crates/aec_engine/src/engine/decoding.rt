@@ -53,8 +53,8 @@ fn decode_bits<W: Sink>(
 
 /// Reads the source whole, and writes the bytes of the samples that it codes: with a count the first `count`, without one
 /// all. The refusals in their order: `Read`, `StreamTooLong` and `Memory` as they are met while the source is read; then
-/// those of `decode_all`; then `Memory`, for the room that the second reading takes. Nothing has been written then and `begin`
-/// was not called. After `begin` only `Write` can come, and a front of the answer has been written.
+/// those of `decode_all`; then `Memory`, for the room that the second reading takes. That `Memory` comes last is no part of the
+/// contract. Nothing has been written then and `begin` was not called. After `begin` only `Write` can come, and a front of the answer has been written.
 ///
 /// The coded bits are read twice, so that the samples are not kept: memory is taken for the bytes of the source, and for
 /// one interval of samples and their bytes.

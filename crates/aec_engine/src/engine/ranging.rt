@@ -47,8 +47,8 @@ fn range_bits<W: Sink>(
 
 /// Reads the source whole, and writes the bytes of `len` of the samples that it codes, from place `first` on. The refusals
 /// in their order: those of `decode`, so that coded data after the range are judged too; then `OutOfRange` where the
-/// range passes the samples, which are `count` where a count is given; then `Memory`. Nothing has been written then and
-/// `begin` was not called. After `begin` only `Write` can come, and a front of the answer has been written. The coded bits
+/// range passes the samples, which are `count` where a count is given; then `Memory`, though that it comes last is no part of
+/// the contract. Nothing has been written then and `begin` was not called. After `begin` only `Write` can come, and a front of the answer has been written. The coded bits
 /// are read twice and the samples are not kept, as in `decode`.
 pub fn range<R: Source, W: Sink>(
     alloc: Global,
