@@ -3,7 +3,7 @@
 use aec_params::Settings;
 
 /// So many bits per sample.
-pub const fn width(bits: u32, signed: bool) -> Settings {
+pub(crate) const fn width(bits: u32, signed: bool) -> Settings {
     Settings {
         bits,
         signed,
@@ -12,7 +12,7 @@ pub const fn width(bits: u32, signed: bool) -> Settings {
 }
 
 /// The restricted set of codes, with so many bits per sample.
-pub const fn restricted(bits: u32) -> Settings {
+pub(crate) const fn restricted(bits: u32) -> Settings {
     Settings {
         restricted: true,
         ..width(bits, false)
@@ -20,7 +20,7 @@ pub const fn restricted(bits: u32) -> Settings {
 }
 
 /// Samples of 17 to 24 bits in three bytes.
-pub const fn three_byte(bits: u32, signed: bool) -> Settings {
+pub(crate) const fn three_byte(bits: u32, signed: bool) -> Settings {
     Settings {
         three_byte: true,
         ..width(bits, signed)
@@ -28,7 +28,7 @@ pub const fn three_byte(bits: u32, signed: bool) -> Settings {
 }
 
 /// The most significant byte first.
-pub const fn msb_first(settings: Settings) -> Settings {
+pub(crate) const fn msb_first(settings: Settings) -> Settings {
     Settings {
         msb_first: true,
         ..settings

@@ -31,7 +31,7 @@ fn all_below(values: &[u32], limit: u64) -> bool
 }
 
 /// Whether a number stands as a reference sample.
-pub fn fits_reference(params: &Params, reference: Option<u32>) -> bool
+pub(crate) fn fits_reference(params: &Params, reference: Option<u32>) -> bool
     ensures { OnTrue result (FitsReference params.now reference) }
 {
     match reference {

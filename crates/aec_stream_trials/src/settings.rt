@@ -3,7 +3,7 @@
 use aec_params::Settings;
 
 /// So many bits per sample.
-pub const fn width(bits: u32, signed: bool) -> Settings {
+pub(crate) const fn width(bits: u32, signed: bool) -> Settings {
     Settings {
         bits,
         signed,
@@ -12,7 +12,7 @@ pub const fn width(bits: u32, signed: bool) -> Settings {
 }
 
 /// Intervals of so many blocks.
-pub const fn with_interval(interval: u32) -> Settings {
+pub(crate) const fn with_interval(interval: u32) -> Settings {
     Settings {
         interval,
         ..Settings::USUAL
@@ -20,7 +20,7 @@ pub const fn with_interval(interval: u32) -> Settings {
 }
 
 /// No preprocessing, and intervals of so many blocks.
-pub const fn unprocessed(interval: u32) -> Settings {
+pub(crate) const fn unprocessed(interval: u32) -> Settings {
     Settings {
         preprocess: false,
         ..with_interval(interval)
@@ -28,7 +28,7 @@ pub const fn unprocessed(interval: u32) -> Settings {
 }
 
 /// With padding.
-pub const fn padded() -> Settings {
+pub(crate) const fn padded() -> Settings {
     Settings {
         pad: true,
         ..Settings::USUAL

@@ -4,7 +4,7 @@ use aec_bits::BitBuf;
 use std::process::Abort;
 
 /// Compares bits with those of bytes, of which the last is filled with zeros.
-pub fn expect_bits(rt: &impl Abort, bits: &BitBuf, len: u64, bytes: &[u8]) {
+pub(crate) fn expect_bits(rt: &impl Abort, bits: &BitBuf, len: u64, bytes: &[u8]) {
     assert_eq!(rt; bits.len(), len);
     assert_eq!(rt; bits.byte_len(), bytes.len() as u64);
     for (i, byte) in bytes.iter().enumerate() {

@@ -6,7 +6,7 @@ use std::alloc::Global;
 use std::test::Fail;
 
 /// The bytes that bits fill, one by one.
-pub fn bytes(alloc: Global, buf: &BitBuf) -> Result<Vec<u8>, Fault> {
+pub(crate) fn bytes(alloc: Global, buf: &BitBuf) -> Result<Vec<u8>, Fault> {
     let mut bytes = Vec::new(alloc);
     for i in 0..buf.byte_len() {
         bytes.push(buf.byte(i))?;
@@ -15,7 +15,7 @@ pub fn bytes(alloc: Global, buf: &BitBuf) -> Result<Vec<u8>, Fault> {
 }
 
 /// Bits from a slice of them.
-pub fn bits(alloc: Global, list: &[bool]) -> Result<BitBuf, Fault> {
+pub(crate) fn bits(alloc: Global, list: &[bool]) -> Result<BitBuf, Fault> {
     let mut buf = BitBuf::new(alloc);
     for bit in list {
         buf.push_bits(u64::from(*bit), 1)?;
@@ -24,7 +24,7 @@ pub fn bits(alloc: Global, list: &[bool]) -> Result<BitBuf, Fault> {
 }
 
 /// The bits of bytes.
-pub fn bits_in(alloc: Global, bytes: &[u8]) -> Result<BitBuf, Fault> {
+pub(crate) fn bits_in(alloc: Global, bytes: &[u8]) -> Result<BitBuf, Fault> {
     BitBuf::from_bytes(alloc, bytes)
 }
 
@@ -41,7 +41,7 @@ fn push_fs(buf: &mut BitBuf, v: u64) -> Result<(), Fault> {
 }
 
 /// Whether the bits are those of a slice.
-pub fn are(buf: &BitBuf, list: &[bool]) -> bool {
+pub(crate) fn are(buf: &BitBuf, list: &[bool]) -> bool {
     if buf.len() != list.len() as u64 {
         return false;
     }
@@ -54,7 +54,7 @@ pub fn are(buf: &BitBuf, list: &[bool]) -> bool {
 }
 
 /// Bits with no simple period, at most 200 of them.
-pub fn sample_list(alloc: Global, len: usize, step: usize) -> Result<Vec<bool>, Fault> {
+pub(crate) fn sample_list(alloc: Global, len: usize, step: usize) -> Result<Vec<bool>, Fault> {
     let mut list = Vec::new(alloc);
     for i in 0..len.min(200) {
         list.push(i * step.min(100) % 7 < 3)?;
@@ -63,7 +63,7 @@ pub fn sample_list(alloc: Global, len: usize, step: usize) -> Result<Vec<bool>, 
 }
 
 /// Whether a splice leaves what it leaves of a plain list.
-pub fn splices(
+pub(crate) fn splices(
     alloc: Global,
     list: &[bool],
     start: usize,

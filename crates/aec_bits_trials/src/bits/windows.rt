@@ -25,7 +25,7 @@ fn sequences(alloc: Global, before: u32, numbers: &[u32]) -> Result<BitBuf, Faul
 }
 
 /// A reader at a place, or at the start where the list is shorter.
-pub fn reader_at(buf: &BitBuf, place: u64) -> BitReader<'_> {
+pub(crate) fn reader_at(buf: &BitBuf, place: u64) -> BitReader<'_> {
     let mut reader = BitReader::new(buf);
     if place <= buf.len() {
         reader.seek(place);

@@ -11,7 +11,7 @@ use std::process::Abort;
 use std::test::Fail;
 
 /// The most samples that may be asked for.
-pub const MOST: u64 = 1 << 32;
+pub(crate) const MOST: u64 = 1 << 32;
 
 /// The samples that a reader hands out, interval by interval.
 fn read_by_steps(alloc: Global, reader: &mut StreamReader) -> Result<Vec<i64>, Fault> {
@@ -39,7 +39,7 @@ fn len_by_steps(reader: &mut StreamReader) -> Result<u64, Fault> {
 }
 
 /// Reads bytes with a count or without one, at once, twice in steps and without the samples, and compares.
-pub fn expect_read(
+pub(crate) fn expect_read(
     rt: &impl Abort,
     alloc: Global,
     settings: Settings,
@@ -61,7 +61,7 @@ pub fn expect_read(
 }
 
 /// Reads bytes with a count or without one, and compares the samples with so many zeros.
-pub fn expect_zeros(
+pub(crate) fn expect_zeros(
     rt: &impl Abort,
     alloc: Global,
     settings: Settings,
@@ -109,7 +109,7 @@ fn len_without_samples(
 }
 
 /// Reads bytes at once, in steps and without the samples, and compares the refusals.
-pub fn expect_refusal(
+pub(crate) fn expect_refusal(
     rt: &impl Abort,
     alloc: Global,
     settings: Settings,
@@ -137,7 +137,7 @@ pub fn expect_refusal(
 }
 
 /// Codes samples, compares the bits, and reads them back with their count.
-pub fn expect_code(
+pub(crate) fn expect_code(
     rt: &impl Abort,
     alloc: Global,
     settings: Settings,
