@@ -1,6 +1,6 @@
 //! Lists of samples as they are stored. The width and the order of their bytes are settled once for a list.
 
-ghost use Rattle.std.specs.Prelude.{None, Ok, IfOk, IfErr, OnOk, OnErr, ◌≡◌, ◌<◌, ◌≤◌, ◌+◌, ◌*◌, ◌/◌, ◌%◌, ◌^◌, ℕ, ℤ, true, length, get_or, vec_len, vec_capacity};
+ghost use Rattle.std.specs.Prelude.{None, Ok, Err, IfOk, IfErr, OnOk, OnErr, ◌≡◌, ◌<◌, ◌≤◌, ◌+◌, ◌*◌, ◌/◌, ◌%◌, ◌^◌, ℕ, ℤ, true, length, get_or, vec_len, vec_capacity};
 ghost use Rattle.std.specs.Int.{w64};
 ghost use Rattle.std.specs.List.{AllByRecursion, flat_map};
 ghost use Rattle.std.specs.Result.{result_err};
@@ -19,9 +19,10 @@ use std::alloc::Global;
 /// The samples that bytes hold, `storage` bytes each; bytes at the end that form no whole sample are ignored.
 ///
 /// `SampleRange` with the index of the first sample whose unused bits are not what its width allows, which is judged
-/// for the whole input before any memory is taken; then `Memory`.
+/// for the whole input before any memory is taken; then `Memory`, which comes only where there is a whole sample.
 pub fn read_samples(alloc: Global, params: &Params, bytes: &[u8]) -> Result<Vec<i64>, Fault>
-    ensures { AnswersSamples (λ v. v.items) (samples_of_bytes params.now bytes.now) result }
+    ensures answer { AnswersSamples (λ v. v.items) (samples_of_bytes params.now bytes.now) result }
+    ensures memory { result ≡ Err Memory → 0 < length bytes.now / storage_len params.now }
 {
     if let Some(index) = first_bad(params, bytes) {
         return Err(Fault::SampleRange { index });
@@ -29,11 +30,13 @@ pub fn read_samples(alloc: Global, params: &Params, bytes: &[u8]) -> Result<Vec<
     collect_samples(alloc, params, bytes)
 }
 
-/// The samples of bytes that hold no bad one, as `first_bad` tells; `Memory` where a growth is refused.
+/// The samples of bytes that hold no bad one, as `first_bad` tells; `Memory` where a growth is refused, which no bytes without a
+/// whole sample need.
 pub fn collect_samples(alloc: Global, params: &Params, bytes: &[u8]) -> Result<Vec<i64>, Fault>
     requires { result_err (samples_of_bytes params.now bytes.now) ≡ None }
     ensures ok { IfOk result (λ v. samples_of_bytes params.now bytes.now ≡ Ok v.items) }
     ensures err { IfErr result (λ e. e ≡ Memory) }
+    ensures memory { OnErr result (0 < length bytes.now / storage_len params.now) }
 {
     let mut samples = Vec::new(alloc);
     append_samples(params, bytes, &mut samples)?;
