@@ -5,6 +5,7 @@ ghost use Rattle.std.specs.Bool.{OnTrue};
 ghost use Rattle.std.specs.List.{AllByRecursion};
 ghost use Rattle.aec_block.specs.Choices.{FitsReference, IsFull};
 
+use crate::asserts::{fails, holds, same, same_at};
 use crate::shared::expect_bits;
 use aec_bits::{BitBuf, BitReader};
 use aec_block::{Block, Cds, Choice, Coding, choose, map, read_cds, unmap, write_block};
@@ -57,11 +58,11 @@ fn is_full(params: &Params, block: &Block) -> bool
 fn maps_by_the_table(rt: HostRuntime) -> Result<(), Fail> {
     let params = Params::new(Settings::USUAL)?;
     for (p, x, m) in [(3, 10, 10), (3, 1, 3), (250, 240, 15), (250, 255, 10)] {
-        assert!(rt; params.holds(p) && params.holds(x));
-        assert_eq!(rt; map(&params, p, x), m, "{x} at {p}");
+        holds(&rt, params.holds(p) && params.holds(x));
+        same_at(&rt, map(&params, p, x), m, &(&x, &p));
     }
-    assert!(rt; params.holds(250));
-    assert_eq!(rt; unmap(&params, 250, 15), 240);
+    holds(&rt, params.holds(250));
+    same(&rt, unmap(&params, 250, 15), 240);
     Ok(())
 }
 
@@ -70,14 +71,15 @@ fn chooses_and_writes_the_shortest(rt: HostRuntime) -> Result<(), Fail> {
     let params = Params::new(Settings::USUAL)?;
     // k = 0 and k = 1 have equal lengths.
     let block = block_of(rt.alloc(), Some(0), &[1, 2, 2, 2, 2, 2, 2]);
-    assert!(rt; is_full(&params, &block));
+    holds(&rt, is_full(&params, &block));
     let choice = choose(&params, &block);
-    assert_eq!(rt;
+    same(
+        &rt,
         choice,
         Choice {
             coding: Coding::Split(0),
-            bits: 31
-        }
+            bits: 31,
+        },
     );
     let mut out = BitBuf::new(rt.alloc());
     write_block(&params, &block, choice, &mut out)?;
@@ -95,25 +97,27 @@ fn takes_the_first_of_equal_lengths(rt: HostRuntime) -> Result<(), Fail> {
         ..Settings::USUAL
     })?;
     let block = block_of(rt.alloc(), Some(0), &[0, 0, 0, 0, 0, 0, 3]);
-    assert!(rt; is_full(&narrow, &block));
-    assert_eq!(rt;
+    holds(&rt, is_full(&narrow, &block));
+    same(
+        &rt,
         choose(&narrow, &block),
         Choice {
             coding: Coding::NoCompression,
-            bits: 17
-        }
+            bits: 17,
+        },
     );
 
     // The second extension has the length of splitting with k = 0.
     let params = Params::new(Settings::USUAL)?;
     let block = block_of(rt.alloc(), Some(0), &[0, 0, 0, 1, 1, 0, 0]);
-    assert!(rt; is_full(&params, &block));
-    assert_eq!(rt;
+    holds(&rt, is_full(&params, &block));
+    same(
+        &rt,
         choose(&params, &block),
         Choice {
             coding: Coding::SecondExtension,
-            bits: 20
-        }
+            bits: 20,
+        },
     );
     Ok(())
 }
@@ -152,8 +156,8 @@ fn adds_up_values_of_32_bits(rt: HostRuntime) -> Result<(), Fail> {
         ),
     ] {
         let block = block_of(rt.alloc(), reference, values);
-        assert!(rt; is_full(&params, &block));
-        assert_eq!(rt; choose(&params, &block), choice);
+        holds(&rt, is_full(&params, &block));
+        same(&rt, choose(&params, &block), choice);
     }
     Ok(())
 }
@@ -257,12 +261,12 @@ fn expect_block(
 ) -> Result<(), Fail> {
     let mut reader = BitReader::new(bits);
     let cds = read_cds(alloc, params, &mut reader, block.reference().is_some())?;
-    assert_eq!(rt; reader.pos(), bits.len());
+    same(rt, reader.pos(), bits.len());
     if let Cds::Single(read) = cds {
-        assert_eq!(rt; read.reference(), block.reference());
-        assert_eq!(rt; read.values(), block.values());
+        same(rt, read.reference(), block.reference());
+        same(rt, read.values(), block.values());
     } else {
-        assert!(rt; false, "a run was read");
+        fails(rt, &"a run was read");
     }
     Ok(())
 }
@@ -275,14 +279,14 @@ fn compare_choices(
 ) -> Result<(), Fail> {
     for case in 0..cases {
         let block = fixed_block(alloc, params, case);
-        assert!(rt; is_full(params, &block));
+        holds(rt, is_full(params, &block));
         let choice = choose(params, &block);
         let (coding, bits) = plain_choice(params, &block);
-        assert_eq!(rt; choice.coding, coding, "block {case}");
-        assert_eq!(rt; u128::from(choice.bits), bits, "block {case}");
+        same_at(rt, choice.coding, coding, &case);
+        same_at(rt, u128::from(choice.bits), bits, &case);
         let mut out = BitBuf::new(alloc);
         write_block(params, &block, choice, &mut out)?;
-        assert_eq!(rt; out.len(), choice.bits, "block {case}");
+        same_at(rt, out.len(), choice.bits, &case);
         expect_block(rt, alloc, params, &out, &block)?;
     }
     Ok(())

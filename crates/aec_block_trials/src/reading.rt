@@ -1,5 +1,6 @@
 //! Coded data sets spelled by hand, and what is read from them.
 
+use crate::asserts::{fails, holds, same};
 use aec_bits::{BitBuf, BitReader};
 use aec_block::{Cds, RunLen, read_cds};
 use aec_params::{Fault, Params, Settings};
@@ -20,13 +21,13 @@ fn expect_block(
     let mut reader = BitReader::new(bits);
     match read_cds(alloc, params, &mut reader, reference.is_some()) {
         Ok(Cds::Single(block)) => {
-            assert_eq!(rt; block.reference(), reference);
-            assert_eq!(rt; block.values(), values);
+            same(rt, block.reference(), reference);
+            same(rt, block.values(), values);
         }
-        Ok(Cds::Zeros { .. }) => assert!(rt; false, "a run"),
-        Err(fault) => assert!(rt; false, "{fault}"),
+        Ok(Cds::Zeros { .. }) => fails(rt, &"a run"),
+        Err(fault) => fails(rt, &fault),
     }
-    assert_eq!(rt; reader.pos(), end);
+    same(rt, reader.pos(), end);
 }
 
 /// A run stands at the bits' start and ends at `end`.
@@ -42,13 +43,13 @@ fn expect_run(
     let mut reader = BitReader::new(bits);
     match read_cds(alloc, params, &mut reader, first.is_some()) {
         Ok(Cds::Zeros { reference, len }) => {
-            assert_eq!(rt; reference, first);
-            assert_eq!(rt; len, want);
+            same(rt, reference, first);
+            same(rt, len, want);
         }
-        Ok(Cds::Single(_)) => assert!(rt; false, "a block"),
-        Err(fault) => assert!(rt; false, "{fault}"),
+        Ok(Cds::Single(_)) => fails(rt, &"a block"),
+        Err(fault) => fails(rt, &fault),
     }
-    assert_eq!(rt; reader.pos(), end);
+    same(rt, reader.pos(), end);
 }
 
 /// The fault at place `start`, where the reader stays.
@@ -62,13 +63,13 @@ fn expect_fault(
     want: Fault,
 ) {
     let mut reader = BitReader::new(bits);
-    assert!(rt; start <= bits.len());
+    holds(rt, start <= bits.len());
     reader.seek(start);
     match read_cds(alloc, params, &mut reader, is_ref) {
-        Ok(_) => assert!(rt; false, "no fault"),
-        Err(fault) => assert_eq!(rt; fault, want),
+        Ok(_) => fails(rt, &"no fault"),
+        Err(fault) => same(rt, fault, want),
     }
-    assert_eq!(rt; reader.pos(), start);
+    same(rt, reader.pos(), start);
 }
 
 #[test]
@@ -267,7 +268,7 @@ fn refuses_each_cut(rt: HostRuntime) -> Result<(), Fail> {
         let mut bits = BitBuf::new(rt.alloc());
         bits.push_bits(0b101, 3)?;
         bits.push_bits(0x4015_5580, 32)?;
-        assert!(rt; len <= bits.len());
+        holds(&rt, len <= bits.len());
         bits.truncate(len);
         expect_fault(
             &rt,
@@ -300,52 +301,86 @@ fn unprocessed(bits: u32, restricted: bool) -> Result<Params, Fault> {
     })
 }
 
+// Appends a number in so many bits, which it fits.
+fn push_number(rt: &impl Abort, bits: &mut BitBuf, value: u64, width: u32) -> Result<(), Fault> {
+    holds(rt, width < 64);
+    holds(rt, value < 1 << width);
+    bits.push_bits(value, width)
+}
+
+// A run up to its segment's end, behind an identifier of so many bits.
+fn knows_runs(rt: &impl Abort, alloc: Global, params: &Params, len: u32) -> Result<(), Fault> {
+    let mut run = BitBuf::new(alloc);
+    push_number(rt, &mut run, 0, len.saturating_add(1))?;
+    run.push_fs(4)?;
+    let end = u64::from(len) + 6;
+    expect_run(rt, alloc, params, &run, None, RunLen::Rest, end);
+    Ok(())
+}
+
+// Pairs of ones, by the second extension.
+fn knows_pairs(rt: &impl Abort, alloc: Global, params: &Params, len: u32) -> Result<(), Fault> {
+    let mut pairs = BitBuf::new(alloc);
+    push_number(rt, &mut pairs, 1, len.saturating_add(1))?;
+    for _ in 0..4 {
+        pairs.push_fs(4)?;
+    }
+    let end = u64::from(len) + 21;
+    expect_block(rt, alloc, params, &pairs, None, &[1; 8], end);
+    Ok(())
+}
+
+// The greatest values of n bits, uncoded.
+fn knows_uncoded(
+    rt: &impl Abort,
+    alloc: Global,
+    params: &Params,
+    len: u32,
+    n: u32,
+) -> Result<(), Fault> {
+    holds(rt, len < 64 && 1 <= n && n <= 32);
+    let greatest = u32::MAX >> (32 - n);
+    let mut plain = BitBuf::new(alloc);
+    push_number(rt, &mut plain, (1 << len) - 1, len)?;
+    for _ in 0..8 {
+        push_number(rt, &mut plain, u64::from(greatest), n)?;
+    }
+    let end = u64::from(len + 8 * n);
+    expect_block(rt, alloc, params, &plain, None, &[greatest; 8], end);
+    Ok(())
+}
+
 #[test]
 fn knows_each_identifier(rt: HostRuntime) -> Result<(), Fail> {
     for (n, restricted, len, _) in CODE_SETS {
         let params = unprocessed(n, restricted)?;
-        let mut run = BitBuf::new(rt.alloc());
-        run.push_bits(0, len + 1)?;
-        run.push_fs(4)?;
-        expect_run(
-            &rt,
-            rt.alloc(),
-            &params,
-            &run,
-            None,
-            RunLen::Rest,
-            u64::from(len) + 6,
-        );
-        let mut pairs = BitBuf::new(rt.alloc());
-        pairs.push_bits(1, len + 1)?;
-        for _ in 0..4 {
-            pairs.push_fs(4)?;
-        }
-        expect_block(
-            &rt,
-            rt.alloc(),
-            &params,
-            &pairs,
-            None,
-            &[1; 8],
-            u64::from(len) + 21,
-        );
-        let mut plain = BitBuf::new(rt.alloc());
-        plain.push_bits((1 << len) - 1, len)?;
-        for _ in 0..8 {
-            plain.push_bits((1 << n) - 1, n)?;
-        }
-        let greatest = ((1u64 << n) - 1) as u32;
-        expect_block(
-            &rt,
-            rt.alloc(),
-            &params,
-            &plain,
-            None,
-            &[greatest; 8],
-            u64::from(len + 8 * n),
-        );
+        knows_runs(&rt, rt.alloc(), &params, len)?;
+        knows_pairs(&rt, rt.alloc(), &params, len)?;
+        knows_uncoded(&rt, rt.alloc(), &params, len, n)?;
     }
+    Ok(())
+}
+
+// Eight values of 1, or of 0 where k is 0, by the splitting option k.
+fn knows_splitting(
+    rt: &impl Abort,
+    alloc: Global,
+    params: &Params,
+    len: u32,
+    k: u32,
+) -> Result<(), Fault> {
+    holds(rt, len < 64 && k < 64);
+    let mut split = BitBuf::new(alloc);
+    push_number(rt, &mut split, u64::from(k + 1), len)?;
+    split.push_bits(0xFF, 8)?;
+    if k > 0 {
+        // 1 in k bits.
+        for _ in 0..8 {
+            push_number(rt, &mut split, 1, k)?;
+        }
+    }
+    let end = u64::from(len + 8 + 8 * k);
+    expect_block(rt, alloc, params, &split, None, &[k.min(1); 8], end);
     Ok(())
 }
 
@@ -354,26 +389,7 @@ fn knows_each_splitting_option(rt: HostRuntime) -> Result<(), Fail> {
     for (n, restricted, len, splits) in CODE_SETS {
         let params = unprocessed(n, restricted)?;
         for k in 0..splits {
-            let value = if k > 0 { 1 } else { 0 };
-            let mut split = BitBuf::new(rt.alloc());
-            assert!(rt; u64::from(k + 1) < 1 << len);
-            split.push_bits(u64::from(k + 1), len)?;
-            split.push_bits(0xFF, 8)?;
-            if k > 0 {
-                // 1 in k bits is k - 1 zeros and a one.
-                for _ in 0..8 {
-                    split.push_fs(u64::from(k) - 1)?;
-                }
-            }
-            expect_block(
-                &rt,
-                rt.alloc(),
-                &params,
-                &split,
-                None,
-                &[value; 8],
-                u64::from(len + 8 + 8 * k),
-            );
+            knows_splitting(&rt, rt.alloc(), &params, len, k)?;
         }
     }
     Ok(())

@@ -4,6 +4,7 @@ ghost use Rattle.std.specs.Prelude.{◌-◌, ◌≤◌, if◌then◌else◌};
 ghost use Rattle.aec_params.specs.Runs.{segment_len};
 ghost use Rattle.aec_block.specs.Choices.{FitsReference};
 
+use crate::asserts::{holds, holds_at, same};
 use crate::choices::fits_reference;
 use crate::shared::expect_bits;
 use aec_bits::BitBuf;
@@ -87,7 +88,7 @@ fn expect_no_shorter_splits(
                 let whole = run_len(alloc, params, reference, front + rest, to_end)?;
                 let first = run_len(alloc, params, reference, front, false)?;
                 let second = run_len(alloc, params, None, rest, to_end)?;
-                assert!(rt; whole <= first.wrapping_add(second), "{front} and {rest}");
+                holds_at(rt, whole <= first.wrapping_add(second), &(&front, &rest));
             }
         }
     }
@@ -108,10 +109,10 @@ fn no_run_is_longer_than_its_parts(rt: HostRuntime) -> Result<(), Fail> {
             restricted,
             ..Settings::USUAL
         })?;
-        assert_eq!(rt; params.id_len(), id_len);
+        same(&rt, params.id_len(), id_len);
         for to_end in [false, true] {
             expect_no_shorter_splits(&rt, rt.alloc(), &params, None, to_end)?;
-            assert!(rt; fits_reference(&params, Some(1)));
+            holds(&rt, fits_reference(&params, Some(1)));
             expect_no_shorter_splits(&rt, rt.alloc(), &params, Some(1), to_end)?;
         }
     }

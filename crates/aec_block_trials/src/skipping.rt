@@ -1,5 +1,6 @@
 //! Coded data sets that are gone over, beside what reading finds in the same bits.
 
+use crate::asserts::{fails, holds, same};
 use aec_bits::{BitBuf, BitReader};
 use aec_block::{Block, Found, RunLen, read_into, skip_cds};
 use aec_params::{Fault, Params, Settings};
@@ -19,18 +20,18 @@ fn expect_same(
     let mut block = Block::new(alloc, None);
     let mut reading = BitReader::new(bits);
     let mut skipping = BitReader::new(bits);
-    assert!(rt; start <= bits.len());
+    holds(rt, start <= bits.len());
     reading.seek(start);
     skipping.seek(start);
     let read = read_into(params, &mut reading, is_ref, &mut block);
     let skipped = skip_cds(params, &mut skipping, is_ref, &mut block);
     match (read, skipped) {
-        (Ok(Found::Single), Ok(len)) => assert_eq!(rt; len, RunLen::Blocks(1)),
-        (Ok(Found::Zeros { len, .. }), Ok(skipped)) => assert_eq!(rt; skipped, len),
-        (Err(fault), Err(other)) => assert_eq!(rt; other, fault),
-        _ => assert!(rt; false, "one refuses, and the other doesn't"),
+        (Ok(Found::Single), Ok(len)) => same(rt, len, RunLen::Blocks(1)),
+        (Ok(Found::Zeros { len, .. }), Ok(skipped)) => same(rt, skipped, len),
+        (Err(fault), Err(other)) => same(rt, other, fault),
+        _ => fails(rt, &"one refuses, and the other doesn't"),
     }
-    assert_eq!(rt; skipping.pos(), reading.pos());
+    same(rt, skipping.pos(), reading.pos());
 }
 
 /// The same for the first bits, however many.
@@ -44,7 +45,7 @@ fn expect_same_at_each_cut(
     for len in 0..bits.len() + 1 {
         let mut front = BitBuf::new(alloc);
         front.append(bits)?;
-        assert!(rt; len <= front.len());
+        holds(rt, len <= front.len());
         front.truncate(len);
         expect_same(rt, alloc, params, &front, 0, is_ref);
     }

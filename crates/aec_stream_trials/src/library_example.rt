@@ -1,5 +1,6 @@
 //! A program that edits a stream through the library. Its bytes are worked out by hand.
 
+use crate::asserts::same;
 use aec_bits::WriteSink;
 use aec_edit::{Outcome, Workspace};
 use aec_interval::AecCodec;
@@ -29,19 +30,21 @@ fn edited_stream(alloc: Global, outcomes: &mut Vec<Outcome>) -> Result<Vec<u8>, 
 fn a_program_edits_a_stream(rt: HostRuntime) -> Result<(), Fail> {
     let mut outcomes = Vec::new(rt.alloc());
     let stream = edited_stream(rt.alloc(), &mut outcomes)?;
-    assert_eq!(rt;
+    same(
+        &rt,
         outcomes.as_slice(),
         [
             Outcome::Refused {
-                fault: Fault::OutOfRange { count: 48 }
+                fault: Fault::OutOfRange { count: 48 },
             },
-            Outcome::Done { coded: 1 }
+            Outcome::Done { coded: 1 },
         ]
-        .as_slice()
+        .as_slice(),
     );
-    assert_eq!(rt;
+    same(
+        &rt,
         stream.as_slice(),
-        [0x00, 0x04, 0x40, 0x30, 0xC2, 0x00, 0x08].as_slice()
+        [0x00, 0x04, 0x40, 0x30, 0xC2, 0x00, 0x08].as_slice(),
     );
     Ok(())
 }

@@ -1,5 +1,6 @@
 //! A stream of very many intervals by the real coder, each overwritten once. Its length is worked out by hand.
 
+use crate::asserts::same;
 use aec_edit::Workspace;
 use aec_interval::AecCodec;
 use aec_params::{Edit, Fault, Params, Samples, Settings};
@@ -36,15 +37,19 @@ fn put_sevens(alloc: Global, work: &mut Workspace<AecCodec>, index: u64) -> Resu
 #[test]
 fn many_coded_intervals_each_overwritten(rt: HostRuntime) -> Result<(), Fail> {
     let mut work = of_zeros(rt.alloc())?;
-    assert_eq!(rt; work.stream_bits(), BITS * INTERVALS);
+    same(&rt, work.stream_bits(), BITS * INTERVALS);
     for index in 0..INTERVALS {
-        assert_eq!(rt; put_sevens(rt.alloc(), &mut work, index), Ok(1));
+        same(&rt, put_sevens(rt.alloc(), &mut work, index), Ok(1));
     }
     // A wholly overwritten interval isn't decoded.
-    assert_eq!(rt; (work.calls(), work.reads()), (2 * INTERVALS, 0));
-    assert_eq!(rt; work.offset(INTERVALS - 1), Some(BITS * (INTERVALS - 1)));
-    assert_eq!(rt; work.stream_bits(), BITS * INTERVALS);
+    same(&rt, (work.calls(), work.reads()), (2 * INTERVALS, 0));
+    same(
+        &rt,
+        work.offset(INTERVALS - 1),
+        Some(BITS * (INTERVALS - 1)),
+    );
+    same(&rt, work.stream_bits(), BITS * INTERVALS);
     let last = work.range(rt.alloc(), 8 * (INTERVALS - 1), 8)?;
-    assert_eq!(rt; last.as_slice(), [7; 8].as_slice());
+    same(&rt, last.as_slice(), [7; 8].as_slice());
     Ok(())
 }

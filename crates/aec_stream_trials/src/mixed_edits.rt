@@ -1,6 +1,7 @@
 //! Many edits over the coder itself, by a fixed rule. After each one the stream is the code of the samples that a plain list
 //! holds by then.
 
+use crate::asserts::{holds, holds_at, same, same_at};
 use crate::steps::{apply, calls, counts, range, start_of, stream};
 use crate::workspaces::workspace;
 use aec_bits::{Codec, WriteSink};
@@ -326,13 +327,13 @@ fn expect_code<R: Abort>(
     let count = list.len() as u64;
     let intervals = touched(row, 0, count);
     let (bits, bytes) = code_of(alloc, params, list, count)?;
-    assert_eq!(rt; counts(work), (count, intervals, bits));
-    assert!(rt; stream(alloc, work)? == bytes);
+    same(rt, counts(work), (count, intervals, bits));
+    holds(rt, stream(alloc, work)? == bytes);
     for i in 0..intervals {
         let (start, _) = code_of(alloc, params, list, i.saturating_mul(row.most))?;
-        assert_eq!(rt; start_of(work, i), Some(start), "interval {i}");
+        same_at(rt, start_of(work, i), Some(start), &i);
     }
-    assert_eq!(rt; start_of(work, intervals), None);
+    same(rt, start_of(work, intervals), None);
     Ok(())
 }
 
@@ -349,12 +350,12 @@ pub(crate) fn expect_edit<R: Abort, C: Codec>(
     let answer = apply(work, edit);
     let Some(fault) = refusal(row, list.len() as u64, edit) else {
         let coded = change(row, list, edit)?;
-        assert_eq!(rt; answer, Ok(coded), "at {edit:?}");
-        assert_eq!(rt; calls(work), before.saturating_add(coded), "at {edit:?}");
+        same_at(rt, answer, Ok(coded), &edit);
+        same_at(rt, calls(work), before.saturating_add(coded), &edit);
         return Ok(1);
     };
-    assert_eq!(rt; answer, Err(fault), "at {edit:?}");
-    assert_eq!(rt; calls(work), before, "at {edit:?}");
+    same_at(rt, answer, Err(fault), &edit);
+    same_at(rt, calls(work), before, &edit);
     Ok(match fault {
         Fault::OutOfRange { .. } => 1 << 8,
         Fault::TooManySamples { .. } => 1 << 16,
@@ -378,12 +379,9 @@ fn expect_edits<R: Abort>(rt: &R, alloc: Global, row: &Row) -> Result<(), Fail> 
         expect_code(rt, alloc, &params, row, &work, &list)?;
         edit = some_edit(alloc, &mut seed, row, list.len() as u64)?;
     }
-    assert!(rt; range(&mut work, alloc, 0, list.len() as u64)? == list);
+    holds(rt, range(&mut work, alloc, 0, list.len() as u64)? == list);
     let [bad, many, outside, made] = tally.to_be_bytes();
-    assert!(rt;
-        made > 80 && outside > 4 && many > 4 && bad > 4,
-        "{tally:x}"
-    );
+    holds_at(rt, made > 80 && outside > 4 && many > 4 && bad > 4, &tally);
     Ok(())
 }
 

@@ -1,5 +1,6 @@
 //! Workspaces over a coder of octets, four in an interval, so that each stream can be read off its samples.
 
+use crate::asserts::{holds_at, same, same_at};
 use crate::mixed_edits::{Row, expect_edit, some_edit};
 use crate::steps::{apply, calls, expect_run, expect_steps, range, reads, start_of, stream};
 use aec_bits::laws::Octets;
@@ -189,8 +190,8 @@ fn expect_octets<R: Abort>(
     let opened = decoded_by(list.len() as u64, edit);
     let made = expect_edit(rt, &ROW, work, list, edit)? == 1;
     let decoded = if made { opened } else { 0 };
-    assert_eq!(rt; reads(work), before.saturating_add(decoded), "at {edit:?}");
-    assert!(rt; are_bytes_of(&stream(alloc, work)?, list), "after {edit:?}");
+    same_at(rt, reads(work), before.saturating_add(decoded), &edit);
+    holds_at(rt, are_bytes_of(&stream(alloc, work)?, list), &edit);
     Ok(())
 }
 
@@ -227,17 +228,30 @@ fn zeros(alloc: Global, len: u64) -> Result<Edit, AllocError> {
 fn many_intervals_each_overwritten(rt: HostRuntime) -> Result<(), Fail> {
     let alloc = rt.alloc();
     let mut work = workspace(alloc, 0, 4 * INTERVALS);
-    assert_eq!(rt;
+    same(
+        &rt,
         apply(&mut work, &zeros(alloc, 4 * INTERVALS)?),
-        Ok(INTERVALS)
+        Ok(INTERVALS),
     );
     for k in 0..INTERVALS {
-        assert_eq!(rt; apply(&mut work, &overwrite(alloc, 4 * k + 1, 1)?), Ok(1));
+        same(
+            &rt,
+            apply(&mut work, &overwrite(alloc, 4 * k + 1, 1)?),
+            Ok(1),
+        );
     }
-    assert_eq!(rt; (calls(&work), reads(&work)), (2 * INTERVALS, INTERVALS));
-    assert_eq!(rt; start_of(&work, INTERVALS - 1), Some(32 * (INTERVALS - 1)));
+    same(
+        &rt,
+        (calls(&work), reads(&work)),
+        (2 * INTERVALS, INTERVALS),
+    );
+    same(
+        &rt,
+        start_of(&work, INTERVALS - 1),
+        Some(32 * (INTERVALS - 1)),
+    );
     let last = range(&mut work, alloc, 4 * (INTERVALS - 1), 4)?;
-    assert_eq!(rt; last.as_slice(), [0, 1, 0, 0].as_slice());
+    same(&rt, last.as_slice(), [0, 1, 0, 0].as_slice());
     Ok(())
 }
 
@@ -257,12 +271,13 @@ fn writes_what_edits_leave(rt: HostRuntime) -> Result<(), Fail> {
         Outcome::Refused { fault },
         Outcome::Done { coded: 1 },
     ];
-    assert_eq!(rt; edited.outcomes.as_slice(), outcomes.as_slice());
-    assert_eq!(rt; edited.samples.as_slice(), [0, 0, 0, 0, 7].as_slice());
-    assert_eq!(rt; (edited.bits, edited.calls, sink.begins()), (40, 13, 0));
-    assert_eq!(rt;
+    same(&rt, edited.outcomes.as_slice(), outcomes.as_slice());
+    same(&rt, edited.samples.as_slice(), [0, 0, 0, 0, 7].as_slice());
+    same(&rt, (edited.bits, edited.calls, sink.begins()), (40, 13, 0));
+    same(
+        &rt,
         sink.into_inner().as_slice(),
-        [255, 0, 0, 0, 0, 7].as_slice()
+        [255, 0, 0, 0, 0, 7].as_slice(),
     );
     Ok(())
 }
@@ -292,8 +307,8 @@ fn a_failing_sink_is_named(rt: HostRuntime) -> Result<(), Fail> {
         &[zeros(alloc, 1)?],
         &mut sink,
     );
-    assert_eq!(rt; edited.err(), Some(Fault::Write));
-    assert_eq!(rt; sink.failures(), 1);
+    same(&rt, edited.err(), Some(Fault::Write));
+    same(&rt, sink.failures(), 1);
     Ok(())
 }
 

@@ -1,5 +1,6 @@
 //! Edits of a workspace as a table, a step a line: what each one answers, and the stream after it.
 
+use crate::asserts::{same, same_at};
 use crate::tables::{cell, spelled};
 use aec_bits::{Codec, WriteSink};
 use aec_edit::{Outcome, Workspace};
@@ -117,12 +118,12 @@ fn step_text<R: Abort, C: Codec>(
     let before = calls(work);
     if let Some(places) = step.strip_prefix("range ") {
         let text = range_text(alloc, work, places)?;
-        assert_eq!(rt; calls(work), before);
+        same(rt, calls(work), before);
         return Ok(text);
     }
     let answer = apply(work, &edit_of(alloc, step)?);
     let coded = answer.ok().unwrap_or(0);
-    assert_eq!(rt; calls(work), before.saturating_add(coded));
+    same(rt, calls(work), before.saturating_add(coded));
     answer_text(alloc, answer)
 }
 
@@ -151,15 +152,11 @@ fn expect_step<R: Abort, C: Codec>(
     let (places, decoded) = cell(rest);
     let before = reads(work);
     let text = step_text(rt, alloc, work, step.trim())?;
-    assert_eq!(rt; text.as_str().trim(), answer.trim(), "at {row}");
-    assert_eq!(rt; stream(alloc, work)?, spelled(alloc, bytes)?, "at {row}");
-    assert_eq!(rt;
-        places_text(alloc, work)?.as_str(),
-        places.trim(),
-        "at {row}"
-    );
+    same_at(rt, text.as_str().trim(), answer.trim(), &row);
+    same_at(rt, stream(alloc, work)?, spelled(alloc, bytes)?, &row);
+    same_at(rt, places_text(alloc, work)?.as_str(), places.trim(), &row);
     let decoded = decoded.trim().parse::<u64>()?;
-    assert_eq!(rt; reads(work), before.saturating_add(decoded), "at {row}");
+    same_at(rt, reads(work), before.saturating_add(decoded), &row);
     Ok(())
 }
 
@@ -173,7 +170,7 @@ pub(crate) fn expect_steps<R: Abort, C: Codec>(
     for row in table.lines() {
         expect_step(rt, alloc, work, row)?;
     }
-    assert_eq!(rt; start_of(work, u64::MAX), None);
+    same(rt, start_of(work, u64::MAX), None);
     Ok(())
 }
 
@@ -228,11 +225,12 @@ pub(crate) fn expect_run<R: Abort, C: Codec>(
 ) -> Result<(), Fail> {
     let (edits, answers) = edits_of(alloc, table)?;
     let text = run_text(alloc, work, &edits)?;
-    assert_eq!(rt; text, format!(in alloc; "77\n{answers}")?);
-    assert_eq!(rt;
+    same(rt, text, format!(in alloc; "77\n{answers}")?);
+    same_at(
+        rt,
         stream(alloc, work)?,
         spelled(alloc, last_stream(table))?,
-        "after {table}"
+        &table,
     );
     Ok(())
 }

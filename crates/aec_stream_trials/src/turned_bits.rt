@@ -2,6 +2,7 @@
 //! the format answers. A row: settings; bytes, or after `bits` words of bits; a count, or `-`, and the limit of samples;
 //! what is read, as docs/FORMAT.md says it.
 
+use crate::asserts::holds_at;
 use crate::plain_reader::read_plainly;
 use crate::tables::{cell, spelled};
 use aec_bits::BitBuf;
@@ -241,11 +242,10 @@ fn expect_agreement<R: Abort>(
     let limit = u64::from(limit);
     let plain = read_plainly(alloc, &case.settings, &stream.bits, count, limit);
     let answer = decode_all(alloc, &case.params, &stream.packed, count, limit);
-    assert!(rt;
+    holds_at(
+        rt,
         answer == plain,
-        "{answer:?}, and plainly {plain:?}, with {count:?} and {limit} from {:?}, at {}",
-        stream.bits,
-        case.text
+        &(&answer, &plain, &count, &limit, &stream.bits, &case.text),
     );
     plain
 }
@@ -310,7 +310,7 @@ fn try_whole<R: Abort>(
     let stream = damaged(alloc, &case.bits, case.bits.len().saturating_mul(2))?;
     let answer = expect_agreement(rt, alloc, case, &stream, case.count, case.limit);
     let is_so = is_so(alloc, &answer, case.answer)?;
-    assert!(rt; is_so, "{answer:?} at {}", case.text);
+    holds_at(rt, is_so, &(&answer, &case.text));
     let mut tally = tally;
     for number in 0..case.limit.saturating_add(2).min(100) {
         for (count, limit) in [(Some(u64::from(number)), case.limit), (None, number)] {
@@ -335,7 +335,7 @@ fn streams_are_read_so<R: Abort>(rt: &R, alloc: Global, table: &str) -> Result<(
         tally = try_whole(rt, alloc, &case, tally)?;
         tally = try_damaged(rt, alloc, &case, tally)?;
     }
-    assert!(rt; tally.has_each_kind(), "{tally:?}");
+    holds_at(rt, tally.has_each_kind(), &tally);
     Ok(())
 }
 

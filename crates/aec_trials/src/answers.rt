@@ -2,9 +2,11 @@
 //! and of bytes; what the source gives, and `!` where it fails then, `..` where it gives zeros for ever; and what is
 //! written, or the refusal.
 
+use crate::asserts::holds_at;
 use crate::devices::{After, Basin, Pieces};
 use crate::shared::{Outcome, job_of, run_engine};
 use crate::tables::{cell, spelled};
+use aec_cli::Job;
 use aec_params::Limits;
 use std::alloc::Global;
 use std::process::Abort;
@@ -46,22 +48,22 @@ fn given(cell: &str) -> (&str, After) {
     }
 }
 
+// The job of these options.
+fn job_with(alloc: Global, options: &str) -> Result<Job, Fail> {
+    let words = format!(in alloc; "{options} in out")?;
+    Ok(job_of(alloc, words.as_str())??)
+}
+
 // What the engine leaves.
 fn tried(alloc: Global, row: Row<'_>) -> Result<Outcome, Fail> {
-    let words = format!(in alloc; "{} in out", row.options)?;
-    let job = job_of(alloc, words.as_str())??;
+    let limits = limits_of(row.limits)?;
     let (cell, after) = given(row.source);
     let bytes = spelled(alloc, cell)?;
+    let job = job_with(alloc, row.options)?;
     let source = Pieces::of(&bytes, 2, after);
     let sink = Basin::of(alloc, 64, 1 << 20);
-    Ok(run_engine(
-        alloc,
-        &job.params,
-        &job.action,
-        limits_of(row.limits)?,
-        source,
-        sink,
-    ))
+    let left = run_engine(alloc, &job.params, &job.action, limits, source, sink);
+    Ok(left)
 }
 
 // Whether that is what the row says: the bytes, begun once, or the refusal, with nothing begun.
@@ -78,13 +80,19 @@ fn is_so(alloc: Global, left: &Outcome, answer: &str) -> Result<bool, Fail> {
     }
 }
 
+// Tries a row.
+fn answers_so<R: Abort>(rt: &R, alloc: Global, text: &str) -> Result<(), Fail> {
+    let row = row_of(text);
+    let left = tried(alloc, row)?;
+    let is_so = is_so(alloc, &left, row.answer)?;
+    holds_at(rt, is_so, &(&left, &text));
+    Ok(())
+}
+
 /// Tries each row.
 pub(crate) fn engines_answer_so<R: Abort>(rt: &R, alloc: Global, table: &str) -> Result<(), Fail> {
     for text in table.lines() {
-        let row = row_of(text);
-        let left = tried(alloc, row)?;
-        let is_so = is_so(alloc, &left, row.answer)?;
-        assert!(rt; is_so, "{left:?} at {text}");
+        answers_so(rt, alloc, text)?;
     }
     Ok(())
 }

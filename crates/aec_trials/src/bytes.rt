@@ -1,8 +1,11 @@
 //! Bytes in memory.
 
+use crate::asserts::{same, same_at};
 use crate::shared::DEFAULTS;
 use aec_cli::{decode_bytes, encode_bytes};
 use aec_params::{Fault, Limits, Params, Settings};
+use std::alloc::Global;
+use std::process::Abort;
 use std::test::Fail;
 
 const RAMP: [u8; 8] = [0, 1, 2, 3, 4, 5, 6, 7];
@@ -10,16 +13,28 @@ const RAMP: [u8; 8] = [0, 1, 2, 3, 4, 5, 6, 7];
 // The code of the ramp, from the examples of FORMAT.md.
 const RAMP_CODED: [u8; 4] = [0x20, 0x09, 0x24, 0x92];
 
+// The ramp from its code, with this count, has so many samples.
+fn expect_front(
+    rt: &impl Abort,
+    alloc: Global,
+    params: &Params,
+    count: Option<u64>,
+    len: usize,
+) -> Result<(), Fail> {
+    let limits = Limits::new(8, 8).ok_or("limits")?;
+    let bytes = decode_bytes(alloc, params, limits, count, &RAMP_CODED)?;
+    same_at(rt, Some(bytes.as_slice()), RAMP.get(..len), &count);
+    Ok(())
+}
+
 #[test]
 fn bytes_are_coded_and_decoded(rt: HostRuntime) -> Result<(), Fail> {
     let params = Params::new(DEFAULTS)?;
     let limits = Limits::new(8, 8).ok_or("limits")?;
     let coded = encode_bytes(rt.alloc(), &params, limits, &RAMP)?;
-    assert_eq!(rt; coded.as_slice(), RAMP_CODED.as_slice());
-    for (count, expected) in [(None, 8), (Some(8), 8), (Some(3), 3), (Some(0), 0)] {
-        assert!(rt; expected <= 8);
-        let bytes = decode_bytes(rt.alloc(), &params, limits, count, &coded)?;
-        assert_eq!(rt; bytes.as_slice(), &RAMP[..expected], "with {count:?}");
+    same(&rt, coded.as_slice(), RAMP_CODED.as_slice());
+    for (count, len) in [(None, 8), (Some(8), 8), (Some(3), 3), (Some(0), 0)] {
+        expect_front(&rt, rt.alloc(), &params, count, len)?;
     }
     Ok(())
 }
@@ -39,7 +54,7 @@ fn bytes_are_refused(rt: HostRuntime) -> Result<(), Fail> {
     ];
     for (bytes, fault) in coding {
         let refusal = encode_bytes(rt.alloc(), &five_bits, limits, bytes).err();
-        assert_eq!(rt; refusal, Some(fault), "of {bytes:?}");
+        same_at(&rt, refusal, Some(fault), &bytes);
     }
     let decoding = [
         (
@@ -52,7 +67,7 @@ fn bytes_are_refused(rt: HostRuntime) -> Result<(), Fail> {
     ];
     for (coded, count, fault) in decoding {
         let refusal = decode_bytes(rt.alloc(), &params, limits, count, coded).err();
-        assert_eq!(rt; refusal, Some(fault), "of {coded:?}");
+        same_at(&rt, refusal, Some(fault), &coded);
     }
     Ok(())
 }

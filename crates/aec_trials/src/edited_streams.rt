@@ -1,3 +1,4 @@
+use crate::asserts::same;
 use aec_cli::decode_edited;
 use aec_edit::Outcome;
 use aec_params::{Edit, Fault, Params, Samples, Settings};
@@ -23,21 +24,22 @@ fn edited_streams_are_decoded(rt: HostRuntime) -> Result<(), Fail> {
         Edit::Truncate { count: 5 },
     ];
     let decoded = decode_edited(alloc, &params, 9, &edits)?;
-    assert_eq!(rt;
+    same(
+        &rt,
         decoded.outcomes.as_slice(),
         [
             Outcome::Done { coded: 1 },
             Outcome::Done { coded: 1 },
             Outcome::Refused {
-                fault: Fault::OutOfRange { count: 9 }
+                fault: Fault::OutOfRange { count: 9 },
             },
             Outcome::Done { coded: 1 },
-            Outcome::Done { coded: 1 }
+            Outcome::Done { coded: 1 },
         ]
-        .as_slice()
+        .as_slice(),
     );
-    assert_eq!(rt; decoded.calls, 4);
-    assert_eq!(rt; decoded.stream.as_slice(), [0x00, 0x78].as_slice());
-    assert_eq!(rt; decoded.samples.as_slice(), [7, 7, 7, 7, 7].as_slice());
+    same(&rt, decoded.calls, 4);
+    same(&rt, decoded.stream.as_slice(), [0x00, 0x78].as_slice());
+    same(&rt, decoded.samples.as_slice(), [7, 7, 7, 7, 7].as_slice());
     Ok(())
 }

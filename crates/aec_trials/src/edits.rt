@@ -1,5 +1,6 @@
 //! Scripts carried out on streams: what is written, what is refused and named by which line, and what is left untaken.
 
+use crate::asserts::{holds, holds_at, same, same_at};
 use crate::devices::{After, Basin, Pieces};
 use crate::shared::DEFAULTS;
 use aec_bits::{Sink, Source};
@@ -63,8 +64,8 @@ fn written<R: Abort + Alloc<A = Global>>(
     expected: &[u8],
 ) -> Result<(), Fail> {
     let (answer, bytes, begins) = edited(rt.alloc(), text, stream, count)?;
-    assert_eq!(rt; (answer, begins), (Ok(()), 1), "at {text:?}");
-    assert_eq!(rt; bytes.as_slice(), expected, "at {text:?}");
+    same_at(rt, (answer, begins), (Ok(()), 1), &text);
+    same_at(rt, bytes.as_slice(), expected, &text);
     Ok(())
 }
 
@@ -76,8 +77,8 @@ fn refused<R: Abort + Alloc<A = Global>>(
     fault: EditFault,
 ) -> Result<(), Fail> {
     let (answer, bytes, begins) = edited(rt.alloc(), text, stream, count)?;
-    assert_eq!(rt; (answer, begins), (Err(fault), 0), "at {text:?}");
-    assert!(rt; bytes.is_empty(), "at {text:?}");
+    same_at(rt, (answer, begins), (Err(fault), 0), &text);
+    holds_at(rt, bytes.is_empty(), &text);
     Ok(())
 }
 
@@ -188,71 +189,89 @@ fn scripts_are_refused_before_streams(rt: HostRuntime) -> Result<(), Fail> {
     refused(&rt, "", &RAMP, Some((1 << 32) + 1), EditFault::Plain(fault))
 }
 
-#[test]
-fn devices_of_an_edit_fail(rt: HostRuntime) -> Result<(), Fail> {
+// What an edit with these devices answers; how often script, source and sink failed; how often the sink was begun, and
+// what it took.
+fn left(
+    alloc: Global,
+    mut script: Pieces<'_>,
+    mut source: Pieces<'_>,
+    mut sink: Basin,
+) -> Result<(Result<(), EditFault>, [u64; 4], Vec<u8>), Fail> {
     let params = Params::new(DEFAULTS)?;
-    for k in 0..9usize {
-        assert!(rt; k <= 8);
-        let mut script = Pieces::of(&b"append 1"[..k], 3, After::Fails);
-        // It would fail too, and isn't asked.
-        let mut source = Pieces::of(&[], 1, After::Fails);
-        let mut sink = Basin::shut(rt.alloc());
-        let answer = edit(
-            rt.alloc(),
-            &params,
-            ample()?,
-            None,
-            &mut script,
-            &mut source,
-            &mut sink,
-        );
-        assert_eq!(rt; answer, Err(EditFault::Plain(Fault::Read)));
-        assert_eq!(rt;
-            (script.failures(), source.failures(), sink.begins()),
-            (1, 0, 0)
-        );
+    let limits = ample()?;
+    let answer = edit(
+        alloc,
+        &params,
+        limits,
+        None,
+        &mut script,
+        &mut source,
+        &mut sink,
+    );
+    let counts = [
+        script.failures(),
+        source.failures(),
+        sink.failures(),
+        sink.begins(),
+    ];
+    Ok((answer, counts, sink.bytes))
+}
+
+// The script fails behind so many bytes. The source would fail too, and isn't asked.
+#[test]
+fn scripts_of_an_edit_fail(rt: HostRuntime) -> Result<(), Fail> {
+    for k in 0..9 {
+        let front = b"append 1".get(..k).ok_or("a front")?;
+        let script = Pieces::of(front, 3, After::Fails);
+        let source = Pieces::of(&[], 1, After::Fails);
+        let (answer, counts, _) = left(rt.alloc(), script, source, Basin::shut(rt.alloc()))?;
+        same(&rt, answer, Err(EditFault::Plain(Fault::Read)));
+        same(&rt, counts, [1, 0, 0, 0]);
     }
-    for k in 0..5usize {
-        assert!(rt; k <= 4);
-        let mut script = Pieces::of(b"append 1", 3, After::Ends);
-        let mut source = Pieces::of(&RAMP[..k], 1, After::Fails);
-        let mut sink = Basin::shut(rt.alloc());
-        let answer = edit(
-            rt.alloc(),
-            &params,
-            ample()?,
-            None,
-            &mut script,
-            &mut source,
-            &mut sink,
-        );
-        assert_eq!(rt; answer, Err(EditFault::Plain(Fault::Read)));
-        assert_eq!(rt;
-            (script.failures(), source.failures(), sink.begins()),
-            (0, 1, 0)
-        );
+    Ok(())
+}
+
+// The source fails behind so many bytes.
+#[test]
+fn streams_of_an_edit_fail(rt: HostRuntime) -> Result<(), Fail> {
+    for k in 0..5 {
+        let front = RAMP.get(..k).ok_or("a front")?;
+        let script = Pieces::of(b"append 1", 3, After::Ends);
+        let source = Pieces::of(front, 1, After::Fails);
+        let (answer, counts, _) = left(rt.alloc(), script, source, Basin::shut(rt.alloc()))?;
+        same(&rt, answer, Err(EditFault::Plain(Fault::Read)));
+        same(&rt, counts, [0, 1, 0, 0]);
     }
-    // It takes so many of the seven bytes, one a call; the last one fails when it is begun.
-    for room in [0usize, 1, 2, 3, 4, 5, 6, 8] {
-        let front = ONE_CHANGED.get(..room);
-        let mut script = Pieces::of(b"overwrite 20 1", 64, After::Ends);
-        let mut source = Pieces::of(&ZEROS, 64, After::Ends);
-        let mut sink = match front {
-            Some(_) => Basin::of(rt.alloc(), 1, room),
+    Ok(())
+}
+
+// The sink takes so many of the seven bytes, one a call, and fails then; or when it is begun.
+#[test]
+fn sinks_of_an_edit_fail(rt: HostRuntime) -> Result<(), Fail> {
+    for front in [
+        None,
+        Some(0),
+        Some(1),
+        Some(2),
+        Some(3),
+        Some(4),
+        Some(5),
+        Some(6),
+    ] {
+        let script = Pieces::of(b"overwrite 20 1", 64, After::Ends);
+        let source = Pieces::of(&ZEROS, 64, After::Ends);
+        let sink = match front {
+            Some(room) => Basin::of(rt.alloc(), 1, room),
             None => Basin::shut(rt.alloc()),
         };
-        let answer = edit(
-            rt.alloc(),
-            &params,
-            ample()?,
-            None,
-            &mut script,
-            &mut source,
-            &mut sink,
+        let (answer, counts, bytes) = left(rt.alloc(), script, source, sink)?;
+        same(&rt, answer, Err(EditFault::Plain(Fault::Write)));
+        same(&rt, counts, [0, 0, 1, 1]);
+        same(
+            &rt,
+            Some(bytes.as_slice()),
+            ONE_CHANGED.get(..front.unwrap_or(0)),
         );
-        assert_eq!(rt; answer, Err(EditFault::Plain(Fault::Write)));
-        assert_eq!(rt; sink.bytes.as_slice(), front.unwrap_or(&[]));
-        assert_eq!(rt; (sink.begins(), sink.failures()), (1, 1));
     }
     Ok(())
 }
@@ -282,8 +301,8 @@ fn limits_hold_for_scripts_streams_and_edits(rt: HostRuntime) -> Result<(), Fail
             &mut source,
             &mut sink,
         );
-        assert_eq!(rt; answer, Err(expected), "at {text:?}");
-        assert_eq!(rt; sink.begins(), 0);
+        same_at(&rt, answer, Err(expected), &text);
+        same(&rt, sink.begins(), 0);
     }
     Ok(())
 }

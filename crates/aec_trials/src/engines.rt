@@ -1,5 +1,6 @@
 //! The engines over devices in memory: what is written, and what is left where a device fails.
 
+use crate::asserts::same;
 use crate::devices::{After, Basin, Pieces};
 use crate::shared::{DEFAULTS, Outcome, run_engine};
 use aec_cli::{Action, encode};
@@ -43,7 +44,7 @@ fn leaves<R: Abort>(
         failures,
     };
     let left = run_engine(alloc, &params, action, limits, source, sink);
-    assert_eq!(rt; left, expected);
+    same(rt, left, expected);
     Ok(())
 }
 
@@ -165,7 +166,7 @@ fn a_refused_sample_is_the_last_that_is_taken(rt: HostRuntime) -> Result<(), Fai
         let mut source = Pieces::of(bytes, *step, After::Ends);
         let mut sink = Basin::of(rt.alloc(), 64, 100);
         let answered = encode(rt.alloc(), &params, limits, &mut source, &mut sink);
-        assert_eq!(rt; (answered, source.takes()), (*answer, *takes));
+        same(&rt, (answered, source.takes()), (*answer, *takes));
     }
     Ok(())
 }

@@ -1,10 +1,11 @@
 //! Files as devices, step by step.
 
+use crate::asserts::{holds_at, same_at};
 use crate::tables::cell;
 use aec_bits::{Sink, Source};
 use aec_cli::{DestSink, FileSource};
 use aec_params::Fault;
-use std::alloc::{Alloc, Global};
+use std::alloc::{Alloc, AllocError, Global};
 use std::fs;
 use std::process::Abort;
 use std::rt::Files;
@@ -31,26 +32,29 @@ fn gives<R: Source>(source: &mut R, buf: &mut [u8; 4], step: &str) -> Result<boo
     Ok(source.take(&mut buf[..len]) == Ok(count) && buf.as_slice() == held.as_bytes())
 }
 
+// Tries a row of SOURCES.
+fn source_goes_so<R: Abort + Files + Alloc<A = Global>>(rt: &R, row: &str) -> Result<(), Fail> {
+    let (name, rest) = cell(row);
+    let (steps, failures) = cell(rest);
+    let name = name.trim();
+    let failures = failures.trim().parse::<u64>()?;
+    let mut source = FileSource::new(rt, String::from_str(rt.alloc(), name)?);
+    let mut buf = *b"....";
+    for step in steps.split_whitespace() {
+        match step.strip_prefix("+") {
+            Some(bytes) => fs::write(rt, name, bytes)?,
+            None => holds_at(rt, gives(&mut source, &mut buf, step)?, &(&step, &row)),
+        }
+    }
+    same_at(rt, source.failures(), failures, &row);
+    let _ = fs::remove_file(rt, name);
+    Ok(())
+}
+
 #[test]
 fn sources_go_step_by_step(rt: HostRuntime) -> Result<(), Fail> {
     for row in SOURCES.lines() {
-        let (name, rest) = cell(row);
-        let (steps, failures) = cell(rest);
-        let name = name.trim();
-        let mut source = FileSource::new(&rt, String::from_str(rt.alloc(), name)?);
-        let mut buf = *b"....";
-        for step in steps.split_whitespace() {
-            match step.strip_prefix("+") {
-                Some(bytes) => fs::write(&rt, name, bytes)?,
-                None => assert!(rt; gives(&mut source, &mut buf, step)?, "{step} of {row}"),
-            }
-        }
-        assert_eq!(rt;
-            source.failures(),
-            failures.trim().parse::<u64>()?,
-            "at {row}"
-        );
-        let _ = fs::remove_file(&rt, name);
+        source_goes_so(&rt, row)?;
     }
     Ok(())
 }
@@ -99,6 +103,20 @@ fn goes<F: Files + Alloc<A = Global>, W: Sink>(
     }
 }
 
+// How often the sink has failed and begun.
+fn counts_of<W: Sink>(alloc: Global, sink: &W) -> Result<String, AllocError> {
+    format!(in alloc; "{} {}", sink.failures(), sink.begins())
+}
+
+// Whether the sink ends as a word says.
+fn ends<F: Files + Alloc<A = Global>>(sink: DestSink<'_, F>, word: &str) -> bool {
+    match word {
+        "-" => true,
+        "ends" => sink.finish() == Ok(()),
+        _ => sink.finish() == Err(Fault::Write),
+    }
+}
+
 // Tries a row of SINKS.
 fn sink_goes_so<R: Abort + Files + Alloc<A = Global>>(
     rt: &R,
@@ -111,16 +129,11 @@ fn sink_goes_so<R: Abort + Files + Alloc<A = Global>>(
     let name = name.trim();
     let mut sink = DestSink::new(rt, String::from_str(alloc, name)?);
     for step in steps.split_whitespace() {
-        assert!(rt; goes(rt, name, &mut sink, step)?, "{step} of {row}");
+        holds_at(rt, goes(rt, name, &mut sink, step)?, &(&step, &row));
     }
-    let found = format!(in alloc; "{} {}", sink.failures(), sink.begins())?;
-    assert_eq!(rt; found.as_str(), counts.trim(), "at {row}");
-    let ended = match end.trim() {
-        "-" => true,
-        "ends" => sink.finish() == Ok(()),
-        _ => sink.finish() == Err(Fault::Write),
-    };
-    assert!(rt; ended, "at {row}");
+    let found = counts_of(alloc, &sink)?;
+    same_at(rt, found.as_str(), counts.trim(), &row);
+    holds_at(rt, ends(sink, end.trim()), &row);
     Ok(())
 }
 
@@ -130,7 +143,7 @@ fn sinks_go_step_by_step(rt: HostRuntime) -> Result<(), Fail> {
         sink_goes_so(&rt, rt.alloc(), row)?;
     }
     for name in ["early", "unbegun", "no"] {
-        assert!(rt; !fs::exists(&rt, name)?, "at {name}");
+        holds_at(&rt, !fs::exists(&rt, name)?, &name);
     }
     fs::remove_file(&rt, "written")?;
     fs::remove_file(&rt, "kept")?;

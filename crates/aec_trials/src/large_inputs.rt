@@ -1,5 +1,6 @@
 //! Inputs far above a piece, a block, an interval: a body that lacked memory there would be proved.
 
+use crate::asserts::{holds_at, same, same_at};
 use crate::devices::{After, Basin, Pieces};
 use crate::shared::{DEFAULTS, run_engine, run_of};
 use aec_cli::Action;
@@ -31,7 +32,7 @@ fn written<R: Abort + Files + Alloc<A = Global>>(
     dest: &str,
 ) -> Result<Vec<u8>, Fail> {
     let (status, out, err) = run_of(rt, alloc, words)?;
-    assert_eq!(rt; (status, out.len(), err.len()), (0, 0, 0), "at {words}");
+    same_at(rt, (status, out.len(), err.len()), (0, 0, 0), &words);
     Ok(fs::read(rt, dest)?)
 }
 
@@ -51,16 +52,27 @@ const ROUND_TRIPS: [(&str, &str, usize, usize); 2] = [
     ),
 ];
 
+// Coded and decoded again by these words, with lengths so.
+fn there_and_back<R: Abort + Files + Alloc<A = Global>>(
+    rt: &R,
+    samples: &[u8],
+    coding: &str,
+    decoding: &str,
+    lens: (usize, usize),
+) -> Result<(), Fail> {
+    let coded = written(rt, rt.alloc(), coding, "much.aec")?;
+    let back = written(rt, rt.alloc(), decoding, "much.back")?;
+    same_at(rt, (coded.len(), back.len()), lens, &coding);
+    holds_at(rt, back.starts_with(samples), &decoding);
+    Ok(())
+}
+
 #[test]
 fn a_million_samples_are_coded_and_decoded(rt: HostRuntime) -> Result<(), Fail> {
     let samples = high_samples(rt.alloc())?;
     fs::write(&rt, "much.raw", samples.as_slice())?;
-    for (coding, decoding, coded_len, len) in ROUND_TRIPS.iter() {
-        let coded = written(&rt, rt.alloc(), coding, "much.aec")?;
-        assert_eq!(rt; coded.len(), *coded_len, "at {coding}");
-        let back = written(&rt, rt.alloc(), decoding, "much.back")?;
-        assert_eq!(rt; back.len(), *len, "at {decoding}");
-        assert!(rt; back.starts_with(&samples), "at {decoding}");
+    for (coding, decoding, coded_len, len) in ROUND_TRIPS {
+        there_and_back(&rt, &samples, coding, decoding, (coded_len, len))?;
     }
     for name in ["much.raw", "much.aec", "much.back"] {
         fs::remove_file(&rt, name)?;
@@ -79,10 +91,11 @@ fn a_million_samples_come_one_a_call(rt: HostRuntime) -> Result<(), Fail> {
     let source = Pieces::of(&samples, 1, After::Ends);
     let sink = Basin::of(rt.alloc(), 1 << 16, 1 << 21);
     let left = run_engine(rt.alloc(), &params, &Action::Encode, limits, source, sink);
-    assert_eq!(rt;
+    same(
+        &rt,
         (left.answer, left.begins, left.failures),
-        (Ok(()), 1, [0, 0])
+        (Ok(()), 1, [0, 0]),
     );
-    assert_eq!(rt; left.written.len(), ROUND_TRIPS[0].2);
+    same(&rt, left.written.len(), ROUND_TRIPS[0].2);
     Ok(())
 }

@@ -1,5 +1,6 @@
 //! Runs that are refused: what is printed, and that DEST is not made, or stays as it was.
 
+use crate::asserts::holds;
 use crate::runs::runs_end_so;
 use std::fs;
 use std::test::Fail;
@@ -19,7 +20,7 @@ const REFUSED: &str = "\
 #[test]
 fn broken_files_are_refused(rt: HostRuntime) -> Result<(), Fail> {
     runs_end_so(&rt, rt.alloc(), REFUSED)?;
-    assert!(rt; !fs::exists(&rt, "no_such_folder")?);
+    holds(&rt, !fs::exists(&rt, "no_such_folder")?);
     Ok(())
 }
 

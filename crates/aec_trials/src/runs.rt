@@ -1,6 +1,7 @@
 //! Tables of whole runs on files. A row: the words, of which the last two name SOURCE and DEST; what SOURCE holds, or `-`
 //! where it isn't there; the status; what DEST holds then or, with a status above 0, the line that is printed.
 
+use crate::asserts::same_at;
 use crate::shared::run_of;
 use crate::tables::{cell, spelled};
 use std::alloc::{Alloc, Global};
@@ -106,6 +107,19 @@ fn expected(alloc: Global, row: Row<'_>, before: Option<Vec<u8>>) -> Result<Ende
     })
 }
 
+// Tries a row where DEST holds these bytes before it, or isn't there.
+fn ends_so<R: Abort + Files + Alloc<A = Global>>(
+    rt: &R,
+    alloc: Global,
+    text: &str,
+    bytes: Option<&[u8]>,
+) -> Result<(), Fail> {
+    let row = row_of(text);
+    let expected = expected(alloc, row, placed(rt, row, bytes))?;
+    same_at(rt, tried(rt, alloc, row)?, expected, &text);
+    Ok(())
+}
+
 /// Tries each row twice: where DEST isn't there, and where it holds more than most rows write.
 pub(crate) fn runs_end_so<R: Abort + Files + Alloc<A = Global>>(
     rt: &R,
@@ -114,12 +128,8 @@ pub(crate) fn runs_end_so<R: Abort + Files + Alloc<A = Global>>(
 ) -> Result<(), Fail> {
     let long = [0xAAu8; 600];
     for text in table.lines() {
-        for bytes in [None, Some(long.as_slice())] {
-            let row = row_of(text);
-            let before = placed(rt, row, bytes);
-            let expected = expected(alloc, row, before)?;
-            assert_eq!(rt; tried(rt, alloc, row)?, expected, "at {text}");
-        }
+        ends_so(rt, alloc, text, None)?;
+        ends_so(rt, alloc, text, Some(long.as_slice()))?;
     }
     Ok(())
 }

@@ -1,5 +1,6 @@
 //! Scripts, and the edits that their lines are read as.
 
+use crate::asserts::{holds, same, same_at};
 use aec_cli::{Script, script};
 use aec_params::{Edit, Fault};
 use std::alloc::{AllocError, Global};
@@ -78,11 +79,16 @@ const READ: [(&str, &str); 22] = [
     ("append 1\n \n\nappend 2\n", "1 append 1;4 append 2;"),
 ];
 
+// What a script has, or why it is refused.
+fn read(alloc: Global, text: &[u8]) -> Result<Script, Fault> {
+    script(alloc, text)
+}
+
 #[test]
 fn edits_stand_on_their_lines(rt: HostRuntime) -> Result<(), Fail> {
     for (text, edits) in READ {
-        let read = script(rt.alloc(), text.as_bytes())?;
-        assert_eq!(rt; shown(rt.alloc(), &read)?.as_str(), edits, "at {text:?}");
+        let read = read(rt.alloc(), text.as_bytes())?;
+        same_at(&rt, shown(rt.alloc(), &read)?.as_str(), edits, &text);
     }
     Ok(())
 }
@@ -118,11 +124,11 @@ const REFUSED: [(&str, u64); 24] = [
 #[test]
 fn the_first_bad_line_is_named(rt: HostRuntime) -> Result<(), Fail> {
     for (text, line) in REFUSED {
-        let refusal = script(rt.alloc(), text.as_bytes()).err();
-        assert_eq!(rt; refusal, Some(Fault::Script { line }), "at {text:?}");
+        let refusal = read(rt.alloc(), text.as_bytes()).err();
+        same_at(&rt, refusal, Some(Fault::Script { line }), &text);
     }
-    let no_text = script(rt.alloc(), b"append 1\nappend \xFF").err();
-    assert_eq!(rt; no_text, Some(Fault::Script { line: 2 }));
+    let no_text = read(rt.alloc(), b"append 1\nappend \xFF").err();
+    same(&rt, no_text, Some(Fault::Script { line: 2 }));
     Ok(())
 }
 
@@ -131,7 +137,7 @@ fn empty_lines_are_counted(rt: HostRuntime) -> Result<(), Fail> {
     let mut text = vec![in rt.alloc(); b'\n'; 65536]?;
     text.extend_from_slice(b"append x")?;
     let refusal = script(rt.alloc(), &text).err();
-    assert_eq!(rt; refusal, Some(Fault::Script { line: 65537 }));
+    same(&rt, refusal, Some(Fault::Script { line: 65537 }));
     Ok(())
 }
 
@@ -145,25 +151,27 @@ fn repeated(alloc: Global, text: &[u8], times: usize) -> Result<Vec<u8>, AllocEr
 }
 
 #[test]
-fn long_scripts_are_read(rt: HostRuntime) -> Result<(), Fail> {
+fn long_lines_are_read(rt: HostRuntime) -> Result<(), Fail> {
     let mut line = Vec::new(rt.alloc());
     line.extend_from_slice(b"append")?;
     line.extend_from_slice(&repeated(rt.alloc(), b" -7", 100_000)?)?;
-    let read = script(rt.alloc(), &line)?;
-    assert_eq!(rt; read.lines.as_slice(), [1u64].as_slice());
+    let read = read(rt.alloc(), &line)?;
+    same(&rt, read.lines.as_slice(), [1u64].as_slice());
     match read.edits.first() {
         Some(Edit::Append { values }) => {
-            assert_eq!(rt; values.as_slice().len(), 100_000);
-            assert!(rt; values.as_slice().iter().all(|x| *x == -7));
+            same(&rt, values.as_slice().len(), 100_000);
+            holds(&rt, values.as_slice().iter().all(|x| *x == -7));
         }
         _ => panic!(rt; "no append"),
     }
+    Ok(())
+}
 
-    let many = script(
-        rt.alloc(),
-        &repeated(rt.alloc(), b"truncate 0\n", 1_000_000)?,
-    )?;
-    assert_eq!(rt; many.edits.len(), 1_000_000);
-    assert_eq!(rt; many.lines.last(), Some(&1_000_000));
+#[test]
+fn many_lines_are_read(rt: HostRuntime) -> Result<(), Fail> {
+    let text = repeated(rt.alloc(), b"truncate 0\n", 1_000_000)?;
+    let many = read(rt.alloc(), &text)?;
+    same(&rt, many.edits.len(), 1_000_000);
+    same(&rt, many.lines.last(), Some(&1_000_000));
     Ok(())
 }

@@ -1,9 +1,11 @@
 //! A DEST that takes all bytes and then can't be synced.
 
+use crate::asserts::{same, same_at};
 use crate::shared::run_of;
-use std::alloc::Allocator;
+use std::alloc::{Alloc, Allocator, Global};
 use std::fs::{Files, Metadata, OpenFile, OpenOptions};
 use std::io::{ErrorKind, Read, Seek, SeekFrom, Write};
+use std::process::Abort;
 use std::test::Fail;
 use std::{fs, io};
 
@@ -110,6 +112,23 @@ impl<'a, F: Files> Files for Unsynced<'a, F> {
     }
 }
 
+// A run whose syncs fail so has this status and this text, and DEST holds the coded ramp.
+fn ends_so<R: Abort + Files + Alloc<A = Global>>(
+    rt: &R,
+    kind: ErrorKind,
+    expected: u8,
+    text: &str,
+) -> Result<(), Fail> {
+    let unsynced = Unsynced { rt, kind };
+    let words = "unsynced.in unsynced.out";
+    let (status, _out, err) = run_of(&unsynced, rt.alloc(), words)?;
+    same_at(rt, status, expected, &kind);
+    same_at(rt, err.as_slice(), text.as_bytes(), &kind);
+    let coded = fs::read(rt, "unsynced.out")?;
+    same(rt, coded.as_slice(), b"\x20\x09\x24\x92".as_slice());
+    Ok(())
+}
+
 #[test]
 fn a_dest_that_is_not_synced_is_a_failure(rt: HostRuntime) -> Result<(), Fail> {
     // The errors of a full disk, of a quota and of a broken one; the last two are of files that have nothing to sync.
@@ -120,21 +139,10 @@ fn a_dest_that_is_not_synced_is_a_failure(rt: HostRuntime) -> Result<(), Fail> {
         (ErrorKind::InvalidInput, 0, ""),
         (ErrorKind::Unsupported, 0, ""),
     ];
-    fs::write(
-        &rt,
-        "unsynced.in",
-        b"\x00\x01\x02\x03\x04\x05\x06\x07".as_slice(),
-    )?;
+    let ramp = b"\x00\x01\x02\x03\x04\x05\x06\x07";
+    fs::write(&rt, "unsynced.in", ramp.as_slice())?;
     for (kind, expected, text) in cases {
-        let unsynced = Unsynced { rt: &rt, kind };
-        let words = "unsynced.in unsynced.out";
-        let (status, _out, err) = run_of(&unsynced, rt.alloc(), words)?;
-        assert_eq!(rt; status, expected, "at {kind:?}");
-        assert_eq!(rt; str::from_utf8(err.as_slice())?, text, "at {kind:?}");
-        assert_eq!(rt;
-            fs::read(&rt, "unsynced.out")?.as_slice(),
-            b"\x20\x09\x24\x92".as_slice()
-        );
+        ends_so(&rt, kind, expected, text)?;
     }
     fs::remove_file(&rt, "unsynced.in")?;
     fs::remove_file(&rt, "unsynced.out")?;

@@ -1,11 +1,12 @@
 //! Samples of every storage, coded and decoded.
 
+use crate::asserts::same_at;
 use crate::devices::{After, Basin, Pieces};
 use crate::shared::{DEFAULTS, run_engine};
 use crate::tables::{cell, spelled};
 use aec_cli::Action;
 use aec_params::{Limits, Params, Settings};
-use std::alloc::Global;
+use std::alloc::{Alloc, Global};
 use std::process::Abort;
 use std::test::Fail;
 
@@ -61,41 +62,47 @@ fn both_ways<R: Abort>(
         let source = Pieces::of(given, 7, After::Ends);
         let sink = Basin::of(alloc, 64, 100);
         let left = run_engine(alloc, &params, &action, limits, source, sink);
-        assert_eq!(rt; left.written.as_slice(), wanted, "at {settings:?}");
+        same_at(rt, left.written.as_slice(), wanted, &settings);
     }
     Ok(())
 }
 
 // The same in both orders of bytes, with the three-byte flag and without it.
+// The samples of a row in this storage, coded and decoded.
+fn row_both_ways<R: Abort + Alloc<A = Global>>(
+    rt: &R,
+    row: &str,
+    msb_first: bool,
+    three_byte: bool,
+) -> Result<(), Fail> {
+    let (bits, rest) = cell(row);
+    let (len, rest) = cell(rest);
+    let (sign, rest) = cell(rest);
+    let (samples, coded) = cell(rest);
+    let settings = Settings {
+        bits: bits.trim().parse::<u32>()?,
+        signed: sign.trim() == "s",
+        msb_first,
+        three_byte,
+        ..DEFAULTS
+    };
+    let len = if three_byte && settings.bits > 16 && settings.bits <= 24 {
+        3
+    } else {
+        len.trim().parse::<usize>()?
+    };
+    let coded = spelled(rt.alloc(), coded)?;
+    let bytes = stored(rt.alloc(), samples, len, msb_first)?;
+    both_ways(rt, rt.alloc(), settings, &bytes, &coded)
+}
+
 #[test]
 fn samples_of_each_width_are_coded_and_decoded(rt: HostRuntime) -> Result<(), Fail> {
     for row in WIDTHS.lines() {
-        let (bits, rest) = cell(row);
-        let (len, rest) = cell(rest);
-        let (sign, rest) = cell(rest);
-        let (samples, coded) = cell(rest);
-        let coded = spelled(rt.alloc(), coded)?;
-        for (msb_first, three_byte) in [
-            (false, false),
-            (false, true),
-            (true, false),
-            (true, true),
-        ] {
-            let settings = Settings {
-                bits: bits.trim().parse::<u32>()?,
-                signed: sign.trim() == "s",
-                msb_first,
-                three_byte,
-                ..DEFAULTS
-            };
-            let len = if three_byte && settings.bits > 16 && settings.bits <= 24 {
-                3
-            } else {
-                len.trim().parse::<usize>()?
-            };
-            let bytes = stored(rt.alloc(), samples, len, msb_first)?;
-            both_ways(&rt, rt.alloc(), settings, &bytes, &coded)?;
-        }
+        row_both_ways(&rt, row, false, false)?;
+        row_both_ways(&rt, row, false, true)?;
+        row_both_ways(&rt, row, true, false)?;
+        row_both_ways(&rt, row, true, true)?;
     }
     Ok(())
 }

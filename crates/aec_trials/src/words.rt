@@ -1,5 +1,6 @@
 //! Words, the jobs that they ask for, and texts.
 
+use crate::asserts::{holds, holds_at, same, same_at};
 use crate::shared::{DEFAULTS, job_by, job_of, run_of, words_of};
 use aec_cli::{Action, Failure, Usage, perform, status};
 use aec_params::{Fault, Params, Settings};
@@ -83,8 +84,8 @@ const OPTIONS: [(&str, Settings); 13] = [
 fn each_option_has_its_setting(rt: HostRuntime) -> Result<(), Fail> {
     for (words, expected) in OPTIONS.iter() {
         let job = job_of(rt.alloc(), words)??;
-        assert_eq!(rt; job.params, Params::new(*expected)?, "at {words}");
-        assert_eq!(rt; job.action, Action::Encode, "at {words}");
+        same_at(&rt, job.params, Params::new(*expected)?, &words);
+        same_at(&rt, job.action, Action::Encode, &words);
     }
     Ok(())
 }
@@ -138,9 +139,10 @@ const ACTIONS: [(&str, Action); 8] = [
 fn a_job_has_its_action_and_files(rt: HostRuntime) -> Result<(), Fail> {
     for (words, action) in ACTIONS.iter() {
         let job = job_of(rt.alloc(), words)??;
-        assert_eq!(rt; job.action, *action, "at {words}");
-        assert_eq!(rt; job.params, Params::new(DEFAULTS)?, "at {words}");
-        assert_eq!(rt; [job.source.as_str(), job.dest.as_str()], ["in", "out"]);
+        holds_at(&rt, job.action == *action, words);
+        same_at(&rt, job.params, Params::new(DEFAULTS)?, &words);
+        same(&rt, job.source.as_str(), "in");
+        same(&rt, job.dest.as_str(), "out");
     }
     Ok(())
 }
@@ -172,7 +174,7 @@ fn a_range_is_two_numbers_and_a_colon(rt: HostRuntime) -> Result<(), Fail> {
     ];
     for text in texts {
         let refusal = job_by(rt.alloc(), &["aec", "--range", text, "a", "b"])?.err();
-        assert_eq!(rt; refusal, Some(Usage::Range), "at {text:?}");
+        same_at(&rt, refusal, Some(Usage::Range), &text);
     }
     Ok(())
 }
@@ -205,8 +207,8 @@ fn failures_have_their_texts(rt: HostRuntime) -> Result<(), Fail> {
         ),
     ];
     for (failure, text, expected) in cases {
-        assert_eq!(rt; failure.to_string(rt.alloc())?.as_str(), text);
-        assert_eq!(rt; status(&failure), expected, "at {text}");
+        same(&rt, failure.to_string(rt.alloc())?.as_str(), text);
+        same_at(&rt, status(&failure), expected, &text);
     }
     Ok(())
 }
@@ -214,15 +216,18 @@ fn failures_have_their_texts(rt: HostRuntime) -> Result<(), Fail> {
 #[test]
 fn help_goes_to_standard_output(rt: HostRuntime) -> Result<(), Fail> {
     let (status, out, err) = run_of(&rt, rt.alloc(), "--help")?;
-    assert_eq!(rt; (status, err.len()), (0, 0));
+    same(&rt, (status, err.len()), (0, 0));
     let text = str::from_utf8(out.as_slice())?;
-    assert!(rt; text.contains("Usage: aec [OPTIONS] <SOURCE> <DEST>\n"));
-    assert!(rt; text.contains("the rule is this project's own and violates the\n"));
+    holds(&rt, text.contains("Usage: aec [OPTIONS] <SOURCE> <DEST>\n"));
+    holds(
+        &rt,
+        text.contains("the rule is this project's own and violates the\n"),
+    );
     for option in ["--range <FIRST:LEN>", "--count <N>", "--version", "--help"] {
-        assert!(rt; text.contains(option), "at {option}");
+        holds_at(&rt, text.contains(option), &option);
     }
     for line in text.lines() {
-        assert!(rt; line.chars().count() <= 80, "at {line}");
+        holds_at(&rt, line.chars().count() <= 80, &line);
     }
     Ok(())
 }
@@ -231,8 +236,8 @@ fn help_goes_to_standard_output(rt: HostRuntime) -> Result<(), Fail> {
 fn the_version_goes_to_standard_output(rt: HostRuntime) -> Result<(), Fail> {
     for word in ["--version", "-V"] {
         let (status, out, err) = run_of(&rt, rt.alloc(), word)?;
-        assert_eq!(rt; (status, err.len()), (0, 0));
-        assert_eq!(rt; out.as_slice(), b"aec 0.1.0\n".as_slice());
+        same(&rt, (status, err.len()), (0, 0));
+        same(&rt, out.as_slice(), b"aec 0.1.0\n".as_slice());
     }
     Ok(())
 }
@@ -255,9 +260,10 @@ impl Write for Broken {
 fn broken_streams_change_no_status(rt: HostRuntime) -> Result<(), Fail> {
     for (words, expected) in [("a b --help", 0), ("a b -x", 2), ("a b -n40", 2)] {
         let words = words_of(rt.alloc(), words)?;
-        assert_eq!(rt;
+        same(
+            &rt,
             perform(&rt, rt.alloc(), words, &mut Broken, &mut Broken),
-            expected
+            expected,
         );
     }
     Ok(())

@@ -1,5 +1,6 @@
 ghost use Rattle.std.specs.Prelude.{◌<◌, ◌≤◌, ◌^◌, length};
 
+use crate::asserts::{holds, holds_at, same, same_at};
 use aec_bits::{BitBuf, BitReader};
 use aec_params::Fault;
 use std::alloc::Global;
@@ -92,17 +93,17 @@ fn builds_and_edits(rt: HostRuntime) -> Result<(), Fail> {
     push(&mut buf, 5, 3)?;
     push_fs(&mut buf, 4)?;
     buf.append(&bits(alloc, &[true, true])?)?;
-    assert_eq!(rt; bytes(alloc, &buf)?.as_slice(), [0xA1, 0xC0].as_slice());
-    assert_eq!(rt; buf.len(), 10);
+    same(&rt, bytes(alloc, &buf)?.as_slice(), [0xA1, 0xC0].as_slice());
+    holds(&rt, buf.len() == 10);
     buf.splice(2, 7, &bits(alloc, &[false, true, true, false])?)?;
-    assert_eq!(rt; bytes(alloc, &buf)?.as_slice(), [0x9B, 0x80].as_slice());
-    assert_eq!(rt; buf.len(), 9);
+    same(&rt, bytes(alloc, &buf)?.as_slice(), [0x9B, 0x80].as_slice());
+    holds(&rt, buf.len() == 9);
     buf.truncate(5);
     buf.pad_to_byte()?;
-    assert_eq!(rt; bytes(alloc, &buf)?.as_slice(), [0x98].as_slice());
-    assert_eq!(rt; buf.len(), 8);
+    same(&rt, bytes(alloc, &buf)?.as_slice(), [0x98].as_slice());
+    same(&rt, buf.len(), 8);
     buf.pad_to_byte()?;
-    assert_eq!(rt; buf.len(), 8);
+    same(&rt, buf.len(), 8);
     Ok(())
 }
 
@@ -112,11 +113,11 @@ fn grows_where_nothing_was_reserved(rt: HostRuntime) -> Result<(), Fail> {
     let mut buf = BitBuf::new(alloc);
     buf.append(&bits(alloc, &[true, false, true])?)?;
     buf.pad_to_byte()?;
-    assert_eq!(rt; bytes(alloc, &buf)?.as_slice(), [0xA0].as_slice());
-    assert_eq!(rt; buf.len(), 8);
+    same(&rt, bytes(alloc, &buf)?.as_slice(), [0xA0].as_slice());
+    same(&rt, buf.len(), 8);
     let mut other = BitBuf::new(alloc);
     other.splice(0, 0, &buf)?;
-    assert_eq!(rt; bytes(alloc, &other)?.as_slice(), [0xA0].as_slice());
+    same(&rt, bytes(alloc, &other)?.as_slice(), [0xA0].as_slice());
     Ok(())
 }
 
@@ -124,18 +125,18 @@ fn grows_where_nothing_was_reserved(rt: HostRuntime) -> Result<(), Fail> {
 fn reads_and_stays(rt: HostRuntime) -> Result<(), Fail> {
     let buf = bits_in(rt.alloc(), &[0x98])?;
     let mut reader = BitReader::new(&buf);
-    assert_eq!(rt; reader.read(3), Ok(4));
-    assert_eq!(rt; reader.read_fs(), Ok(0));
-    assert_eq!(rt; reader.read_fs(), Ok(0));
-    assert!(rt; reader.rest_is_zero());
-    assert_eq!(rt; reader.read_fs(), Err(Fault::Truncated { bit: 5 }));
-    assert_eq!(rt; reader.pos(), 5);
+    same(&rt, reader.read(3), Ok(4));
+    same(&rt, reader.read_fs(), Ok(0));
+    same(&rt, reader.read_fs(), Ok(0));
+    holds(&rt, reader.rest_is_zero());
+    same(&rt, reader.read_fs(), Err(Fault::Truncated { bit: 5 }));
+    same(&rt, reader.pos(), 5);
     reader.skip_to_byte();
-    assert_eq!(rt; reader.pos(), 8);
-    assert_eq!(rt; reader.read(1), Err(Fault::Truncated { bit: 8 }));
+    same(&rt, reader.pos(), 8);
+    same(&rt, reader.read(1), Err(Fault::Truncated { bit: 8 }));
     reader.skip_to_byte();
-    assert_eq!(rt; reader.pos(), 8);
-    assert!(rt; reader.rest_is_zero());
+    same(&rt, reader.pos(), 8);
+    holds(&rt, reader.rest_is_zero());
     Ok(())
 }
 
@@ -143,23 +144,23 @@ fn reads_and_stays(rt: HostRuntime) -> Result<(), Fail> {
 fn pushes_extreme_numbers(rt: HostRuntime) -> Result<(), Fail> {
     let mut buf = BitBuf::new(rt.alloc());
     push(&mut buf, 0, 0)?;
-    assert_eq!(rt; buf.len(), 0);
+    same(&rt, buf.len(), 0);
     for value in [u64::MAX, 1, 1 << 63] {
         push(&mut buf, value, 64)?;
     }
     for v in [0, 1, 63, 64, 1000] {
         push_fs(&mut buf, v)?;
     }
-    assert_eq!(rt; buf.len(), 192 + 1128 + 5);
+    same(&rt, buf.len(), 192 + 1128 + 5);
     let mut reader = BitReader::new(&buf);
-    assert_eq!(rt; reader.read(0), Ok(0));
+    same(&rt, reader.read(0), Ok(0));
     for value in [u64::MAX, 1, 1 << 63] {
-        assert_eq!(rt; reader.read(64), Ok(value));
+        same(&rt, reader.read(64), Ok(value));
     }
     for v in [0, 1, 63, 64, 1000] {
-        assert_eq!(rt; reader.read_fs(), Ok(v));
+        same(&rt, reader.read_fs(), Ok(v));
     }
-    assert_eq!(rt; reader.read_fs(), Err(Fault::Truncated { bit: 1325 }));
+    same(&rt, reader.read_fs(), Err(Fault::Truncated { bit: 1325 }));
     Ok(())
 }
 
@@ -169,8 +170,8 @@ fn gives_bytes_back(rt: HostRuntime) -> Result<(), Fail> {
     let mut given = Vec::new(alloc);
     for i in 0..21u64 {
         let buf = bits_in(alloc, &given)?;
-        assert_eq!(rt; buf.len(), 8 * i);
-        assert_eq!(rt; bytes(alloc, &buf)?.as_slice(), given.as_slice(), "at {i}");
+        same(&rt, buf.len(), 8 * i);
+        same_at(&rt, bytes(alloc, &buf)?.as_slice(), given.as_slice(), &i);
         given.push((i * 37 % 256) as u8)?;
     }
     Ok(())
@@ -187,9 +188,10 @@ fn splices_as_a_list(rt: HostRuntime) -> Result<(), Fail> {
                 for added in sizes {
                     let with = sample_list(alloc, added, 5)?;
                     if start <= stop && stop <= list.len() {
-                        assert!(rt;
+                        holds_at(
+                            &rt,
                             splices(alloc, &list, start, stop, &with)?,
-                            "{len} {start} {stop} {added}"
+                            &(&len, &start, &stop, &added),
                         );
                     }
                 }
@@ -202,7 +204,7 @@ fn splices_as_a_list(rt: HostRuntime) -> Result<(), Fail> {
 #[test]
 fn refuses_more_than_a_list_holds(rt: HostRuntime) {
     let mut buf = BitBuf::new(rt.alloc());
-    assert_eq!(rt; buf.reserve((1 << 62) + 1), Err(Fault::Memory));
-    assert_eq!(rt; push_fs(&mut buf, u64::MAX), Err(Fault::Memory));
-    assert_eq!(rt; buf.len(), 0);
+    same(&rt, buf.reserve((1 << 62) + 1), Err(Fault::Memory));
+    same(&rt, push_fs(&mut buf, u64::MAX), Err(Fault::Memory));
+    same(&rt, buf.len(), 0);
 }

@@ -4,6 +4,7 @@ ghost use Rattle.std.specs.Prelude.{◌≡◌, ◌++◌, OnOk};
 ghost use Rattle.aec_bits.specs.Codec.{IsInterval};
 
 use super::bits::{bits, bytes};
+use crate::asserts::same;
 use aec_bits::laws::{self, Octets};
 use aec_bits::{BitBuf, Codec};
 use aec_params::Fault;
@@ -28,27 +29,29 @@ fn there_and_back<C: Codec>(
 fn codes_octets_and_back(rt: HostRuntime) -> Result<(), Fail> {
     let alloc = rt.alloc();
     let mut codec = Octets::new(alloc, 0);
-    assert_eq!(rt; codec.interval_len(), 4);
-    assert_eq!(rt;
+    same(&rt, codec.interval_len(), 4);
+    same(
+        &rt,
         [
             codec.holds(-1),
             codec.holds(0),
             codec.holds(255),
-            codec.holds(256)
+            codec.holds(256),
         ],
-        [false, true, true, false]
+        [false, true, true, false],
     );
     let mut buf = bits(alloc, &[true])?;
     let mut out = Vec::new(alloc);
     there_and_back(&mut codec, &[1, 2, 3], &mut buf, &mut out)?;
-    assert_eq!(rt;
+    same(
+        &rt,
         bytes(alloc, &buf)?.as_slice(),
-        [0x80, 0x81, 0x01, 0x80].as_slice()
+        [0x80, 0x81, 0x01, 0x80].as_slice(),
     );
-    assert_eq!(rt; buf.len(), 25);
-    assert_eq!(rt; codec.calls(), 1);
-    assert_eq!(rt; out.as_slice(), [1, 2, 3].as_slice());
-    assert_eq!(rt; codec.reads(), 1);
+    same(&rt, buf.len(), 25);
+    same(&rt, codec.calls(), 1);
+    same(&rt, out.as_slice(), [1, 2, 3].as_slice());
+    same(&rt, codec.reads(), 1);
     Ok(())
 }
 
@@ -56,10 +59,10 @@ fn codes_octets_and_back(rt: HostRuntime) -> Result<(), Fail> {
 fn spent_calls_change_nothing(rt: HostRuntime) -> Result<(), Fail> {
     let mut codec = Octets::new(rt.alloc(), u64::MAX);
     let mut buf = bits(rt.alloc(), &[true, false])?;
-    assert_eq!(rt; codec.code(&[1], &mut buf), Err(Fault::Spent));
-    assert_eq!(rt; buf.len(), 2);
-    assert_eq!(rt; bytes(rt.alloc(), &buf)?.as_slice(), [0x80].as_slice());
-    assert_eq!(rt; codec.calls(), u64::MAX);
+    same(&rt, codec.code(&[1], &mut buf), Err(Fault::Spent));
+    same(&rt, buf.len(), 2);
+    same(&rt, bytes(rt.alloc(), &buf)?.as_slice(), [0x80].as_slice());
+    same(&rt, codec.calls(), u64::MAX);
     Ok(())
 }
 

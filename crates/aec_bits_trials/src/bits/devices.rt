@@ -1,4 +1,5 @@
 use super::bits::bits_in;
+use crate::asserts::same;
 use aec_bits::{ReadSource, Sink, Source, WriteSink};
 use aec_params::Fault;
 use std::alloc::Global;
@@ -75,10 +76,10 @@ fn writes_whole_bytes(rt: HostRuntime) -> Result<(), Fail> {
     let mut sink = WriteSink::new(Vec::new(rt.alloc()));
     sink.begin()?;
     buf.write_to(&mut sink)?;
-    assert_eq!(rt; sink.begins(), 1);
-    assert_eq!(rt; sink.failures(), 0);
+    same(&rt, sink.begins(), 1);
+    same(&rt, sink.failures(), 0);
     let taken = sink.into_inner();
-    assert_eq!(rt; taken.as_slice(), [0x80, 0, 0x80].as_slice());
+    same(&rt, taken.as_slice(), [0x80, 0, 0x80].as_slice());
     Ok(())
 }
 
@@ -90,32 +91,36 @@ fn writes_a_front_and_fails(rt: HostRuntime) -> Result<(), Fail> {
             bytes: Vec::new(rt.alloc()),
             left,
         });
-        assert_eq!(rt; buf.write_to(&mut sink), Err(Fault::Write));
-        assert_eq!(rt; buf.write_to(&mut sink), Err(Fault::Write));
-        assert_eq!(rt; sink.failures(), 1);
-        assert_eq!(rt; sink.begin(), Err(Fault::Write));
-        assert_eq!(rt; sink.begins(), 1);
+        same(&rt, buf.write_to(&mut sink), Err(Fault::Write));
+        same(&rt, buf.write_to(&mut sink), Err(Fault::Write));
+        same(&rt, sink.failures(), 1);
+        same(&rt, sink.begin(), Err(Fault::Write));
+        same(&rt, sink.begins(), 1);
         let slow = sink.into_inner();
-        assert_eq!(rt; slow.bytes.as_slice(), &[1, 2, 3, 4][..left]);
+        same(&rt, slow.bytes.as_slice(), &[1, 2, 3, 4][..left]);
     }
     let mut sink = WriteSink::new(Slow {
         bytes: Vec::new(rt.alloc()),
         left: 4,
     });
     buf.write_to(&mut sink)?;
-    assert_eq!(rt; sink.into_inner().bytes.as_slice(), [1, 2, 3, 4].as_slice());
+    same(
+        &rt,
+        sink.into_inner().bytes.as_slice(),
+        [1, 2, 3, 4].as_slice(),
+    );
     Ok(())
 }
 
 #[test]
 fn a_writer_that_takes_nothing_fails(rt: HostRuntime) {
     let mut sink = WriteSink::new(Full);
-    assert_eq!(rt; sink.put(&[]), Ok(0));
-    assert_eq!(rt; sink.failures(), 0);
-    assert_eq!(rt; sink.put(&[7]), Err(Fault::Write));
-    assert_eq!(rt; sink.put(&[7]), Err(Fault::Write));
-    assert_eq!(rt; sink.put(&[]), Err(Fault::Write));
-    assert_eq!(rt; sink.failures(), 1);
+    same(&rt, sink.put(&[]), Ok(0));
+    same(&rt, sink.failures(), 0);
+    same(&rt, sink.put(&[7]), Err(Fault::Write));
+    same(&rt, sink.put(&[7]), Err(Fault::Write));
+    same(&rt, sink.put(&[]), Err(Fault::Write));
+    same(&rt, sink.failures(), 1);
 }
 
 #[test]
@@ -124,14 +129,14 @@ fn a_source_fails_for_good(rt: HostRuntime) {
         let mut source = ReadSource::new(Torn { given: 0, stop });
         for i in 0..stop {
             let mut buf = [0xFFu8; 3];
-            assert_eq!(rt; source.take(&mut buf), Ok(1));
-            assert_eq!(rt; buf, [i, 0xFF, 0xFF]);
+            same(&rt, source.take(&mut buf), Ok(1));
+            same(&rt, buf, [i, 0xFF, 0xFF]);
         }
-        assert_eq!(rt; source.failures(), 0);
-        assert_eq!(rt; source.take(&mut [0; 3]), Err(Fault::Read));
-        assert_eq!(rt; source.take(&mut [0; 3]), Err(Fault::Read));
-        assert_eq!(rt; source.take(&mut []), Err(Fault::Read));
-        assert_eq!(rt; source.failures(), 1);
+        same(&rt, source.failures(), 0);
+        same(&rt, source.take(&mut [0; 3]), Err(Fault::Read));
+        same(&rt, source.take(&mut [0; 3]), Err(Fault::Read));
+        same(&rt, source.take(&mut []), Err(Fault::Read));
+        same(&rt, source.failures(), 1);
     }
 }
 
@@ -145,11 +150,11 @@ fn a_source_ends(rt: HostRuntime) {
     let data = [1u8, 2, 3];
     let mut source = ReadSource::new(data.as_slice());
     let mut buf = [0u8; 2];
-    assert_eq!(rt; taken(&mut source, &mut []), Ok(0));
-    assert_eq!(rt; taken(&mut source, &mut buf), Ok(2));
-    assert_eq!(rt; buf, [1, 2]);
-    assert_eq!(rt; taken(&mut source, &mut buf), Ok(1));
-    assert_eq!(rt; buf, [3, 2]);
-    assert_eq!(rt; taken(&mut source, &mut buf), Ok(0));
-    assert_eq!(rt; source.failures(), 0);
+    same(&rt, taken(&mut source, &mut []), Ok(0));
+    same(&rt, taken(&mut source, &mut buf), Ok(2));
+    same(&rt, buf, [1, 2]);
+    same(&rt, taken(&mut source, &mut buf), Ok(1));
+    same(&rt, buf, [3, 2]);
+    same(&rt, taken(&mut source, &mut buf), Ok(0));
+    same(&rt, source.failures(), 0);
 }

@@ -3,6 +3,7 @@
 ghost use Rattle.std.specs.Prelude.{◌<◌, ◌≤◌, ◌^◌};
 
 use super::bits::{are, bits, bits_in, sample_list};
+use crate::asserts::{fails, holds, holds_at, same, same_at};
 use aec_bits::{BitBuf, BitReader};
 use aec_params::Fault;
 use std::alloc::Global;
@@ -85,7 +86,7 @@ fn numbers_at_the_borders_of_words(rt: HostRuntime) -> Result<(), Fail> {
                 both.push(u64::MAX >> 1 >> (63 - width.min(63)), width.min(63))?;
                 both.push(0x9E37_79B9_7F4A_7C15, 64)?;
             }
-            assert!(rt; both.agree(), "{len} {width}");
+            holds_at(&rt, both.agree(), &(&len, &width));
         }
     }
     Ok(())
@@ -98,7 +99,7 @@ fn zeros_at_the_borders_of_words(rt: HostRuntime) -> Result<(), Fail> {
             let mut both = Both::of(rt.alloc(), len)?;
             both.push_fs(v)?;
             both.push_fs(v)?;
-            assert!(rt; both.agree(), "{len} {v}");
+            holds_at(&rt, both.agree(), &(&len, &v));
         }
     }
     Ok(())
@@ -113,7 +114,7 @@ fn lists_appended_at_the_borders_of_words(rt: HostRuntime) -> Result<(), Fail> {
             both.append(&other)?;
             both.push(5, 3)?;
             both.append(&other)?;
-            assert!(rt; both.agree(), "{len} {added}");
+            holds_at(&rt, both.agree(), &(&len, &added));
         }
     }
     Ok(())
@@ -126,17 +127,17 @@ fn no_old_bit_comes_back(rt: HostRuntime) -> Result<(), Fail> {
             let mut both = Both::of(rt.alloc(), len)?;
             both.truncate(kept);
             both.pad()?;
-            assert!(rt; both.agree(), "padded: {len} {kept}");
+            holds_at(&rt, both.agree(), &(&len, &kept));
             both.truncate(kept);
             both.push_fs(100)?;
-            assert!(rt; both.agree(), "a long zero: {len} {kept}");
+            holds_at(&rt, both.agree(), &(&len, &kept));
             both.truncate(kept);
             both.push(0, 64)?;
             both.push_fs(3)?;
-            assert!(rt; both.agree(), "a short zero: {len} {kept}");
+            holds_at(&rt, both.agree(), &(&len, &kept));
             both.truncate(0);
             both.append(&Both::of(rt.alloc(), kept)?)?;
-            assert!(rt; both.agree(), "from nothing: {len} {kept}");
+            holds_at(&rt, both.agree(), &(&len, &kept));
         }
     }
     Ok(())
@@ -151,7 +152,7 @@ fn reserved_room_is_used_to_the_last_bit(rt: HostRuntime) -> Result<(), Fail> {
             for k in 0..room {
                 both.push((k % 2) as u64, 1)?;
             }
-            assert!(rt; both.agree(), "{len} {room}");
+            holds_at(&rt, both.agree(), &(&len, &room));
         }
     }
     Ok(())
@@ -163,22 +164,26 @@ fn bits_are_read_at_the_borders_of_words(rt: HostRuntime) -> Result<(), Fail> {
         let both = Both::of(rt.alloc(), len)?;
         let mut reader = BitReader::new(&both.buf);
         for bit in &both.list {
-            assert_eq!(rt; reader.read(1), Ok(u64::from(*bit)), "{len}");
+            same_at(&rt, reader.read(1), Ok(u64::from(*bit)), &len);
         }
-        assert_eq!(rt; reader.read(1), Err(Fault::Truncated { bit: len as u64 }));
-        assert!(rt; reader.rest_is_zero());
+        same(
+            &rt,
+            reader.read(1),
+            Err(Fault::Truncated { bit: len as u64 }),
+        );
+        holds(&rt, reader.rest_is_zero());
         let mut reader = BitReader::new(&both.buf);
         let mut zeros = 0;
         for bit in &both.list {
             if *bit {
-                assert_eq!(rt; reader.read_fs(), Ok(zeros), "{len}");
+                same_at(&rt, reader.read_fs(), Ok(zeros), &len);
                 zeros = 0;
             } else if zeros < 200 {
                 zeros += 1;
             }
         }
-        assert!(rt; reader.read_fs().is_err(), "{len}");
-        assert!(rt; reader.rest_is_zero());
+        holds_at(&rt, reader.read_fs().is_err(), &len);
+        holds(&rt, reader.rest_is_zero());
     }
     Ok(())
 }
@@ -188,11 +193,15 @@ fn a_million_zeros_and_a_one(rt: HostRuntime) -> Result<(), Fail> {
     let mut buf = BitBuf::new(rt.alloc());
     buf.push_fs(1_000_000)?;
     buf.push_fs(1_000_000)?;
-    assert_eq!(rt; buf.len(), 2_000_002);
+    same(&rt, buf.len(), 2_000_002);
     let mut reader = BitReader::new(&buf);
-    assert_eq!(rt; reader.read_fs(), Ok(1_000_000));
-    assert_eq!(rt; reader.read_fs(), Ok(1_000_000));
-    assert_eq!(rt; reader.read_fs(), Err(Fault::Truncated { bit: 2_000_002 }));
+    same(&rt, reader.read_fs(), Ok(1_000_000));
+    same(&rt, reader.read_fs(), Ok(1_000_000));
+    same(
+        &rt,
+        reader.read_fs(),
+        Err(Fault::Truncated { bit: 2_000_002 }),
+    );
     Ok(())
 }
 
@@ -208,8 +217,8 @@ fn one_bit_into_a_million(rt: HostRuntime) -> Result<(), Fail> {
     if place <= after.len() {
         after.splice(place, place, &bits(rt.alloc(), &[true])?)?;
     }
-    assert_eq!(rt; before.len(), 1_048_576);
-    assert_eq!(rt; after.len(), 1_048_577);
+    same(&rt, before.len(), 1_048_576);
+    same(&rt, after.len(), 1_048_577);
     for i in 0..after.len() {
         let want = if i == place {
             true
@@ -218,7 +227,7 @@ fn one_bit_into_a_million(rt: HostRuntime) -> Result<(), Fail> {
             k < before.len() && before.get(k)
         };
         if after.get(i) != want {
-            assert!(rt; false, "{i}");
+            fails(&rt, &i);
         }
     }
     Ok(())

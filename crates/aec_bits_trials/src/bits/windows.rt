@@ -3,6 +3,7 @@
 ghost use Rattle.std.specs.Prelude.{◌≤◌};
 
 use super::bits::bits_in;
+use crate::asserts::{holds, holds_at, same, same_at};
 use aec_bits::{BitBuf, BitReader};
 use aec_params::Fault;
 use std::alloc::Global;
@@ -51,23 +52,23 @@ fn reads_sequences_by_hand(rt: HostRuntime) -> Result<(), Fail> {
     let buf = bits_in(rt.alloc(), &[0xA4, 0x40])?;
     let mut reader = BitReader::new(&buf);
     let mut four = [9u32; 4];
-    assert!(rt; read_sequences(&mut reader, &mut four));
-    assert_eq!(rt; four.as_slice(), [0, 1, 2, 3].as_slice());
-    assert_eq!(rt; reader.pos(), 10);
+    holds(&rt, read_sequences(&mut reader, &mut four));
+    same(&rt, four.as_slice(), [0, 1, 2, 3].as_slice());
+    same(&rt, reader.pos(), 10);
     let mut none = [0u32; 0];
-    assert!(rt; read_sequences(&mut reader, &mut none));
-    assert_eq!(rt; reader.pos(), 10);
+    holds(&rt, read_sequences(&mut reader, &mut none));
+    same(&rt, reader.pos(), 10);
     let mut one = [9u32; 1];
-    assert!(rt; !read_sequences(&mut reader, &mut one));
-    assert_eq!(rt; reader.pos(), 10);
+    holds(&rt, !read_sequences(&mut reader, &mut one));
+    same(&rt, reader.pos(), 10);
     let mut five = [9u32; 5];
     reader = reader_at(&buf, 0);
-    assert!(rt; !read_sequences(&mut reader, &mut five));
-    assert_eq!(rt; reader.pos(), 0);
+    holds(&rt, !read_sequences(&mut reader, &mut five));
+    same(&rt, reader.pos(), 0);
     reader = reader_at(&buf, 16);
-    assert!(rt; !read_sequences(&mut reader, &mut one));
-    assert!(rt; read_sequences(&mut reader, &mut none));
-    assert_eq!(rt; reader.pos(), 16);
+    holds(&rt, !read_sequences(&mut reader, &mut one));
+    holds(&rt, read_sequences(&mut reader, &mut none));
+    same(&rt, reader.pos(), 16);
     Ok(())
 }
 
@@ -78,10 +79,10 @@ fn reads_sequences_across_words(rt: HostRuntime) -> Result<(), Fail> {
         let buf = sequences(rt.alloc(), before, &numbers)?;
         let mut reader = reader_at(&buf, u64::from(before));
         let mut found = [9u32; 12];
-        assert!(rt; read_sequences(&mut reader, &mut found), "{before}");
-        assert_eq!(rt; found.as_slice(), numbers.as_slice(), "{before}");
-        assert_eq!(rt; reader.pos(), buf.len(), "{before}");
-        assert!(rt; !read_sequences(&mut reader, &mut found), "{before}");
+        holds_at(&rt, read_sequences(&mut reader, &mut found), &before);
+        same_at(&rt, found.as_slice(), numbers.as_slice(), &before);
+        same_at(&rt, reader.pos(), buf.len(), &before);
+        holds_at(&rt, !read_sequences(&mut reader, &mut found), &before);
     }
     Ok(())
 }
@@ -92,15 +93,15 @@ fn leaves_long_sequences_to_the_other_call(rt: HostRuntime) -> Result<(), Fail> 
         let buf = sequences(rt.alloc(), before, &[5, 64, 7])?;
         let mut reader = reader_at(&buf, u64::from(before));
         let mut three = [9u32; 3];
-        assert!(rt; !read_sequences(&mut reader, &mut three), "{before}");
-        assert_eq!(rt; reader.pos(), u64::from(before));
-        assert_eq!(rt; reader.read_fs(), Ok(5));
+        holds_at(&rt, !read_sequences(&mut reader, &mut three), &before);
+        same(&rt, reader.pos(), u64::from(before));
+        same(&rt, reader.read_fs(), Ok(5));
         let mut one = [9u32; 1];
-        assert!(rt; !read_sequences(&mut reader, &mut one), "{before}");
-        assert_eq!(rt; reader.read_fs(), Ok(64));
-        assert!(rt; read_sequences(&mut reader, &mut one), "{before}");
-        assert_eq!(rt; one.as_slice(), [7].as_slice());
-        assert_eq!(rt; reader.pos(), buf.len());
+        holds_at(&rt, !read_sequences(&mut reader, &mut one), &before);
+        same(&rt, reader.read_fs(), Ok(64));
+        holds_at(&rt, read_sequences(&mut reader, &mut one), &before);
+        same(&rt, one.as_slice(), [7].as_slice());
+        same(&rt, reader.pos(), buf.len());
     }
     Ok(())
 }
@@ -111,17 +112,17 @@ fn reads_many_sequences(rt: HostRuntime) -> Result<(), Fail> {
     for i in 0..250000u32 {
         buf.push_fs(u64::from(i % 9))?;
     }
-    assert!(rt; buf.len() > 1 << 20);
+    holds(&rt, buf.len() > 1 << 20);
     let mut reader = BitReader::new(&buf);
     let mut ten = [0u32; 10];
     for i in 0..25000u32 {
-        assert!(rt; read_sequences(&mut reader, &mut ten));
+        holds(&rt, read_sequences(&mut reader, &mut ten));
         for (k, number) in ten.iter().enumerate() {
-            assert_eq!(rt; *number, (10 * i + k as u32) % 9);
+            same(&rt, *number, (10 * i + k as u32) % 9);
         }
     }
-    assert!(rt; !read_sequences(&mut reader, &mut ten));
-    assert_eq!(rt; reader.pos(), buf.len());
+    holds(&rt, !read_sequences(&mut reader, &mut ten));
+    same(&rt, reader.pos(), buf.len());
     Ok(())
 }
 
@@ -130,17 +131,22 @@ fn reads_numbers_by_hand(rt: HostRuntime) -> Result<(), Fail> {
     let buf = bits_in(rt.alloc(), &[0x12, 0x34, 0x56, 0x78, 0x9A])?;
     let mut reader = BitReader::new(&buf);
     let mut ten = [9u32; 10];
-    assert_eq!(rt; read_numbers(&mut reader, 4, &mut ten), Ok(()));
-    assert_eq!(rt; ten.as_slice(), [1, 2, 3, 4, 5, 6, 7, 8, 9, 10].as_slice());
-    assert_eq!(rt; reader.pos(), 40);
-    let mut one = [9u32; 1];
-    assert_eq!(rt;
-        read_numbers(&mut reader, 1, &mut one),
-        Err(Fault::Truncated { bit: 40 })
+    same(&rt, read_numbers(&mut reader, 4, &mut ten), Ok(()));
+    same(
+        &rt,
+        ten.as_slice(),
+        [1, 2, 3, 4, 5, 6, 7, 8, 9, 10].as_slice(),
     );
-    assert_eq!(rt; read_numbers(&mut reader, 0, &mut ten), Ok(()));
-    assert_eq!(rt; ten.as_slice(), [0; 10].as_slice());
-    assert_eq!(rt; reader.pos(), 40);
+    same(&rt, reader.pos(), 40);
+    let mut one = [9u32; 1];
+    same(
+        &rt,
+        read_numbers(&mut reader, 1, &mut one),
+        Err(Fault::Truncated { bit: 40 }),
+    );
+    same(&rt, read_numbers(&mut reader, 0, &mut ten), Ok(()));
+    same(&rt, ten.as_slice(), [0; 10].as_slice());
+    same(&rt, reader.pos(), 40);
     Ok(())
 }
 
@@ -150,29 +156,33 @@ fn reads_numbers_from_within_a_byte(rt: HostRuntime) -> Result<(), Fail> {
     let mut reader = reader_at(&buf, 4);
     // 0010 0011 0100 0101 0110 0111 1000 1001 1010 by nine bits
     let mut four = [9u32; 4];
-    assert_eq!(rt; read_numbers(&mut reader, 9, &mut four), Ok(()));
-    assert_eq!(rt;
+    same(&rt, read_numbers(&mut reader, 9, &mut four), Ok(()));
+    same(
+        &rt,
         four.as_slice(),
-        [0b001000110, 0b100010101, 0b100111100, 0b010011010].as_slice()
+        [0b001000110, 0b100010101, 0b100111100, 0b010011010].as_slice(),
     );
-    assert_eq!(rt; reader.pos(), 40);
+    same(&rt, reader.pos(), 40);
     reader = reader_at(&buf, 5);
-    assert_eq!(rt;
+    same(
+        &rt,
         read_numbers(&mut reader, 9, &mut four),
-        Err(Fault::Truncated { bit: 5 })
+        Err(Fault::Truncated { bit: 5 }),
     );
-    assert_eq!(rt; reader.pos(), 5);
+    same(&rt, reader.pos(), 5);
     let mut one = [9u32; 1];
-    assert_eq!(rt; read_numbers(&mut reader, 32, &mut one), Ok(()));
+    same(&rt, read_numbers(&mut reader, 32, &mut one), Ok(()));
     // 010 0011 0100 0101 0110 0111 1000 1001 1
-    assert_eq!(rt;
+    same(
+        &rt,
         one.as_slice(),
-        [0b01000110100010101100111100010011].as_slice()
+        [0b01000110100010101100111100010011].as_slice(),
     );
-    assert_eq!(rt; reader.pos(), 37);
-    assert_eq!(rt;
+    same(&rt, reader.pos(), 37);
+    same(
+        &rt,
         read_numbers(&mut reader, 32, &mut one),
-        Err(Fault::Truncated { bit: 37 })
+        Err(Fault::Truncated { bit: 37 }),
     );
     Ok(())
 }
@@ -201,16 +211,17 @@ fn reads_numbers_across_words(rt: HostRuntime) -> Result<(), Fail> {
             let buf = nine_numbers(rt.alloc(), before, width)?;
             let mut reader = reader_at(&buf, u64::from(before));
             let mut nine = [9u32; 9];
-            assert_eq!(rt;
+            same_at(
+                &rt,
                 read_numbers(&mut reader, width, &mut nine),
                 Ok(()),
-                "{width} {before}"
+                &(&width, &before),
             );
             for i in 0..9u32 {
                 let want = number_at(i) << (32 - width) >> (32 - width);
-                assert_eq!(rt; nine[i as usize], want, "{width} {before} {i}");
+                same_at(&rt, nine[i as usize], want, &(&width, &before, &i));
             }
-            assert_eq!(rt; reader.pos(), buf.len());
+            same(&rt, reader.pos(), buf.len());
         }
     }
     Ok(())
@@ -222,19 +233,20 @@ fn reads_many_numbers(rt: HostRuntime) -> Result<(), Fail> {
     for i in 0..80000u32 {
         buf.push_bits(u64::from(i), 17)?;
     }
-    assert!(rt; buf.len() > 1 << 20);
+    holds(&rt, buf.len() > 1 << 20);
     let mut reader = BitReader::new(&buf);
     let mut ten = [0u32; 10];
     for i in 0..8000u32 {
-        assert_eq!(rt; read_numbers(&mut reader, 17, &mut ten), Ok(()));
+        same(&rt, read_numbers(&mut reader, 17, &mut ten), Ok(()));
         for (k, number) in ten.iter().enumerate() {
-            assert_eq!(rt; *number, 10 * i + k as u32);
+            same(&rt, *number, 10 * i + k as u32);
         }
     }
-    assert_eq!(rt;
+    same(
+        &rt,
         read_numbers(&mut reader, 17, &mut ten),
-        Err(Fault::Truncated { bit: 1360000 })
+        Err(Fault::Truncated { bit: 1360000 }),
     );
-    assert_eq!(rt; reader.pos(), 1360000);
+    same(&rt, reader.pos(), 1360000);
     Ok(())
 }

@@ -2,6 +2,7 @@
 
 use super::bits::{bits, splices};
 use super::windows::reader_at;
+use crate::asserts::{holds, holds_at, same, same_at};
 use aec_bits::BitBuf;
 use aec_params::Fault;
 use std::alloc::Global;
@@ -68,11 +69,11 @@ fn numbers_across_words(rt: HostRuntime) -> Result<(), Fail> {
             let stop = start.saturating_add(width as usize);
             let want = list.get(start..stop).map(spelled);
             let mut reader = reader_at(&buf, start as u64);
-            assert!(rt; width <= 64);
-            assert_eq!(rt; reader.read(width).ok(), want, "read {start} {width}");
-            assert_eq!(rt; reader.pos(), stop as u64);
+            holds(&rt, width <= 64);
+            same_at(&rt, reader.read(width).ok(), want, &(&start, &width));
+            same(&rt, reader.pos(), stop as u64);
             let is_so = overwrites(rt.alloc(), start, width as usize)?;
-            assert!(rt; is_so, "write {start} {width}");
+            holds_at(&rt, is_so, &(&start, &width));
         }
     }
     Ok(())
@@ -93,7 +94,7 @@ fn zeros_across_words(rt: HostRuntime) -> Result<(), Fail> {
     for place in PLACES {
         let place = place as u64;
         let buf = one_at(rt.alloc(), place, 768)?;
-        assert_eq!(rt; buf.len(), 768);
+        same(&rt, buf.len(), 768);
         for start in [0, 1, 63, 64, 65, 127, 128, 129, 767, 768] {
             let want = if start <= place {
                 Ok(place - start)
@@ -101,7 +102,7 @@ fn zeros_across_words(rt: HostRuntime) -> Result<(), Fail> {
                 Err(Fault::Truncated { bit: start })
             };
             let mut reader = reader_at(&buf, start);
-            assert_eq!(rt; reader.read_fs(), want, "{place} {start}");
+            same_at(&rt, reader.read_fs(), want, &(&place, &start));
         }
     }
     Ok(())
@@ -110,18 +111,20 @@ fn zeros_across_words(rt: HostRuntime) -> Result<(), Fail> {
 #[test]
 fn zeros_to_the_end(rt: HostRuntime) -> Result<(), Fail> {
     let mut buf = BitBuf::new(rt.alloc());
-    assert_eq!(rt;
+    same(
+        &rt,
         reader_at(&buf, 0).read_fs(),
-        Err(Fault::Truncated { bit: 0 })
+        Err(Fault::Truncated { bit: 0 }),
     );
     buf.push_bits(0, 64)?;
     buf.push_bits(0, 64)?;
-    assert_eq!(rt;
+    same(
+        &rt,
         reader_at(&buf, 3).read_fs(),
-        Err(Fault::Truncated { bit: 3 })
+        Err(Fault::Truncated { bit: 3 }),
     );
     let buf = one_at(rt.alloc(), 127, 128)?;
-    assert_eq!(rt; reader_at(&buf, 3).read_fs(), Ok(124));
+    same(&rt, reader_at(&buf, 3).read_fs(), Ok(124));
     Ok(())
 }
 
@@ -132,10 +135,10 @@ fn stretches_across_words(rt: HostRuntime) -> Result<(), Fail> {
             0, 1, 2, 63, 64, 65, 127, 255, 256, 319, 320, 321, 513, 575, 600,
         ] {
             let is_so = overwrites(rt.alloc(), from, count)?;
-            assert!(rt; is_so, "copy {from} {count}");
+            holds_at(&rt, is_so, &(&from, &count));
             for to in PLACES {
                 let is_so = moves(rt.alloc(), from, to, count)?;
-                assert!(rt; is_so, "move {from} {to} {count}");
+                holds_at(&rt, is_so, &(&from, &to, &count));
             }
         }
     }

@@ -1,14 +1,18 @@
+use crate::asserts::{holds, same};
 use aec_params::{Edit, Fault, Limits, Samples};
 use std::test::Fail;
 
 #[test]
 fn limits_have_bounds(rt: HostRuntime) {
     let most = Limits::new(1 << 32, 1 << 40);
-    assert_eq!(rt; most.map(|limits| limits.samples()), Some(4294967296));
-    assert_eq!(rt; most.map(|limits| limits.bytes()), Some(1099511627776));
-    assert_eq!(rt; Limits::new((1 << 32) + 1, 0), None);
-    assert_eq!(rt; Limits::new(0, (1 << 40) + 1), None);
-    assert!(rt; Limits::new(1, 2) == Limits::new(1, 2) && Limits::new(1, 2) != Limits::new(2, 1));
+    same(&rt, most.map(|limits| limits.samples()), Some(4294967296));
+    same(&rt, most.map(|limits| limits.bytes()), Some(1099511627776));
+    same(&rt, Limits::new((1 << 32) + 1, 0), None);
+    same(&rt, Limits::new(0, (1 << 40) + 1), None);
+    holds(
+        &rt,
+        Limits::new(1, 2) == Limits::new(1, 2) && Limits::new(1, 2) != Limits::new(2, 1),
+    );
 }
 
 #[test]
@@ -48,7 +52,7 @@ fn faults_have_texts(rt: HostRuntime) -> Result<(), Fail> {
     ];
     for (fault, text) in cases {
         let printed = format!(in rt.alloc(); "{fault}")?;
-        assert_eq!(rt; printed.as_str(), text);
+        same(&rt, printed.as_str(), text);
     }
     Ok(())
 }
@@ -56,14 +60,14 @@ fn faults_have_texts(rt: HostRuntime) -> Result<(), Fail> {
 #[test]
 fn edits_carry_samples(rt: HostRuntime) -> Result<(), Fail> {
     let samples = Samples::new(vec![in rt.alloc(); 3, -1, 4]?);
-    assert_eq!(rt; samples.as_slice(), [3, -1, 4].as_slice());
+    same(&rt, samples.as_slice(), [3, -1, 4].as_slice());
     let edit = Edit::Overwrite {
         first: 2,
         values: samples,
     };
     if let Edit::Overwrite { first, values } = edit {
-        assert_eq!(rt; first, 2);
-        assert_eq!(rt; values.into_vec().as_slice(), [3, -1, 4].as_slice());
+        same(&rt, first, 2);
+        same(&rt, values.into_vec().as_slice(), [3, -1, 4].as_slice());
     }
     Ok(())
 }

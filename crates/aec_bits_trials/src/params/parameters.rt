@@ -1,3 +1,4 @@
+use crate::asserts::{holds, same, same_at};
 use crate::settings::{restricted, width};
 use aec_params::{Fault, Params, Settings};
 use std::test::Fail;
@@ -26,7 +27,7 @@ fn judges_the_rules_in_order(rt: HostRuntime) {
         (shape(32, 64, 4096), None),
     ];
     for (settings, wanted) in cases {
-        assert_eq!(rt; Params::new(settings).err(), wanted, "at {settings:?}");
+        same_at(&rt, Params::new(settings).err(), wanted, &settings);
     }
 }
 
@@ -48,20 +49,22 @@ fn numbers_follow_from_settings(rt: HostRuntime) -> Result<(), Fail> {
     ];
     for (settings, id_len, k_max, x_min, x_max, storage) in cases {
         let params = Params::new(settings)?;
-        assert_eq!(rt;
+        same_at(
+            &rt,
             (params.id_len(), params.k_max()),
             (id_len, k_max),
-            "at {settings:?}"
+            &settings,
         );
-        assert_eq!(rt;
+        same_at(
+            &rt,
             (params.x_min(), params.x_max()),
             (x_min, x_max),
-            "at {settings:?}"
+            &settings,
         );
-        assert_eq!(rt; params.storage(), storage, "at {settings:?}");
+        same_at(&rt, params.storage(), storage, &settings);
         let (below, above) = (x_min.saturating_sub(1), x_max.saturating_add(1));
-        assert!(rt; params.holds(x_min) && params.holds(x_max));
-        assert!(rt; !params.holds(below) && !params.holds(above));
+        holds(&rt, params.holds(x_min) && params.holds(x_max));
+        holds(&rt, !params.holds(below) && !params.holds(above));
     }
     Ok(())
 }
@@ -78,15 +81,19 @@ fn readers_give_the_settings(rt: HostRuntime) -> Result<(), Fail> {
     };
     let params = Params::new(settings)?;
     let copy = params;
-    assert_eq!(rt; copy, params);
-    assert!(rt; params != Params::new(Settings::USUAL)?);
-    assert_eq!(rt; Settings::default(), Settings::USUAL);
-    assert_eq!(rt;
+    same(&rt, copy, params);
+    holds(&rt, params != Params::new(Settings::USUAL)?);
+    same(&rt, Settings::default(), Settings::USUAL);
+    same(
+        &rt,
         (params.bits(), params.block_size(), params.interval()),
-        (20, 64, 4096)
+        (20, 64, 4096),
     );
-    assert_eq!(rt; params.interval_len(), 262144);
-    assert!(rt; params.signed() && params.msb_first() && params.pad() && !params.preprocess());
+    same(&rt, params.interval_len(), 262144);
+    holds(
+        &rt,
+        params.signed() && params.msb_first() && params.pad() && !params.preprocess(),
+    );
     Ok(())
 }
 
@@ -104,11 +111,11 @@ fn patterns_are_twos_complement(rt: HostRuntime) -> Result<(), Fail> {
     ];
     for (settings, x, pattern) in cases {
         let params = Params::new(settings)?;
-        assert!(rt; params.holds(x));
-        assert_eq!(rt; params.pattern(x), pattern, "at {settings:?}");
+        holds(&rt, params.holds(x));
+        same_at(&rt, params.pattern(x), pattern, &settings);
         let bound = 1u64 << params.bits();
-        assert!(rt; u64::from(pattern) < bound);
-        assert_eq!(rt; params.value(pattern), x, "at {settings:?}");
+        holds(&rt, u64::from(pattern) < bound);
+        same_at(&rt, params.value(pattern), x, &settings);
     }
     Ok(())
 }

@@ -1,3 +1,4 @@
+use crate::asserts::{holds, same, same_at};
 use crate::settings::{msb_first, three_byte, width};
 use aec_params::{Fault, Params, Settings, put_sample, read_samples};
 use std::alloc::Global;
@@ -31,7 +32,7 @@ fn reads_whole_samples(rt: HostRuntime) -> Result<(), Fail> {
     ];
     for (settings, bytes, wanted) in cases {
         let samples = read_samples(rt.alloc(), &Params::new(settings)?, bytes)?;
-        assert_eq!(rt; samples.as_slice(), wanted, "at {settings:?}");
+        same_at(&rt, samples.as_slice(), wanted, &settings);
     }
     Ok(())
 }
@@ -48,10 +49,11 @@ fn refuses_the_first_bad_sample(rt: HostRuntime) -> Result<(), Fail> {
     ];
     for (settings, bytes, index) in cases {
         let answer = read_samples(rt.alloc(), &Params::new(settings)?, bytes);
-        assert_eq!(rt;
+        same_at(
+            &rt,
             answer.err(),
             Some(Fault::SampleRange { index }),
-            "at {settings:?}"
+            &settings,
         );
     }
     Ok(())
@@ -67,17 +69,13 @@ fn goes_both_ways(
 ) -> Result<(), Fail> {
     let params = Params::new(settings)?;
     let samples = read_samples(alloc, &params, bytes)?;
-    assert_eq!(rt; samples.as_slice(), [x].as_slice(), "at {settings:?}");
-    assert!(rt; params.holds(x));
+    same_at(rt, samples.as_slice(), [x].as_slice(), &settings);
+    holds(rt, params.holds(x));
     let mut out = [0xaa; 4];
-    assert_eq!(rt;
-        put_sample(&params, x, &mut out),
-        bytes.len(),
-        "at {settings:?}"
-    );
+    same_at(rt, put_sample(&params, x, &mut out), bytes.len(), &settings);
     for (place, byte) in out.iter().enumerate() {
         let wanted = bytes.get(place).copied().unwrap_or(0xaa);
-        assert_eq!(rt; *byte, wanted, "byte {place} at {settings:?}");
+        same_at(rt, *byte, wanted, &(&place, &settings));
     }
     Ok(())
 }
@@ -108,7 +106,7 @@ fn stores_in_either_order(rt: HostRuntime) -> Result<(), Fail> {
         (three_byte(32, true), -2, 4, 0xfffffffe),
     ];
     for (settings, x, len, number) in cases {
-        assert!(rt; len <= 4);
+        holds(&rt, len <= 4);
         let (least_first, most_first) = (number.to_le_bytes(), number.to_be_bytes());
         goes_both_ways(&rt, rt.alloc(), settings, x, &least_first[..len])?;
         goes_both_ways(
@@ -127,10 +125,10 @@ fn stores_in_either_order(rt: HostRuntime) -> Result<(), Fail> {
 fn writes_back_with_signs(rt: HostRuntime) -> Result<(), Fail> {
     let params = Params::new(width(5, true))?;
     for (x, byte) in [(-1, 0xff), (-1, 0xff), (-16, 0xf0), (15, 0x0f)] {
-        assert!(rt; params.holds(x));
+        holds(&rt, params.holds(x));
         let mut out = [0; 4];
-        assert_eq!(rt; put_sample(&params, x, &mut out), 1);
-        assert_eq!(rt; out, [byte, 0, 0, 0]);
+        same(&rt, put_sample(&params, x, &mut out), 1);
+        same(&rt, out, [byte, 0, 0, 0]);
     }
     Ok(())
 }

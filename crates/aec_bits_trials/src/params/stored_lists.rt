@@ -1,3 +1,4 @@
+use crate::asserts::{holds, holds_at, same, same_at};
 use crate::settings::{msb_first, three_byte, width};
 use aec_params::{Params, Settings, append_samples, first_bad, put_samples};
 use std::alloc::Global;
@@ -13,17 +14,17 @@ fn goes_both_ways(
     bytes: &[u8],
 ) -> Result<(), Fail> {
     let params = Params::new(settings)?;
-    assert!(rt; first_bad(&params, bytes).is_none(), "at {settings:?}");
+    holds_at(rt, first_bad(&params, bytes).is_none(), &settings);
     let mut behind = vec![in alloc; 7]?;
     append_samples(&params, bytes, &mut behind)?;
-    assert_eq!(rt; behind.first().copied(), Some(7));
-    assert_eq!(rt; behind.get(1..), Some(wanted), "at {settings:?}");
+    same(rt, behind.first().copied(), Some(7));
+    same_at(rt, behind.get(1..), Some(wanted), &settings);
     let mut samples = Vec::new(alloc);
     append_samples(&params, bytes, &mut samples)?;
     let mut out = vec![in alloc; 0xaa; bytes.len()]?;
-    assert!(rt; out.len() == params.storage() * samples.len());
+    holds(rt, out.len() == params.storage() * samples.len());
     put_samples(&params, &samples, &mut out);
-    assert_eq!(rt; out.as_slice(), bytes, "at {settings:?}");
+    same_at(rt, out.as_slice(), bytes, &settings);
     Ok(())
 }
 
@@ -104,6 +105,10 @@ fn long_lists_are_judged_to_their_end(rt: HostRuntime) -> Result<(), Fail> {
     goes_both_ways(&rt, rt.alloc(), settings, &samples, &bytes)?;
     bytes.truncate(2 * 1_048_578);
     bytes.extend_from_slice(&[0x10, 0x00])?;
-    assert_eq!(rt; first_bad(&Params::new(settings)?, &bytes), Some(1_048_578));
+    same(
+        &rt,
+        first_bad(&Params::new(settings)?, &bytes),
+        Some(1_048_578),
+    );
     Ok(())
 }

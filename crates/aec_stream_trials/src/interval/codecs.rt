@@ -5,6 +5,7 @@ ghost use Rattle.std.specs.Bool.{OnTrue};
 ghost use Rattle.std.specs.List.{list_all};
 ghost use Rattle.aec_bits.specs.Codec.{IsInterval};
 
+use crate::asserts::{holds, same};
 use crate::settings::padded;
 use crate::shared::expect_bits;
 use aec_bits::{BitBuf, Codec};
@@ -52,7 +53,7 @@ fn coded_and_back(
     buf: &mut BitBuf,
     out: &mut Vec<i64>,
 ) -> Result<(), Fault> {
-    assert!(rt; is_interval(codec, samples));
+    holds(rt, is_interval(codec, samples));
     there_and_back(codec, samples, buf, out)
 }
 
@@ -63,7 +64,7 @@ fn code(
     samples: &[i64],
     buf: &mut BitBuf,
 ) -> Result<(), Fault> {
-    assert!(rt; is_interval(codec, samples));
+    holds(rt, is_interval(codec, samples));
     codec.code(samples, buf)
 }
 
@@ -82,10 +83,10 @@ fn expect_interval(
     let mut out = Vec::new(alloc);
     coded_and_back(rt, &mut codec, samples, &mut buf, &mut out)?;
     expect_bits(rt, &buf, len, bytes);
-    assert_eq!(rt; out.as_slice(), samples);
-    assert_eq!(rt; codec.calls(), 1);
-    assert_eq!(rt; codec.reads(), 1);
-    assert_eq!(rt; codec.params(), Params::new(settings)?);
+    same(rt, out.as_slice(), samples);
+    same(rt, codec.calls(), 1);
+    same(rt, codec.reads(), 1);
+    same(rt, codec.params(), Params::new(settings)?);
     Ok(())
 }
 
@@ -118,10 +119,15 @@ fn codes_the_longest_interval(rt: HostRuntime) -> Result<(), Fail> {
     let mut buf = BitBuf::new(rt.alloc());
     let mut out = Vec::new(rt.alloc());
     coded_and_back(&rt, &mut codec, &samples, &mut buf, &mut out)?;
-    assert_eq!(rt; buf.len(), 2_109_440);
-    assert!(rt; out == samples);
+    same(&rt, buf.len(), 2_109_440);
+    holds(&rt, out == samples);
     Ok(())
 }
+
+// Intervals of 16, of eight and of two samples.
+const THREE_INTERVALS: [i64; 26] = [
+    9, 9, 9, 9, 9, 9, 9, 9, 9, 9, 9, 9, 9, 9, 9, 9, 0, 1, 2, 3, 4, 5, 6, 7, 1, 3,
+];
 
 #[test]
 fn decodes_one_interval_of_many(rt: HostRuntime) -> Result<(), Fail> {
@@ -129,33 +135,33 @@ fn decodes_one_interval_of_many(rt: HostRuntime) -> Result<(), Fail> {
     let mut buf = BitBuf::new(rt.alloc());
     buf.push_bits(5, 3)?;
     let mut out = Vec::new(rt.alloc());
-    let ramp = [0, 1, 2, 3, 4, 5, 6, 7];
-    coded_and_back(&rt, &mut codec, &[9; 16], &mut buf, &mut out)?;
-    coded_and_back(&rt, &mut codec, &ramp, &mut buf, &mut out)?;
-    coded_and_back(&rt, &mut codec, &[1, 3], &mut buf, &mut out)?;
-    assert_eq!(rt; out.len(), 26);
-    assert_eq!(rt; &out[..16], [9; 16].as_slice());
-    assert_eq!(rt; &out[16..24], ramp.as_slice());
-    assert_eq!(rt; &out[24..], [1, 3].as_slice());
-    assert_eq!(rt; codec.calls(), 3);
-    assert_eq!(rt; codec.reads(), 3);
+    for samples in [
+        [9; 16].as_slice(),
+        [0, 1, 2, 3, 4, 5, 6, 7].as_slice(),
+        [1, 3].as_slice(),
+    ] {
+        coded_and_back(&rt, &mut codec, samples, &mut buf, &mut out)?;
+    }
+    same(&rt, out.as_slice(), THREE_INTERVALS.as_slice());
+    same(&rt, (codec.calls(), codec.reads()), (3, 3));
     Ok(())
 }
 
 #[test]
 fn tells_its_intervals(rt: HostRuntime) -> Result<(), Fail> {
     let codec = AecCodec::new(rt.alloc(), Params::new(Settings::USUAL)?);
-    assert_eq!(rt; codec.interval_len(), 16);
-    assert_eq!(rt;
+    same(&rt, codec.interval_len(), 16);
+    same(
+        &rt,
         [
             codec.holds(-1),
             codec.holds(0),
             codec.holds(255),
-            codec.holds(256)
+            codec.holds(256),
         ],
-        [false, true, true, false]
+        [false, true, true, false],
     );
-    assert_eq!(rt; [codec.calls(), codec.reads()], [0, 0]);
+    same(&rt, [codec.calls(), codec.reads()], [0, 0]);
     Ok(())
 }
 
@@ -163,14 +169,18 @@ fn tells_its_intervals(rt: HostRuntime) -> Result<(), Fail> {
 fn spends_its_calls(rt: HostRuntime) -> Result<(), Fail> {
     let params = Params::new(Settings::USUAL)?;
     let mut codec = AecCodec::with_calls(rt.alloc(), params, u64::MAX - 1);
-    assert_eq!(rt; codec.calls(), u64::MAX - 1);
+    same(&rt, codec.calls(), u64::MAX - 1);
     let mut buf = BitBuf::new(rt.alloc());
     buf.push_bits(5, 3)?;
-    assert_eq!(rt; code(&rt, &mut codec, &[7], &mut buf), Ok(()));
-    assert_eq!(rt; codec.calls(), u64::MAX);
-    assert_eq!(rt; code(&rt, &mut codec, &[7], &mut buf), Err(Fault::Spent));
+    same(&rt, code(&rt, &mut codec, &[7], &mut buf), Ok(()));
+    same(&rt, codec.calls(), u64::MAX);
+    same(
+        &rt,
+        code(&rt, &mut codec, &[7], &mut buf),
+        Err(Fault::Spent),
+    );
     expect_bits(&rt, &buf, 16, &[0xA0, 0x0F]);
-    assert_eq!(rt; codec.calls(), u64::MAX);
+    same(&rt, codec.calls(), u64::MAX);
     Ok(())
 }
 
@@ -179,11 +189,19 @@ fn codes_nothing_where_no_call_is_left(rt: HostRuntime) -> Result<(), Fail> {
     let params = Params::new(Settings::USUAL)?;
     let mut codec = AecCodec::with_calls(rt.alloc(), params, u64::MAX);
     let mut buf = BitBuf::new(rt.alloc());
-    assert_eq!(rt; code(&rt, &mut codec, &[7], &mut buf), Err(Fault::Spent));
+    same(
+        &rt,
+        code(&rt, &mut codec, &[7], &mut buf),
+        Err(Fault::Spent),
+    );
     expect_bits(&rt, &buf, 0, &[]);
     buf.push_bits(0b1_0110_0111, 9)?;
-    assert_eq!(rt; code(&rt, &mut codec, &[7, 8], &mut buf), Err(Fault::Spent));
+    same(
+        &rt,
+        code(&rt, &mut codec, &[7, 8], &mut buf),
+        Err(Fault::Spent),
+    );
     expect_bits(&rt, &buf, 9, &[0xB3, 0x80]);
-    assert_eq!(rt; [codec.calls(), codec.reads()], [u64::MAX, 0]);
+    same(&rt, [codec.calls(), codec.reads()], [u64::MAX, 0]);
     Ok(())
 }

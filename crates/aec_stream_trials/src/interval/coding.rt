@@ -1,43 +1,40 @@
 //! Samples coded, and read back.
 
 use super::streams::expect_code;
+use crate::asserts::{fails, same};
 use aec_interval::encode_all;
 use aec_params::{Fault, Params, Settings};
 use std::alloc::Global;
 use std::process::Abort;
 use std::test::Fail;
 
+// Whether samples are preprocessed; samples; how long their code is in bits; and the code. The last sample fills a block up, and a
+// zero block is one of mapped zeros.
+const ONE_INTERVAL: [(bool, &[i64], u64, &[u8]); 7] = [
+    (true, &[], 0, &[]),
+    (true, &[0; 8], 13, &[0x00, 0x08]),
+    (
+        true,
+        &[0, 1, 2, 3, 4, 5, 6, 7],
+        31,
+        &[0x20, 0x09, 0x24, 0x92],
+    ),
+    (true, &[7; 5], 13, &[0x00, 0x78]),
+    (true, &[7; 8], 13, &[0x00, 0x78]),
+    (false, &[7; 8], 35, &[0x6A, 0xAA, 0xBF, 0xFF, 0xE0]),
+    (false, &[7; 5], 35, &[0x6A, 0xAA, 0xBF, 0xFF, 0xE0]),
+];
+
 #[test]
 fn codes_one_interval(rt: HostRuntime) -> Result<(), Fail> {
-    let s = Settings::USUAL;
-    expect_code(&rt, rt.alloc(), s, &[], 0, &[])?;
-    expect_code(&rt, rt.alloc(), s, &[0; 8], 13, &[0x00, 0x08])?;
-    let ramp = [0, 1, 2, 3, 4, 5, 6, 7];
-    expect_code(&rt, rt.alloc(), s, &ramp, 31, &[0x20, 0x09, 0x24, 0x92])?;
-    // The last sample fills the block up.
-    expect_code(&rt, rt.alloc(), s, &[7; 5], 13, &[0x00, 0x78])?;
-    // A zero block is one of mapped zeros.
-    expect_code(&rt, rt.alloc(), s, &[7; 8], 13, &[0x00, 0x78])?;
-    let plain = Settings {
-        preprocess: false,
-        ..s
-    };
-    expect_code(
-        &rt,
-        rt.alloc(),
-        plain,
-        &[7; 8],
-        35,
-        &[0x6A, 0xAA, 0xBF, 0xFF, 0xE0],
-    )?;
-    expect_code(
-        &rt,
-        rt.alloc(),
-        plain,
-        &[7; 5],
-        35,
-        &[0x6A, 0xAA, 0xBF, 0xFF, 0xE0],
-    )
+    for (preprocess, samples, len, bytes) in ONE_INTERVAL {
+        let settings = Settings {
+            preprocess,
+            ..Settings::USUAL
+        };
+        expect_code(&rt, rt.alloc(), settings, samples, len, bytes)?;
+    }
+    Ok(())
 }
 
 #[test]
@@ -182,8 +179,8 @@ fn refuses_the_first_that_is_no_sample(rt: HostRuntime) -> Result<(), Fail> {
     let params = Params::new(Settings::USUAL)?;
     for (samples, index) in [([256, 0, 0], 0), ([0, -1, 256], 1), ([0, 0, 1 << 40], 2)] {
         match encode_all(rt.alloc(), &params, &samples) {
-            Ok(_) => assert!(rt; false, "no sample at {index}"),
-            Err(fault) => assert_eq!(rt; fault, Fault::SampleRange { index }),
+            Ok(_) => fails(&rt, &index),
+            Err(fault) => same(&rt, fault, Fault::SampleRange { index }),
         }
     }
     Ok(())

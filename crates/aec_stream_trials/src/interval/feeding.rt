@@ -3,6 +3,7 @@
 ghost use Rattle.std.specs.Prelude.{◌<◌, ◌≤◌, length};
 
 use super::streams::MOST;
+use crate::asserts::{holds, same, same_at};
 use crate::settings::{unprocessed, width, with_interval};
 use crate::shared::expect_bits;
 use aec_bits::BitBuf;
@@ -36,14 +37,14 @@ fn expect_calls(
     let mut coder = StreamCoder::new(alloc, params, limit);
     let mut out = BitBuf::new(alloc);
     for call in calls {
-        assert_eq!(rt; coder.feed(call.piece, &mut out), call.answer);
-        assert_eq!(rt; out.len(), call.bits);
+        same(rt, coder.feed(call.piece, &mut out), call.answer);
+        same(rt, out.len(), call.bits);
         match call.held {
-            Some(held) => assert_eq!(rt; coder.held(), held),
-            None => assert!(rt; coder.held() < params.interval_len()),
+            Some(held) => same(rt, coder.held(), held),
+            None => holds(rt, coder.held() < params.interval_len()),
         }
     }
-    assert_eq!(rt; coder.finish(&mut out), finish);
+    same(rt, coder.finish(&mut out), finish);
     expect_bits(rt, &out, len, bytes);
     Ok(())
 }
@@ -235,10 +236,10 @@ fn expect_any_cut(rt: &impl Abort, alloc: Global, settings: Settings) -> Result<
             coder.feed(&bytes[first..second], &mut out)?;
             coder.feed(&bytes[second..], &mut out)?;
             coder.finish(&mut out)?;
-            assert_eq!(rt; out.len(), all.len(), "cut at {first} and {second}");
+            same_at(rt, out.len(), all.len(), &(&first, &second));
             for i in 0..all.byte_len() {
-                assert!(rt; i < out.byte_len());
-                assert_eq!(rt; out.byte(i), all.byte(i), "cut at {first} and {second}");
+                holds(rt, i < out.byte_len());
+                same_at(rt, out.byte(i), all.byte(i), &(&first, &second));
             }
         }
     }

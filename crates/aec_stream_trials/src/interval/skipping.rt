@@ -1,6 +1,7 @@
 //! Intervals gone over without their samples.
 
 use super::streams::MOST;
+use crate::asserts::{fails, holds, same};
 use crate::settings::padded;
 use aec_bits::BitBuf;
 use aec_interval::StreamReader;
@@ -21,10 +22,10 @@ fn expect_lens(
     let bits = BitBuf::from_bytes(alloc, bytes)?;
     let mut reader = StreamReader::new(alloc, Params::new(settings)?, &bits, count, MOST)?;
     for len in lens {
-        assert_eq!(rt; reader.skip()?, Some(*len));
+        same(rt, reader.skip()?, Some(*len));
     }
-    assert_eq!(rt; reader.skip()?, None);
-    assert_eq!(rt; reader.skip()?, None);
+    same(rt, reader.skip()?, None);
+    same(rt, reader.skip()?, None);
     Ok(())
 }
 
@@ -60,11 +61,11 @@ fn goes_on_with_the_samples_behind(rt: HostRuntime) -> Result<(), Fail> {
     let params = Params::new(Settings::USUAL)?;
     let mut reader = StreamReader::new(rt.alloc(), params, &bits, Some(41), MOST)?;
     let mut samples = Vec::new(rt.alloc());
-    assert_eq!(&rt; reader.skip()?, Some(16));
-    assert!(&rt; reader.next(&mut samples)?);
-    assert_eq!(&rt; samples.len(), 16);
-    assert_eq!(&rt; reader.skip()?, Some(9));
-    assert!(&rt; !reader.next(&mut samples)?);
+    same(&rt, reader.skip()?, Some(16));
+    holds(&rt, reader.next(&mut samples)?);
+    same(&rt, samples.len(), 16);
+    same(&rt, reader.skip()?, Some(9));
+    holds(&rt, !reader.next(&mut samples)?);
     Ok(())
 }
 
@@ -75,12 +76,12 @@ fn refuses_each_time(rt: HostRuntime) -> Result<(), Fail> {
     let bits = BitBuf::from_bytes(rt.alloc(), &cut)?;
     let params = Params::new(Settings::USUAL)?;
     let mut reader = StreamReader::new(rt.alloc(), params, &bits, Some(41), MOST)?;
-    assert_eq!(&rt; reader.skip()?, Some(16));
-    assert_eq!(&rt; reader.skip()?, Some(16));
+    same(&rt, reader.skip()?, Some(16));
+    same(&rt, reader.skip()?, Some(16));
     for _ in 0..2 {
         match reader.skip() {
-            Ok(_) => assert!(&rt; false, "an interval is gone over"),
-            Err(fault) => assert_eq!(&rt; fault, Fault::Truncated { bit: 28 }),
+            Ok(_) => fails(&rt, &"an interval is gone over"),
+            Err(fault) => same(&rt, fault, Fault::Truncated { bit: 28 }),
         }
     }
     Ok(())

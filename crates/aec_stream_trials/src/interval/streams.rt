@@ -2,6 +2,7 @@
 
 ghost use Rattle.std.specs.Prelude.{◌≤◌, ◌^◌};
 
+use crate::asserts::{fails, same};
 use crate::shared::expect_bits;
 use aec_bits::BitBuf;
 use aec_interval::{StreamReader, decode_all, encode_all};
@@ -49,14 +50,14 @@ pub(crate) fn expect_read(
 ) -> Result<(), Fail> {
     let bits = BitBuf::from_bytes(alloc, bytes)?;
     let read = decode_all(alloc, &Params::new(settings)?, &bits, count, MOST)?;
-    assert_eq!(rt; read.as_slice(), samples);
+    same(rt, read.as_slice(), samples);
     let mut reader = StreamReader::new(alloc, Params::new(settings)?, &bits, count, MOST)?;
     for _ in 0..2 {
         let steps = read_by_steps(alloc, &mut reader)?;
-        assert_eq!(rt; steps.as_slice(), samples);
+        same(rt, steps.as_slice(), samples);
         reader.restart();
     }
-    assert_eq!(rt; len_by_steps(&mut reader)?, samples.len() as u64);
+    same(rt, len_by_steps(&mut reader)?, samples.len() as u64);
     Ok(())
 }
 
@@ -122,16 +123,16 @@ pub(crate) fn expect_refusal(
 {
     let bits = BitBuf::from_bytes(alloc, bytes)?;
     match decode_all(alloc, &Params::new(settings)?, &bits, count, limit) {
-        Ok(_) => assert!(rt; false, "samples are read"),
-        Err(refusal) => assert_eq!(rt; refusal, fault),
+        Ok(_) => fails(rt, &"samples are read"),
+        Err(refusal) => same(rt, refusal, fault),
     }
     match samples_by_steps(alloc, Params::new(settings)?, &bits, count, limit) {
-        Ok(_) => assert!(rt; false, "samples are read in steps"),
-        Err(refusal) => assert_eq!(rt; refusal, fault),
+        Ok(_) => fails(rt, &"samples are read in steps"),
+        Err(refusal) => same(rt, refusal, fault),
     }
     match len_without_samples(alloc, Params::new(settings)?, &bits, count, limit) {
-        Ok(_) => assert!(rt; false, "samples are gone over"),
-        Err(refusal) => assert_eq!(rt; refusal, fault),
+        Ok(_) => fails(rt, &"samples are gone over"),
+        Err(refusal) => same(rt, refusal, fault),
     }
     Ok(())
 }
