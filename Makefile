@@ -32,6 +32,7 @@ wrong-bodies: bin/aec
 # Time and memory beside the client of libaec, and what edits cost, as tables; no test.
 bench: bin/aec
 	python3 bench/bench.py bin/aec
+	python3 bench/instructions.py bin/aec
 	python3 bench/edits.py bin/aec
 
 install: bin/aec

@@ -34,7 +34,7 @@ pub(crate) fn holds_at<C: Debug>(rt: &impl Abort, condition: bool, case: &C)
     assert!(rt; condition, "at {case:?}");
 }
 
-/// What came must not come.
+/// Fails, and shows what came.
 pub(crate) fn fails<C: Debug>(rt: &impl Abort, what: &C) {
     assert!(rt; false, "{what:?}");
 }

@@ -106,7 +106,12 @@ append 6 7    | 1 | 06 07 | 16 0 | 0",
 append 1 2 3 4 5 6 7 8 9 | 3 | 01 02 03 04 05 06 07 08 09 | 72 0 32 64 | 0
 overwrite 0  | 0 | 01 02 03 04 05 06 07 08 09 | 72 0 32 64 | 0
 overwrite 1  | 0 | 01 02 03 04 05 06 07 08 09 | 72 0 32 64 | 0
+overwrite 2  | 0 | 01 02 03 04 05 06 07 08 09 | 72 0 32 64 | 0
+overwrite 3  | 0 | 01 02 03 04 05 06 07 08 09 | 72 0 32 64 | 0
 overwrite 4  | 0 | 01 02 03 04 05 06 07 08 09 | 72 0 32 64 | 0
+overwrite 5  | 0 | 01 02 03 04 05 06 07 08 09 | 72 0 32 64 | 0
+overwrite 6  | 0 | 01 02 03 04 05 06 07 08 09 | 72 0 32 64 | 0
+overwrite 7  | 0 | 01 02 03 04 05 06 07 08 09 | 72 0 32 64 | 0
 overwrite 8  | 0 | 01 02 03 04 05 06 07 08 09 | 72 0 32 64 | 0
 overwrite 9  | 0 | 01 02 03 04 05 06 07 08 09 | 72 0 32 64 | 0
 overwrite 10 | position outside the 9 samples | 01 02 03 04 05 06 07 08 09 | 72 0 32 64 | 0
@@ -185,14 +190,21 @@ fn expect_octets<R: Abort>(
     work: &mut Workspace<Octets>,
     list: &mut Vec<i64>,
     edit: &Edit,
-) -> Result<(), Fail> {
+) -> Result<u32, Fail> {
     let before = reads(work);
     let opened = decoded_by(list.len() as u64, edit);
-    let made = expect_edit(rt, &ROW, work, list, edit)? == 1;
-    let decoded = if made { opened } else { 0 };
+    let became = expect_edit(rt, &ROW, work, list, edit)?;
+    let decoded = if became == 1 { opened } else { 0 };
     same_at(rt, reads(work), before.saturating_add(decoded), &edit);
     holds_at(rt, are_bytes_of(&stream(alloc, work)?, list), &edit);
-    Ok(())
+    Ok(became)
+}
+
+// Counts one edit of the kind whose byte is 1.
+fn count(tally: &mut [u64; 4], became: u32) {
+    for (sum, one) in tally.iter_mut().zip(became.to_be_bytes()) {
+        *sum = sum.saturating_add(u64::from(one));
+    }
 }
 
 #[test]
@@ -201,10 +213,14 @@ fn mixed_edits_leave_the_octets_of_a_plain_list(rt: HostRuntime) -> Result<(), F
     let mut work = workspace(alloc, 0, ROW.limit);
     let mut list = Vec::new(alloc);
     let mut seed = 1;
+    let mut tally = [0; 4];
     for _ in 0..2000 {
         let edit = some_edit(alloc, &mut seed, &ROW, list.len() as u64)?;
-        expect_octets(&rt, alloc, &mut work, &mut list, &edit)?;
+        let became = expect_octets(&rt, alloc, &mut work, &mut list, &edit)?;
+        count(&mut tally, became);
     }
+    // Refused for a value, as too many, as out of range; made.
+    holds_at(&rt, tally.iter().all(|edits| *edits > 100), &tally);
     Ok(())
 }
 

@@ -52,7 +52,7 @@ const ROUND_TRIPS: [(&str, &str, usize, usize); 2] = [
     ),
 ];
 
-// Coded and decoded again by these words, with lengths so.
+// The samples coded and decoded again by these words: their lengths are these.
 fn there_and_back<R: Abort + Files + Alloc<A = Global>>(
     rt: &R,
     samples: &[u8],

@@ -79,7 +79,7 @@ const READ: [(&str, &str); 22] = [
     ("append 1\n \n\nappend 2\n", "1 append 1;4 append 2;"),
 ];
 
-// What a script has, or why it is refused.
+// What a script has, or why it is refused: `script` without its clauses, which callers would be proved with.
 fn read(alloc: Global, text: &[u8]) -> Result<Script, Fault> {
     script(alloc, text)
 }

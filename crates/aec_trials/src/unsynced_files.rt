@@ -126,6 +126,7 @@ fn ends_so<R: Abort + Files + Alloc<A = Global>>(
     same_at(rt, err.as_slice(), text.as_bytes(), &kind);
     let coded = fs::read(rt, "unsynced.out")?;
     same(rt, coded.as_slice(), b"\x20\x09\x24\x92".as_slice());
+    fs::remove_file(rt, "unsynced.out")?;
     Ok(())
 }
 
@@ -145,6 +146,5 @@ fn a_dest_that_is_not_synced_is_a_failure(rt: HostRuntime) -> Result<(), Fail> {
         ends_so(&rt, kind, expected, text)?;
     }
     fs::remove_file(&rt, "unsynced.in")?;
-    fs::remove_file(&rt, "unsynced.out")?;
     Ok(())
 }

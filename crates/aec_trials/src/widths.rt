@@ -67,7 +67,6 @@ fn both_ways<R: Abort>(
     Ok(())
 }
 
-// The same in both orders of bytes, with the three-byte flag and without it.
 // The samples of a row in this storage, coded and decoded.
 fn row_both_ways<R: Abort + Alloc<A = Global>>(
     rt: &R,
@@ -96,6 +95,7 @@ fn row_both_ways<R: Abort + Alloc<A = Global>>(
     both_ways(rt, rt.alloc(), settings, &bytes, &coded)
 }
 
+// The same in both orders of bytes, with the three-byte flag and without it.
 #[test]
 fn samples_of_each_width_are_coded_and_decoded(rt: HostRuntime) -> Result<(), Fail> {
     for row in WIDTHS.lines() {

@@ -127,17 +127,17 @@ fn no_old_bit_comes_back(rt: HostRuntime) -> Result<(), Fail> {
             let mut both = Both::of(rt.alloc(), len)?;
             both.truncate(kept);
             both.pad()?;
-            holds_at(&rt, both.agree(), &(&len, &kept));
+            holds_at(&rt, both.agree(), &(&len, &kept, &"padded"));
             both.truncate(kept);
             both.push_fs(100)?;
-            holds_at(&rt, both.agree(), &(&len, &kept));
+            holds_at(&rt, both.agree(), &(&len, &kept, &"a long zero"));
             both.truncate(kept);
             both.push(0, 64)?;
             both.push_fs(3)?;
-            holds_at(&rt, both.agree(), &(&len, &kept));
+            holds_at(&rt, both.agree(), &(&len, &kept, &"a short zero"));
             both.truncate(0);
             both.append(&Both::of(rt.alloc(), kept)?)?;
-            holds_at(&rt, both.agree(), &(&len, &kept));
+            holds_at(&rt, both.agree(), &(&len, &kept, &"from nothing"));
         }
     }
     Ok(())

@@ -1,0 +1,57 @@
+#!/usr/bin/env python3
+"""Instructions of two programs side by side: instructions.py PATH_OF_AEC
+
+Counts with `valgrind --tool=callgrind` how many instructions the program at PATH_OF_AEC ('ours') and the command-line client
+of libaec ('theirs', named by the environment variable LIBAEC, else /usr/bin/aec) take for each sample, on one MiB of the samples
+of bench.py, starting included; both decode the stream that theirs has coded. A count isn't a time, but it doesn't differ from run to run,
+however busy the machine is. Prints a table in Markdown. Nothing is judged.
+"""
+
+import os
+import random
+import re
+import subprocess
+import sys
+import tempfile
+
+from bench import INPUTS, MIB
+
+BLOCKS = [8, 16, 64]
+INTERVAL = 128
+# The bytes of a sample, by its greatest width.
+STORAGE = {8: 1, 12: 2, 16: 2, 32: 4}
+
+
+def counted(command):
+    """The instructions of a run."""
+    words = ["valgrind", "--tool=callgrind", "--callgrind-out-file=/dev/null", *command]
+    ran = subprocess.run(words, stdout=subprocess.DEVNULL, stderr=subprocess.PIPE, text=True, check=True)
+    return int(re.search(r"Collected : (\d+)", ran.stderr)[1])
+
+
+def told(ours, theirs, options, folder):
+    """Instructions of coding by ours and theirs, and of decoding."""
+    raw, coded, dest = (os.path.join(folder, name) for name in ("raw", "coded", "dest"))
+    subprocess.run([theirs, *options, raw, coded], check=True)
+    jobs = [[*options, raw, dest], ["-d", *options, coded, dest]]
+    return [[counted([path, *job]) for path in (ours, theirs)] for job in jobs]
+
+
+def main():
+    ours, theirs = sys.argv[1], os.environ.get("LIBAEC", "/usr/bin/aec")
+    print("| Input | J | coding, ours | theirs | ratio | decoding, ours | theirs | ratio |")
+    print("|---|---|---|---|---|---|---|---|")
+    with tempfile.TemporaryDirectory() as folder:
+        for name, options, made in INPUTS:
+            with open(os.path.join(folder, "raw"), "wb") as file:
+                file.write(made(random.Random(1)))
+            samples = MIB // STORAGE[int(options[1])]
+            for block in BLOCKS:
+                words = [*options, "-j", str(block), "-r", str(INTERVAL)]
+                cells = []
+                for our_count, their_count in told(ours, theirs, words, folder):
+                    cells += [f"{our_count / samples:.0f}", f"{their_count / samples:.0f}", f"{our_count / their_count:.2f}"]
+                print(f"| {name} | {block} | {' | '.join(cells)} |", flush=True)
+
+
+main()
