@@ -3,10 +3,10 @@
 ghost use Rattle.std.specs.Prelude.{◌<◌, ◌≤◌, length};
 
 use super::streams::MOST;
-use crate::asserts::{holds, same, same_at};
+use crate::asserts::{holds, same};
 use crate::settings::{unprocessed, width, with_interval};
 use crate::shared::expect_bits;
-use aec_bits::BitBuf;
+use aec_bits::{BitBuf, WriteSink};
 use aec_interval::{StreamCoder, encode_all};
 use aec_params::{Fault, Params, Settings, read_samples};
 use std::alloc::Global;
@@ -219,28 +219,40 @@ fn codes_the_same_in_pieces_of_any_size(rt: HostRuntime) -> Result<(), Fail> {
     )
 }
 
-/// Codes bytes in three pieces, with each two places between them, and compares the bits with those of all samples.
+/// The code of samples that come in three pieces.
+fn coded_in_three(alloc: Global, params: Params, pieces: [&[u8]; 3]) -> Result<BitBuf, Fault> {
+    let mut coder = StreamCoder::new(alloc, params, MOST);
+    let mut out = BitBuf::new(alloc);
+    for piece in pieces {
+        coder.feed(piece, &mut out)?;
+    }
+    coder.finish(&mut out)?;
+    Ok(out)
+}
+
+/// The bytes of the code of all samples at once, and its length in bits.
+fn coded_at_once(alloc: Global, params: &Params, bytes: &[u8]) -> Result<(Vec<u8>, u64), Fault> {
+    let samples = read_samples(alloc, params, bytes)?;
+    let all = encode_all(alloc, params, &samples)?;
+    let mut coded = WriteSink::new(Vec::new(alloc));
+    all.write_to(&mut coded)?;
+    Ok((coded.into_inner(), all.len()))
+}
+
+/// Wherever the bytes are cut in three, their code is that of all at once.
 fn expect_any_cut(rt: &impl Abort, alloc: Global, settings: Settings) -> Result<(), Fail> {
     let params = Params::new(settings)?;
     let mut bytes = [0u8; 40];
-    for place in 0..40u32 {
-        bytes[place as usize] = (place * 7 % 16) as u8;
+    for (place, byte) in bytes.iter_mut().enumerate() {
+        *byte = (place * 7 % 16) as u8;
     }
-    let samples = read_samples(alloc, &params, &bytes)?;
-    let all = encode_all(alloc, &params, &samples)?;
+    let (coded, len) = coded_at_once(alloc, &params, &bytes)?;
     for second in 0..=40usize {
+        let (front, rest) = bytes.split_at(second);
         for first in 0..=second {
-            let mut coder = StreamCoder::new(alloc, params, MOST);
-            let mut out = BitBuf::new(alloc);
-            coder.feed(&bytes[..first], &mut out)?;
-            coder.feed(&bytes[first..second], &mut out)?;
-            coder.feed(&bytes[second..], &mut out)?;
-            coder.finish(&mut out)?;
-            same_at(rt, out.len(), all.len(), &(&first, &second));
-            for i in 0..all.byte_len() {
-                holds(rt, i < out.byte_len());
-                same_at(rt, out.byte(i), all.byte(i), &(&first, &second));
-            }
+            let (one, two) = front.split_at(first);
+            let out = coded_in_three(alloc, params, [one, two, rest])?;
+            expect_bits(rt, &out, len, &coded);
         }
     }
     Ok(())
