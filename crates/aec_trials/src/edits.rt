@@ -217,6 +217,20 @@ fn left(
     Ok((answer, counts, sink.bytes))
 }
 
+// A script or a source that fails while it is read: nothing is begun, and these devices have failed.
+fn expect_unread(
+    rt: &impl Abort,
+    alloc: Global,
+    script: Pieces<'_>,
+    source: Pieces<'_>,
+    counts: [u64; 4],
+) -> Result<(), Fail> {
+    let (answer, found, _) = left(alloc, script, source, Basin::shut(alloc))?;
+    same(rt, answer, Err(EditFault::Plain(Fault::Read)));
+    same(rt, found, counts);
+    Ok(())
+}
+
 // The script fails behind so many bytes. The source would fail too, and isn't asked.
 #[test]
 fn scripts_of_an_edit_fail(rt: HostRuntime) -> Result<(), Fail> {
@@ -224,9 +238,7 @@ fn scripts_of_an_edit_fail(rt: HostRuntime) -> Result<(), Fail> {
         let front = b"append 1".get(..k).ok_or("a front")?;
         let script = Pieces::of(front, 3, After::Fails);
         let source = Pieces::of(&[], 1, After::Fails);
-        let (answer, counts, _) = left(rt.alloc(), script, source, Basin::shut(rt.alloc()))?;
-        same(&rt, answer, Err(EditFault::Plain(Fault::Read)));
-        same(&rt, counts, [1, 0, 0, 0]);
+        expect_unread(&rt, rt.alloc(), script, source, [1, 0, 0, 0])?;
     }
     Ok(())
 }
@@ -238,9 +250,7 @@ fn streams_of_an_edit_fail(rt: HostRuntime) -> Result<(), Fail> {
         let front = RAMP.get(..k).ok_or("a front")?;
         let script = Pieces::of(b"append 1", 3, After::Ends);
         let source = Pieces::of(front, 1, After::Fails);
-        let (answer, counts, _) = left(rt.alloc(), script, source, Basin::shut(rt.alloc()))?;
-        same(&rt, answer, Err(EditFault::Plain(Fault::Read)));
-        same(&rt, counts, [0, 1, 0, 0]);
+        expect_unread(&rt, rt.alloc(), script, source, [0, 1, 0, 0])?;
     }
     Ok(())
 }
