@@ -41,6 +41,12 @@ explain() {
     grep -E 'MemTotal|MemAvailable' /proc/meminfo
 }
 
+# How many checks the gate runs at a time: half as many again as there are processors, if each then has 3 GB; else what `rt` chooses. With
+# one a processor, the edits of the crate that comes last are tried on one processor while the others idle, for 15 minutes of 50.
+checks=$(($(nproc) * 3 / 2))
+if [ -z "${RT_JOBS:-}" ] && [ "$(awk '/MemAvailable/ { print int($2 / 3145728) }' /proc/meminfo)" -ge "$checks" ]; then
+    export RT_JOBS=$checks
+fi
 part gate rt ci
 echo "== coded samples"
 part coded on_program tests/coded.py
