@@ -54,9 +54,9 @@ has_quota() {
     cat /sys/fs/cgroup/cpu.max /sys/fs/cgroup/cpu/cpu.cfs_quota_us 2> /dev/null | grep -q '^[0-9]'
 }
 
-# How many checks the gate runs at a time: half as many again as there are processors where that can be, else what `rt` chooses. With one a
-# processor, of the last 13 minutes of 51 one or two processors alone had work, for the edits of a crate are tried in turn.
-checks=$(($(nproc) * 3 / 2))
+# How many checks the gate runs at a time: five on four processors where that can be, else what `rt` chooses. With one a processor, of the
+# last 13 minutes of 51 one or two processors alone had work, for the edits of a crate are tried in turn; with more each is slower.
+checks=$(($(nproc) * 5 / 4))
 if [ -z "${RT_JOBS:-}" ] && ! has_quota && [ "$(checks_by_memory)" -ge "$checks" ]; then
     export RT_JOBS=$checks
 fi

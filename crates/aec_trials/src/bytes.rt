@@ -13,6 +13,17 @@ const RAMP: [u8; 8] = [0, 1, 2, 3, 4, 5, 6, 7];
 // The code of the ramp, from the examples of FORMAT.md.
 const RAMP_CODED: [u8; 4] = [0x20, 0x09, 0x24, 0x92];
 
+// What is decoded, or why it isn't: the clauses stay out of the tests' proofs.
+fn decoded(
+    alloc: Global,
+    params: &Params,
+    limits: Limits,
+    count: Option<u64>,
+    bytes: &[u8],
+) -> Result<Vec<u8>, Fault> {
+    decode_bytes(alloc, params, limits, count, bytes)
+}
+
 // The ramp from its code, with this count, has so many samples.
 fn expect_front(
     rt: &impl Abort,
@@ -22,7 +33,7 @@ fn expect_front(
     len: usize,
 ) -> Result<(), Fail> {
     let limits = Limits::new(8, 8).ok_or("limits")?;
-    let bytes = decode_bytes(alloc, params, limits, count, &RAMP_CODED)?;
+    let bytes = decoded(alloc, params, limits, count, &RAMP_CODED)?;
     same_at(rt, Some(bytes.as_slice()), RAMP.get(..len), &count);
     Ok(())
 }
@@ -66,7 +77,7 @@ fn bytes_are_refused(rt: HostRuntime) -> Result<(), Fail> {
         (b"\x20".as_slice(), Some(1), Fault::Truncated { bit: 0 }),
     ];
     for (coded, count, fault) in decoding {
-        let refusal = decode_bytes(rt.alloc(), &params, limits, count, coded).err();
+        let refusal = decoded(rt.alloc(), &params, limits, count, coded).err();
         same_at(&rt, refusal, Some(fault), &coded);
     }
     Ok(())

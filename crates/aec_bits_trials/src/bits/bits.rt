@@ -4,6 +4,7 @@ use crate::asserts::{holds, holds_at, same, same_at};
 use aec_bits::{BitBuf, BitReader};
 use aec_params::Fault;
 use std::alloc::Global;
+use std::process::Abort;
 use std::test::Fail;
 
 /// The bytes that bits fill, one by one.
@@ -177,6 +178,22 @@ fn gives_bytes_back(rt: HostRuntime) -> Result<(), Fail> {
     Ok(())
 }
 
+// Such a list as the bits and as a list, where the places are in order and within it.
+fn expect_splice<R: Abort>(
+    rt: &R,
+    alloc: Global,
+    list: &[bool],
+    places: [usize; 3],
+) -> Result<(), Fail> {
+    let [start, stop, added] = places;
+    let with = sample_list(alloc, added, 5)?;
+    if start <= stop && stop <= list.len() {
+        let is_so = splices(alloc, list, start, stop, &with)?;
+        holds_at(rt, is_so, &(&list.len(), &places));
+    }
+    Ok(())
+}
+
 #[test]
 fn splices_as_a_list(rt: HostRuntime) -> Result<(), Fail> {
     let alloc = rt.alloc();
@@ -186,14 +203,7 @@ fn splices_as_a_list(rt: HostRuntime) -> Result<(), Fail> {
         for start in sizes {
             for stop in sizes {
                 for added in sizes {
-                    let with = sample_list(alloc, added, 5)?;
-                    if start <= stop && stop <= list.len() {
-                        holds_at(
-                            &rt,
-                            splices(alloc, &list, start, stop, &with)?,
-                            &(&len, &start, &stop, &added),
-                        );
-                    }
+                    expect_splice(&rt, alloc, &list, [start, stop, added])?;
                 }
             }
         }

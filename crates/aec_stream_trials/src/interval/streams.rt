@@ -14,12 +14,22 @@ use std::test::Fail;
 /// The most samples that may be asked for.
 pub(crate) const MOST: u64 = 1 << 32;
 
+// Both are asked through these, so that their clauses stay out of the loops' proofs.
+
+fn next(reader: &mut StreamReader, samples: &mut Vec<i64>) -> Result<bool, Fault> {
+    reader.next(samples)
+}
+
+fn skip(reader: &mut StreamReader) -> Result<Option<u64>, Fault> {
+    reader.skip()
+}
+
 /// The samples that a reader hands out, interval by interval.
 fn read_by_steps(alloc: Global, reader: &mut StreamReader) -> Result<Vec<i64>, Fault> {
     let mut all = Vec::new(alloc);
     let mut samples = Vec::new(alloc);
     for _ in 0..MOST {
-        if !reader.next(&mut samples)? {
+        if !next(reader, &mut samples)? {
             break;
         }
         all.extend_from_slice(&samples)?;
@@ -31,7 +41,7 @@ fn read_by_steps(alloc: Global, reader: &mut StreamReader) -> Result<Vec<i64>, F
 fn len_by_steps(reader: &mut StreamReader) -> Result<u64, Fault> {
     let mut all = 0u64;
     for _ in 0..MOST {
-        match reader.skip()? {
+        match skip(reader)? {
             None => break,
             Some(len) => all = all.saturating_add(len),
         }
