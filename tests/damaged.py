@@ -4,7 +4,8 @@
 Has the program at PATH_OF_AEC decode streams that another coder might have written and that were damaged, and compares status,
 message and DEST with what the plain reader of plain_reader.py says: the very samples, or the very fault with its bit. In turn
   - results that were worked out by hand, which the reader has to give too;
-  - the streams of worked examples: each front of them in bytes, and each with a single bit turned, with and without the count;
+  - the streams of worked examples, and others spelled by hand with blocks of every option, runs and padding: each front of them
+    in bytes, and each with a single bit turned, with and without the count;
   - streams of random settings and samples, written by any lawful choices, or with one block written unlawfully, and then
     damaged: bits turned, bytes cut off, lost, replaced or added, or plain random bytes. Each is decoded without a count and
     with one, and some are cut to a range. Each undamaged stream has to be read as its samples.
@@ -21,6 +22,7 @@ from collections import Counter
 from damaged_cases import some_count, some_damaged
 from plain_reader import Fault, reading
 from program import Program, Tally, asked_of, on_each_core, said
+from spelled_streams import SPELLED
 from worked_streams import EXAMPLES, READINGS
 
 OLD = b"what DEST held before"
@@ -49,7 +51,7 @@ def try_decoding(program, tally, stream, settings, count, wanted, more=()):
 
 def try_worked(program, tally):
     """The results by hand: of the program, and of the reader."""
-    for worked in EXAMPLES + READINGS:
+    for worked in EXAMPLES + READINGS + SPELLED:
         stream, settings, count, *wanted = worked
         tally.check(f"the reader on {worked}", read_by_reader(stream, settings, count), tuple(wanted))
         try_decoding(program, tally, stream, settings, count, wanted)
@@ -64,13 +66,15 @@ def fronts_and_turned_bits(stream):
         yield bytes(turned)
 
 
-def try_examples(program, tally):
-    """The damaged examples."""
-    for worked in EXAMPLES:
+def try_turned(program, examples):
+    """The damaged examples: the tally."""
+    tally = Tally()
+    for worked in examples:
         for stream in fronts_and_turned_bits(worked.stream):
             for count in (None, worked.count):
                 wanted = read_by_reader(stream, worked.settings, count)
                 try_decoding(program, tally, stream, worked.settings, count, wanted)
+    return tally
 
 
 def some_range(wanted, chance):
@@ -128,7 +132,8 @@ def main():
         with tempfile.TemporaryDirectory() as folder:
             program = Program(asked.program, folder)
             try_worked(program, tally)
-            try_examples(program, tally)
+        for its_tally in on_each_core(try_turned, asked.program, EXAMPLES + SPELLED):
+            tally.add(its_tally)
     try_all(asked.program, asked.seed, asked.numbers, tally)
     tally.print()
     return 1 if tally.failed else 0

@@ -3,6 +3,5 @@
 mod bits;
 mod codecs;
 mod devices;
-mod packed;
+mod long_lists;
 mod windows;
-mod words;

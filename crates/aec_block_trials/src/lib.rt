@@ -9,10 +9,6 @@ mod choices;
 #[cfg(test)]
 mod reading;
 #[cfg(test)]
-mod reused_block;
-#[cfg(test)]
 mod runs;
 #[cfg(test)]
 mod shared;
-#[cfg(test)]
-mod skipping;

@@ -15,8 +15,6 @@ mod mixed_edits;
 #[cfg(test)]
 mod octets;
 #[cfg(test)]
-mod plain_reader;
-#[cfg(test)]
 mod settings;
 #[cfg(test)]
 mod shared;
@@ -24,7 +22,5 @@ mod shared;
 mod steps;
 #[cfg(test)]
 mod tables;
-#[cfg(test)]
-mod turned_bits;
 #[cfg(test)]
 mod workspaces;

@@ -43,7 +43,7 @@ fn push_fs(buf: &mut BitBuf, v: u64) -> Result<(), Fault> {
 }
 
 /// Whether the bits are those of a slice.
-pub(crate) fn are(buf: &BitBuf, list: &[bool]) -> bool {
+fn are(buf: &BitBuf, list: &[bool]) -> bool {
     if buf.len() != list.len() as u64 {
         return false;
     }
@@ -56,7 +56,7 @@ pub(crate) fn are(buf: &BitBuf, list: &[bool]) -> bool {
 }
 
 /// Bits with no simple period, at most 200 of them.
-pub(crate) fn sample_list(alloc: Global, len: usize, step: usize) -> Result<Vec<bool>, Fault> {
+fn sample_list(alloc: Global, len: usize, step: usize) -> Result<Vec<bool>, Fault> {
     let mut list = Vec::new(alloc);
     for i in 0..len.min(200) {
         list.push(i * step.min(100) % 7 < 3)?;
@@ -65,7 +65,7 @@ pub(crate) fn sample_list(alloc: Global, len: usize, step: usize) -> Result<Vec<
 }
 
 /// Whether a splice leaves what it leaves of a plain list.
-pub(crate) fn splices(
+fn splices(
     alloc: Global,
     list: &[bool],
     start: usize,

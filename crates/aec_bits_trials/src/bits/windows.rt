@@ -1,32 +1,15 @@
-//! Several codewords read at once: across words, at the end of the list, and past it.
+//! Several codewords read at once: within a byte, at the end of the list, and past it.
 
 ghost use Rattle.std.specs.Prelude.{◌≤◌};
 
 use super::bits::bits_in;
-use crate::asserts::{holds, holds_at, same, same_at};
+use crate::asserts::{holds, same};
 use aec_bits::{BitBuf, BitReader};
 use aec_params::Fault;
-use std::alloc::Global;
 use std::test::Fail;
 
-/// Zeros, as many bits as the least places of a word.
-fn zeros(alloc: Global, count: u32) -> Result<BitBuf, Fault> {
-    let mut buf = BitBuf::new(alloc);
-    buf.push_bits(0, count.min(64))?;
-    Ok(buf)
-}
-
-/// The fundamental sequences of numbers, `before` bits behind the start.
-fn sequences(alloc: Global, before: u32, numbers: &[u32]) -> Result<BitBuf, Fault> {
-    let mut buf = zeros(alloc, before)?;
-    for number in numbers {
-        buf.push_fs(u64::from(*number))?;
-    }
-    Ok(buf)
-}
-
 /// A reader at a place, or at the start where the list is shorter.
-pub(crate) fn reader_at(buf: &BitBuf, place: u64) -> BitReader<'_> {
+fn reader_at(buf: &BitBuf, place: u64) -> BitReader<'_> {
     let mut reader = BitReader::new(buf);
     if place <= buf.len() {
         reader.seek(place);
@@ -69,40 +52,6 @@ fn reads_sequences_by_hand(rt: HostRuntime) -> Result<(), Fail> {
     holds(&rt, !read_sequences(&mut reader, &mut one));
     holds(&rt, read_sequences(&mut reader, &mut none));
     same(&rt, reader.pos(), 16);
-    Ok(())
-}
-
-#[test]
-fn reads_sequences_across_words(rt: HostRuntime) -> Result<(), Fail> {
-    let numbers = [3u32, 0, 63, 0, 0, 62, 1, 61, 63, 63, 2, 0];
-    for before in 0..65 {
-        let buf = sequences(rt.alloc(), before, &numbers)?;
-        let mut reader = reader_at(&buf, u64::from(before));
-        let mut found = [9u32; 12];
-        holds_at(&rt, read_sequences(&mut reader, &mut found), &before);
-        same_at(&rt, found.as_slice(), numbers.as_slice(), &before);
-        same_at(&rt, reader.pos(), buf.len(), &before);
-        holds_at(&rt, !read_sequences(&mut reader, &mut found), &before);
-    }
-    Ok(())
-}
-
-#[test]
-fn leaves_long_sequences_to_the_other_call(rt: HostRuntime) -> Result<(), Fail> {
-    for before in 0..65 {
-        let buf = sequences(rt.alloc(), before, &[5, 64, 7])?;
-        let mut reader = reader_at(&buf, u64::from(before));
-        let mut three = [9u32; 3];
-        holds_at(&rt, !read_sequences(&mut reader, &mut three), &before);
-        same(&rt, reader.pos(), u64::from(before));
-        same(&rt, reader.read_fs(), Ok(5));
-        let mut one = [9u32; 1];
-        holds_at(&rt, !read_sequences(&mut reader, &mut one), &before);
-        same(&rt, reader.read_fs(), Ok(64));
-        holds_at(&rt, read_sequences(&mut reader, &mut one), &before);
-        same(&rt, one.as_slice(), [7].as_slice());
-        same(&rt, reader.pos(), buf.len());
-    }
     Ok(())
 }
 
@@ -184,46 +133,6 @@ fn reads_numbers_from_within_a_byte(rt: HostRuntime) -> Result<(), Fail> {
         read_numbers(&mut reader, 32, &mut one),
         Err(Fault::Truncated { bit: 37 }),
     );
-    Ok(())
-}
-
-/// Nine numbers by turns: all ones, and every second bit a one.
-fn number_at(i: u32) -> u32 {
-    if i % 2 == 0 { u32::MAX } else { 0x55555555 }
-}
-
-/// The lowest bits of nine such numbers, one by one, some bits behind the start.
-fn nine_numbers(alloc: Global, before: u32, width: u32) -> Result<BitBuf, Fault> {
-    let mut buf = zeros(alloc, before)?;
-    for i in 0..9u32 {
-        for k in 0..width.min(32) {
-            let behind = width.min(32) - 1 - k;
-            buf.push_bits(u64::from(number_at(i) >> behind & 1 == 1), 1)?;
-        }
-    }
-    Ok(buf)
-}
-
-#[test]
-fn reads_numbers_across_words(rt: HostRuntime) -> Result<(), Fail> {
-    for width in 1..33u32 {
-        for before in 0..65u32 {
-            let buf = nine_numbers(rt.alloc(), before, width)?;
-            let mut reader = reader_at(&buf, u64::from(before));
-            let mut nine = [9u32; 9];
-            same_at(
-                &rt,
-                read_numbers(&mut reader, width, &mut nine),
-                Ok(()),
-                &(&width, &before),
-            );
-            for i in 0..9u32 {
-                let want = number_at(i) << (32 - width) >> (32 - width);
-                same_at(&rt, nine[i as usize], want, &(&width, &before, &i));
-            }
-            same(&rt, reader.pos(), buf.len());
-        }
-    }
     Ok(())
 }
 

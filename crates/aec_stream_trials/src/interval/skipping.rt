@@ -1,6 +1,6 @@
 //! Intervals gone over without their samples.
 
-use super::streams::MOST;
+use super::streams::{MOST, next, skip};
 use crate::asserts::{fails, holds, same};
 use crate::settings::padded;
 use aec_bits::BitBuf;
@@ -22,10 +22,10 @@ fn expect_lens(
     let bits = BitBuf::from_bytes(alloc, bytes)?;
     let mut reader = StreamReader::new(alloc, Params::new(settings)?, &bits, count, MOST)?;
     for len in lens {
-        same(rt, reader.skip()?, Some(*len));
+        same(rt, skip(&mut reader)?, Some(*len));
     }
-    same(rt, reader.skip()?, None);
-    same(rt, reader.skip()?, None);
+    same(rt, skip(&mut reader)?, None);
+    same(rt, skip(&mut reader)?, None);
     Ok(())
 }
 
@@ -61,11 +61,11 @@ fn goes_on_with_the_samples_behind(rt: HostRuntime) -> Result<(), Fail> {
     let params = Params::new(Settings::USUAL)?;
     let mut reader = StreamReader::new(rt.alloc(), params, &bits, Some(41), MOST)?;
     let mut samples = Vec::new(rt.alloc());
-    same(&rt, reader.skip()?, Some(16));
-    holds(&rt, reader.next(&mut samples)?);
+    same(&rt, skip(&mut reader)?, Some(16));
+    holds(&rt, next(&mut reader, &mut samples)?);
     same(&rt, samples.len(), 16);
-    same(&rt, reader.skip()?, Some(9));
-    holds(&rt, !reader.next(&mut samples)?);
+    same(&rt, skip(&mut reader)?, Some(9));
+    holds(&rt, !next(&mut reader, &mut samples)?);
     Ok(())
 }
 
@@ -76,10 +76,10 @@ fn refuses_each_time(rt: HostRuntime) -> Result<(), Fail> {
     let bits = BitBuf::from_bytes(rt.alloc(), &cut)?;
     let params = Params::new(Settings::USUAL)?;
     let mut reader = StreamReader::new(rt.alloc(), params, &bits, Some(41), MOST)?;
-    same(&rt, reader.skip()?, Some(16));
-    same(&rt, reader.skip()?, Some(16));
+    same(&rt, skip(&mut reader)?, Some(16));
+    same(&rt, skip(&mut reader)?, Some(16));
     for _ in 0..2 {
-        match reader.skip() {
+        match skip(&mut reader) {
             Ok(_) => fails(&rt, &"an interval is gone over"),
             Err(fault) => same(&rt, fault, Fault::Truncated { bit: 28 }),
         }

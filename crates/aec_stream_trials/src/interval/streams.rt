@@ -16,11 +16,11 @@ pub(crate) const MOST: u64 = 1 << 32;
 
 // Both are asked through these, so that their clauses stay out of the loops' proofs.
 
-fn next(reader: &mut StreamReader, samples: &mut Vec<i64>) -> Result<bool, Fault> {
+pub(crate) fn next(reader: &mut StreamReader, samples: &mut Vec<i64>) -> Result<bool, Fault> {
     reader.next(samples)
 }
 
-fn skip(reader: &mut StreamReader) -> Result<Option<u64>, Fault> {
+pub(crate) fn skip(reader: &mut StreamReader) -> Result<Option<u64>, Fault> {
     reader.skip()
 }
 
