@@ -1,11 +1,11 @@
 -- A sample and its pattern of n bits: each gives the other.
 use Rattle.std.proofs.Common.{◌≡◌, ℕ, zero, suc, ◌+◌, ◌-◌, ◌*◌, ◌^◌, ◌%◌, ◌<◌, ◌≤◌, refl, ap, ◌∙◌, sym, arith, IsTrue}
 use Rattle.std.proofs.lemmas.Nat.{pow-add, pow_pos, mod_low, one_shl}
-use Rattle.std.proofs.lemmas.Bool.{and_parts, and_from, cond-true, cond-false, leb-true, le-leb, lt-leb}
+use Rattle.std.proofs.lemmas.Bool.{and_parts, and_from, cond-true, cond-false, leb-true, leb-false, le-leb, lt-leb}
 use Rattle.std.proofs.lemmas.Int.{ints, to_z-of_z}
 use Rattle.std.proofs.Math.Nat.{mod-eq_of_lt, pow-le-pow_right}
 use Rattle.std.specs.Prelude.{ℤ, pos, negsuc, neg_ℤ, int_le, nat_le, ◌-ℤ◌, Bool, true, false, if◌then◌else◌, ◌&&◌}
-use mir.Val.{SFits, to_z}
+use mir.Val.{SFits, to_z, of_z}
 use Rattle.std.specs.Int.{cast_unsigned, w64}
 use Rattle.aec_params.specs.declared.settings.Settings.{Settings}
 use Rattle.aec_params.specs.Params.{IsAllowed, IsHeld, x_max, sample_pattern, pattern_value}
@@ -112,5 +112,68 @@ value-pattern s (pos m) a h =
 value-pattern s (negsuc m) a h =
     let held = held-negative s m h in
     value-at s.signed (2 ^ (s.bits - 1)) (2 ^ s.bits) m (pow-halves s.bits (bits-least s a)) held.0 held.1
+
+-- what code computes for the upper half: u less the number of values t
+negative-code : (u t : ℕ) → u < t → t ≤ 2 ^ 32 → to_z w64 (of_z w64 (to_z w64 (of_z w64 (pos u)) -ℤ to_z w64 t)) ≡ negsuc (t - (u + 1))
+negative-code u t low few = omega (arith, ints)
+
+pub value-negative : (s : Settings) (x : ℤ) (u b : ℕ) → IsAllowed s → u < 2 ^ s.bits → x ≡ pos u → b ≡ s.bits
+    → to_z w64 (of_z w64 (to_z w64 (of_z w64 x) -ℤ to_z w64 (1 * 2 ^ b % 2 ^ 64))) ≡ negsuc (2 ^ s.bits - (u + 1))
+value-negative s x u b a low is width =
+    let few = bits-greatest s a in
+    ap (λ (y : ℤ). to_z w64 (of_z w64 (to_z w64 (of_z w64 y) -ℤ to_z w64 (1 * 2 ^ b % 2 ^ 64)))) is
+    ∙ ap (λ (k : ℕ). to_z w64 (of_z w64 (to_z w64 (of_z w64 (pos u)) -ℤ to_z w64 (1 * 2 ^ k % 2 ^ 64)))) width
+    ∙ ap (λ (k : ℕ). to_z w64 (of_z w64 (to_z w64 (of_z w64 (pos u)) -ℤ to_z w64 k))) (one_shl s.bits 64 (omega arith))
+    ∙ negative-code u (2 ^ s.bits) low (values-most s a)
+
+below-zero : (t u : ℕ) → u < t → pos u -ℤ pos t ≡ negsuc (t - (u + 1))
+below-zero t u low = omega (arith, ints)
+
+pub pattern-negative : (s : Settings) (u : ℕ) → u < 2 ^ s.bits → (s.signed && nat_le (2 ^ (s.bits - 1)) u) ≡ true
+    → negsuc (2 ^ s.bits - (u + 1)) ≡ pattern_value s u
+pattern-negative s u low test =
+    sym (below-zero (2 ^ s.bits) u low) ∙ sym (cond-true (s.signed && nat_le (2 ^ (s.bits - 1)) u) (pos u -ℤ pos (2 ^ s.bits)) (pos u) test)
+
+pub undone-negative : (t u : ℕ) → u < t → t - (t - (u + 1) + 1) ≡ u
+undone-negative t u low = omega arith
+
+from-negative : (signed : Bool) (k m t : ℕ) → signed ≡ true → m < k
+    → IsTrue (int_le (if signed then neg_ℤ (pos k) else pos 0) (negsuc m) && int_le (negsuc m) (if signed then pos (k - 1) else pos (t - 1)))
+from-negative false k m t e low = absurd (cc)
+from-negative true zero m t e low = absurd (omega arith)
+from-negative true (suc k) m t e low = and_from (int_le (neg_ℤ (pos (suc k))) (negsuc m)) true (le-leb m k (omega arith)) refl
+
+-- the upper half of the patterns has samples
+pub negative-held : (s : Settings) (u : ℕ) → IsAllowed s → u < 2 ^ s.bits → (s.signed && nat_le (2 ^ (s.bits - 1)) u) ≡ true
+    → IsHeld s (negsuc (2 ^ s.bits - (u + 1)))
+negative-held s u a low test =
+    let parts = and_parts s.signed (nat_le (2 ^ (s.bits - 1)) u) test in
+    let high = leb-true (2 ^ (s.bits - 1)) u parts.1 in
+    let halves = pow-halves s.bits (bits-least s a) in
+    from-negative s.signed (2 ^ (s.bits - 1)) (2 ^ s.bits - (u + 1)) (2 ^ s.bits) parts.0 (omega arith)
+
+from-positive : (signed : Bool) (k t u : ℕ) → u < t → (signed && nat_le k u) ≡ false
+    → IsTrue (int_le (if signed then neg_ℤ (pos k) else pos 0) (pos u) && int_le (pos u) (if signed then pos (k - 1) else pos (t - 1)))
+from-positive false k t u low test =
+    and_from (int_le (pos 0) (pos u)) (int_le (pos u) (pos (t - 1))) (le-leb 0 u (omega arith)) (le-leb u (t - 1) (omega arith))
+from-positive true zero t u low test = let less = leb-false zero u test in absurd (omega arith)
+from-positive true (suc k) t u low test =
+    let less = leb-false (suc k) u test in
+    and_from (int_le (neg_ℤ (pos (suc k))) (pos u)) (int_le (pos u) (pos (suc k - 1))) refl (le-leb u (suc k - 1) (omega arith))
+
+-- and so have the others
+pub positive-held : (s : Settings) (u : ℕ) → u < 2 ^ s.bits → (s.signed && nat_le (2 ^ (s.bits - 1)) u) ≡ false → IsHeld s (pos u)
+positive-held s u low test = from-positive s.signed (2 ^ (s.bits - 1)) (2 ^ s.bits) u low test
+
+positive-code : (u : ℕ) → u < 2 ^ 32 → to_z w64 (of_z w64 (pos u)) ≡ pos u
+positive-code u low = omega (arith, ints)
+
+pub value-positive : (s : Settings) (x : ℤ) (u : ℕ) → IsAllowed s → u < 2 ^ s.bits → x ≡ pos u → to_z w64 (of_z w64 x) ≡ pos u
+value-positive s x u a low is =
+    let most = values-most s a in
+    ap (λ (y : ℤ). to_z w64 (of_z w64 y)) is ∙ positive-code u (omega arith)
+
+pub pattern-positive : (s : Settings) (u : ℕ) → (s.signed && nat_le (2 ^ (s.bits - 1)) u) ≡ false → pos u ≡ pattern_value s u
+pattern-positive s u test = sym (cond-false (s.signed && nat_le (2 ^ (s.bits - 1)) u) (pos u -ℤ pos (2 ^ s.bits)) (pos u) test)
 
 pub ruleset patterns = (low_bits-pattern, value-pattern, values-most)

@@ -24,7 +24,7 @@ impl Model for Params {
 }
 
 impl Params {
-    ghost use Rattle.std.specs.Prelude.{◌≡◌, ◌<◌, ◌^◌, IfOk, nat_lt};
+    ghost use Rattle.std.specs.Prelude.{◌≡◌, ◌<◌, ◌-◌, ◌^◌, ◌&&◌, IfOk, nat_le, nat_lt};
     ghost use Rattle.std.specs.Result.{result_err};
     ghost use Rattle.aec_params.specs.Params.{IsAllowed, settings_fault, interval_len as samples_in_interval, id_len as identifier_len, k_max as greatest_k, x_min as least_sample, x_max as greatest_sample, storage_len, is_held, IsHeld, sample_pattern, pattern_value};
 
@@ -191,6 +191,15 @@ impl Params {
         (x.cast_unsigned() % (1u64 << self.bits())) as u32
     }
 
+    /// Whether a pattern stands for a negative sample: of signed samples the upper half does.
+    fn is_negative(&self, pattern: u32) -> bool
+        ensures value { result ≡ (self.now.signed && nat_le (2 ^ (self.now.bits - 1)) pattern) }
+        ensures allowed { IsAllowed self.now }
+    {
+        let bits = self.settings.bits;
+        self.settings.signed && pattern >= 1 << (bits - 1)
+    }
+
     /// The sample of a pattern.
     pub fn value(&self, pattern: u32) -> i64
         requires { pattern < 2 ^ self.now.bits }
@@ -199,7 +208,7 @@ impl Params {
         ensures undone { sample_pattern self.now result ≡ pattern }
     {
         let bits = self.settings.bits;
-        if self.settings.signed && pattern >= 1 << (bits - 1) {
+        if self.is_negative(pattern) {
             i64::from(pattern) - (1i64 << bits)
         } else {
             i64::from(pattern)
