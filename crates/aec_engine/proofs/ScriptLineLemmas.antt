@@ -1,13 +1,15 @@
 -- How the lines of scripts are read.
-use Rattle.std.proofs.Common.{◌≡◌, ap, sym, ◌∙◌, true, false, List, [], ◌∷◌, ◌++◌, ℕ, ℤ, refl, Some, None, Option, append_assoc, is_some, ◌<◌, ◌+◌, ◌==◌, length, take, drop, get_or, arith}
+use Rattle.std.proofs.Common.{◌≡◌, ap, sym, ◌∙◌, true, false, List, [], ◌∷◌, ◌++◌, ℕ, ℤ, refl, Some, None, Option, append_assoc, is_some, ◌<◌, ◌+◌, ◌==◌, length, take, drop, get_or, arith, inl, inr, length-append}
 use Rattle.std.specs.Prelude.{option_map, option_and_then}
 use Rattle.std.specs.List.{position_or_len}
 use Rattle.std.proofs.lemmas.List.Elements.{All-from_get_or}
 use Rattle.std.proofs.lemmas.List.Sums.{position_or_len_is}
 use Rattle.std.proofs.lemmas.List.Splits.{slice_split_first, slice_split_none}
+use Rattle.aec_params.specs.declared.edit.Edit.{Edit}
+use Rattle.aec_params.specs.declared.fault.Fault.{Fault}
 use Rattle.aec_engine.specs.Numerals.{Text}
-use Rattle.aec_engine.specs.Scripts.{value_in, values_in}
-use Rattle.aec_engine.specs.ScriptLines.{values_after, lines_of}
+use Rattle.aec_engine.specs.Scripts.{value_in, values_in, Meaning, nothing, change, unknown, Listing, listed}
+use Rattle.aec_engine.specs.ScriptLines.{values_after, lines_of, after_listed, RefusesLine, RefusesListing}
 
 -- a value that is read joins those before it
 pub values_in-next : (all : Option (List ℤ)) (old new : List ℤ) (word : Text) (words : List Text) (x : ℤ)
@@ -43,3 +45,13 @@ lines_of-first text i within before here =
 -- a text without one is a line
 pub lines_of-one : (text : Text) → ((k : ℕ) → k < length text → (get_or text k 0 == 10) ≡ false) → lines_of text ≡ text ∷ []
 lines_of-one text none = slice_split_none (λ byte. byte == 10) text (All-from_get_or (λ byte. (byte == 10) ≡ false) text 0 none)
+
+-- a line that is not taken shows in the listing of the whole script
+pub refused_line : (m : Meaning) (n : ℕ) (e : Fault) (edits : List Edit) (lines : List ℕ)
+    → RefusesLine m n e → (rest : Listing) → RefusesListing (after_listed edits lines (listed n m rest)) n e
+refused_line unknown n e edits lines (inl (is, fault)) rest = inl (refl, fault)
+refused_line nothing n e edits lines (inl (is, fault)) rest = absurd (cc)
+refused_line (change x) n e edits lines (inl (is, fault)) rest = absurd (cc)
+refused_line unknown n e edits lines (inr (memory, (some, known))) rest = absurd (known refl)
+refused_line nothing n e edits lines (inr (memory, (some, known))) rest = absurd (some refl)
+refused_line (change x) n e edits lines (inr (memory, (some, known))) rest = inr (memory, omega (arith, length-append edits (x ∷ rest.edits)))

@@ -1,8 +1,10 @@
 -- What the private functions that read scripts give: a line before its values are kept.
-use Rattle.std.specs.Prelude.{◌≡◌, ℕ, ℤ, Bool, true, Option, Some, None, is_some, option_map, length, ◌+◌, List, [], ◌++◌, ◌==◌}
+use Rattle.std.specs.Prelude.{◌≡◌, ℕ, ℤ, Bool, true, Option, Some, None, is_some, option_map, length, ◌+◌, ◌<◌, ◌⊎◌, ◌≢◌, List, [], ◌++◌, ◌==◌}
 use Rattle.std.specs.List.{slice_split}
 use Rattle.aec_params.specs.declared.edit.Edit.{Edit}
 use Rattle.aec_params.specs.declared.edit.Edit.TheVariants as edit
+use Rattle.aec_params.specs.declared.fault.Fault.{Fault}
+use Rattle.aec_params.specs.declared.fault.Fault.TheVariants.{Memory, Script}
 use Rattle.aec_engine.specs.Numerals.{Text}
 use Rattle.aec_engine.specs.declared.script_lines.Line.{Line}
 use Rattle.aec_engine.specs.declared.script_lines.Line.TheVariants as line
@@ -47,6 +49,14 @@ text_left None = 0
 -- a listing after edits on lines before it
 abbrev pub after_listed : List Edit → List ℕ → Listing → Listing
 after_listed edits lines rest = record { edits = edits ++ rest.edits; lines = lines ++ rest.lines; bad = rest.bad }
+
+-- why the line n is not taken: it is no edit, or memory is refused for the edit that it is
+abbrev pub RefusesLine : Meaning → ℕ → Fault → Type 0
+RefusesLine m n e = ((m ≡ unknown) × (e ≡ Script n)) ⊎ ((e ≡ Memory) × ((m ≢ nothing) × (m ≢ unknown)))
+
+-- the same, as the listing of the whole script shows it
+abbrev pub RefusesListing : Listing → ℕ → Fault → Type 0
+RefusesListing read n e = ((read.bad ≡ Some n) × (e ≡ Script n)) ⊎ ((e ≡ Memory) × (0 < length read.edits))
 
 -- values, after others that were read
 abbrev pub values_after : List ℤ → Option (List ℤ) → Option (List ℤ)

@@ -2,12 +2,12 @@
 
 ghost use Rattle.std.specs.Prelude.{◌≡◌, ◌<◌, ◌≤◌, ◌∷◌, ◌+◌, ◌⊎◌, ◌≢◌, ℕ, [], Some, None, length, IfOk, IfErr, option_map};
 ghost use Rattle.aec_params.specs.declared.fault.Fault.TheVariants.{Memory, Script as ScriptFault};
-ghost use Rattle.aec_engine.specs.Scripts.{Listing, listing_of};
-ghost use Rattle.aec_engine.specs.ScriptLines.{lines_of, lines_left, text_left};
+ghost use Rattle.aec_engine.specs.Scripts.{Listing, listed, listing_of, meaning_of};
+ghost use Rattle.aec_engine.specs.ScriptLines.{after_listed, kept, lines_of, lines_left, text_left, RefusesLine, RefusesListing};
 
 use crate::script_lines::{Line, edit_of, line_of};
 use crate::scripts::Script;
-use aec_params::Fault;
+use aec_params::{Edit, Fault};
 use std::alloc::Global;
 
 /// The first line of a text, and what follows it where a line feed does.
@@ -23,6 +23,46 @@ fn cut_line(text: &[u8]) -> (&[u8], Option<&[u8]>)
     (text, None)
 }
 
+/// The edit of a line whose number is given, or that it says nothing.
+fn edit_on_line(alloc: Global, number: u64, text: &[u8]) -> Result<Option<Edit>, Fault>
+    ensures ok { IfOk result (λ edit. kept edit ≡ meaning_of text.now) }
+    ensures refuses { IfErr result (λ e. RefusesLine (meaning_of text.now) number e) }
+{
+    let line = line_of(text);
+    if let Line::Unknown = line {
+        return Err(Fault::Script { line: number });
+    }
+    edit_of(alloc, line)
+}
+
+/// Puts the edit of a line, if there is one, and the number of the line behind those before it.
+fn put_edit(read: &mut Script, edit: Option<Edit>, number: u64) -> Result<(), Fault>
+    ensures ok { IfOk result (λ _. (rest : Listing) →
+        after_listed read.old.edits.items read.old.lines.items (listed number (kept edit) rest)
+        ≡ after_listed read.new.edits.items read.new.lines.items rest) }
+    ensures refuses { IfErr result (λ e. RefusesLine (kept edit) number e) }
+{
+    if let Some(edit) = edit {
+        read.edits.push(edit)?;
+        read.lines.push(number)?;
+    }
+    Ok(())
+}
+
+#[tactic(auto, using(crate::proofs::ScriptLineLemmas::refused_line))]
+/// Puts what a line asks for, whose number is given, behind what the lines before it do.
+fn take_line(alloc: Global, number: u64, text: &[u8], read: &mut Script) -> Result<(), Fault>
+    ensures ok { IfOk result (λ _. (rest : Listing) →
+        after_listed read.old.edits.items read.old.lines.items (listed number (meaning_of text.now) rest)
+        ≡ after_listed read.new.edits.items read.new.lines.items rest) }
+    ensures refuses { let whole : Listing → Listing = λ rest.
+        after_listed read.old.edits.items read.old.lines.items (listed number (meaning_of text.now) rest) in
+        IfErr result (λ e. (rest : Listing) → RefusesListing (whole rest) number e) }
+{
+    let edit = edit_on_line(alloc, number, text)?;
+    put_edit(read, edit, number)
+}
+
 /// The edits of a script. A line ends with a line feed, the last one may lack it; one carriage return before it is no part
 /// of the line. Spaces and tabs part words. A line is `overwrite FIRST V..`, `append V..` or `truncate COUNT`; one
 /// without a word, and one whose first word begins with `#`, says nothing.
@@ -35,22 +75,17 @@ pub fn script(alloc: Global, bytes: &[u8]) -> Result<Script, Fault>
     ensures refuses { let read : Listing = listing_of bytes.now in
         IfErr result (λ e. ((n : ℕ) × (read.bad ≡ Some n) × (e ≡ ScriptFault n)) ⊎ ((e ≡ Memory) × (0 < length read.edits))) }
 {
-    let mut edits = Vec::new(alloc);
-    let mut lines = Vec::new(alloc);
+    let mut read = Script {
+        edits: Vec::new(alloc),
+        lines: Vec::new(alloc),
+    };
     let mut rest = Some(bytes);
     let mut number: u64 = 0;
     while let Some(text) = rest {
         let (text, after) = cut_line(text);
         number += 1;
-        let line = line_of(text);
-        if let Line::Unknown = line {
-            return Err(Fault::Script { line: number });
-        }
-        if let Some(edit) = edit_of(alloc, line)? {
-            edits.push(edit)?;
-            lines.push(number)?;
-        }
+        take_line(alloc, number, text, &mut read)?;
         rest = after;
     }
-    Ok(Script { edits, lines })
+    Ok(read)
 }
