@@ -1,6 +1,6 @@
 -- Lists of samples as they are stored.
 use Rattle.std.proofs.Common.{◌≡◌, ℕ, zero, suc, ◌+◌, ◌-◌, ◌*◌, ◌/◌, ◌^◌, ◌%◌, ◌<◌, ◌≤◌, ◌⊎◌, inl, inr, Bool, true, false, List, [], ◌∷◌, ◌++◌, length, take, drop, set, get_or, slice_index, refl, ap, ap₂, ◌∙◌, sym, arith, subst}
-use Rattle.std.specs.Prelude.{ℤ, Option, Some, None, Result, Ok, nat_lt, ◌&&◌, if◌then◌else◌}
+use Rattle.std.specs.Prelude.{ℤ, bit_or, Option, Some, None, Result, Ok, nat_lt, ◌&&◌, if◌then◌else◌}
 use Rattle.std.specs.List.{AllByRecursion, flat_map}
 use Rattle.std.specs.Simd.{first_chunks}
 use Rattle.std.specs.Option.{is_some}
@@ -9,7 +9,7 @@ use Rattle.std.specs.Int.{w64}
 use Rattle.std.proofs.lemmas.Bool.{cases_lt, cases_Bool, cond-true, cond-false, lt-ltb, and_from}
 use Rattle.std.proofs.lemmas.Bool.Decides.{nat_tests}
 use Rattle.std.proofs.lemmas.List.{get_or-drop, get_or-set_other, get_or-set_same, drop-drop}
-use Rattle.std.proofs.lemmas.Nat.{one_shl, pow_pos, pow-add}
+use Rattle.std.proofs.lemmas.Nat.{one_shl, pow_pos, pow-add, le_or_l, le_or_r}
 use Rattle.std.proofs.Math.Nat.{mod-lt, div-eq_of_lt-le, pow-le-pow_right}
 use Rattle.byteorder.proofs.Bytes.{pow256}
 use Rattle.byteorder.specs.Endian.{big_bytes, little_bytes, big_number, little_number, low_bytes}
@@ -177,6 +177,16 @@ outside-none s bytes number w low high a below width first last order outside =
         (subst (λ h. IsOutside (2 ^ s.bits) h (number (storage_len s) (drop (storage_len s * k) bytes))) last
         (subst (λ l. IsOutside l high (number (storage_len s) (drop (storage_len s * k) bytes))) first
         (subst (λ w. AreOutside (number w) w bytes low high) width outside k within)))
+
+-- one number more, of which the bits are joined to those of the numbers before
+pub joined_step : (number : ℕ → ℕ) (i joined u : ℕ) → u ≡ number i → ((k : ℕ) → k < i → number k ≤ joined)
+    → (k : ℕ) → k < i + 1 → number k ≤ bit_or joined u
+joined_step number i joined u here before k within = elim (cases_lt k i) [
+  | inl below ↦ omega (arith, before k below, le_or_l joined u)
+  | inr at ↦
+      let same : i ≡ k = omega arith in
+      subst (λ n. number n ≤ bit_or joined u) same (omega (arith, here, le_or_r joined u))
+]
 
 -- where there are no numbers in between, all are outside
 pub nothing_between : (number : List ℕ → ℕ) (n low high : ℕ) (bytes : List ℕ) → high ≤ low → AreOutside number n bytes low high

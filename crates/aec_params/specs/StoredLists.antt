@@ -1,4 +1,4 @@
--- What the private functions of `stored_lists` find in numbers of as many bytes each.
+-- What the private functions of `judging` find in numbers of as many bytes each.
 use Rattle.std.specs.Prelude.{ℕ, ◌-◌, ◌*◌, ◌/◌, ◌^◌, ◌<◌, ◌≤◌, ◌⊎◌, if◌then◌else◌, List, length, drop}
 use Rattle.aec_params.specs.declared.settings.Settings.{Settings}
 use Rattle.aec_params.specs.Params.{storage_len}
@@ -14,3 +14,7 @@ IsOutside low high u = (u < low) ⊎ (high ≤ u)
 -- the numbers that stand in bytes one after the other, n bytes each, are all outside
 abbrev pub AreOutside : (List ℕ → ℕ) → ℕ → List ℕ → ℕ → ℕ → Type 0
 AreOutside number n bytes low high = (k : ℕ) → k < length bytes / n → IsOutside low high (number (drop (n * k) bytes))
+
+-- none of these numbers is above `most`
+abbrev pub AreUpTo : (List ℕ → ℕ) → ℕ → List ℕ → ℕ → Type 0
+AreUpTo number n bytes most = (k : ℕ) → k < length bytes / n → number (drop (n * k) bytes) ≤ most

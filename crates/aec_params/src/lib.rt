@@ -3,8 +3,10 @@
 
 mod edit;
 mod fault;
+mod judging;
 pub mod laws;
 mod limits;
+mod numbers;
 mod params;
 mod samples;
 mod settings;
@@ -13,9 +15,10 @@ mod stored_lists;
 
 pub use edit::Edit;
 pub use fault::Fault;
+pub use judging::first_bad;
 pub use limits::Limits;
 pub use params::Params;
 pub use samples::Samples;
 pub use settings::Settings;
 pub use stored::{put_sample, sample_of};
-pub use stored_lists::{append_samples, collect_samples, first_bad, put_samples, read_samples};
+pub use stored_lists::{append_samples, collect_samples, put_samples, read_samples};

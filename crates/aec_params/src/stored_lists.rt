@@ -1,18 +1,19 @@
 //! Lists of samples as they are stored. The width and the order of their bytes are settled once for a list.
 
-ghost use Rattle.std.specs.Prelude.{None, Ok, Err, IfOk, IfErr, OnOk, OnErr, ◌≡◌, ◌<◌, ◌≤◌, ◌+◌, ◌*◌, ◌/◌, ◌%◌, ◌^◌, ℕ, ℤ, true, length, get_or, vec_len, vec_capacity};
+ghost use Rattle.std.specs.Prelude.{None, Ok, Err, IfOk, IfErr, OnOk, OnErr, ◌≡◌, ◌<◌, ◌≤◌, ◌+◌, ◌*◌, ◌/◌, ◌%◌, ◌^◌, ℕ, ℤ, length, get_or, vec_len, vec_capacity};
 ghost use Rattle.std.specs.Int.{w64};
 ghost use Rattle.std.specs.List.{AllByRecursion, flat_map};
 ghost use Rattle.std.specs.Result.{result_err};
 ghost use Rattle.byteorder.specs.Endian.{low_bytes, IsReadBy};
 ghost use Rattle.aec_params.specs.declared.fault.Fault.TheVariants.{Memory};
 ghost use Rattle.aec_params.specs.Params.{IsHeld, pattern_value, storage_len};
-ghost use Rattle.aec_params.specs.StoredLists.{AreOutside, least_extended as least_number_extended};
 ghost use Rattle.aec_params.specs.Stored.{samples_of_bytes, samples_behind, stored_bytes, AnswersSamples};
 
 use crate::fault::Fault;
+use crate::judging::first_bad;
+use crate::numbers::{first_number, put_number};
 use crate::params::Params;
-use crate::stored::{low_value, sample_of};
+use crate::stored::low_value;
 use byteorder::{BigEndian, ByteOrder, LittleEndian};
 use std::alloc::Global;
 
@@ -61,86 +62,6 @@ pub fn append_samples(params: &Params, bytes: &[u8], samples: &mut Vec<i64>) -> 
     Ok(())
 }
 
-/// The index of the first sample whose unused bits are not what its width allows. Takes no memory.
-pub fn first_bad(params: &Params, bytes: &[u8]) -> Option<u64>
-    ensures { result ≡ result_err (samples_of_bytes params.now bytes.now) }
-{
-    if are_all_good(params, bytes) {
-        return None;
-    }
-    find_bad(params, bytes)
-}
-
-/// The same, found sample by sample.
-fn find_bad(params: &Params, bytes: &[u8]) -> Option<u64>
-    ensures { result ≡ result_err (samples_of_bytes params.now bytes.now) }
-{
-    for (index, group) in bytes.chunks_exact(params.storage()).enumerate() {
-        if sample_of(params, group).is_none() {
-            return Some(index as u64);
-        }
-    }
-    None
-}
-
-/// From which number on the unused bits copy the sign; past all numbers where samples are unsigned.
-fn least_extended(params: &Params) -> u64
-    ensures { result ≡ least_number_extended params.now }
-{
-    let past = 1u64 << (8 * params.storage());
-    if params.signed() {
-        past - (1u64 << (params.bits() - 1))
-    } else {
-        past
-    }
-}
-
-/// True only where the unused bits of all samples are what their width allows; false says nothing.
-fn are_all_good(params: &Params, bytes: &[u8]) -> bool
-    ensures { result ≡ true → result_err (samples_of_bytes params.now bytes.now) ≡ None }
-{
-    let width = params.storage();
-    let low = 1u64 << params.bits();
-    let high = least_extended(params);
-    if high <= low {
-        return true;
-    }
-    if params.msb_first() {
-        are_outside::<BigEndian>(bytes, width, low, high)
-    } else {
-        are_outside::<LittleEndian>(bytes, width, low, high)
-    }
-}
-
-/// True only where the numbers of `width` bytes are all below `low` or from `high` on; false says nothing.
-fn are_outside<T: ByteOrder>(bytes: &[u8], width: usize, low: u64, high: u64) -> bool
-    requires few { width ≤ 4 }
-    requires some { 1 ≤ width }
-    ensures { result ≡ true → AreOutside (T.number_of width) width bytes.now low high }
-{
-    match width {
-        1 => is_each_outside::<T>(bytes, 1, low, high),
-        2 => is_each_outside::<T>(bytes, 2, low, high),
-        3 => is_each_outside::<T>(bytes, 3, low, high),
-        _ => is_each_outside::<T>(bytes, 4, low, high),
-    }
-}
-
-/// The same, inlined where the width is known.
-#[inline(always)]
-fn is_each_outside<T: ByteOrder>(bytes: &[u8], width: usize, low: u64, high: u64) -> bool
-    requires few { width ≤ 4 }
-    requires some { 1 ≤ width }
-    ensures { result ≡ true → AreOutside (T.number_of width) width bytes.now low high }
-{
-    let mut outside = true;
-    for i in 0..bytes.len() / width {
-        let number = T::read_uint(&bytes[width * i..], width);
-        outside &= (number < low) | (high <= number);
-    }
-    outside
-}
-
 /// Puts the samples of bytes that hold no bad one in the places of as many.
 fn load_samples(params: &Params, bytes: &[u8], out: &mut [i64])
     requires good { result_err (samples_of_bytes params.now bytes.now) ≡ None }
@@ -183,7 +104,7 @@ fn load_each<T: ByteOrder>(params: &Params, bytes: &[u8], width: usize, out: &mu
 {
     let params = *params;
     for i in 0..out.len() {
-        out[i] = low_value(&params, T::read_uint(&bytes[width * i..], width));
+        out[i] = low_value(&params, first_number::<T>(&bytes[width * i..], width));
     }
 }
 
@@ -226,7 +147,7 @@ fn put_each<T: ByteOrder>(samples: &[i64], width: usize, out: &mut [u8])
     ensures { out.new ≡ flat_map (λ x. T.bytes_of width (low_bytes w64 width x)) samples.now }
 {
     for i in 0..samples.len() {
-        T::write_uint(&mut out[width * i..], low_number(samples[i], width), width);
+        put_number::<T>(&mut out[width * i..], low_number(samples[i], width), width);
     }
 }
 

@@ -13,7 +13,7 @@ loop-i-preserved g c =
     let i = c.loop-i.i in
     let fits : SFits w64 c.low_value.result = search rules in
     let same = to_z-of_z w64 c.low_value.result fits in
-    let number = rw (take_rest c.args.bytes.now (c.args.width * i)) at c.read_uint.ensures in
+    let number = rw (take_rest c.args.bytes.now (c.args.width * i)) at c.first_number.ensures.value in
     let value = same ∙ c.low_value.ensures.value ∙ ap (λ u. pattern_value s (u % 2 ^ s.bits)) number in (
       (λ d. read_step (λ b. pattern_value s (g.T.ByteOrder.number_of c.args.width b % 2 ^ s.bits)) c.args.width c.args.bytes.now c.loop-i.out d i _
           (omega arith) value (c.loop-i.invariant.0 d)),

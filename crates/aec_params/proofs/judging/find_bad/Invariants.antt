@@ -3,7 +3,7 @@ use Rattle.std.specs.Result.{result_err}
 use Rattle.std.specs.Slice.Iter.{chunks_exact_rest, chunks_exact_size}
 use Rattle.aec_params.specs.Params.{storage_len}
 use Rattle.aec_params.specs.Stored.{byte_groups, samples_of_bytes, samples_of_groups}
-use Rattle.aec_params.proofs.stored_lists.find_bad.Given as goal
+use Rattle.aec_params.proofs.judging.find_bad.Given as goal
 
 -- every group so far is a sample, so the first bad one is among those that are left
 abbrev pub invariant-loop-index : goal.invariant-loop-index

@@ -1,6 +1,6 @@
 use Rattle.std.proofs.Common.{◌≡◌, ◌*◌, ◌<◌, ℕ, true, drop}
 use Rattle.aec_params.specs.StoredLists.{IsOutside}
-use Rattle.aec_params.proofs.stored_lists.is_each_outside.Given as goal
+use Rattle.aec_params.proofs.judging.is_each_outside.Given as goal
 
 -- the numbers so far are outside, if all are
 abbrev pub invariant-loop-i : goal.invariant-loop-i

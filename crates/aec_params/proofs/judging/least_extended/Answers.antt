@@ -1,5 +1,5 @@
 use Rattle.aec_params.proofs.StoredListLemmas.{sign_within}
-use Rattle.aec_params.proofs.stored_lists.least_extended.Goals as goal
+use Rattle.aec_params.proofs.judging.least_extended.Goals as goal
 
 pub overflow_sub-result-then-signed : goal.overflow_sub-result-then-signed
 overflow_sub-result-then-signed c =

@@ -3,7 +3,7 @@ use Rattle.std.specs.Result.{result_err}
 use Rattle.std.specs.Slice.Iter.{chunks_exact_rest}
 use Rattle.aec_params.specs.Stored.{byte_groups, samples_of_groups}
 use Rattle.aec_params.proofs.StoredLemmas.{fault-here, fault-later}
-use Rattle.aec_params.proofs.stored_lists.find_bad.Goals as goal
+use Rattle.aec_params.proofs.judging.find_bad.Goals as goal
 
 pub returns-then-is_none : goal.returns-then-is_none
 returns-then-is_none c =

@@ -2,7 +2,7 @@ use Rattle.std.proofs.Common.{arith, refl, sym, ◌∙◌}
 use Rattle.byteorder.specs.Endian.{big_number, little_number}
 use Rattle.aec_params.specs.Stored.{number_in}
 use Rattle.aec_params.proofs.StoredListLemmas.{number_in-big, number_in-little, nothing_between, outside-none, past_bits}
-use Rattle.aec_params.proofs.stored_lists.are_all_good.Goals as goal
+use Rattle.aec_params.proofs.judging.are_all_good.Goals as goal
 
 pub returns-then-high-low : goal.returns-then-high-low
 returns-then-high-low c = λ _.
