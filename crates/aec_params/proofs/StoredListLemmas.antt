@@ -1,16 +1,18 @@
 -- Lists of samples as they are stored.
 use Rattle.std.proofs.Common.{◌≡◌, ℕ, zero, suc, ◌+◌, ◌-◌, ◌*◌, ◌/◌, ◌^◌, ◌%◌, ◌<◌, ◌≤◌, ◌⊎◌, inl, inr, Bool, true, false, List, [], ◌∷◌, ◌++◌, length, take, drop, set, get_or, slice_index, refl, ap, ap₂, ◌∙◌, sym, arith, subst}
-use Rattle.std.specs.Prelude.{ℤ, bit_or, Option, Some, None, Result, Ok, nat_lt, ◌&&◌, if◌then◌else◌}
+use Rattle.std.specs.Prelude.{ℤ, pos, ◌-ℤ◌, bit_or, Option, Some, None, Result, Ok, nat_le, nat_lt, ◌&&◌, if◌then◌else◌}
 use Rattle.std.specs.List.{AllByRecursion, flat_map}
 use Rattle.std.specs.Simd.{first_chunks}
 use Rattle.std.specs.Option.{is_some}
 use Rattle.std.specs.Result.{result_err}
-use Rattle.std.specs.Int.{w64}
-use Rattle.std.proofs.lemmas.Bool.{cases_lt, cases_Bool, cond-true, cond-false, lt-ltb, and_from}
+use Rattle.std.specs.Int.{w64, cast_signed}
+use mir.Val.{to_z, of_z}
+use Rattle.std.proofs.lemmas.Bool.{cases_lt, cases_Bool, cond-true, cond-false, lt-ltb, lt-leb, le-leb, and_from}
 use Rattle.std.proofs.lemmas.Bool.Decides.{nat_tests}
 use Rattle.std.proofs.lemmas.List.{get_or-drop, get_or-set_other, get_or-set_same, drop-drop}
 use Rattle.std.proofs.lemmas.Nat.{one_shl, pow_pos, pow-add, le_or_l, le_or_r}
-use Rattle.std.proofs.Math.Nat.{mod-lt, div-eq_of_lt-le, pow-le-pow_right}
+use Rattle.std.proofs.lemmas.Int.{ints}
+use Rattle.std.proofs.Math.Nat.{mod-lt, mod-eq_of_lt, mul-add-mod_self_right, div-add-mod', div-eq_of_lt-le, pow-le-pow_right}
 use Rattle.byteorder.proofs.Bytes.{pow256}
 use Rattle.byteorder.specs.Endian.{big_bytes, little_bytes, big_number, little_number, low_bytes}
 use Rattle.byteorder.specs.Numbers.{big_from-take, little_from-take, big_from-lt, little_from-lt}
@@ -18,7 +20,7 @@ use Rattle.aec_params.specs.declared.settings.Settings.{Settings}
 use Rattle.aec_params.specs.Params.{IsAllowed, IsHeld, pattern_value, storage_len}
 use Rattle.aec_params.specs.Stored.{stored_number, stored_bytes, samples_of_groups, samples_of_bytes, sample_of_number, number_in, sample_before, has_sign_above}
 use Rattle.aec_params.specs.StoredLists.{IsOutside, AreOutside, least_extended}
-use Rattle.aec_params.proofs.ParamsLemmas.{bits-greatest}
+use Rattle.aec_params.proofs.ParamsLemmas.{bits-least, bits-greatest, values-most, pow-halves, pattern-negative, pattern-positive, negative-held, positive-held}
 use Rattle.aec_params.proofs.StoredLemmas.{bits-stored, storage-most, low_bits-stored, sample-low, fault-behind}
 
 -- ---- one number
@@ -105,6 +107,71 @@ outside-sample s u a fits outside =
           let none : (if s.signed then 2 ^ (s.bits - 1) else 0) ≡ 0 = cond-false s.signed (2 ^ (s.bits - 1)) 0 unsigned in
           absurd (omega (arith, high, none, below))
     ]
+
+-- ---- the sample of the low bits of a number
+
+-- the least number past n bits, as code computes it
+pub past_bits : (s : Settings) (b : ℕ) → IsAllowed s → b ≡ s.bits → 1 * 2 ^ b % 2 ^ 64 ≡ 2 ^ s.bits
+past_bits s b a e =
+    let few = bits-greatest s a in
+    ap (λ b. 1 * 2 ^ b % 2 ^ 64) e ∙ one_shl s.bits 64 (omega arith)
+
+low_bits-raised : (u k t : ℕ) → (u + k) % t ≡ (u % t + k) % t
+low_bits-raised u k t =
+    let whole = div-add-mod' u t in
+    let split : u + k ≡ u / t * t + (u % t + k) = omega (arith, whole) in
+    ap (λ (n : ℕ). n % t) split ∙ mul-add-mod_self_right (u / t) t (u % t + k)
+
+-- a pattern, of t in all, with half of them added before the cut and taken away behind it
+raised-value : (k t p : ℕ) → t ≡ k + k → p < t → pos ((p + k) % t) -ℤ pos k ≡ (if nat_le k p then pos p -ℤ pos t else pos p)
+raised-value k t p halves below = elim (cases_lt p k) [
+  | inl low ↦
+      let uncut : (p + k) % t ≡ p + k = mod-eq_of_lt (omega arith) in
+      let back : pos (p + k) -ℤ pos k ≡ pos p = omega (arith, ints) in
+      ap (λ (n : ℕ). pos n -ℤ pos k) uncut ∙ back ∙ sym (cond-false (nat_le k p) (pos p -ℤ pos t) (pos p) (lt-leb k p low))
+  | inr high ↦
+      let over : p + k ≡ 1 * t + (p - k) = omega arith in
+      let cut : (p + k) % t ≡ p - k =
+      ap (λ (n : ℕ). n % t) over ∙ mul-add-mod_self_right 1 t (p - k) ∙ mod-eq_of_lt (omega arith) in
+      let back : pos (p - k) -ℤ pos k ≡ pos p -ℤ pos t = omega (arith, ints) in
+      ap (λ (n : ℕ). pos n -ℤ pos k) cut ∙ back ∙ sym (cond-true (nat_le k p) (pos p -ℤ pos t) (pos p) (le-leb k p high))
+]
+
+pub raised-pattern : (s : Settings) (u : ℕ) → IsAllowed s → s.signed ≡ true
+    → pos ((u + 2 ^ (s.bits - 1)) % 2 ^ s.bits) -ℤ pos (2 ^ (s.bits - 1)) ≡ pattern_value s (u % 2 ^ s.bits)
+raised-pattern s u a signed =
+    ap (λ (n : ℕ). pos n -ℤ pos (2 ^ (s.bits - 1))) (low_bits-raised u (2 ^ (s.bits - 1)) (2 ^ s.bits))
+    ∙ raised-value (2 ^ (s.bits - 1)) (2 ^ s.bits) (u % 2 ^ s.bits) (pow-halves s.bits (bits-least s a)) (mod-lt u (pow_pos s.bits))
+    ∙ ap (λ (b : Bool). if b && nat_le (2 ^ (s.bits - 1)) (u % 2 ^ s.bits) then pos (u % 2 ^ s.bits) -ℤ pos (2 ^ s.bits) else pos (u % 2 ^ s.bits)) (sym signed)
+
+-- what code computes: the difference of two numbers of 32 bits
+difference-code : (x y : ℤ) (m k : ℕ) → m < 2 ^ 32 → k < 2 ^ 32 → x ≡ cast_signed w64 m → y ≡ cast_signed w64 k
+    → to_z w64 (of_z w64 (to_z w64 (of_z w64 x) -ℤ to_z w64 (of_z w64 y))) ≡ pos m -ℤ pos k
+difference-code x y m k low few first second =
+    ap₂ (λ (x y : ℤ). to_z w64 (of_z w64 (to_z w64 (of_z w64 x) -ℤ to_z w64 (of_z w64 y)))) first second ∙ omega (arith, ints)
+
+pub raised-sample : (s : Settings) (x y : ℤ) (u b c : ℕ) → IsAllowed s → s.signed ≡ true → b ≡ s.bits → c ≡ s.bits
+    → x ≡ cast_signed w64 ((u + 1 * 2 ^ (b - 1) % 2 ^ 64) % (1 * 2 ^ c % 2 ^ 64)) → y ≡ cast_signed w64 (1 * 2 ^ (b - 1) % 2 ^ 64)
+    → to_z w64 (of_z w64 (to_z w64 (of_z w64 x) -ℤ to_z w64 (of_z w64 y))) ≡ pattern_value s (u % 2 ^ s.bits)
+raised-sample s x y u b c a signed bits again first second =
+    let few = bits-greatest s a in
+    let most = values-most s a in
+    let halves = pow-halves s.bits (bits-least s a) in
+    let some = pow_pos (s.bits - 1) in
+    let half : 1 * 2 ^ (b - 1) % 2 ^ 64 ≡ 2 ^ (s.bits - 1) =
+    ap (λ (n : ℕ). 1 * 2 ^ (n - 1) % 2 ^ 64) bits ∙ one_shl (s.bits - 1) 64 (omega arith) in
+    let whole : 1 * 2 ^ c % 2 ^ 64 ≡ 2 ^ s.bits = past_bits s c a again in
+    let low = mod-lt (u + 2 ^ (s.bits - 1)) (pow_pos s.bits) in
+    difference-code x y ((u + 2 ^ (s.bits - 1)) % 2 ^ s.bits) (2 ^ (s.bits - 1)) (omega (arith, low, most)) (omega (arith, halves, most, some))
+    (first ∙ ap₂ (λ (h w : ℕ). cast_signed w64 ((u + h) % w)) half whole) (second ∙ ap (cast_signed w64) half)
+    ∙ raised-pattern s u a signed
+
+-- each pattern has a held sample
+pub pattern-held : (s : Settings) (p : ℕ) → IsAllowed s → p < 2 ^ s.bits → IsHeld s (pattern_value s p)
+pattern-held s p a below = elim (cases_Bool (s.signed && nat_le (2 ^ (s.bits - 1)) p)) [
+  | inl negative ↦ subst (IsHeld s) (pattern-negative s p below negative) (negative-held s p a below negative)
+  | inr positive ↦ subst (IsHeld s) (pattern-positive s p positive) (positive-held s p below positive)
+]
 
 -- ---- numbers one after the other
 
@@ -242,12 +309,6 @@ bytes-big s big n = cond-true s.msb_first (big_bytes (storage_len s) n) (little_
 pub bytes-little : (s : Settings) → s.msb_first ≡ false
     → (n : ℕ) → (if s.msb_first then big_bytes (storage_len s) n else little_bytes (storage_len s) n) ≡ little_bytes (storage_len s) n
 bytes-little s little n = cond-false s.msb_first (big_bytes (storage_len s) n) (little_bytes (storage_len s) n) little
-
--- the least number past n bits, as code computes it
-pub past_bits : (s : Settings) (b : ℕ) → IsAllowed s → b ≡ s.bits → 1 * 2 ^ b % 2 ^ 64 ≡ 2 ^ s.bits
-past_bits s b a e =
-    let few = bits-greatest s a in
-    ap (λ b. 1 * 2 ^ b % 2 ^ 64) e ∙ one_shl s.bits 64 (omega arith)
 
 -- the sign bit is in the bytes of a sample
 pub sign_within : (s : Settings) (b w : ℕ) → IsAllowed s → b ≡ s.bits → w ≡ storage_len s → 1 * 2 ^ (b - 1) % 2 ^ 64 ≤ 1 * 2 ^ (8 * w) % 2 ^ 64

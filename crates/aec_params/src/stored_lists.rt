@@ -1,6 +1,6 @@
 //! Lists of samples as they are stored. The width and the order of their bytes are settled once for a list.
 
-ghost use Rattle.std.specs.Prelude.{None, Ok, Err, IfOk, IfErr, OnOk, OnErr, ◌≡◌, ◌<◌, ◌≤◌, ◌+◌, ◌*◌, ◌/◌, ◌%◌, ◌^◌, ℕ, ℤ, length, get_or, vec_len, vec_capacity};
+ghost use Rattle.std.specs.Prelude.{None, Ok, Err, IfOk, IfErr, OnOk, OnErr, ◌≡◌, ◌<◌, ◌≤◌, ◌+◌, ◌*◌, ◌/◌, ◌%◌, ◌^◌, ℕ, ℤ, true, length, get_or, vec_len, vec_capacity};
 ghost use Rattle.std.specs.Int.{w64};
 ghost use Rattle.std.specs.List.{AllByRecursion, flat_map};
 ghost use Rattle.std.specs.Result.{result_err};
@@ -104,8 +104,36 @@ fn load_each<T: ByteOrder>(params: &Params, bytes: &[u8], width: usize, out: &mu
 {
     let params = *params;
     for i in 0..out.len() {
-        out[i] = low_value(&params, first_number::<T>(&bytes[width * i..], width));
+        out[i] = value_of(&params, first_number::<T>(&bytes[width * i..], width));
     }
+}
+
+/// The sample whose pattern is the low n bits of a number of at most four bytes.
+#[inline(always)]
+fn value_of(params: &Params, number: u64) -> i64
+    requires { number < 2 ^ 32 }
+    ensures value { result ≡ pattern_value params.now (number % 2 ^ params.now.bits) }
+    ensures held { IsHeld params.now result }
+{
+    if params.signed() {
+        signed_value_of(params, number)
+    } else {
+        low_value(params, number)
+    }
+}
+
+/// The same for signed samples, with no choice by the sign: half of the patterns is added before the low bits are taken, and
+/// taken away again.
+#[inline(always)]
+fn signed_value_of(params: &Params, number: u64) -> i64
+    requires signed { params.now.signed ≡ true }
+    requires few { number < 2 ^ 32 }
+    ensures value { result ≡ pattern_value params.now (number % 2 ^ params.now.bits) }
+    ensures held { IsHeld params.now result }
+{
+    let half = 1u64 << (params.bits() - 1);
+    let raised = (number + half) % (1u64 << params.bits());
+    raised.cast_signed() - half.cast_signed()
 }
 
 /// Writes the bytes of samples, which the parameters have, one behind the other; `out` is exactly as long as these bytes. Takes no
