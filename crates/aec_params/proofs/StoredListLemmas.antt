@@ -1,6 +1,6 @@
 -- Lists of samples as they are stored.
 use Rattle.std.proofs.Common.{◌≡◌, ℕ, zero, suc, ◌+◌, ◌-◌, ◌*◌, ◌/◌, ◌^◌, ◌%◌, ◌<◌, ◌≤◌, ◌⊎◌, inl, inr, Bool, true, false, List, [], ◌∷◌, ◌++◌, length, take, drop, set, get_or, slice_index, refl, ap, ap₂, ◌∙◌, sym, arith, subst}
-use Rattle.std.specs.Prelude.{ℤ, pos, ◌-ℤ◌, bit_or, Option, Some, None, Result, Ok, nat_le, nat_lt, ◌&&◌, if◌then◌else◌}
+use Rattle.std.specs.Prelude.{ℤ, pos, ◌-ℤ◌, Option, Some, None, Result, Ok, nat_le, nat_lt, ◌&&◌, if◌then◌else◌}
 use Rattle.std.specs.List.{AllByRecursion, flat_map}
 use Rattle.std.specs.Simd.{first_chunks}
 use Rattle.std.specs.Option.{is_some}
@@ -116,13 +116,14 @@ past_bits s b a e =
     let few = bits-greatest s a in
     ap (λ b. 1 * 2 ^ b % 2 ^ 64) e ∙ one_shl s.bits 64 (omega arith)
 
+-- the low bits of a sum are those of its low bits
 low_bits-raised : (u k t : ℕ) → (u + k) % t ≡ (u % t + k) % t
 low_bits-raised u k t =
     let whole = div-add-mod' u t in
     let split : u + k ≡ u / t * t + (u % t + k) = omega (arith, whole) in
     ap (λ (n : ℕ). n % t) split ∙ mul-add-mod_self_right (u / t) t (u % t + k)
 
--- a pattern, of t in all, with half of them added before the cut and taken away behind it
+-- the upper half of t patterns stands for negative numbers: half of them is added before the cut and taken away behind it
 raised-value : (k t p : ℕ) → t ≡ k + k → p < t → pos ((p + k) % t) -ℤ pos k ≡ (if nat_le k p then pos p -ℤ pos t else pos p)
 raised-value k t p halves below = elim (cases_lt p k) [
   | inl low ↦
@@ -137,7 +138,8 @@ raised-value k t p halves below = elim (cases_lt p k) [
       ap (λ (n : ℕ). pos n -ℤ pos k) cut ∙ back ∙ sym (cond-true (nat_le k p) (pos p -ℤ pos t) (pos p) (le-leb k p high))
 ]
 
-pub raised-pattern : (s : Settings) (u : ℕ) → IsAllowed s → s.signed ≡ true
+-- the same for signed samples and any number that has the pattern's low bits
+raised-pattern : (s : Settings) (u : ℕ) → IsAllowed s → s.signed ≡ true
     → pos ((u + 2 ^ (s.bits - 1)) % 2 ^ s.bits) -ℤ pos (2 ^ (s.bits - 1)) ≡ pattern_value s (u % 2 ^ s.bits)
 raised-pattern s u a signed =
     ap (λ (n : ℕ). pos n -ℤ pos (2 ^ (s.bits - 1))) (low_bits-raised u (2 ^ (s.bits - 1)) (2 ^ s.bits))
@@ -150,6 +152,7 @@ difference-code : (x y : ℤ) (m k : ℕ) → m < 2 ^ 32 → k < 2 ^ 32 → x �
 difference-code x y m k low few first second =
     ap₂ (λ (x y : ℤ). to_z w64 (of_z w64 (to_z w64 (of_z w64 x) -ℤ to_z w64 (of_z w64 y)))) first second ∙ omega (arith, ints)
 
+-- the same, as code computes it of the numbers b and c of bits
 pub raised-sample : (s : Settings) (x y : ℤ) (u b c : ℕ) → IsAllowed s → s.signed ≡ true → b ≡ s.bits → c ≡ s.bits
     → x ≡ cast_signed w64 ((u + 1 * 2 ^ (b - 1) % 2 ^ 64) % (1 * 2 ^ c % 2 ^ 64)) → y ≡ cast_signed w64 (1 * 2 ^ (b - 1) % 2 ^ 64)
     → to_z w64 (of_z w64 (to_z w64 (of_z w64 x) -ℤ to_z w64 (of_z w64 y))) ≡ pattern_value s (u % 2 ^ s.bits)
@@ -245,15 +248,8 @@ outside-none s bytes number w low high a below width first last order outside =
         (subst (λ l. IsOutside l high (number (storage_len s) (drop (storage_len s * k) bytes))) first
         (subst (λ w. AreOutside (number w) w bytes low high) width outside k within)))
 
--- one number more, of which the bits are joined to those of the numbers before
-pub joined_step : (number : ℕ → ℕ) (i joined u : ℕ) → u ≡ number i → ((k : ℕ) → k < i → number k ≤ joined)
-    → (k : ℕ) → k < i + 1 → number k ≤ bit_or joined u
-joined_step number i joined u here before k within = elim (cases_lt k i) [
-  | inl below ↦ omega (arith, before k below, le_or_l joined u)
-  | inr at ↦
-      let same : i ≡ k = omega arith in
-      subst (λ n. number n ≤ bit_or joined u) same (omega (arith, here, le_or_r joined u))
-]
+-- joined bits are no less than either number
+pub ruleset joins = (le_or_l, le_or_r)
 
 -- where there are no numbers in between, all are outside
 pub nothing_between : (number : List ℕ → ℕ) (n low high : ℕ) (bytes : List ℕ) → high ≤ low → AreOutside number n bytes low high

@@ -116,7 +116,17 @@ fn joined_bits_of_each<T: ByteOrder>(bytes: &[u8], width: usize) -> u32
 {
     let mut joined = 0u32;
     for i in 0..bytes.len() / width {
-        joined |= first_number::<T>(&bytes[width * i..], width) as u32;
+        joined = joined_with(joined, first_number::<T>(&bytes[width * i..], width) as u32);
     }
     joined
+}
+
+/// The bits that are set in either of two numbers. As a number they are no less than these.
+#[inline(always)]
+#[tactic(auto, using(crate::proofs::StoredListLemmas::joins))]
+fn joined_with(bits: u32, number: u32) -> u32
+    ensures bits { bits ≤ result }
+    ensures number { number ≤ result }
+{
+    bits | number
 }
