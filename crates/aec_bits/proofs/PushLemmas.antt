@@ -2,7 +2,7 @@
 use Rattle.std.proofs.Common.{◌≡◌, ℕ, suc, ◌+◌, ◌-◌, ◌*◌, ◌/◌, ◌%◌, ◌^◌, ◌<◌, Bool, false, List, [], ◌∷◌, ◌++◌, length, take, drop, replicate, set, get_or, sym, ap, ◌∙◌, arith, append_assoc, length-append}
 use Rattle.std.proofs.lemmas.Nat.{pow_pos, pow-add, shr_split, shr_below, shl_below, mul-add-lt, shl_whole}
 use Rattle.std.proofs.Math.Nat.{mul_assoc, add-mul}
-use Rattle.std.proofs.lemmas.List.{take-append-drop, length-take-le, append-nil, take_all, drop_all, set_split, length-set, set-append_left}
+use Rattle.std.proofs.lemmas.List.{take-append-drop, length-take-le, append-nil, take_all, drop_all, set_split, length-set}
 use Rattle.aec_params.specs.Codewords.{binary, bits_number}
 use Rattle.aec_params.proofs.CodewordLaws.{length-binary, bits_number-binary_mod}
 use Rattle.aec_bits.proofs.CodewordLaws.{bits_number-zeros}
@@ -118,7 +118,7 @@ pushed_within words len n used free width k w value held place whole count some 
 -- a number of which a part goes to a new word
 pub pushed_over : (words : List ℕ) (len n used free width over k w value : ℕ) → ArePacked words len → len ≡ 64 * n + used → used + free ≡ 64
     → length words ≡ n + 1 → 0 < used → width ≡ free + over → 0 < over → over + k ≡ 64 → value < 2 ^ width → w ≡ get_or words n 0
-    → Keep (set (words ++ value * 2 ^ k % 2 ^ 64 ∷ []) n (w + value / 2 ^ over)) (len + width) (take len (bits_of_words words) ++ binary width value)
+    → Keep (set words n (w + value / 2 ^ over) ++ value * 2 ^ k % 2 ^ 64 ∷ []) (len + width) (take len (bits_of_words words) ++ binary width value)
 pushed_over words len n used free width over k w value held place whole count some parts more rest fits is =
     let q : ℕ = w / 2 ^ free in
     let z : ℕ = w + value / 2 ^ over in
@@ -138,15 +138,14 @@ pushed_over words len n used free width over k w value held place whole count so
     ∙ ap (λ l. (front ++ (binary used q ++ binary free (value / 2 ^ over))) ++ l)
     (bits_of_words-cons second [] ∙ append-nil (word_bits second) ∙ bits_at_the_top over k value rest)
     ∙ rw (before, number) (simp append_assoc) in
-    rw (set-append_left words (second ∷ []) n z (omega arith))
-    (packed now (take len (bits_of_words words) ++ binary width value) (len + width) k stands
+    packed now (take len (bits_of_words words) ++ binary width value) (len + width) k stands
     (omega (
       arith,
       length-append (take len (bits_of_words words)) (binary width value),
       length-binary width value,
       length-packed words len (omega arith),
     ))
-    (length-append (set words n z) (second ∷ []) ∙ omega (arith, length-set words n z)))
+    (length-append (set words n z) (second ∷ []) ∙ omega (arith, length-set words n z))
 
 -- a number in a new word
 pub pushed_after : (words : List ℕ) (len width k value : ℕ) → ArePacked words len → len ≡ 64 * length words → width + k ≡ 64 → 0 < width

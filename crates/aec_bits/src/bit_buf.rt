@@ -1,7 +1,7 @@
 //! A list of bits that grows.
 
 use crate::octets::words_of;
-use crate::packed::{append_bits, cut, push_number, push_unary, splice_bits};
+use crate::packed::{append_bits, cut, push_number, push_reserved_number, push_unary, splice_bits};
 use crate::words::{number_at, padded_word_at, zeros_at};
 use aec_params::Fault;
 use std::alloc::Global;
@@ -167,6 +167,19 @@ impl BitBuf {
         push_number(&mut self.words, self.len, value, width)?;
         self.len += u64::from(width);
         Ok(())
+    }
+
+    /// Appends the bits of `value` in `width` bits, for which there is room, the most significant first. Takes no memory.
+    #[inline(always)]
+    pub fn push_reserved(&mut self, value: u64, width: u32)
+        requires width { width ≤ 64 }
+        requires fits { value < 2 ^ width }
+        requires room { width ≤ self.old.room }
+        ensures list { self.new.list ≡ self.old.list ++ binary width value }
+        ensures room { self.old.room ≤ self.new.room + width }
+    {
+        push_reserved_number(&mut self.words, self.len, value, width);
+        self.len += u64::from(width);
     }
 
     /// Appends `v` zeros and a one.

@@ -36,21 +36,6 @@ pub(crate) fn cut(words: &mut Vec<u64>, len: u64)
     put_number(words.as_mut_slice(), len, (64 * count - len) as u32, 0);
 }
 
-/// Appends a word.
-#[inline]
-fn push_word(words: &mut Vec<u64>, word: u64) -> Result<(), Fault>
-    ensures items { OnOk result (words.new.items ≡ words.old.items ++ word ∷ []) }
-    ensures len { OnOk result (vec_len words.new ≡ vec_len words.old + 1) }
-    ensures capacity { vec_capacity words.old ≤ vec_capacity words.new }
-    ensures err { OnErr result ((words.new.items ≡ words.old.items) × (vec_capacity words.new ≡ vec_capacity words.old)) }
-    ensures full { OnErr result (vec_capacity words.old ≤ vec_len words.old) }
-    ensures fault { IfErr result (λ e. e ≡ Memory) }
-{
-    words.reserve(1)?;
-    words.push(word).unwrap();
-    Ok(())
-}
-
 /// The last word.
 #[inline]
 fn last_of(words: &Vec<u64>) -> u64
@@ -58,6 +43,37 @@ fn last_of(words: &Vec<u64>) -> u64
     ensures { result ≡ slice_index_or words.now.items (vec_len words.now - 1) 0 }
 {
     words[words.len() - 1]
+}
+
+/// Appends the bits of `value` in `width` bits, for which there is room, to a list of `len` bits.
+#[inline(always)]
+pub(crate) fn push_reserved_number(words: &mut Vec<u64>, len: u64, value: u64, width: u32)
+    requires width { width ≤ 64 }
+    requires fits { value < 2 ^ width }
+    requires bound { len + width ≤ 2 ^ 62 }
+    requires room { len + width ≤ 64 * vec_capacity words.old }
+    requires packed { ArePacked words.old.items len }
+    ensures list { Keep words.new.items (len + width) (take len (bits_of_words words.old.items) ++ binary width value) }
+    ensures capacity { vec_capacity words.old ≤ vec_capacity words.new }
+{
+    let used = (len % 64) as u32;
+    if used == 0 {
+        if width == 0 {
+            return;
+        }
+        words.push_reserved(value << (64 - width));
+        return;
+    }
+    let free = 64 - used;
+    let last = words.len() - 1;
+    let word = last_of(words);
+    if width <= free {
+        words[last] = word + (value << (free - width));
+        return;
+    }
+    let over = width - free;
+    words[last] = word + (value >> over);
+    words.push_reserved(value << (64 - over));
 }
 
 /// Appends the bits of `value` in `width` bits to a list of `len` bits.
@@ -79,24 +95,10 @@ pub(crate) fn push_number(
     ensures full { OnErr result (64 * vec_capacity words.old < len + width) }
     ensures fault { IfErr result (λ e. e ≡ Memory) }
 {
-    let used = (len % 64) as u32;
-    if used == 0 {
-        if width == 0 {
-            return Ok(());
-        }
-        push_word(words, value << (64 - width))?;
-        return Ok(());
+    if len + u64::from(width) > 64 * words.len() as u64 {
+        words.reserve(1)?;
     }
-    let free = 64 - used;
-    let last = words.len() - 1;
-    let word = last_of(words);
-    if width <= free {
-        words[last] = word + (value << (free - width));
-        return Ok(());
-    }
-    let over = width - free;
-    push_word(words, value << (64 - over))?;
-    words[last] = word + (value >> over);
+    push_reserved_number(words, len, value, width);
     Ok(())
 }
 

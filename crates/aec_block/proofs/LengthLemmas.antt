@@ -32,7 +32,7 @@ length-binaries w (v ∷ values) =
     simp length-append (omega arith)
 
 -- the high parts and the low parts of values that are split
-length-high_parts : (k : ℕ) (values : List ℕ) → length (flat_map (λ v. fs (v / 2 ^ k)) values) ≡ sum_of_shifted k values + length values
+pub length-high_parts : (k : ℕ) (values : List ℕ) → length (flat_map (λ v. fs (v / 2 ^ k)) values) ≡ sum_of_shifted k values + length values
 length-high_parts k [] = refl
 length-high_parts k (v ∷ values) =
     let rest = length-high_parts k values in

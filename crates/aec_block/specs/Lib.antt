@@ -9,3 +9,4 @@ pub mod Gathering
 pub mod ReadCds
 pub mod SkipCds
 pub mod Laws
+pub mod HighWords

@@ -76,7 +76,7 @@ impl Gathered {
         ensures list { out.new.list ≡ out.old.list ++ self }
         ensures room { out.old.room ≤ out.new.room + length self }
     {
-        out.push_bits(self.word, self.used).unwrap();
+        out.push_reserved(self.word, self.used);
     }
 
     /// Gathers the bits of a number too. Where the word has no place for them, those before are appended to the list,

@@ -23,6 +23,7 @@ mod skipping_values;
 mod splitting;
 mod three_sums;
 mod writing;
+mod writing_highs;
 
 pub use block::Block;
 pub use cds::{Cds, Found, RunLen};

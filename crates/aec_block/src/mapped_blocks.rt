@@ -82,6 +82,7 @@ fn map_list(params: &Params, previous: i64, samples: &[i64], values: &mut [u32])
 /// place, whatever stood in it before. Each sample is predicted from the one before it, the first from `previous`.
 /// Without preprocessing their patterns are coded, and `previous`, which has to be a sample all the same, has no effect. The
 /// reference place and the samples are at most 64. Takes no memory.
+#[inline(always)]
 pub fn map_into(
     params: &Params,
     reference: Option<u32>,

@@ -15,9 +15,9 @@ ghost use Rattle.aec_block.specs.Written.{high_parts, low_parts, split_parts, sh
 use crate::block::Block;
 use crate::choice::{Choice, Coding};
 use crate::gathered::Gathered;
-use crate::high_words::high_word;
 use crate::lengths::{head_len, pair_len};
 use crate::low_words::low_word;
+use crate::writing_highs::put_high_parts;
 use aec_bits::BitBuf;
 use aec_params::{Fault, Params};
 
@@ -112,6 +112,7 @@ fn put_low_groups<const N: usize>(
 
 /// Gathers the lowest `width` bits of each value, as many values at a time as fit a word with those of two, four or
 /// eight.
+#[inline(always)]
 fn put_low_parts(values: &[u32], width: u32, gathered: Gathered, out: &mut BitBuf) -> Gathered
     requires width { width ≤ 32 }
     requires room { length (gathered ++ low_parts width values.now) ≤ out.old.room }
@@ -130,41 +131,6 @@ fn put_low_parts(values: &[u32], width: u32, gathered: Gathered, out: &mut BitBu
         return put_low_groups::<2>(values, width, gathered, out);
     }
     put_each_low_part(values, width, gathered, out)
-}
-
-/// Gathers each value without its `k` low bits, one by one.
-fn put_each_high_part(values: &[u32], k: u32, mut gathered: Gathered, out: &mut BitBuf) -> Gathered
-    requires k { k < 32 }
-    requires room { length (gathered ++ high_parts k values.now) ≤ out.old.room }
-    ensures list { out.new.list ++ result ≡ out.old.list ++ (gathered ++ high_parts k values.now) }
-    ensures room { out.old.room + length result
-        ≤ out.new.room + length (gathered ++ high_parts k values.now) }
-{
-    for v in values {
-        gathered = gathered.put_fs(u64::from(*v >> k), out);
-    }
-    gathered
-}
-
-/// Gathers each value without its `k` low bits, which are `len` bits in all.
-fn put_high_parts(
-    values: &[u32],
-    k: u32,
-    len: u64,
-    gathered: Gathered,
-    out: &mut BitBuf,
-) -> Gathered
-    requires k { k < 32 }
-    requires len { len ≡ length (high_parts k values.now) }
-    requires room { length (gathered ++ high_parts k values.now) ≤ out.old.room }
-    ensures list { out.new.list ++ result ≡ out.old.list ++ (gathered ++ high_parts k values.now) }
-    ensures room { out.old.room + length result
-        ≤ out.new.room + length (gathered ++ high_parts k values.now) }
-{
-    if len < 64 {
-        return gathered.put(high_word(values, k), len as u32, out);
-    }
-    put_each_high_part(values, k, gathered, out)
 }
 
 /// Gathers the values split at bit `k`: each without its `k` low bits, which are `len` bits in all, and then the low

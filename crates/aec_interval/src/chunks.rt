@@ -35,6 +35,7 @@ fn map_chunk(params: &Params, previous: Option<i64>, samples: &[i64], block: &mu
 }
 
 /// Fills a block up to J values as if its last sample were repeated.
+#[inline(always)]
 fn fill(params: &Params, last: i64, block: &mut Block)
     requires last { IsHeld params.now last }
     requires few { length block.old.values ≤ params.now.block_size }

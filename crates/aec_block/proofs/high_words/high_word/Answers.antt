@@ -1,24 +1,23 @@
-use Rattle.std.proofs.Common.{◌<◌, length, arith}
-use Rattle.std.proofs.Math.Facts.{Fits-of_lt}
-use Rattle.aec_block.proofs.HighWordLemmas.{is_longer}
+use Rattle.std.proofs.Common.{arith, ◌*◌, ◌/◌, length}
+use Rattle.aec_block.proofs.HighWordLemmas.{few-eight, goes_on-eight, few-rest, is_high_word}
 use Rattle.aec_block.proofs.high_words.high_word.Goals as goal
 
-pub overflow_add-word : goal.overflow_add-word
-overflow_add-word c =
-    let within : c.loop-v.v-index < length c.args.values.now = omega arith in
-    Fits-of_lt (omega (arith, (is_longer c.args.k c.loop-v.v-index c.args.values.now c.loop-v.word within c.requires.few c.loop-v.invariant).place))
+pub with_eight-word-requires-clause-few : goal.with_eight-word-requires-clause-few
+with_eight-word-requires-clause-few c = few-eight c.args.k c.loop-i.i c.args.values.now c.requires.few
 
-pub overflow_shl-word : goal.overflow_shl-word
-overflow_shl-word c =
-    let within : c.loop-v.v-index < length c.args.values.now = omega arith in
-    (is_longer c.args.k c.loop-v.v-index c.args.values.now c.loop-v.word within c.requires.few c.loop-v.invariant).place
+pub loop-i-preserved : goal.loop-i-preserved
+loop-i-preserved c =
+    goes_on-eight c.args.k c.loop-i.i c.args.values.now c.loop-i.word c.with_eight-word.result c.requires.few c.loop-i.invariant c.with_eight-word.ensures
 
-pub overflow_add-word-in-loop-v : goal.overflow_add-word-in-loop-v
-overflow_add-word-in-loop-v c =
-    let within : c.loop-v.v-index < length c.args.values.now = omega arith in
-    Fits-of_lt (is_longer c.args.k c.loop-v.v-index c.args.values.now c.loop-v.word within c.requires.few c.loop-v.invariant).fits
+pub with_each-requires-clause-few : goal.with_each-requires-clause-few
+with_each-requires-clause-few c = few-rest c.args.k (8 * (length c.args.values.now / 8)) c.args.values.now c.requires.few
 
-pub loop-v-preserved : goal.loop-v-preserved
-loop-v-preserved c =
-    let within : c.loop-v.v-index < length c.args.values.now = omega arith in
-    (is_longer c.args.k c.loop-v.v-index c.args.values.now c.loop-v.word within c.requires.few c.loop-v.invariant).next
+pub returns-clause-fits : goal.returns-clause-fits
+returns-clause-fits c =
+    (is_high_word c.args.k _ (8 * c.loop-i.i) c.args.values.now c.loop-i.word c.with_each.result (omega arith)
+    c.requires.few c.loop-i.invariant c.with_each.ensures).below
+
+pub returns-clause-bits : goal.returns-clause-bits
+returns-clause-bits c =
+    (is_high_word c.args.k _ (8 * c.loop-i.i) c.args.values.now c.loop-i.word c.with_each.result (omega arith)
+    c.requires.few c.loop-i.invariant c.with_each.ensures).bits

@@ -1,7 +1,7 @@
 use Rattle.std.proofs.Common.{◌++◌, drop}
 use Rattle.aec_block.specs.Written.{high_parts}
 use Rattle.aec_block.proofs.WritingLemmas.{Appending}
-use Rattle.aec_block.proofs.writing.put_each_high_part.Given as goal
+use Rattle.aec_block.proofs.writing_highs.put_each_high_part.Given as goal
 
 abbrev pub invariant-loop-v : goal.invariant-loop-v
 invariant-loop-v l =

@@ -2,7 +2,7 @@ use Rattle.std.proofs.Common.{◌∙◌, ◌+◌, ◌++◌, ap, sym, arith, refl
 use Rattle.aec_params.specs.Codewords.{fs}
 use Rattle.aec_block.proofs.LengthLemmas.{length-fs}
 use Rattle.aec_block.proofs.WritingLemmas.{gathering-more, high_parts-drop}
-use Rattle.aec_block.proofs.writing.put_each_high_part.Goals as goal
+use Rattle.aec_block.proofs.writing_highs.put_each_high_part.Goals as goal
 
 pub loop-v-preserved : goal.loop-v-preserved
 loop-v-preserved c =

@@ -1,10 +1,10 @@
 use Rattle.std.proofs.Common.{◌-◌, ◌%◌, vec_len, arith}
 use Rattle.aec_bits.proofs.PushLemmas.{sum_within, sum_over, pushed_within, pushed_over, pushed_after}
-use Rattle.aec_bits.proofs.packed.push_number.Goals as goal
+use Rattle.aec_bits.proofs.packed.push_reserved_number.Goals as goal
 
 pub returns-then-used-eq0-clause-list : goal.returns-then-used-eq0-clause-list
 returns-then-used-eq0-clause-list c =
-    rw c.in_ok-push_word.ensures.items
+    rw c.push_reserved.ensures.items
     (pushed_after c.args.words.now.items c.args.len c.args.width (64 - c.args.width) c.args.value c.requires.packed (omega arith) (omega arith) (omega arith))
 
 pub overflow_add-word : goal.overflow_add-word
@@ -35,7 +35,7 @@ returns-then-width-free-clause-list c =
 pub returns-clause-list : goal.returns-clause-list
 returns-clause-list c =
     let words = c.args.words.now in
-    rw (c.in_ok-push_word-2.ensures.items, c.len-last.ensures)
+    rw (c.push_reserved-2.ensures.items, c.len-last.ensures)
     (pushed_over words.items c.args.len (vec_len words - 1) (c.args.len % 64) (64 - c.args.len % 64) c.args.width _ _ _ c.args.value c.requires.packed
     (omega (arith, words.ok.0)) (omega arith) (omega (arith, words.ok.0)) (omega arith) (omega arith) (omega arith) (omega arith) c.requires.fits
     c.last_of-word.ensures)
