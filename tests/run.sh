@@ -41,25 +41,6 @@ explain() {
     grep -E 'MemTotal|MemAvailable' /proc/meminfo
 }
 
-# How many checks have 3 GB each of the memory that is free here, or that this group of processes may have at most.
-checks_by_memory() {
-    {
-        awk '/MemAvailable/ { printf "%.0f\n", $2 * 1024 }' /proc/meminfo
-        cat /sys/fs/cgroup/memory.max /sys/fs/cgroup/memory/memory.limit_in_bytes 2> /dev/null
-    } | grep -v max | sort -n | awk 'NR == 1 { print int($1 / 3e9) }'
-}
-
-# Whether this group of processes may use a part of the processors' time alone.
-has_quota() {
-    cat /sys/fs/cgroup/cpu.max /sys/fs/cgroup/cpu/cpu.cfs_quota_us 2> /dev/null | grep -q '^[0-9]'
-}
-
-# How many checks the gate runs at a time: five on four processors where that can be, else what `rt` chooses. With one a processor, of the
-# last 13 minutes of 51 one or two processors alone had work, for the edits of a crate are tried in turn; with more each is slower.
-checks=$(($(nproc) * 5 / 4))
-if [ -z "${RT_JOBS:-}" ] && ! has_quota && [ "$(checks_by_memory)" -ge "$checks" ]; then
-    export RT_JOBS=$checks
-fi
 part gate rt ci
 echo "== coded samples"
 part coded on_program tests/coded.py

@@ -62,6 +62,7 @@ impl<'a> BitReader<'a> {
 
     /// The number that the next `width` bits spell, the most significant first. `Truncated` with the present place where
     /// fewer bits are left.
+    #[inline(always)]
     pub fn read(&mut self, width: u32) -> Result<u64, Fault>
         requires { width ≤ 64 }
         ensures fits { IfOk result (λ v. v < 2 ^ width) }
@@ -108,6 +109,7 @@ impl<'a> BitReader<'a> {
     /// Puts the numbers of the next fundamental sequences into `numbers`, if each is below 64, and goes behind them. Else
     /// false: at one of them no one stands in the next 64 bits, or in those that are left, and `read_fs` may still read it. The reader is
     /// then where it was, and what stands in `numbers` isn't said.
+    #[inline(always)]
     pub fn read_sequences(&mut self, numbers: &mut [u32]) -> bool
         ensures bits { result ≡ true →
             drop self.old.pos self.old.list ≡ flat_map fs numbers.new ++ drop self.new.pos self.old.list }
@@ -129,6 +131,7 @@ impl<'a> BitReader<'a> {
 
     /// Puts the numbers that the next `width` bits each spell into `numbers`, the most significant bit first. `Truncated`
     /// with the present place where fewer bits are left than all of them have.
+    #[inline(always)]
     pub fn read_numbers(&mut self, width: u32, numbers: &mut [u32]) -> Result<(), Fault>
         requires { width ≤ 32 }
         ensures bits { OnOk result

@@ -89,6 +89,7 @@ fn next_sequence(window: Window) -> (u32, Window)
 
 /// Puts the numbers of the fundamental sequences from place `start` on into `numbers`. The place behind them; `None`
 /// where no one stands in the 64 bits at one of them.
+#[inline(always)]
 pub(crate) fn sequences_from(buf: &BitBuf, start: u64, numbers: &mut [u32]) -> Option<u64>
     requires { start ≤ length buf.now.list }
     ensures cases { MatchOption result
@@ -147,6 +148,7 @@ fn next_number(window: Window, width: u32) -> (u32, Window)
 }
 
 /// Puts the numbers that the next `width` bits each spell from place `start` on into `numbers`.
+#[inline(always)]
 pub(crate) fn numbers_from(buf: &BitBuf, start: u64, width: u32, numbers: &mut [u32])
     requires width { width ≤ 32 }
     requires within { start + width * length numbers.old ≤ length buf.now.list }

@@ -29,6 +29,7 @@ fn joined(first: u64, second: u64, at: u32) -> u64
 }
 
 /// The number that `width` bits spell from place `start` on, the most significant first.
+#[inline(always)]
 pub(crate) fn number_at(words: &[u64], start: u64, width: u32) -> u64
     requires width { width ≤ 64 }
     requires within { start + width ≤ 64 * length words.now }

@@ -3,7 +3,7 @@ use Rattle.std.proofs.Common.{◌≡◌, ℕ, zero, suc, ◌+◌, ◌*◌, ◌^�
 use Rattle.std.specs.Prelude.{IfOk, IfErr, OnOk, MatchResult}
 use Rattle.std.specs.List.{flat_map}
 use Rattle.std.proofs.lemmas.Bool.{cases_lt, le-leb, lt-leb}
-use Rattle.std.proofs.lemmas.List.{length-drop}
+use Rattle.std.proofs.lemmas.List.{length-append, length-drop}
 use Rattle.aec_params.specs.declared.fault.Fault.{Fault}
 use Rattle.aec_params.specs.declared.fault.Fault.TheVariants.{Truncated}
 use Rattle.aec_params.specs.Codewords.{fs, binary}
@@ -68,3 +68,8 @@ pub sequences_taken : (old new : Cursor) (before after : List ℕ) → drop old.
 sequences_taken old new before after bits count same =
     rw (same, ← count) (ap (values_at fs_at (length after)) bits
     ∙ values_at-reads fs (λ v. Unit {0}) fs_at fs_reader after (drop new.pos old.list) (all_numbers after))
+
+-- how far a cursor goes over what stands before it
+pub gone_over : (old new : ℕ) (list front : List Bool) → old ≤ length list → new ≤ length list → drop old list ≡ front ++ drop new list → new ≡ old + length front
+gone_over old new list front from to stands =
+    omega (arith, ap (length {A = Bool}) stands, length-drop old list, length-append front (drop new list), length-drop new list)

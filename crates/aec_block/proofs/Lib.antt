@@ -1,6 +1,7 @@
 pub mod MappingLemmas
 pub mod ListMappingLemmas
 pub mod NearLemmas
+pub mod NearLaneLemmas
 pub mod LengthLemmas
 pub mod LanesLemmas
 pub mod SplittingLemmas

@@ -3,7 +3,8 @@ use Rattle.std.proofs.Common.{◌≡◌, ℕ, zero, suc, ◌+◌, ◌-◌, ◌*�
 use Rattle.std.specs.Option.{is_some}
 use Rattle.std.specs.Prelude.{OnOk, MatchResult}
 use Rattle.std.proofs.lemmas.Bool.{cases_Bool, le-leb, lt-ltb}
-use Rattle.std.proofs.lemmas.List.{length-drop, drop-drop}
+use Rattle.std.proofs.lemmas.List.{length-append, length-drop, drop-drop}
+use Rattle.std.specs.List.{flat_map}
 use Rattle.std.proofs.lemmas.Nat.{pow_pos}
 use Rattle.aec_params.specs.declared.settings.Settings.{Settings}
 use Rattle.aec_params.specs.declared.fault.Fault.{Fault}
@@ -22,6 +23,7 @@ use Rattle.aec_block.specs.SkipCds.{judged_body_len}
 use Rattle.aec_block.proofs.CodewordLemmas.{cases_taken, then_at-passed, map_taken-mapped, binary_reader, fs_reader, values_at-spelled}
 use Rattle.aec_block.proofs.CursorLemmas.{values_at-missing}
 use Rattle.aec_block.proofs.StandingLemmas.{unmapped}
+use Rattle.aec_block.proofs.LengthLemmas.{length-fs}
 use Rattle.aec_block.proofs.JoiningLemmas.{below-from_test, test-from_below, highs_below, joined_below, high_fails}
 
 -- ---- numbers that nothing judges
@@ -108,6 +110,15 @@ ones_missing (suc n) (false ∷ bits) e =
 below-total : (limit : ℕ) (numbers : List ℕ) → total numbers < limit → all_below limit numbers ≡ true
 below-total limit [] small = refl
 below-total limit (v ∷ numbers) small = rw (lt-ltb v limit (omega arith), below-total limit numbers (omega arith)) refl
+
+-- the fundamental sequences of numbers are as long as their sum and their number
+length-sequences : (numbers : List ℕ) → length (flat_map fs numbers) ≡ total numbers + length numbers
+length-sequences [] = refl
+length-sequences (v ∷ numbers) =
+    omega (arith, length-append (fs v) (flat_map fs numbers), length-fs v, length-sequences numbers)
+
+pub short-below : (limit gone : ℕ) (numbers : List ℕ) → gone ≡ length (flat_map fs numbers) → gone < limit + length numbers → all_below limit numbers ≡ true
+short-below limit gone numbers is short = below-total limit numbers (omega (arith, is, short, length-sequences numbers))
 
 pub small_sum : (n gone limit : ℕ) (old new : Cursor) → behind_ones n (bits_at old) ≡ Some gone → new.pos ≡ old.pos + gone → new.list ≡ old.list
     → gone < limit + n → map_taken (all_below limit) (values_at fs_at n (bits_at old)) ≡ taken true (bits_at new)

@@ -31,6 +31,10 @@ mapped_offsets top p (x ∷ xs) = mapped_offset top p x ∷ mapped_offsets top x
 abbrev pub near_offset : ℕ → ℕ → ℕ
 near_offset p m = if m % 2 == 0 then p + m / 2 else p - (m / 2 + 1)
 
+-- the difference for which the near value m is coded, modulo 2^32
+abbrev pub near_difference : ℕ → ℕ
+near_difference m = if m % 2 == 0 then m / 2 else 2 ^ 32 - (m / 2 + 1)
+
 -- values for which there is room on both sides, each at the offset of the one before, which is p for the first
 abbrev pub AreNear : ℕ → ℕ → List ℕ → Type 0
 AreNear top p [] = ⊤

@@ -5,9 +5,9 @@ ghost use Rattle.std.specs.List.{AllByRecursion};
 ghost use Rattle.aec_params.specs.Params.{IsAllowed, IsHeld, x_min};
 ghost use Rattle.aec_params.specs.Mapping.{mapped_value};
 ghost use Rattle.aec_block.specs.Offsets.{sample_offset, top_offset, mapped_offset};
-ghost use Rattle.aec_block.specs.Unmapping.{Unmaps};
+ghost use Rattle.aec_block.specs.Unmapping.{Unmaps, UnmapsTo};
 
-use crate::near_values::push_near_fours;
+use crate::near_values::push_eights;
 use aec_params::Params;
 
 /// What is coded for the offset `x` at the prediction `p`: differences within the room on both sides of `p` count in
@@ -116,14 +116,16 @@ pub fn unmap(params: &Params, p: i64, m: u32) -> i64
     }
 }
 
-/// Appends the samples for which values are coded, predicted from the sample at an offset on. Takes no memory.
-fn push_each(params: &Params, offset: u32, values: &[u32], samples: &mut Vec<i64>)
+/// Appends the samples for which values are coded, predicted from the sample at an offset on, and tells the offset of
+/// the last. Takes no memory.
+pub(crate) fn push_each(params: &Params, offset: u32, values: &[u32], samples: &mut Vec<i64>) -> u32
     requires on { params.now.preprocess ≡ true }
     requires within { offset ≤ top_offset params.now }
     requires mapped { AllByRecursion (λ v. v < 2 ^ params.now.bits) values.now }
     requires room { vec_len samples.old + length values.now ≤ vec_capacity samples.old }
-    ensures items { Unmaps params.now
-        (x_min params.now +ℤ pos offset) values.now samples.old.items samples.new.items }
+    ensures within { result ≤ top_offset params.now }
+    ensures items { UnmapsTo params.now (x_min params.now +ℤ pos offset)
+        (x_min params.now +ℤ pos result) values.now samples.old.items samples.new.items }
     ensures len { vec_len samples.new ≡ vec_len samples.old + length values.now }
     ensures capacity { vec_capacity samples.new ≡ vec_capacity samples.old }
 {
@@ -134,10 +136,11 @@ fn push_each(params: &Params, offset: u32, values: &[u32], samples: &mut Vec<i64
         last = unmap_offset(top, last, *value);
         samples.push_reserved(least + i64::from(last));
     }
+    last
 }
 
-/// Appends the samples for which values are coded, where samples are predicted: those of the near ones in front four at
-/// a time, the rest one by one. Takes no memory.
+/// Appends the samples for which values are coded, where samples are predicted: eight at a time, and the last few, fewer
+/// than eight, one by one. Takes no memory.
 fn push_offsets(params: &Params, previous: i64, values: &[u32], samples: &mut Vec<i64>)
     requires on { params.now.preprocess ≡ true }
     requires prediction { IsHeld params.now previous }
@@ -148,8 +151,9 @@ fn push_offsets(params: &Params, previous: i64, values: &[u32], samples: &mut Ve
     ensures capacity { vec_capacity samples.new ≡ vec_capacity samples.old }
 {
     let first = offset_of(params, previous);
-    let (offset, done) = push_near_fours(params, first, values, samples);
-    push_each(params, offset, &values[done..], samples);
+    let last = push_eights(params, first, values, samples);
+    let done = 8 * (values.len() / 8);
+    push_each(params, last, &values[done..], samples);
 }
 
 /// Appends the samples of patterns. Takes no memory.

@@ -1,121 +1,129 @@
-//! Values taken back to samples four at a time, where all of them stand for differences within the room on both sides
+//! Values taken back to samples eight at a time, where all of them stand for differences within the room on both sides
 //! of their prediction: there a difference is known from its value alone.
 
-ghost use Rattle.std.specs.Prelude.{◌≡◌, ◌+◌, ◌*◌, ◌/◌, ◌%◌, ◌^◌, ◌<◌, ◌≤◌, ◌++◌, ◌+ℤ◌, true, pos, ℕ, length, take, vec_len, vec_capacity};
+ghost use Rattle.std.specs.Prelude.{◌≡◌, ◌+◌, ◌*◌, ◌/◌, ◌^◌, ◌<◌, ◌≤◌, ◌+ℤ◌, true, pos, ℕ, length, take, map as list_map, get_or, vec_len, vec_capacity};
+ghost use Rattle.std.specs.List.{AllByRecursion};
 ghost use Rattle.aec_params.specs.Params.{x_min};
-ghost use Rattle.aec_block.specs.Offsets.{top_offset, offset_room, near_offset, AreNear};
+ghost use Rattle.aec_block.specs.Offsets.{top_offset, offset_room, near_offset, near_difference, AreNear};
 ghost use Rattle.aec_block.specs.Unmapping.{UnmapsTo};
 
-use crate::mapping::greatest_offset;
+use crate::mapping::{greatest_offset, push_each};
 use aec_params::Params;
+use std::simd::prelude::*;
 
-/// The difference for which a near value is coded, modulo 2^64.
+/// Whether eight values are all below a bound; no branch depends on a single one.
 #[inline(always)]
-fn near_difference(value: u32) -> u64
-    ensures above { value % 2 ≡ 0 → result ≡ value / 2 }
-    ensures below { value % 2 ≡ 1 → result + (value / 2 + 1) ≡ 2 ^ 64 }
+fn are_below(values: &[u32], bound: u32) -> bool
+    requires { length values.now ≡ 8 }
+    ensures { result ≡ true → (i : ℕ) → i < 8 → get_or values.now i 0 < bound }
 {
-    let half = u64::from(value / 2);
-    if value % 2 == 0 { half } else { !half }
+    u32x8::from_slice(values).simd_lt(u32x8::splat(bound)).all()
 }
 
-/// The offset for which a near value is coded.
-#[inline(always)]
-fn near_place(offset: u64, value: u32) -> u64
-    ensures near { (top : ℕ) → top < 2 ^ 32 → offset ≤ top → value ≤ 2 * offset_room top offset
-        → result ≡ near_offset offset value }
-{
-    offset.wrapping_add(near_difference(value))
-}
-
-/// The places as far above and below an offset as a near value says, in one number: no bound holds for it that doesn't
-/// hold for both.
-#[inline(always)]
-fn both_sides(offset: u64, value: u32) -> u64
-    ensures near { (top : ℕ) → top < 2 ^ 32 → offset ≤ top → result ≤ top
-        → value ≤ 2 * offset_room top offset }
-{
-    let difference = near_difference(value);
-    offset.wrapping_add(difference) | offset.wrapping_sub(difference)
-}
-
-/// True only where all values are near, each predicted from the one before it; false says nothing. No branch depends on
-/// them.
+/// True only where eight values are near, each predicted from the one before it; false says nothing. None of them leads
+/// further than half of what they all stay below, so eight of these halves have to lie within the room of the first
+/// prediction.
 #[inline(always)]
 fn are_near(top: u32, offset: u32, values: &[u32]) -> bool
-    requires { offset ≤ top }
+    requires within { offset ≤ top }
+    requires len { length values.now ≡ 8 }
     ensures { result ≡ true → AreNear top offset values.now }
 {
-    let mut place = u64::from(offset);
-    let mut reached = 0;
-    for value in values {
-        reached |= both_sides(place, *value);
-        place = near_place(place, *value);
-    }
-    reached <= u64::from(top)
+    let room = offset.min(top - offset);
+    are_below(values, room / 4)
 }
 
-/// Appends the samples for which near values are coded, and tells the offset of the last. Takes no memory.
+/// The differences for which eight near values are coded, modulo 2^32: half of an even value, and for an odd one that
+/// half without the value.
+#[inline(always)]
+#[tactic(auto, using(crate::proofs::NearLaneLemmas::differences))]
+fn near_differences(values: &[u32]) -> [u32; 8]
+    requires { length values.now ≡ 8 }
+    ensures { result ≡ list_map near_difference values.now }
+{
+    let all = u32x8::from_slice(values);
+    let odd = all & u32x8::splat(1);
+    let halves = all >> u32x8::splat(1);
+    (halves - (all & (u32x8::splat(0) - odd))).to_array()
+}
+
+/// The offset that lies a near value's difference from another one.
+#[inline(always)]
+fn near_place(offset: u32, difference: u32) -> u32
+    ensures near { (top value : ℕ) → top < 2 ^ 32 → offset ≤ top → value ≤ 2 * offset_room top offset
+        → difference ≡ near_difference value → result ≡ near_offset offset value }
+{
+    offset.wrapping_add(difference)
+}
+
+/// Appends the samples for which eight near values are coded, and tells the offset of the last. Takes no memory.
 #[inline(always)]
 fn push_near(params: &Params, offset: u32, values: &[u32], samples: &mut Vec<i64>) -> u32
     requires on { params.now.preprocess ≡ true }
     requires within { offset ≤ top_offset params.now }
+    requires len { length values.now ≡ 8 }
     requires near { AreNear (top_offset params.now) offset values.now }
-    requires room { vec_len samples.old + length values.now ≤ vec_capacity samples.old }
+    requires room { vec_len samples.old + 8 ≤ vec_capacity samples.old }
     ensures within { result ≤ top_offset params.now }
     ensures items { UnmapsTo params.now (x_min params.now +ℤ pos offset)
         (x_min params.now +ℤ pos result) values.now samples.old.items samples.new.items }
-    ensures len { vec_len samples.new ≡ vec_len samples.old + length values.now }
+    ensures len { vec_len samples.new ≡ vec_len samples.old + 8 }
     ensures capacity { vec_capacity samples.new ≡ vec_capacity samples.old }
 {
     let least = params.x_min();
-    let mut place = u64::from(offset);
-    for value in values {
-        place = near_place(place, *value);
-        samples.push_reserved(least + place as i64);
+    let differences = near_differences(values);
+    let mut place = offset;
+    for i in 0..8 {
+        place = near_place(place, differences[i]);
+        samples.push_reserved(least + i64::from(place));
     }
-    place as u32
+    place
 }
 
-/// Four values, apart from their list: so they need not be read again behind a push.
+/// Appends the samples for which eight values are coded, at once where all are near and else one by one, and tells the
+/// offset of the last. Takes no memory.
 #[inline(always)]
-#[tactic(auto, using(crate::proofs::NearLemmas::fours))]
-fn four_at(values: &[u32], i: usize) -> [u32; 4]
-    requires { i + 4 ≤ length values.now }
-    ensures len { length result ≡ 4 }
-    ensures next { take (i + 4) values.now ≡ take i values.now ++ result }
+fn push_eight(params: &Params, offset: u32, values: &[u32], samples: &mut Vec<i64>) -> u32
+    requires on { params.now.preprocess ≡ true }
+    requires within { offset ≤ top_offset params.now }
+    requires len { length values.now ≡ 8 }
+    requires mapped { AllByRecursion (λ v. v < 2 ^ params.now.bits) values.now }
+    requires room { vec_len samples.old + 8 ≤ vec_capacity samples.old }
+    ensures within { result ≤ top_offset params.now }
+    ensures items { UnmapsTo params.now (x_min params.now +ℤ pos offset)
+        (x_min params.now +ℤ pos result) values.now samples.old.items samples.new.items }
+    ensures len { vec_len samples.new ≡ vec_len samples.old + 8 }
+    ensures capacity { vec_capacity samples.new ≡ vec_capacity samples.old }
 {
-    [values[i], values[i + 1], values[i + 2], values[i + 3]]
+    if are_near(greatest_offset(params), offset, values) {
+        return push_near(params, offset, values, samples);
+    }
+    push_each(params, offset, values, samples)
 }
 
-/// Appends the samples of the values in front, four at a time as long as all four are near, and tells the offset of the
-/// last and how many they are. Takes no memory.
-pub(crate) fn push_near_fours(
+/// Appends the samples of the values in front, eight at a time as long as there are eight, and tells the offset of the
+/// last. Takes no memory.
+pub(crate) fn push_eights(
     params: &Params,
     offset: u32,
     values: &[u32],
     samples: &mut Vec<i64>,
-) -> (u32, usize)
+) -> u32
     requires on { params.now.preprocess ≡ true }
     requires within { offset ≤ top_offset params.now }
+    requires mapped { AllByRecursion (λ v. v < 2 ^ params.now.bits) values.now }
     requires room { vec_len samples.old + length values.now ≤ vec_capacity samples.old }
-    ensures count { result.1 ≤ length values.now }
-    ensures within { result.0 ≤ top_offset params.now }
+    ensures within { result ≤ top_offset params.now }
     ensures items { UnmapsTo params.now (x_min params.now +ℤ pos offset)
-        (x_min params.now +ℤ pos result.0) (take result.1 values.now)
+        (x_min params.now +ℤ pos result) (take (8 * (length values.now / 8)) values.now)
         samples.old.items samples.new.items }
-    ensures len { vec_len samples.new ≡ vec_len samples.old + result.1 }
+    ensures len { vec_len samples.new ≡ vec_len samples.old + 8 * (length values.now / 8) }
     ensures capacity { vec_capacity samples.new ≡ vec_capacity samples.old }
 {
     let params = *params;
-    let top = greatest_offset(&params);
     let mut last = offset;
-    for i in 0..values.len() / 4 {
-        let four = four_at(values, 4 * i);
-        if !are_near(top, last, &four) {
-            return (last, 4 * i);
-        }
-        last = push_near(&params, last, &four, samples);
+    for i in 0..values.len() / 8 {
+        last = push_eight(&params, last, &values[8 * i..8 * i + 8], samples);
     }
-    (last, 4 * (values.len() / 4))
+    last
 }

@@ -28,6 +28,7 @@ pub(crate) enum Kind {
 }
 
 /// The kind that the next bits identify.
+#[inline(always)]
 pub(crate) fn read_kind(params: &Params, reader: &mut BitReader) -> Result<Kind, Fault>
     requires within { reader.old.pos ≤ length reader.old.list }
     ensures taken { kind_at (id_len params.now) (bits_at reader.old)
@@ -55,6 +56,7 @@ pub(crate) fn read_kind(params: &Params, reader: &mut BitReader) -> Result<Kind,
 }
 
 /// The reference sample's pattern, where one is due.
+#[inline(always)]
 pub(crate) fn read_reference(
     params: &Params,
     reader: &mut BitReader,
@@ -94,6 +96,7 @@ fn single(fit: bool) -> Option<Found>
 
 /// What stands behind the identifier and the reference sample, read into the block; none where a value is above the
 /// greatest that the width has.
+#[inline(always)]
 pub(crate) fn read_body(
     params: &Params,
     reader: &mut BitReader,
@@ -124,6 +127,7 @@ pub(crate) fn read_body(
 }
 
 /// One coded data set, read into the block; none where a value is above the greatest that the width has.
+#[inline(always)]
 fn read_set(
     params: &Params,
     reader: &mut BitReader,

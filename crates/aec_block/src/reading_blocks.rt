@@ -25,6 +25,7 @@ pub(crate) fn block_len(params: &Params) -> usize
 }
 
 /// Fills the block with the next numbers, each in as many bits as a sample has.
+#[inline(always)]
 pub(crate) fn fill_uncompressed(
     params: &Params,
     reader: &mut BitReader,
@@ -45,6 +46,7 @@ pub(crate) fn fill_uncompressed(
 }
 
 /// Fills the block with the next values, split at bit `k`. Whether all are at most the greatest that the width has.
+#[inline(always)]
 pub(crate) fn fill_split(
     params: &Params,
     reader: &mut BitReader,

@@ -1,6 +1,8 @@
 //! Reads the codewords of a coded data set.
 
-ghost use Rattle.std.specs.Prelude.{◌≡◌, ◌≤◌, ◌<◌, ◌^◌, true, false, length, IfOk, OnOk};
+ghost use Rattle.std.specs.Prelude.{◌≡◌, ◌≤◌, ◌<◌, ◌+◌, ◌^◌, true, false, length, IfOk, OnOk};
+ghost use Rattle.std.specs.List.{flat_map};
+ghost use Rattle.aec_params.specs.Codewords.{fs};
 ghost use Rattle.aec_bits.specs.BitReader.{AreBelow};
 ghost use Rattle.aec_block.specs.ReadAt.{taken, fs_at, binary_at, values_at, pair_with_number};
 ghost use Rattle.aec_block.specs.Gathering.{bits_at, as_taken, as_taken_by};
@@ -9,6 +11,7 @@ use aec_bits::BitReader;
 use aec_params::Fault;
 
 /// The number that the next `width` bits spell.
+#[inline(always)]
 pub(crate) fn read_number(reader: &mut BitReader, width: u32) -> Result<u64, Fault>
     requires width { width ≤ 64 }
     requires within { reader.old.pos ≤ length reader.old.list }
@@ -30,6 +33,7 @@ pub(crate) fn read_sequence(reader: &mut BitReader) -> Result<u64, Fault>
 }
 
 /// Puts the numbers that the next bits spell, each in `width` bits, into `numbers`.
+#[inline(always)]
 pub(crate) fn read_numbers(
     reader: &mut BitReader,
     width: u32,
@@ -49,9 +53,12 @@ pub(crate) fn read_numbers(
 
 /// Puts the numbers of the fundamental sequences that come next into `numbers`, where all are short. Else false, and
 /// the reader stays.
+#[inline(always)]
 pub(crate) fn read_short_sequences(reader: &mut BitReader, numbers: &mut [u32]) -> bool
+    requires within { reader.old.pos ≤ length reader.old.list }
     ensures taken { result ≡ true → values_at fs_at (length numbers.old) (bits_at reader.old)
         ≡ taken numbers.new (bits_at reader.new) }
+    ensures gone { result ≡ true → reader.new.pos ≡ reader.old.pos + length (flat_map fs numbers.new) }
     ensures stays { result ≡ false → reader.new ≡ reader.old }
     ensures len { length numbers.new ≡ length numbers.old }
     ensures list { reader.new.list ≡ reader.old.list }

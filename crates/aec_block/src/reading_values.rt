@@ -1,6 +1,8 @@
 //! Reads values into a list. A value above the greatest that the width has is noted, and reading goes on behind it.
 
 ghost use Rattle.std.specs.Prelude.{◌≡◌, ◌≤◌, ◌<◌, ◌+◌, ◌-◌, ◌*◌, ◌/◌, ◌^◌, nat_lt, if◌then◌else◌, length, slice_set};
+ghost use Rattle.std.specs.List.{flat_map};
+ghost use Rattle.aec_params.specs.Codewords.{fs};
 ghost use Rattle.aec_bits.specs.BitReader.{AreBelow};
 ghost use Rattle.aec_block.specs.BlockShape.{most_values};
 ghost use Rattle.aec_block.specs.ReadAt.{map_taken, fs_at, values_at, members_at, joined_values, split_at};
@@ -119,7 +121,20 @@ fn read_long_highs(reader: &mut BitReader, highs: &mut [u32], limit: u64) -> Res
     Ok(fit)
 }
 
+/// Whether all values are below `limit`, of which the fundamental sequences are `gone` bits in all. None is above their
+/// sum, which is what these bits are besides the ones; where that isn't below, each is judged.
+#[inline(always)]
+fn are_short(values: &[u32], gone: u64, limit: u64) -> bool
+    requires some { 0 < limit }
+    requires most { limit ≤ 2 ^ 32 }
+    requires gone { gone ≡ length (flat_map fs values.now) }
+    ensures { result ≡ all_below limit values.now }
+{
+    gone < limit + values.len() as u64 || are_below(values, limit)
+}
+
 /// Puts the next numbers into `highs`. Whether all are below `limit`; else some are left out.
+#[inline(always)]
 pub(crate) fn read_highs(
     reader: &mut BitReader,
     highs: &mut [u32],
@@ -135,8 +150,9 @@ pub(crate) fn read_highs(
     ensures list { reader.new.list ≡ reader.old.list }
     ensures within { reader.new.pos ≤ length reader.new.list }
 {
+    let start = reader.pos();
     if read_short_sequences(reader, highs) {
-        return Ok(are_below(highs, limit));
+        return Ok(are_short(highs, reader.pos() - start, limit));
     }
     read_long_highs(reader, highs, limit)
 }
@@ -166,6 +182,7 @@ fn join(values: &mut [u32], lows: &[u32], k: u32)
 
 /// Fills `values` with the next values, split at bit `k`. Whether all are at most the greatest that the width has.
 /// Where `k` is at most the width, small high parts make small values.
+#[inline(always)]
 pub(crate) fn read_split(
     params: &Params,
     reader: &mut BitReader,

@@ -7,7 +7,7 @@ use Rattle.std.proofs.lemmas.Nat.{div-add-mod', mod_below}
 use Rattle.std.proofs.lemmas.List.{length-take, length-drop, take-take, take-append-drop, drop-append-le}
 use Rattle.aec_bits.specs.Codec.{Format, AreHeld, IsLawful}
 use Rattle.aec_edit.specs.Changes.{IsExchange, IsRecoding, exchanged, exchange_calls, recoded, head_of, tail_of}
-use Rattle.aec_edit.proofs.CountLemmas.{ceil_bounds, ceil_unique, row_below, before_end}
+use Rattle.aec_params.proofs.CountLaws.{ceil_bounds, ceil_unique, row_below, before_end}
 use Rattle.aec_edit.proofs.HeldLemmas.{held-take, held-drop, held-append}
 
 -- ---- numbers

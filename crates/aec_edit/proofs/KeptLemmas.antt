@@ -5,7 +5,7 @@ use Rattle.aec_bits.proofs.CodeLaws.{code_of-nil, code_of_first, same_samples}
 use Rattle.std.proofs.lemmas.List.{length-take, length-drop, take_all}
 use Rattle.aec_edit.specs.Workspace.{Contents, interval_count, start_of}
 use Rattle.aec_edit.specs.Index.{IsKept, KeptSamples, kept_samples}
-use Rattle.aec_edit.proofs.CountLemmas.{before_end, past_end}
+use Rattle.aec_params.proofs.CountLaws.{before_end, past_end}
 use Rattle.aec_edit.proofs.HeldLemmas.{held-take, held-drop}
 use Rattle.aec_edit.proofs.StartLemmas.{starts_of-nil, length-starts_of, get_or-starts_of, start_of-le, drop-code_of}
 

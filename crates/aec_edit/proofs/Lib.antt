@@ -1,6 +1,5 @@
 pub mod RunLemmas
 pub mod RunLaws
-pub mod CountLemmas
 pub mod HeldLemmas
 pub mod StartLemmas
 pub mod CodingLemmas

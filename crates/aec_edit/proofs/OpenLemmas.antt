@@ -7,7 +7,7 @@ use Rattle.std.proofs.lemmas.Bool.{cases_lt}
 use Rattle.std.proofs.lemmas.Bool.Decides.{nat_tests}
 use Rattle.std.proofs.lemmas.List.{append-nil, length-take, length-drop, drop_all, drop-drop, drop-take, drop_at, take-take, take-append-le}
 use Rattle.aec_edit.specs.Changes.{head_of, tail_of, opens_first, opens_last, one_if, opened_ends, first_samples, last_samples, end_samples}
-use Rattle.aec_edit.proofs.CountLemmas.{ceil_bounds}
+use Rattle.aec_params.proofs.CountLaws.{ceil_bounds}
 use Rattle.aec_edit.proofs.ExchangeLemmas.{begins_before, ends_after}
 
 -- ---- the tests

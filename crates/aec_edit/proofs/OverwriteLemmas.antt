@@ -16,7 +16,7 @@ use Rattle.aec_bits.proofs.RefusalLaws.{overwrite_fits}
 use Rattle.aec_edit.specs.Calls.{RisesAtMost}
 use Rattle.aec_edit.specs.Steps.{Applies}
 use Rattle.aec_edit.specs.Changes.{IsExchanged, IsNotExchanged, exchanged, exchange_calls, opens_first, opens_last, one_if, opened_ends, opened_by}
-use Rattle.aec_edit.proofs.CountLemmas.{ceil_unique}
+use Rattle.aec_params.proofs.CountLaws.{ceil_unique}
 use Rattle.aec_edit.proofs.ExchangeLemmas.{begins_before}
 use Rattle.aec_edit.proofs.AnswerLemmas.{from_exchange}
 use Rattle.aec_edit.proofs.OpenLemmas.{nothing_first, nothing_last, opens_last-one}

@@ -5,7 +5,7 @@ use Rattle.std.proofs.Math.Nat.{mul-le-mul_right}
 use Rattle.std.proofs.lemmas.List.{length-take, drop-append-le, drop-drop, drop-take, take-take}
 use Rattle.aec_params.specs.Edits.{touched_intervals}
 use Rattle.aec_edit.specs.Calls.{RisesAtMost}
-use Rattle.aec_edit.proofs.CountLemmas.{before_end, ceil_bounds}
+use Rattle.aec_params.proofs.CountLaws.{before_end, ceil_bounds}
 use Rattle.aec_edit.proofs.ExchangeLemmas.{begins_before}
 use Rattle.aec_edit.proofs.CallLemmas.{needed_is}
 use Rattle.aec_edit.proofs.OverwriteLemmas.{overwrite_calls}

@@ -11,7 +11,7 @@ use Rattle.aec_params.proofs.CuttingLaws.{length-pieces_of, div_ceil-zero, div_c
 use Rattle.aec_bits.specs.Codec.{Format, code_of}
 use Rattle.aec_bits.proofs.CodeLaws.{pieces_of-step, pieces_of-nil, pieces_of-append, code_of-nil, code_of_split}
 use Rattle.aec_edit.specs.Workspace.{interval_count, start_of}
-use Rattle.aec_edit.proofs.CountLemmas.{before_end}
+use Rattle.aec_params.proofs.CountLaws.{before_end}
 use Rattle.aec_edit.specs.Index.{piece_starts, starts_of}
 
 -- ---- pieces

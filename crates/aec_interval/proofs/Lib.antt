@@ -5,6 +5,7 @@ pub mod GroupLemmas
 pub mod CoveringLemmas
 pub mod IntervalLemmas
 pub mod PlaceLemmas
+pub mod NeededLemmas
 pub mod StreamLemmas
 pub mod RoundTripLemmas
 pub mod WalkLemmas

@@ -48,7 +48,7 @@ module _ (s : Settings) (count : Option ℕ) (limit : ℕ) (bits : List Bool) (f
   before_end : i < first + s.interval
   before_end = omega (arith, inside.below, inside.end_is)
 
-  place : i % s.interval ≡ i - first
+  pub place : i % s.interval ≡ i - first
   place = place-behind s first i inside.wanted.aligned inside.after before_end
 
   pub no_room-refuses : (len capacity before : ℕ) (fault : Fault) → len ≤ (i - first) * s.block_size → before ≤ capacity

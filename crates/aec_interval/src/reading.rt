@@ -33,13 +33,21 @@ pub(crate) struct Wanted {
     pub(crate) limit: u64,
 }
 
+/// Whether so many blocks are fewer than `count` samples need.
+#[tactic(auto, using(crate::proofs::NeededLemmas::needed))]
+fn are_fewer(params: &Params, blocks: u64, count: u64) -> bool
+    ensures { result ≡ nat_lt blocks (div_ceil count params.now.block_size) }
+{
+    blocks.saturating_mul(u64::from(params.block_size())) < count
+}
+
 /// Whether a coded data set is wanted at this block: with a count while blocks are needed, without one while the rest is
 /// not all zeros.
 pub(crate) fn wants_more(params: &Params, wanted: Wanted, reader: &BitReader, block: u64) -> bool
     ensures { result ≡ is_wanted params.now wanted.count reader.now.list block reader.now.pos }
 {
     match wanted.count {
-        Some(count) => block < count.div_ceil(u64::from(params.block_size())),
+        Some(count) => are_fewer(params, block, count),
         None => !reader.rest_is_zero(),
     }
 }
@@ -68,12 +76,13 @@ fn blocks_left(params: &Params, place: u64) -> u64
     (segment - place % segment).min(u64::from(params.interval()) - place)
 }
 
-/// Whether this block has a reference sample.
-pub(crate) fn has_reference(params: &Params, block: u64) -> bool
-    ensures value { result ≡ is_reference_block params.now (block % params.now.interval) }
+/// Whether the block at this place of an interval has a reference sample.
+pub(crate) fn has_reference(params: &Params, place: u64) -> bool
+    ensures value { result ≡ is_reference_block params.now place }
     ensures allowed { IsAllowed params.now }
 {
-    let place = block % u64::from(params.interval());
+    // What the parameters promise is told by their calls.
+    let _len = params.interval_len();
     params.preprocess() && place == 0
 }
 
@@ -106,21 +115,25 @@ fn block_count(params: &Params, place: u64, len: RunLen) -> u64
     }
 }
 
-/// The number of the block behind a coded data set that begins at this bit and stands for so many blocks. `RunTooLong` where its
-/// segment has fewer left, then `TooManySamples`.
+/// The number of the block behind a coded data set that begins at this bit, at this place of its interval, and stands for so many
+/// blocks. `RunTooLong` where its segment has fewer left, then `TooManySamples`.
 pub(crate) fn place_next(
     params: &Params,
     wanted: Wanted,
     block: u64,
+    place: u64,
     len: RunLen,
     bit: u64,
 ) -> Result<u64, Fault>
-    requires { block < 2 ^ 34 }
+    requires few { block < 2 ^ 34 }
+    requires place { place ≡ block % params.now.interval }
     ensures value { result
         ≡ block_behind params.now wanted.count wanted.limit block (run_count params.now (block % params.now.interval) len) bit }
+    ensures after { IfOk result (λ next. block ≤ next) }
     ensures within { IfOk result (λ next. next ≤ block + blocks_before_end params.now block) }
 {
-    let place = block % u64::from(params.interval());
+    // What the parameters promise is told by their calls.
+    let _len = params.interval_len();
     let blocks = block_count(params, place, len);
     if blocks > blocks_left(params, place) {
         return Err(Fault::RunTooLong { bit });
@@ -134,14 +147,18 @@ pub(crate) fn place_next(
     Ok(next)
 }
 
-/// How many of so many blocks that come next are kept: with a count those that are still needed.
-fn blocks_kept(params: &Params, wanted: Wanted, block: u64, blocks: u64) -> u64
-    requires { IfSome wanted.count (λ count. block ≤ div_ceil count params.now.block_size) }
-    ensures { result ≡ kept_count params.now wanted.count block blocks }
+/// How many of the blocks up to block `next` are kept: with a count those that are still needed.
+fn blocks_kept(params: &Params, wanted: Wanted, block: u64, next: u64) -> u64
+    requires needed { IfSome wanted.count (λ count. block ≤ div_ceil count params.now.block_size) }
+    requires forward { block ≤ next }
+    ensures { result ≡ kept_count params.now wanted.count block (next - block) }
 {
     match wanted.count {
-        None => blocks,
-        Some(count) => blocks.min(count.div_ceil(u64::from(params.block_size())) - block),
+        Some(count) if !are_fewer(params, next, count) => {
+            let needed = count.div_ceil(u64::from(params.block_size()));
+            (next - block).min(needed - block)
+        }
+        _ => next - block,
     }
 }
 
@@ -185,16 +202,18 @@ fn reserve_blocks(params: &Params, blocks: u64, samples: &mut Vec<i64>) -> Resul
     Ok(())
 }
 
-/// Reads the coded data set of a block that is wanted into the block `values`, and appends its samples. The number of the block
-/// that comes then. `Memory` comes only where there was no room for the samples that the interval has left.
+/// Reads the coded data set of a block that is wanted, at this place of its interval, into the block `values`, and appends its
+/// samples. The number of the block that comes then. `Memory` comes only where there was no room for the samples that the interval has left.
 fn read_next(
     params: &Params,
     wanted: Wanted,
     reader: &mut BitReader,
     block: u64,
+    place: u64,
     values: &mut Block,
     samples: &mut Vec<i64>,
 ) -> Result<u64, Fault>
+    requires place { place ≡ block % params.now.interval }
     requires reached { IsReached params.now wanted.count wanted.limit reader.old.list wanted.first wanted.start block reader.old.pos samples.old.items }
     requires after { wanted.first ≤ block }
     requires wanted { IsWantedNext params.now wanted.count wanted.limit reader.old.list
@@ -211,9 +230,9 @@ fn read_next(
         → vec_capacity samples.old < vec_len samples.old + blocks_before_end params.now block * params.now.block_size) }
 {
     let bit = reader.pos();
-    let found = read_into(params, reader, has_reference(params, block), values)?;
-    let next = place_next(params, wanted, block, found.stands_for(), bit)?;
-    let kept = blocks_kept(params, wanted, block, next - block);
+    let found = read_into(params, reader, has_reference(params, place), values)?;
+    let next = place_next(params, wanted, block, place, found.stands_for(), bit)?;
+    let kept = blocks_kept(params, wanted, block, next);
     reserve_blocks(params, kept, samples)?;
     push_cds(params, found, values, kept, block - wanted.first, samples);
     skip_padding(params, reader, next);
@@ -247,7 +266,8 @@ pub(crate) fn read_interval(
     let end = wanted.first + u64::from(params.interval());
     let mut block = wanted.first;
     loop {
-        block = read_next(params, wanted, reader, block, values, samples)?;
+        let place = block - wanted.first;
+        block = read_next(params, wanted, reader, block, place, values, samples)?;
         if !goes_on(params, wanted, reader, block, end) {
             return Ok(block);
         }
@@ -287,11 +307,13 @@ pub(crate) fn decode_from(
     let mut samples = Vec::new(alloc);
     let mut block = wanted.first;
     while wants_more(params, wanted, &reader, block) {
+        let place = block % u64::from(params.interval());
         block = read_next(
             params,
             wanted,
             &mut reader,
             block,
+            place,
             &mut values,
             &mut samples,
         )?;

@@ -1,6 +1,6 @@
 //! Coded data sets gone over without their samples, from where an interval begins.
 
-ghost use Rattle.std.specs.Prelude.{◌≡◌, ◌≤◌, ◌<◌, ◌+◌, ◌^◌, IfOk, IfErr};
+ghost use Rattle.std.specs.Prelude.{◌≡◌, ◌≤◌, ◌<◌, ◌+◌, ◌%◌, ◌^◌, IfOk, IfErr};
 ghost use Rattle.aec_params.specs.Params.{IsAllowed};
 ghost use Rattle.aec_interval.specs.NextSet.{blocks_before_end};
 ghost use Rattle.aec_interval.specs.Steps.{IsWantedNext, ComesNext, IsGoneOver};
@@ -11,15 +11,17 @@ use aec_bits::BitReader;
 use aec_block::{Block, skip_cds};
 use aec_params::{Fault, Params};
 
-/// Goes over the coded data set of a block that is wanted, which may be read into the block `values`. The number of the block that comes
-/// then. The refusals are those of `read_next`, but for want of memory. Takes no memory.
+/// Goes over the coded data set of a block that is wanted, at this place of its interval, which may be read into the block `values`. The
+/// number of the block that comes then. The refusals are those of `read_next`, but for want of memory. Takes no memory.
 fn skip_next(
     params: &Params,
     wanted: Wanted,
     reader: &mut BitReader,
     block: u64,
+    place: u64,
     values: &mut Block,
 ) -> Result<u64, Fault>
+    requires place { place ≡ block % params.now.interval }
     requires led { IsLedTo params.now wanted.count wanted.limit reader.old.list wanted.first wanted.start block reader.old.pos }
     requires wanted { IsWantedNext params.now wanted.count wanted.limit reader.old.list
         wanted.first block reader.old.pos }
@@ -31,8 +33,8 @@ fn skip_next(
     ensures next { IfOk result (λ next. ComesNext params.now block next) }
 {
     let bit = reader.pos();
-    let len = skip_cds(params, reader, has_reference(params, block), values)?;
-    let next = place_next(params, wanted, block, len, bit)?;
+    let len = skip_cds(params, reader, has_reference(params, place), values)?;
+    let next = place_next(params, wanted, block, place, len, bit)?;
     skip_padding(params, reader, next);
     Ok(next)
 }
@@ -60,7 +62,8 @@ pub(crate) fn skip_interval(
     let end = wanted.first + u64::from(params.interval());
     let mut block = wanted.first;
     loop {
-        block = skip_next(params, wanted, reader, block, values)?;
+        let place = block - wanted.first;
+        block = skip_next(params, wanted, reader, block, place, values)?;
         if !goes_on(params, wanted, reader, block, end) {
             return Ok(block);
         }

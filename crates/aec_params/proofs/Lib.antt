@@ -16,6 +16,7 @@ pub mod MappingLaws
 pub mod PatternLaws
 pub mod ValueLaws
 pub mod CuttingLaws
+pub mod CountLaws
 pub mod ByteLaws
 pub mod SampleLaws
 pub mod BlockShapeLaws

@@ -40,4 +40,4 @@ loop-value-preserved c =
 
 pub returns-clause-items : goal.returns-clause-items
 returns-clause-items c =
-    rw (take_all c.loop-value.value-index c.args.values.now (omega arith)) at c.loop-value.invariant.unmaps.so_far
+    rw (take_all c.loop-value.value-index c.args.values.now (omega arith)) at c.loop-value.invariant.unmaps

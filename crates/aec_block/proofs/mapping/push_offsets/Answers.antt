@@ -1,4 +1,4 @@
-use Rattle.std.proofs.Common.{◌≡◌, ◌-◌, ◌++◌, ℤ, ℕ, List, pos, length, take, drop, subst, sym, ap, ◌∙◌, w64}
+use Rattle.std.proofs.Common.{◌≡◌, ◌-◌, ◌*◌, ◌/◌, ◌++◌, ℤ, ℕ, List, pos, length, take, drop, subst, sym, ap, ◌∙◌, w64}
 use Rattle.std.proofs.lemmas.Int.{to_z-of_z}
 use Rattle.std.proofs.lemmas.List.{take_rest, take-append-drop}
 use Rattle.std.specs.Prelude.{◌+ℤ◌}
@@ -13,7 +13,7 @@ pub returns-clause-items : goal.returns-clause-items
 returns-clause-items c =
     let s = c.args.params.now in
     let values = c.args.values.now in
-    let done = c.push_near_fours-offset.result.1 in
+    let done = 8 * (length values / 8) in
     let old = c.args.samples.now.items in
     let new = c.push_each.new.samples.items in
     let at_first : c.offset_of-first.result ≡ sample_offset s c.args.previous =
@@ -24,4 +24,4 @@ returns-clause-items c =
     ap (λ (vs : List ℕ). take done values ++ vs) (take_rest values done) ∙ take-append-drop done values in
     subst (λ (p : ℤ). Unmaps s p values old new) previous_is
     (subst (λ (vs : List ℕ). Unmaps s (x_min s +ℤ pos c.offset_of-first.result) vs old new) whole
-    (unmaps_to-append s _ _ _ _ _ _ _ c.push_near_fours-offset.ensures.items c.push_each.ensures.items))
+    (unmaps_to-append s _ _ _ _ _ _ _ c.push_eights-last.ensures.items c.push_each.ensures.items.so_far))

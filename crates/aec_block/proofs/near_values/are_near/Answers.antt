@@ -1,7 +1,6 @@
-use Rattle.aec_block.proofs.NearLemmas.{near_so_far-more}
+use Rattle.std.proofs.Common.{arith}
+use Rattle.aec_block.proofs.NearLemmas.{AreNear-eight}
 use Rattle.aec_block.proofs.near_values.are_near.Goals as goal
 
-pub loop-value-preserved : goal.loop-value-preserved
-loop-value-preserved c =
-    near_so_far-more c.args.top c.args.offset c.loop-value.place c.near_place-place.result c.loop-value.reached c.both_sides-reached.result c.args.values.now c.loop-value.value-index
-    c.loop-value-test.true (c.both_sides-reached.ensures.near c.args.top c.ranges.top.fits) (c.near_place-place.ensures.near c.args.top c.ranges.top.fits) c.loop-value.invariant
+pub returns : goal.returns
+returns c = λ all. AreNear-eight c.args.top c.args.offset _ c.args.values.now c.requires.within c.requires.len (c.are_below.ensures all) (omega (arith, c.min-room.ensures))

@@ -1,7 +1,7 @@
 use Rattle.std.proofs.Common.{ap, refl, sym, ◌∙◌, arith, length, vec_len}
 use Rattle.aec_interval.specs.Reached.{RefusesUpTo}
 use Rattle.aec_interval.proofs.ReadNextLemmas.{reached-start}
-use Rattle.aec_interval.proofs.ReadIntervalLemmas.{inside-begun, no_room-refuses, by_its_end, gone-over, len-within}
+use Rattle.aec_interval.proofs.ReadIntervalLemmas.{place, inside-begun, no_room-refuses, by_its_end, gone-over, len-within}
 use Rattle.aec_interval.proofs.RefusalLemmas.{of_refusal}
 use Rattle.aec_interval.proofs.reading.read_interval.Goals as goal
 
@@ -34,3 +34,6 @@ pub returns-then-not-goes_on-clause-len : goal.returns-then-not-goes_on-clause-l
 returns-then-not-goes_on-clause-len c =
     (len-within _ _ _ _ _ _ _ _ c.loop-block.invariant.inside _ c.in_ok-block.ensures.next (vec_len c.loop-block.samples) _
     c.loop-block.invariant.len c.in_ok-block.ensures.len).1
+
+pub read_next-requires-clause-place : goal.read_next-requires-clause-place
+read_next-requires-clause-place c = sym (place _ _ _ _ _ _ _ _ c.loop-block.invariant.inside)

@@ -1,6 +1,6 @@
 use Rattle.std.proofs.Common.{refl, sym, ◌∙◌, arith}
 use Rattle.aec_interval.specs.Skipping.{IsFaultBefore}
-use Rattle.aec_interval.proofs.ReadIntervalLemmas.{inside-begun, by_its_end, gone-over}
+use Rattle.aec_interval.proofs.ReadIntervalLemmas.{place, inside-begun, by_its_end, gone-over}
 use Rattle.aec_interval.proofs.SkippingLemmas.{led-start}
 use Rattle.aec_interval.proofs.skipping.skip_interval.Goals as goal
 
@@ -20,3 +20,6 @@ returns-in_err-block-clause-refuses c =
 pub returns-then-not-goes_on-clause-over : goal.returns-then-not-goes_on-clause-over
 returns-then-not-goes_on-clause-over c =
     gone-over _ _ _ _ _ _ _ _ c.loop-block.invariant.inside _ c.in_ok-block.ensures.next _ _ (sym c.goes_on.ensures ∙ c.if-not-goes_on.true)
+
+pub skip_next-requires-clause-place : goal.skip_next-requires-clause-place
+skip_next-requires-clause-place c = sym (place _ _ _ _ _ _ _ _ c.loop-block.invariant.inside)

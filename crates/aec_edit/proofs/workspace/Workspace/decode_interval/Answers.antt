@@ -1,6 +1,6 @@
 use Rattle.std.proofs.Common.{◌≡◌, ◌*◌, List, ℤ, length, take, drop, ap, arith}
 use Rattle.aec_bits.specs.Codec.{Format}
-use Rattle.aec_edit.proofs.CountLemmas.{before_end}
+use Rattle.aec_params.proofs.CountLaws.{before_end}
 use Rattle.aec_edit.proofs.KeptLemmas.{at_view, no_other, kept_again, begins_for}
 use Rattle.aec_edit.proofs.workspace.Workspace.decode_interval.Goals as goal
 
