@@ -86,6 +86,7 @@ fn put_each_low_part(
 /// Gathers the lowest `width` bits of each value: of `N` values at a time, and one by one of the last few, fewer than
 /// `N`.
 #[tactic(auto, using(crate::proofs::WritingLemmas::behind))]
+#[inline(always)]
 fn put_low_groups<const N: usize>(
     values: &[u32],
     width: u32,
