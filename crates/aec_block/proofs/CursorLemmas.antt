@@ -70,6 +70,7 @@ sequences_taken old new before after bits count same =
     ∙ values_at-reads fs (λ v. Unit {0}) fs_at fs_reader after (drop new.pos old.list) (all_numbers after))
 
 -- how far a cursor goes over what stands before it
-pub gone_over : (old new : ℕ) (list front : List Bool) → old ≤ length list → new ≤ length list → drop old list ≡ front ++ drop new list → new ≡ old + length front
+pub gone_over : (old new : ℕ) (list front : List Bool) → old ≤ length list → new ≤ length list → drop old list ≡ front ++ drop new list
+    → new ≡ old + length front
 gone_over old new list front from to stands =
     omega (arith, ap (length {A = Bool}) stands, length-drop old list, length-append front (drop new list), length-drop new list)

@@ -1,5 +1,5 @@
 -- Differences of near values in lanes: half of the value, less the value itself where it is odd.
-use Rattle.std.proofs.Common.{◌≡◌, ℕ, ◌+◌, ◌-◌, ◌*◌, ◌/◌, ◌%◌, ◌^◌, ◌≤◌, ◌<◌, refl, ap, ap₂, ◌∙◌, sym, subst, arith, List, [], ◌∷◌, length, map, take, get_or, bit_and, inl, inr}
+use Rattle.std.proofs.Common.{◌≡◌, ℕ, ◌+◌, ◌-◌, ◌/◌, ◌%◌, ◌^◌, ◌<◌, refl, ap, ap₂, ◌∙◌, sym, subst, arith, List, [], ◌∷◌, length, map, take, get_or, bit_and, inl, inr}
 use Rattle.std.specs.Simd.Lanes.{Each1, zip2}
 use Rattle.std.specs.Prelude.{replicate}
 use Rattle.std.proofs.lemmas.Bool.{cases_lt}

@@ -1,7 +1,8 @@
 -- Values that are near: where their differences lead, what a bound for all of them shows, and that a near value is that of its offset.
-use Rattle.std.proofs.Common.{◌≡◌, ℕ, suc, ◌+◌, ◌-◌, ◌*◌, ◌/◌, ◌%◌, ◌<◌, ◌≤◌, List, [], ◌∷◌, ◌++◌, length, take, drop, get_or, min, bit_or, inl, inr, arith, subst, sym, ap, ◌∙◌, refl, append_assoc, drop-cons, add-one}
+use Rattle.std.proofs.Common.{◌≡◌, ℕ, suc, ◌+◌, ◌-◌, ◌*◌, ◌/◌, ◌%◌, ◌<◌, ◌≤◌, List, [], ◌∷◌, ◌++◌, length, map, take, drop, get_or, arith, subst, sym, ap, ◌∙◌, refl, drop-cons, add-one}
 use Rattle.std.proofs.Math.Seq.{take-add}
 use Rattle.std.proofs.Math.Nat.{suc-mul}
+use Rattle.std.proofs.lemmas.List.{get_or-map}
 use Rattle.std.proofs.lemmas.Bool.Decides.{nat_tests}
 use Rattle.aec_params.specs.declared.settings.Settings.{Settings}
 use Rattle.aec_params.specs.Params.{IsAllowed}
@@ -50,7 +51,7 @@ AreNear-eight top p b values within long below is =
     AreNear-below top p b values within (λ i lt. below i (omega (arith, lt, long))) (subst (λ (n : ℕ). n * b ≤ 2 * offset_room top p) (sym long) enough)
 
 -- one near value more in a loop over offsets
-pub near-step : (s : Settings) (values : List ℕ) (i place next : ℕ) → IsAllowed s → i < length values → place ≤ top_offset s
+near-step : (s : Settings) (values : List ℕ) (i place next : ℕ) → IsAllowed s → i < length values → place ≤ top_offset s
     → ((top : ℕ) → top < 4294967296 → place ≤ top → get_or values i 0 ≤ 2 * offset_room top place → next ≡ near_offset place (get_or values i 0))
     → AreNear (top_offset s) place (drop i values)
     → (next ≤ top_offset s) × (next < 4294967296) × (mapped_offset (top_offset s) place next ≡ get_or values i 0)
@@ -66,6 +67,19 @@ near-step s values i place next allowed here within led near =
       ap (mapped_offset (top_offset s) place) is ∙ mapped_offset-near (top_offset s) place (get_or values i 0) within parts.0,
       subst (λ (n : ℕ). AreNear (top_offset s) n (drop (i + 1) values)) (sym is) parts.1,
     )
+
+-- the same where the difference comes from a list of those of all values
+pub near_difference-step : (s : Settings) (values differences : List ℕ) (i place next : ℕ) → IsAllowed s → i < length values → place ≤ top_offset s
+    → differences ≡ map near_difference values
+    → ((top value : ℕ) → top < 4294967296 → place ≤ top → value ≤ 2 * offset_room top place → get_or differences i 0 ≡ near_difference value
+    → next ≡ near_offset place value)
+    → AreNear (top_offset s) place (drop i values)
+    → (next ≤ top_offset s) × (next < 4294967296) × (mapped_offset (top_offset s) place next ≡ get_or values i 0)
+    × AreNear (top_offset s) next (drop (i + 1) values)
+near_difference-step s values differences i place next allowed here within all led near =
+    let is : get_or differences i 0 ≡ near_difference (get_or values i 0) =
+    ap (λ (ds : List ℕ). get_or ds i 0) all ∙ get_or-map near_difference values i 0 0 here in
+    near-step s values i place next allowed here within (λ top small inside room. led top (get_or values i 0) small inside room is) near
 
 -- eight values more
 pub take-eight : (values : List ℕ) (i : ℕ) → take (8 * i) values ++ take (8 * i + 8 - 8 * i) (drop (8 * i) values) ≡ take (8 * (i + 1)) values

@@ -11,7 +11,7 @@ use crate::mapping::{greatest_offset, push_each};
 use aec_params::Params;
 use std::simd::prelude::*;
 
-/// Whether eight values are all below a bound; no branch depends on a single one.
+/// True only where eight values are all below a bound; false says nothing. No branch depends on a single one.
 #[inline(always)]
 fn are_below(values: &[u32], bound: u32) -> bool
     requires { length values.now ≡ 8 }

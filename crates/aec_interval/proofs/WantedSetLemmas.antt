@@ -28,6 +28,11 @@ use Rattle.aec_interval.proofs.DecodeLemmas.{run_count-run_len_of}
 pub block_size-most : (s : Settings) → IsAllowed s → s.block_size ≤ 64
 block_size-most s allowed = let b = allowed.block_size in grind (arith, nat_tests)
 
+-- a reference is due at a block as at its place in the interval
+pub due_there : (s : Settings) (is_reference : Bool) (place i : ℕ) → is_reference ≡ is_reference_block s place → place ≡ i % s.interval
+    → is_reference ≡ is_reference_block s (i % s.interval)
+due_there s is_reference place i at_place is_place = at_place ∙ ap (is_reference_block s) is_place
+
 -- ---- the block behind, or why there is none
 
 -- so many blocks may stand from block i on

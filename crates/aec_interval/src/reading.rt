@@ -81,7 +81,7 @@ pub(crate) fn has_reference(params: &Params, place: u64) -> bool
     ensures value { result ≡ is_reference_block params.now place }
     ensures allowed { IsAllowed params.now }
 {
-    // What the parameters promise is told by their calls.
+    // Called for its clause alone: the parameters are allowed.
     let _len = params.interval_len();
     params.preprocess() && place == 0
 }
@@ -132,7 +132,7 @@ pub(crate) fn place_next(
     ensures after { IfOk result (λ next. block ≤ next) }
     ensures within { IfOk result (λ next. next ≤ block + blocks_before_end params.now block) }
 {
-    // What the parameters promise is told by their calls.
+    // Called for its clause alone: the parameters are allowed.
     let _len = params.interval_len();
     let blocks = block_count(params, place, len);
     if blocks > blocks_left(params, place) {
@@ -147,7 +147,7 @@ pub(crate) fn place_next(
     Ok(next)
 }
 
-/// How many of the blocks up to block `next` are kept: with a count those that are still needed.
+/// How many of the blocks from `block` up to `next` are kept: with a count those that are still needed.
 fn blocks_kept(params: &Params, wanted: Wanted, block: u64, next: u64) -> u64
     requires needed { IfSome wanted.count (λ count. block ≤ div_ceil count params.now.block_size) }
     requires forward { block ≤ next }

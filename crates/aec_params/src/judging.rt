@@ -93,7 +93,8 @@ fn is_each_outside<T: ByteOrder>(bytes: &[u8], width: usize, low: u64, high: u64
     outside
 }
 
-/// The bits that are set in some number of `width` bytes. As a number they are no less than any of these.
+/// A number no less than any of those of `width` bytes each: the bits that are set in one of them or more. That it is no greater than these
+/// bits isn't said.
 fn joined_bits<T: ByteOrder>(bytes: &[u8], width: usize) -> u32
     requires few { width ≤ 4 }
     requires some { 1 ≤ width }
@@ -121,7 +122,7 @@ fn joined_bits_of_each<T: ByteOrder>(bytes: &[u8], width: usize) -> u32
     joined
 }
 
-/// The bits that are set in either of two numbers. As a number they are no less than these.
+/// A number no less than two others: the bits that are set in either.
 #[inline(always)]
 #[tactic(auto, using(crate::proofs::StoredListLemmas::joins))]
 fn joined_with(bits: u32, number: u32) -> u32

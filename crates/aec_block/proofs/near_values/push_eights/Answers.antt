@@ -18,9 +18,10 @@ loop-i-init c =
 pub loop-i-preserved : goal.loop-i-preserved
 loop-i-preserved c =
     let s = c.args.params.now in
+    let start = x_min s +ℤ pos c.args.offset in
     let new = c.push_eight-last.new.samples in
     record {
-      unmaps = subst (λ (vs : List ℕ). UnmapsTo s (x_min s +ℤ pos c.args.offset) (x_min s +ℤ pos c.push_eight-last.result) vs c.args.samples.now.items new.items)
+      unmaps = subst (λ (vs : List ℕ). UnmapsTo s start (x_min s +ℤ pos c.push_eight-last.result) vs c.args.samples.now.items new.items)
           (take-eight c.args.values.now c.loop-i.i) (unmaps_to-join _ _ _ _ _ _ _ _ _ c.loop-i.invariant.unmaps c.push_eight-last.ensures.items);
       within = c.push_eight-last.ensures.within;
       len = omega (arith, c.push_eight-last.ensures.len, c.loop-i.invariant.len);
@@ -31,5 +32,6 @@ pub returns-clause-items : goal.returns-clause-items
 returns-clause-items c =
     let s = c.args.params.now in
     let all : c.loop-i.i ≡ length c.args.values.now / 8 = omega (arith, c.loop-i-test.false, c.loop-i.auto.i-end) in
-    subst (λ (n : ℕ). UnmapsTo s (x_min s +ℤ pos c.args.offset) (x_min s +ℤ pos c.loop-i.last) (take (8 * n) c.args.values.now) c.args.samples.now.items c.loop-i.samples.items)
+    let start = x_min s +ℤ pos c.args.offset in
+    subst (λ (n : ℕ). UnmapsTo s start (x_min s +ℤ pos c.loop-i.last) (take (8 * n) c.args.values.now) c.args.samples.now.items c.loop-i.samples.items)
     all c.loop-i.invariant.unmaps

@@ -1,10 +1,10 @@
-use Rattle.std.proofs.Common.{rules, arith, ℕ, List, length, ◌<◌, ◌≡◌, subst, sym, ap, ap₂, refl, get_or, ◌∙◌, w64, FitsSigned}
+use Rattle.std.proofs.Common.{rules, arith, length, ◌<◌, ap₂, refl, ◌∙◌, w64, FitsSigned}
 use Rattle.std.proofs.lemmas.Int.{to_z-of_z}
-use Rattle.std.proofs.lemmas.List.{take_all, get_or-map}
+use Rattle.std.proofs.lemmas.List.{take_all}
 use Rattle.std.specs.Prelude.{◌+ℤ◌}
-use Rattle.aec_block.specs.Offsets.{top_offset, near_difference}
+use Rattle.aec_block.specs.Offsets.{top_offset}
 use Rattle.aec_block.proofs.ListMappingLemmas.{sample_at-fits, unmaps_to-start, unmaps_to-offset}
-use Rattle.aec_block.proofs.NearLemmas.{near-step}
+use Rattle.aec_block.proofs.NearLemmas.{near_difference-step}
 use Rattle.aec_block.proofs.near_values.push_near.Goals as goal
 
 pub loop-i-init : goal.loop-i-init
@@ -18,33 +18,28 @@ loop-i-init c = record {
 
 pub overflow_add-least : goal.overflow_add-least
 overflow_add-least c =
-    let values = c.args.values.now in
-    let there : c.loop-i.i < length values = omega (arith, c.loop-i-test.true, c.requires.len) in
-    let is : get_or c.near_differences-differences.result c.loop-i.i 0 ≡ near_difference (get_or values c.loop-i.i 0) =
-    ap (λ (vs : List ℕ). get_or vs c.loop-i.i 0) c.near_differences-differences.ensures ∙ get_or-map near_difference values c.loop-i.i 0 0 there in
-    let step = near-step c.args.params.now values c.loop-i.i c.loop-i.place c.near_place-place.result c.x_min-least.ensures.allowed there c.loop-i.invariant.within
-    (λ top small within near. c.near_place-place.ensures.near top _ small within near is) c.loop-i.invariant.near in
+    let here : c.loop-i.i < length c.args.values.now = omega (arith, c.loop-i-test.true, c.requires.len) in
+    let step = near_difference-step c.args.params.now c.args.values.now _ c.loop-i.i c.loop-i.place c.near_place-place.result c.x_min-least.ensures.allowed here
+    c.loop-i.invariant.within c.near_differences-differences.ensures c.near_place-place.ensures.near c.loop-i.invariant.near in
     let fits : FitsSigned w64 c.x_min-least.result = search (rules, c.x_min-least.type_inv) in
     let above_fits : FitsSigned w64 c.from.result = search (rules, c.from.type_inv) in
-    sample_at-fits c.args.params.now _ _ c.near_place-place.result c.x_min-least.ensures.allowed (to_z-of_z w64 c.x_min-least.result fits ∙ c.x_min-least.ensures.value)
+    sample_at-fits c.args.params.now _ _ c.near_place-place.result c.x_min-least.ensures.allowed
+    (to_z-of_z w64 c.x_min-least.result fits ∙ c.x_min-least.ensures.value)
     (to_z-of_z w64 c.from.result above_fits ∙ c.from.ensures) step.1
 
 pub loop-i-preserved : goal.loop-i-preserved
 loop-i-preserved c =
-    let values = c.args.values.now in
-    let there : c.loop-i.i < length values = omega (arith, c.loop-i-test.true, c.requires.len) in
-    let is : get_or c.near_differences-differences.result c.loop-i.i 0 ≡ near_difference (get_or values c.loop-i.i 0) =
-    ap (λ (vs : List ℕ). get_or vs c.loop-i.i 0) c.near_differences-differences.ensures ∙ get_or-map near_difference values c.loop-i.i 0 0 there in
-    let step = near-step c.args.params.now values c.loop-i.i c.loop-i.place c.near_place-place.result c.x_min-least.ensures.allowed there c.loop-i.invariant.within
-    (λ top small within near. c.near_place-place.ensures.near top _ small within near is) c.loop-i.invariant.near in
+    let here : c.loop-i.i < length c.args.values.now = omega (arith, c.loop-i-test.true, c.requires.len) in
+    let step = near_difference-step c.args.params.now c.args.values.now _ c.loop-i.i c.loop-i.place c.near_place-place.result c.x_min-least.ensures.allowed here
+    c.loop-i.invariant.within c.near_differences-differences.ensures c.near_place-place.ensures.near c.loop-i.invariant.near in
     let fits : FitsSigned w64 c.x_min-least.result = search (rules, c.x_min-least.type_inv) in
     let above_fits : FitsSigned w64 c.from.result = search (rules, c.from.type_inv) in
     let least_is = to_z-of_z w64 c.x_min-least.result fits ∙ c.x_min-least.ensures.value in
     let above_is = to_z-of_z w64 c.from.result above_fits ∙ c.from.ensures in
     let sum_fits = sample_at-fits c.args.params.now _ _ c.near_place-place.result c.x_min-least.ensures.allowed least_is above_is step.1 in
     record {
-      unmaps = unmaps_to-offset _ _ _ _ _ (top_offset c.args.params.now) c.loop-i.place c.near_place-place.result _ _ _ c.x_min-least.ensures.allowed c.requires.on
-          refl c.loop-i.invariant.within step.0 there step.2 (to_z-of_z w64 _ sum_fits ∙ ap₂ ◌+ℤ◌ least_is above_is)
+      unmaps = unmaps_to-offset _ _ _ _ _ (top_offset c.args.params.now) c.loop-i.place c.near_place-place.result _ _ _
+          c.x_min-least.ensures.allowed c.requires.on refl c.loop-i.invariant.within step.0 here step.2 (to_z-of_z w64 _ sum_fits ∙ ap₂ ◌+ℤ◌ least_is above_is)
           c.push_reserved.ensures.items c.loop-i.invariant.unmaps;
       within = step.0;
       near = step.3;

@@ -1,4 +1,4 @@
-use Rattle.std.proofs.Common.{subst, sym, length, ◌≤◌, List, Bool, drop, ◌≡◌, ◌++◌, ap, ◌∙◌}
+use Rattle.std.proofs.Common.{subst, length, ◌≤◌, List, Bool}
 use Rattle.aec_block.proofs.CursorLemmas.{sequences_taken, gone_over}
 use Rattle.aec_block.proofs.reading_codewords.read_short_sequences.Goals as goal
 
@@ -9,5 +9,6 @@ returns-clause-taken c = λ read.
 
 pub returns-clause-gone : goal.returns-clause-gone
 returns-clause-gone c = λ read.
-    gone_over _ _ c.args.reader.now.list _ c.requires.within (subst (λ (bits : List Bool). c.read_sequences.new.self.pos ≤ length bits) c.read_sequences.ensures.list c.read_sequences.ensures.within)
+    gone_over _ _ c.args.reader.now.list _ c.requires.within
+    (subst (λ (bits : List Bool). c.read_sequences.new.self.pos ≤ length bits) c.read_sequences.ensures.list c.read_sequences.ensures.within)
     (c.read_sequences.ensures.bits read)

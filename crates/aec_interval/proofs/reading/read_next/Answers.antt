@@ -1,12 +1,11 @@
-use Rattle.std.proofs.Common.{◌-◌, ◌∙◌, ap, sym, refl, subst}
-use Rattle.aec_params.specs.Places.{is_reference_block}
+use Rattle.std.proofs.Common.{◌-◌, sym, refl, subst}
 use Rattle.aec_block.specs.ReadCds.{as_cds}
 use Rattle.aec_interval.specs.NextBlock.{FillsNext}
 use Rattle.aec_interval.specs.NextSet.{IsNextCds, cds_front}
 use Rattle.aec_interval.specs.Reached.{AreFilled}
 use Rattle.aec_interval.proofs.ReachedLemmas.{AreFilled-reached}
 use Rattle.aec_interval.proofs.RefusalLemmas.{of_refusal}
-use Rattle.aec_interval.proofs.WantedSetLemmas.{unread-wrong}
+use Rattle.aec_interval.proofs.WantedSetLemmas.{due_there, unread-wrong}
 use Rattle.aec_interval.proofs.ReadNextLemmas.{refuses-fault, led-reached, unplaced-refuses, memory-refuses, kept-bounds, next-cds, reached-next, few-wanted, comes-next}
 use Rattle.aec_interval.proofs.reading.read_next.Goals as goal
 
@@ -15,13 +14,16 @@ returns-in_err-found-clause-refuses c =
     of_refusal _ _ _ c.from_residual.ensures.1
     (refuses-fault _ _ _ _ _ _ _ _
     (unread-wrong _ _ _ _ _ c.args.reader.now c.args.reader.now _ c.has_reference.ensures.allowed
-    (led-reached _ _ _ _ _ _ _ _ _ c.requires.reached) c.requires.wanted.wanted _ _ (c.has_reference.ensures.value ∙ ap (is_reference_block c.args.params.now) c.requires.place) c.in_err-found.ensures.refuses))
+    (led-reached _ _ _ _ _ _ _ _ _ c.requires.reached) c.requires.wanted.wanted _ _
+    (due_there c.args.params.now _ _ _ c.has_reference.ensures.value c.requires.place)
+    c.in_err-found.ensures.refuses))
 
 pub returns-in_err-next-clause-refuses : goal.returns-in_err-next-clause-refuses
 returns-in_err-next-clause-refuses c =
     of_refusal _ _ _ c.from_residual-in_err-next.ensures.1
     (unplaced-refuses _ _ _ _ _ c.args.reader.now c.read_into.new.reader _ _ c.has_reference.ensures.allowed c.requires.reached c.requires.wanted.wanted
-    _ _ _ (c.has_reference.ensures.value ∙ ap (is_reference_block c.args.params.now) c.requires.place) (c.stands_for.ensures _) c.in_ok-found.ensures.ok _ _ c.pos-bit.ensures.value c.in_err-next.ensures.value)
+    _ _ _ (due_there c.args.params.now _ _ _ c.has_reference.ensures.value c.requires.place)
+    (c.stands_for.ensures _) c.in_ok-found.ensures.ok _ _ c.pos-bit.ensures.value c.in_err-next.ensures.value)
 
 pub blocks_kept-kept-requires-clause-needed : goal.blocks_kept-kept-requires-clause-needed
 blocks_kept-kept-requires-clause-needed c =
@@ -35,7 +37,8 @@ push_cds-requires-clause-filled c =
 pub push_cds-requires-clause-some : goal.push_cds-requires-clause-some
 push_cds-requires-clause-some c =
     (kept-bounds _ _ _ _ _ c.args.reader.now c.read_into.new.reader _ _ c.has_reference.ensures.allowed c.requires.reached c.requires.wanted.wanted
-    _ _ _ (c.has_reference.ensures.value ∙ ap (is_reference_block c.args.params.now) c.requires.place) (c.stands_for.ensures _) c.in_ok-found.ensures.ok _ _ c.in_ok-next.ensures.value _ c.blocks_kept-kept.ensures).0
+    _ _ _ (due_there c.args.params.now _ _ _ c.has_reference.ensures.value c.requires.place)
+    (c.stands_for.ensures _) c.in_ok-found.ensures.ok _ _ c.in_ok-next.ensures.value _ c.blocks_kept-kept.ensures).0
 
 pub push_cds-requires-clause-next : goal.push_cds-requires-clause-next
 push_cds-requires-clause-next c =
@@ -43,21 +46,24 @@ push_cds-requires-clause-next c =
     subst (λ samples. IsNextCds c.args.params.now (c.args.block - c.args.wanted.first) samples c.blocks_kept-kept.result cds)
     (sym c.reserve_blocks.ensures.items)
     (next-cds _ _ _ _ _ c.args.reader.now c.read_into.new.reader _ _ c.has_reference.ensures.allowed c.requires.reached c.requires.wanted.wanted
-    _ _ _ (c.has_reference.ensures.value ∙ ap (is_reference_block c.args.params.now) c.requires.place) (c.stands_for.ensures _) c.in_ok-found.ensures.ok _ _ c.in_ok-next.ensures.value
+    _ _ _ (due_there c.args.params.now _ _ _ c.has_reference.ensures.value c.requires.place)
+    (c.stands_for.ensures _) c.in_ok-found.ensures.ok _ _ c.in_ok-next.ensures.value
     _ _ c.requires.wanted.aligned refl c.blocks_kept-kept.ensures)
 
 pub returns-in_err-reserve_blocks-clause-refuses : goal.returns-in_err-reserve_blocks-clause-refuses
 returns-in_err-reserve_blocks-clause-refuses c =
     of_refusal _ _ _ c.from_residual-in_err-reserve_blocks.ensures.1
     (memory-refuses _ _ _ _ _ c.args.reader.now c.read_into.new.reader _ _ c.has_reference.ensures.allowed c.requires.reached c.requires.wanted.wanted
-    _ _ _ (c.has_reference.ensures.value ∙ ap (is_reference_block c.args.params.now) c.requires.place) (c.stands_for.ensures _) c.in_ok-found.ensures.ok _ _ c.in_ok-next.ensures.value
+    _ _ _ (due_there c.args.params.now _ _ _ c.has_reference.ensures.value c.requires.place)
+    (c.stands_for.ensures _) c.in_ok-found.ensures.ok _ _ c.in_ok-next.ensures.value
     _ c.in_ok-next.ensures.within c.in_err-reserve_blocks.ensures.fault)
 
 pub returns-clause-ok : goal.returns-clause-ok
 returns-clause-ok c =
     let cds = as_cds c.in_ok-found.found c.read_into.new.block in
     reached-next _ _ _ _ _ c.args.reader.now c.read_into.new.reader _ _ c.has_reference.ensures.allowed c.requires.reached c.requires.wanted.wanted
-    _ _ _ (c.has_reference.ensures.value ∙ ap (is_reference_block c.args.params.now) c.requires.place) (c.stands_for.ensures _) c.in_ok-found.ensures.ok _ _ c.in_ok-next.ensures.value
+    _ _ _ (due_there c.args.params.now _ _ _ c.has_reference.ensures.value c.requires.place)
+    (c.stands_for.ensures _) c.in_ok-found.ensures.ok _ _ c.in_ok-next.ensures.value
     _ _ _ _ c.blocks_kept-kept.ensures
     (subst (λ old. FillsNext c.args.params.now old c.push_cds.new.samples.items (cds_front c.args.params.now c.blocks_kept-kept.result cds))
     c.reserve_blocks.ensures.items c.push_cds.ensures.items)
@@ -66,5 +72,6 @@ returns-clause-ok c =
 pub returns-clause-next : goal.returns-clause-next
 returns-clause-next c =
     comes-next _ _ _ _ _ c.args.reader.now c.read_into.new.reader _ _ c.has_reference.ensures.allowed c.requires.reached c.requires.wanted.wanted
-    _ _ _ (c.has_reference.ensures.value ∙ ap (is_reference_block c.args.params.now) c.requires.place) (c.stands_for.ensures _) c.in_ok-found.ensures.ok _ _ c.in_ok-next.ensures.value
+    _ _ _ (due_there c.args.params.now _ _ _ c.has_reference.ensures.value c.requires.place)
+    (c.stands_for.ensures _) c.in_ok-found.ensures.ok _ _ c.in_ok-next.ensures.value
     c.in_ok-next.ensures.within c.requires.wanted.low c.requires.wanted.counted
