@@ -3,7 +3,7 @@
 
 Runs the program at PATH_OF_AEC ('ours') and the command-line client of libaec ('theirs', named by the environment
 variable LIBAEC, else /usr/bin/aec) on generated samples; both decode the stream that theirs has coded. Prints tables in
-Markdown: seconds of processor time (user and system, the least of five runs in turn, starting included), peak memory (the
+Markdown: seconds of processor time (user and system, the least of nine runs in turn, starting included), peak memory (the
 maximum resident set, as /usr/bin/time tells it), the ratios, and how both grow from 1 to 16 MiB of samples. A further table
 has the speeds of each input both ways, theirs divided by ours in seconds, and their geometric mean; the last one the memory
 of both for 16 and 64 MiB of samples, and for a short stream of very many. Nothing is judged.
@@ -194,7 +194,7 @@ def main():
     for path in ("/usr/bin/time", theirs):
         if not os.path.exists(path):
             raise SystemExit(f"no {path}: install Debian's packages time and libaec-tools")
-    sizes, runs = ([1], 1) if quick else (SIZES, 5)
+    sizes, runs = ([1], 1) if quick else (SIZES, 9)
     chance = random.Random(16)
     pieces = {name: make(chance) for name, _, make in INPUTS}
     print(f"{datetime.date.today()}, {os.cpu_count()} cores, {platform.platform()}\n")
