@@ -4,7 +4,8 @@
 Runs the program at PATH_OF_AEC on files that can't be opened, read, created or written, and compares status, what is printed
 and DEST with docs/COMMAND.md: a full device, a pipe whose reader goes away, a limit of a file's size, files without permission
 (as another user where the test runs as root), folders in the place of files, folders that aren't there or go away, one file as
-SOURCE and DEST, and standard streams that can't be written. Where DEST may hold a front of the answer, it has to be one.
+SOURCE and DEST, standard streams that can't be written or are closed, and words that are no text. Where DEST may hold a front of
+the answer, it has to be one.
 
 Prints the checks that fail and, last, how many passed. Ends with 1 where one failed.
 """
@@ -17,19 +18,20 @@ import subprocess
 import sys
 import tempfile
 
-from jobs import CHANGED, CHANGED_STREAM, JOBS, LARGE_JOBS, STILL_STREAM
+from jobs import CHANGED, CHANGED_STREAM, JOBS, LARGE_JOBS, STILL_STREAM, Job
 from program import SECONDS, Program, Tally, said
 
 OLD = b"what DEST held before"
 NOBODY = 65534
 MOST_SECONDS = 300  # of the whole test, should a pipe wait for a program that doesn't open it
 DONE, UNREAD, UNWRITTEN = said(None), said("read failed"), said("write failed")
+NO_EDITS = b"# nothing\n"
 
 
 def prepare(program, job, old=None):
     """The files of a job."""
     program.write("source", job.source)
-    program.write("script", job.script or b"# nothing\n")
+    program.write("script", job.script or NO_EDITS)
     program.write("dest", old)
 
 
@@ -216,6 +218,73 @@ def try_standard_streams(program, tally):
             tally.check(f"{what}: DEST", program.read("dest"), CHANGED_STREAM if words == ["source", "dest"] else None)
 
 
+def without(streams, most=None):
+    """Closes these standard streams, told by their numbers. From then on a process gets no descriptor from `most` on."""
+
+    def close():
+        for number in streams:
+            os.close(number)
+        if most is not None:
+            resource.setrlimit(resource.RLIMIT_NOFILE, (most, most))
+
+    return close
+
+
+def names_of(streams):
+    """The names that lead to these standard streams."""
+    names = [(f"/dev/{('stdin', 'stdout', 'stderr')[number]}", f"/dev/fd/{number}") for number in streams]
+    return [name for pair in names for name in pair]
+
+
+def try_closed_streams(program, tally):
+    """With standard streams closed, no file stands at their numbers: a name of one of them is as /dev/null."""
+    for closed in ([0], [1], [2], [0, 1], [0, 2], [1, 2], [0, 1, 2]):
+        for job in JOBS:
+            for dest in ["dest", *names_of(closed)]:
+                prepare(program, job, OLD)
+                what = f"{job.what} to {dest}, closed are {closed}"
+                tally.check(what, program.run(*job.words, "source", dest, preexec_fn=without(closed)), DONE)
+                tally.check(f"{what}: SOURCE", program.read("source"), job.source)
+                tally.check(f"{what}: SCRIPT", program.read("script"), job.script or NO_EDITS)
+                tally.check(f"{what}: DEST", program.read("dest"), job.answer if dest == "dest" else OLD)
+        for name in names_of(closed):
+            samples = Job(f"coding from {name}", [name], b"", b"")
+            stream = Job(f"an edit of {name}", ["--edit", "script", name], b"", b"")
+            script = Job(f"an edit by {name}", ["--edit", name, "source"], STILL_STREAM, STILL_STREAM)
+            for job in (samples, stream, script):
+                prepare(program, job, OLD)
+                what = f"{job.what}, closed are {closed}"
+                tally.check(what, program.run(*job.words, "dest", preexec_fn=without(closed)), DONE)
+                tally.check(f"{what}: DEST", program.read("dest"), job.answer)
+
+
+def try_streams_that_stay_closed(program, tally):
+    """Standard input and output are closed, and no file but one can be opened at a time."""
+    refused = said("a standard stream is closed and /dev/null can't be opened")
+    for job in JOBS:
+        for dest in ["dest", *names_of([0, 1])]:
+            prepare(program, job, OLD)
+            what = f"{job.what} to {dest}, without descriptors for standard streams"
+            tally.check(what, program.run(*job.words, "source", dest, preexec_fn=without([0, 1], 1)), refused)
+            tally.check(f"{what}: SOURCE", program.read("source"), job.source)
+            tally.check(f"{what}: DEST", program.read("dest"), OLD)
+
+
+def try_words_that_are_no_text(program, tally):
+    """A name, an option or a value that isn't UTF-8."""
+    words = [[b"\xe9", "dest"], ["source", b"\xe9"], ["source", "dest", b"-\x80"], ["--edit", b"\xed\xa0\x80", "source", "dest"]]
+    words += [["-d", "--count", b"48\xff", "source", "dest"], ["--help", b"\xc3"], [b"\xe9"]]
+    for given in words:
+        prepare(program, JOBS[0], OLD)
+        names = sorted(os.listdir(program.folder))
+        tally.check(f"the words {given}", program.run(*given), (2, "aec: words must be UTF-8 text\n"))
+        tally.check(f"the words {given}: files", sorted(os.listdir(program.folder)), names)
+        tally.check(f"the words {given}: DEST", program.read("dest"), OLD)
+    prepare(program, JOBS[0])
+    tally.check("a name in UTF-8", program.run("source", "\u00e9"), DONE)
+    tally.check("a name in UTF-8: DEST", program.read("\u00e9"), JOBS[0].answer)
+
+
 def main():
     signal.alarm(MOST_SECONDS)
     tally = Tally()
@@ -227,7 +296,8 @@ def main():
         os.mkdir(os.path.join(folder, "files"))
         program = Program(own, os.path.join(folder, "files"))
         groups = [try_devices, try_pipes, try_limits, try_permissions, try_folders, try_going_folders, try_one_file]
-        for group in [*groups, try_standard_streams]:
+        groups += [try_standard_streams, try_closed_streams, try_streams_that_stay_closed, try_words_that_are_no_text]
+        for group in groups:
             group(program, tally)
     tally.print()
     return 1 if tally.failed else 0

@@ -18,8 +18,14 @@ class Job(NamedTuple):
 # 48 samples, all zero, and with a 1 at place 20; and their streams.
 STILL, CHANGED = bytes(48), bytes(20) + b"\1" + bytes(27)
 STILL_STREAM, CHANGED_STREAM = bytes.fromhex("00 04 00 10 00 40"), bytes.fromhex("00 04 40 30 C2 00 08")
-SCRIPT = b"truncate 32\noverwrite 20 1\n# sixteen zeros more\nappend 0 0 0 0 0 0 0 0 0 0 0 0 0 0 0 0\n"
-EDIT_LINES = [1, 2, 4]
+SCRIPT = b"""truncate 32
+overwrite 20 1
+# sixteen zeros more
+append 0 0 0 0 0 0 0 0 0 0 0 0 0 0 0 0
+insert 7 3 3 0
+remove 6 3
+"""
+EDIT_LINES = [1, 2, 4, 5, 6]
 
 JOBS = [
     Job("coding", [], CHANGED, CHANGED_STREAM),

@@ -37,7 +37,8 @@ def some_samples(settings, chance):
 
 
 def some_values(settings, chance, most_of_them):
-    count = min(chance.choice([0, 1, 1, 2, 3, settings.block_size + 1, settings.interval_len() + 1]), most_of_them, 300)
+    size, whole = settings.block_size, settings.interval_len()
+    count = min(chance.choice([0, 1, 1, 2, 3, size + 1, whole, whole + 1]), most_of_them, 300)
     first = chance.randint(settings.least(), settings.most())
     if chance.random() < 0.3:
         return [first] * count
@@ -60,21 +61,32 @@ def line_of(name, numbers, chance):
     return "".join([blank(0), name] + [blank(1) + number for number in numbers] + [blank(0)]).encode()
 
 
+def some_place(settings, most, chance):
+    """A place up to that one: the first, the last, where an interval begins, or any."""
+    whole = settings.interval_len()
+    inside = chance.randint(0, most)
+    return chance.choice([0, most, most // whole * whole, inside // whole * whole, inside, inside])
+
+
 def fitting_line(settings, count, chance):
     """A line whose edit fits so many samples, and their number after it."""
-    kind = chance.choice(["overwrite", "overwrite", "append", "truncate"])
-    if kind == "overwrite":
-        values = some_values(settings, chance, count)
-        room = count - len(values)
-        edges = [0, room, room // settings.interval_len() * settings.interval_len(), chance.randint(0, room)]
-        numbers = [written(chance.choice(edges), chance)] + [value_written(x, chance) for x in values]
-        return line_of(kind, numbers, chance), count
+    kind = chance.choice(["overwrite", "append", "truncate", "insert", "insert", "remove"])
+    if kind == "remove":
+        whole = settings.interval_len()
+        gone = min(chance.choice([0, 1, whole, 2 * whole, count, chance.randint(0, count)]), count)
+        first = some_place(settings, count - gone, chance)
+        return line_of(kind, [written(first, chance), written(gone, chance)], chance), count - gone
+    if kind == "truncate":
+        whole = count // settings.interval_len() * settings.interval_len()
+        left = chance.choice([count, whole, chance.randint(count // 2, count), max(count - 1, 0)])
+        return line_of(kind, [written(left, chance)], chance), left
+    values = some_values(settings, chance, count if kind == "overwrite" else MOST_SAMPLES)
+    numbers = [value_written(x, chance) for x in values]
     if kind == "append":
-        values = some_values(settings, chance, MOST_SAMPLES)
-        return line_of(kind, [value_written(x, chance) for x in values], chance), count + len(values)
-    whole = count // settings.interval_len() * settings.interval_len()
-    left = chance.choice([count, whole, chance.randint(count // 2, count), max(count - 1, 0)])
-    return line_of(kind, [written(left, chance)], chance), left
+        return line_of(kind, numbers, chance), count + len(values)
+    room = count - len(values) if kind == "overwrite" else count
+    first = written(some_place(settings, room, chance), chance)
+    return line_of(kind, [first, *numbers], chance), count + (len(values) if kind == "insert" else 0)
 
 
 def misfit_line(settings, count, chance):
@@ -93,6 +105,13 @@ def misfit_line(settings, count, chance):
             ("overwrite", [0] + (mixed if len(mixed) <= count else [wrong] * max(count, 1))),
             ("append", mixed),
             ("append", [wrong]),
+            ("insert", [past]),
+            ("insert", [past] + mixed),
+            ("insert", [count] + mixed),
+            ("insert", [chance.randint(0, count)] + mixed),
+            ("remove", [past, chance.choice([0, 1, past])]),
+            ("remove", [0, past]),
+            ("remove", [count, chance.choice([1, 2**64 - 1])]),
         ]
     )
     return line_of(name, [written(x, chance) for x in numbers], chance)

@@ -15,13 +15,16 @@ class Example(NamedTuple):
 
 
 ZEROS = bytes.fromhex("00 04 00 10 00 40")  # 48 zeros
+ONE_CHANGED = bytes.fromhex("00 04 40 30 C2 00 08")  # these with a 1 at place 20
+MORE_ZEROS = bytes.fromhex("00 04 00 10 00 40 01")  # 64 zeros
 SEVENS = bytes.fromhex("00 78")  # five sevens
 FOREIGN = bytes.fromhex("40 15 55 80")  # 0 to 7, not as this program codes them
 RAMP = bytes.fromhex("20 09 24 92")
 FIVE_LINES = b"append 1\n\nappend 2 256\nappend 3\nappend 4\n"
+SIXTEEN = b" 0" * 16
 
 EXAMPLES = [
-    Example("one sample of three intervals", b"overwrite 20 1", ZEROS, bytes.fromhex("00 04 40 30 C2 00 08")),
+    Example("one sample of three intervals", b"overwrite 20 1", ZEROS, ONE_CHANGED),
     Example("an empty script", b"", FOREIGN, RAMP),
     Example("a script of comments", b"# nothing\r\n\n \t\n\t#\0\xff", FOREIGN, RAMP),
     Example("an append", b"append 7 7 7 8\n", SEVENS, bytes.fromhex("00 78 8F"), count=5),
@@ -49,6 +52,34 @@ EXAMPLES = [
     Example("a great count", b"truncate 18446744073709551615", ZEROS, None, "line 1: position outside the 48 samples"),
     Example("a great value", b"append 9223372036854775807", ZEROS, None, "line 1: sample 0 is out of range"),
     Example("the least value", b"append 0 -9223372036854775808", ZEROS, None, "line 1: sample 1 is out of range"),
+    # Insertions: whole intervals and part of one, at the front, within, and at the end, where they are appends.
+    Example("an interval between two", b"insert 16" + SIXTEEN, ZEROS, MORE_ZEROS),
+    Example("an interval within one", b"insert 8" + SIXTEEN, ZEROS, MORE_ZEROS),
+    Example("one after an interval", b"insert 16" + SIXTEEN + b"\ninsert 20 0", ZEROS, bytes.fromhex("00 04 00 10 00 40 01 00 08")),
+    Example("a 1 between zeros", b"insert 20 1", ZEROS, bytes.fromhex("00 04 40 30 C2 00 08 00 40")),
+    Example("values within others", b"truncate 0\nappend 0 1 2 5 6 7\ninsert 3 3 4", SEVENS, RAMP),
+    Example("values at the front", b"insert 0 0 1 2 3\n", bytes.fromhex("20 84 9F"), RAMP, count=4),
+    Example("values at the end", b"insert 5 7 7 7 8", SEVENS, bytes.fromhex("00 78 8F"), count=5),
+    Example("values into nothing", b"insert 0 0 1 2 3 4 5 6 7", b"", RAMP),
+    Example("insertions of nothing", b"insert 0\ninsert 20\ninsert 48", ZEROS, ZEROS),
+    Example("an insertion past the end", b"insert 49", ZEROS, None, "line 1: position outside the 48 samples"),
+    Example("its place before its values", b"insert 49 256", ZEROS, None, "line 1: position outside the 48 samples"),
+    Example("its value out of range", b"insert 48 0 256", ZEROS, None, "line 1: sample 1 is out of range"),
+    Example("its line", b"remove 0 8\n#\ninsert 40\ninsert 0 256", ZEROS, None, "line 4: sample 0 is out of range"),
+    Example("its great place", b"insert 18446744073709551615 1", ZEROS, None, "line 1: position outside the 48 samples"),
+    # Removals: of whole intervals and of less, at the front, within, and up to the end, where they are cuts.
+    Example("an interval taken out", b"remove 0 16", ONE_CHANGED, bytes.fromhex("10 0C 30 80 02")),
+    Example("two halves taken out", b"remove 8 16", MORE_ZEROS, ZEROS),
+    Example("a removal after an insertion", b"insert 20 1\nremove 20 1", ZEROS, ZEROS),
+    Example("samples between others", b"truncate 0\nappend 0 1 9 9 2 3 4 5 6 7\nremove 2 2", SEVENS, RAMP),
+    Example("a removal up to the end", b"remove 5 4", bytes.fromhex("00 78 8F"), SEVENS, count=9),
+    Example("all taken out", b"remove 0 48", ZEROS, b""),
+    Example("removals of nothing", b"remove 0 0\nremove 20 0\nremove 48 0", ZEROS, ZEROS),
+    Example("one past the end", b"remove 48 1", ZEROS, None, "line 1: position outside the 48 samples"),
+    Example("none past the end", b"remove 49 0", ZEROS, None, "line 1: position outside the 48 samples"),
+    Example("a great length", b"remove 0 18446744073709551615", ZEROS, None, "line 1: position outside the 48 samples"),
+    Example("a sum past all numbers", b"remove 2 18446744073709551615", ZEROS, None, "line 1: position outside the 48 samples"),
+    Example("the count after a removal", b"remove 0 1\nremove 40 8", ZEROS, None, "line 2: position outside the 47 samples"),
 ]
 
 # Lines that are no edit, each for a reason of its own.
@@ -79,6 +110,33 @@ BAD_LINES = [
     b"append 1.0",
     b"append 1e1",
     b"append 1_0",
+    b"insert",
+    b"insert x 1",
+    b"insert -0 1",
+    b"insert +0",
+    b"insert 18446744073709551616",
+    b"insert 0 x",
+    b"insert 0 +1",
+    b"insert 0 9223372036854775808",
+    b"insert 0 -9223372036854775809",
+    b"insert 0 1 # why",
+    b"Insert 0 1",
+    b"inserts 0",
+    b"insert0 1",
+    b"remove",
+    b"remove 1",
+    b"remove x 1",
+    b"remove 1 x",
+    b"remove 1 2 3",
+    b"remove 1 -0",
+    b"remove -0 1",
+    b"remove 1 +0",
+    b"remove 1:2",
+    b"remove 18446744073709551616 0",
+    b"remove 0 18446744073709551616",
+    b"remove 1 1 # why",
+    b"REMOVE 0 0",
+    b"removes 0 0",
     b"append 0 1, 2",
     b"append 0\r 1",
     b"append 0\r\r",

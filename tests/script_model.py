@@ -11,12 +11,23 @@ class Refused(Exception):
 class Edit(NamedTuple):
     line: int
     name: bytes
-    place: int  # FIRST of an overwrite, COUNT of a truncate
+    places: list  # FIRST, COUNT, or FIRST and LEN
     values: list
 
 
+# How many places follow a name, and whether values may come after them.
+FORMS = {
+    b"overwrite": (1, True),
+    b"append": (0, True),
+    b"truncate": (1, False),
+    b"insert": (1, True),
+    b"remove": (2, False),
+}
+MOST_SAMPLES = 2**32
+
+
 def whole_number(word):
-    """What FIRST and COUNT may be; None for anything else."""
+    """What FIRST, COUNT and LEN may be; None for anything else."""
     if re.fullmatch(rb"[0-9]+", word) and int(word) < 2**64:
         return int(word)
     return None
@@ -31,18 +42,14 @@ def value(word):
 
 def edit_of(number, words):
     """The edit that the words of a line say; None where they say none."""
-    name, rest = words[0], words[1:]
-    place = 0
-    if name in (b"overwrite", b"truncate"):
-        if not rest:
-            return None
-        place, rest = whole_number(rest[0]), rest[1:]
-    elif name != b"append":
+    if words[0] not in FORMS:
         return None
-    if name == b"truncate" and rest:
+    many, has_values = FORMS[words[0]]
+    places = [whole_number(word) for word in words[1 : 1 + many]]
+    values = [value(word) for word in words[1 + many :]]
+    if len(places) < many or None in places + values or (values and not has_values):
         return None
-    values = [value(word) for word in rest]
-    return None if place is None or None in values else Edit(number, name, place, values)
+    return Edit(number, words[0], places, values)
 
 
 def edits_of(script):
@@ -61,21 +68,31 @@ def edits_of(script):
     return edits
 
 
+def exchanged(count, edit):
+    """From which place up to which one an edit of so many samples puts its values in place of what is there."""
+    first = edit.places[0] if edit.places else count
+    if edit.name == b"overwrite":
+        return first, first + len(edit.values)
+    if edit.name == b"truncate":
+        return first, max(first, count)
+    if edit.name == b"remove":
+        return first, first + edit.places[1]
+    return first, first
+
+
 def edited(settings, samples, edits):
     """The samples that the edits leave. The first edit that doesn't fit refuses all."""
     for edit in edits:
-        reach = edit.place + len(edit.values)
-        if edit.name != b"append" and reach > len(samples):
+        first, end = exchanged(len(samples), edit)
+        left = len(samples) - (end - first) + len(edit.values)
+        if end > len(samples):
             raise Refused(f"line {edit.line}: position outside the {len(samples)} samples")
+        if left > MOST_SAMPLES:
+            raise Refused(f"line {edit.line}: more than {MOST_SAMPLES} samples")
         for i, x in enumerate(edit.values):
             if not settings.holds(x):
                 raise Refused(f"line {edit.line}: sample {i} is out of range")
-        if edit.name == b"overwrite":
-            samples = samples[: edit.place] + edit.values + samples[reach:]
-        elif edit.name == b"append":
-            samples = samples + edit.values
-        else:
-            samples = samples[: edit.place]
+        samples = samples[:first] + edit.values + samples[end:]
     return samples
 
 

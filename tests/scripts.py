@@ -67,6 +67,25 @@ def try_lines(program, tally):
     tally.check("lines that say nothing: DEST", program.read("dest"), bytes.fromhex("00 04 40 30 C2 00 08"))
 
 
+def try_long_scripts(program, tally):
+    """A line of very many values, and very many lines of one value each."""
+    values = bytes(i * i % 251 for i in range(10**6))
+    numbers = [b"%d" % x for x in values]
+    front, few = bytes(48), values[: 10**5]
+    at_the_end = b"".join(b"insert %d %d\n" % (i, x) for i, x in enumerate(few))
+    cases = [
+        ("a million values on one line", ZEROS, b"insert 20 " + b" ".join(numbers), front[:20] + values + front[20:]),
+        ("100,000 insertions at the end", b"", at_the_end, few),
+        ("a million values taken out", ZEROS, b"insert 7 " + b" ".join(numbers) + b"\nremove 7 1000000", front),
+    ]
+    for what, source, script, samples in cases:
+        wanted = program.answer([], samples)
+        program.write("script", script)
+        program.write("source", source)
+        tally.check(f"{what}: answer", program.run("--edit", "script", "source", "dest"), said(None))
+        tally.check(f"{what}: DEST", program.read("dest"), wanted)
+
+
 def try_case(seed, number, program, tally):
     chance = random.Random(f"{seed} {number}")
     settings = some_settings(chance)
@@ -125,6 +144,7 @@ def main():
             try_example(example, program, tally)
         try_shared_names(program, tally)
         try_lines(program, tally)
+        try_long_scripts(program, tally)
         for number in asked.numbers:
             try_case(asked.seed, number, program, tally)
         try_options(program, tally)

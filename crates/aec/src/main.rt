@@ -1,30 +1,24 @@
 //! The program `aec`.
 #![tactic(auto)]
 
-use aec_cli::perform;
-use std::io::ErrorKind;
+use aec_cli::{StartFault, fill_if_closed, perform, process_words};
 use std::process::ExitCode;
-use std::{env, io};
 
-// Runs the program on its words. Words that are no text are answered like wrong ones, with 2; want of memory with 1.
+// Runs the program on the words of its process, or prints why it can't.
 fn main(rt: HostRuntime) -> ExitCode {
-    match words(&rt) {
-        Ok(words) => {
-            let status = perform(&rt, rt.alloc(), words, &mut rt.stdout(), &mut rt.stderr());
-            ExitCode::from(status)
+    ExitCode::from(match start(&rt) {
+        Ok(words) => perform(&rt, rt.alloc(), words, &mut rt.stdout(), &mut rt.stderr()),
+        Err(fault) => {
+            let _ = eprintln!(rt; "aec: {fault}");
+            fault.status()
         }
-        Err(error) => {
-            let _ = eprintln!(rt; "aec: {error}");
-            ExitCode::from(if error.kind() == ErrorKind::OutOfMemory {
-                1
-            } else {
-                2
-            })
-        }
-    }
+    })
 }
 
-// The program's name, and the words behind it.
-fn words(rt: &HostRuntime) -> io::Result<Vec<String>> {
-    Ok(env::args(rt)?.collect(rt.alloc())?)
+// The words, once no standard stream is closed.
+fn start(rt: &HostRuntime) -> Result<Vec<String>, StartFault> {
+    fill_if_closed(rt, &rt.stdin())?;
+    fill_if_closed(rt, &rt.stdout())?;
+    fill_if_closed(rt, &rt.stderr())?;
+    process_words(rt)
 }

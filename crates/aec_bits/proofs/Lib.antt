@@ -1,6 +1,7 @@
 pub mod CodewordLaws
 pub mod CodeLaws
 pub mod RefusalLaws
+pub mod WorkedRefusals
 pub mod OctetsLaw
 pub mod CodewordLemmas
 pub mod DeviceLemmas

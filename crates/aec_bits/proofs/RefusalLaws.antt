@@ -4,7 +4,7 @@ use Rattle.std.proofs.lemmas.Bool.{and_parts}
 use Rattle.std.specs.List.{list_all}
 use Rattle.std.proofs.lemmas.Bool.Decides.{nat_tests}
 use Rattle.aec_params.specs.declared.fault.Fault.TheVariants.{SampleRange, TooManySamples, OutOfRange}
-use Rattle.aec_params.specs.declared.edit.Edit.TheVariants.{Overwrite, Append, Truncate}
+use Rattle.aec_params.specs.declared.edit.Edit.TheVariants.{Overwrite, Append, Truncate, Insert, Remove}
 use Rattle.aec_bits.specs.Codec.{Format, AreHeld}
 use Rattle.aec_bits.specs.Refusals.{first_unheld, refusal_of}
 
@@ -73,3 +73,29 @@ append_fits f limit s values held fits = rw (not_past limit (length s + length v
 
 pub truncate_fits : (f : Format) (limit count : ℕ) (s : List ℤ) → count ≤ length s → refusal_of f limit s (Truncate count) ≡ None
 truncate_fits f limit count s fits = rw (not_past (length s) count fits) refl
+
+pub insert_past : (f : Format) (limit first : ℕ) (s values : List ℤ) → length s < first
+    → refusal_of f limit s (Insert first values) ≡ Some (OutOfRange (length s))
+insert_past f limit first s values h = rw (past (length s) first h) refl
+
+pub remove_past : (f : Format) (limit first len : ℕ) (s : List ℤ) → length s < first + len
+    → refusal_of f limit s (Remove first len) ≡ Some (OutOfRange (length s))
+remove_past f limit first len s h = rw (past (length s) (first + len) h) refl
+
+pub insert_past_limit : (f : Format) (limit first : ℕ) (s values : List ℤ) → first ≤ length s → limit < length s + length values
+    → refusal_of f limit s (Insert first values) ≡ Some (TooManySamples limit)
+insert_past_limit f limit first s values within h = rw (not_past (length s) first within, past limit (length s + length values) h) refl
+
+pub insert_first_value : (f : Format) (limit first : ℕ) (s values : List ℤ) (i : ℕ) (d : ℤ) → first ≤ length s → length s + length values ≤ limit
+    → i < length values → AreHeld f (take i values) → f.holds (get_or values i d) ≡ false
+    → refusal_of f limit s (Insert first values) ≡ Some (SampleRange i)
+insert_first_value f limit first s values i d inside fits within held bad =
+    rw (not_past (length s) first inside) (append_first_value f limit s values i d fits within held bad)
+
+pub insert_fits : (f : Format) (limit first : ℕ) (s values : List ℤ) → AreHeld f values → first ≤ length s → length s + length values ≤ limit
+    → refusal_of f limit s (Insert first values) ≡ None
+insert_fits f limit first s values held within fits =
+    rw (not_past (length s) first within) (append_fits f limit s values held fits)
+
+pub remove_fits : (f : Format) (limit first len : ℕ) (s : List ℤ) → first + len ≤ length s → refusal_of f limit s (Remove first len) ≡ None
+remove_fits f limit first len s fits = rw (not_past (length s) (first + len) fits) refl

@@ -1,7 +1,7 @@
 -- What is claimed of codes and refusals, each the contract of a function of laws.rt.
 use Rattle.std.specs.Prelude.{◌≡◌, ℕ, ◌+◌, ◌*◌, ◌<◌, ◌≤◌, Bool, false, Some, None, List, ◌++◌, length, take, drop, ℤ, pos, slice_index_or}
 use Rattle.aec_params.specs.declared.fault.Fault.TheVariants.{SampleRange, TooManySamples, OutOfRange}
-use Rattle.aec_params.specs.declared.edit.Edit.TheVariants.{Overwrite, Append, Truncate}
+use Rattle.aec_params.specs.declared.edit.Edit.TheVariants.{Overwrite, Append, Truncate, Insert, Remove}
 use Rattle.aec_bits.specs.Codec.{Format, AreHeld, IsLawful, code_of}
 use Rattle.aec_bits.specs.Refusals.{refusal_of}
 
@@ -23,28 +23,34 @@ abbrev pub HasOneList : Type 0
 HasOneList = (f : Format) (a b : List ℤ) (x y : List Bool) → IsLawful f → AreHeld f a → AreHeld f b → length a ≡ length b
     → code_of f a ++ x ≡ code_of f b ++ y → (a ≡ b) × (x ≡ y)
 
--- a place past the samples is refused, for an overwrite whatever its values are
+-- a place past the samples is refused, whatever the values are
 abbrev pub JudgesPlacesFirst : Type 0
-JudgesPlacesFirst = (f : Format) (limit first : ℕ) (s values : List ℤ)
+JudgesPlacesFirst = (f : Format) (limit first len : ℕ) (s values : List ℤ)
     → (length s < first + length values → refusal_of f limit s (Overwrite first values) ≡ Some (OutOfRange (length s)))
     × (length s < first → refusal_of f limit s (Truncate first) ≡ Some (OutOfRange (length s)))
+    × (length s < first → refusal_of f limit s (Insert first values) ≡ Some (OutOfRange (length s)))
+    × (length s < first + len → refusal_of f limit s (Remove first len) ≡ Some (OutOfRange (length s)))
 
--- a number of samples past the limit is refused whatever the values are
+-- a number of samples past the limit is refused whatever the values are, for an insertion at a place of the samples
 abbrev pub JudgesTheLimitFirst : Type 0
-JudgesTheLimitFirst = (f : Format) (limit : ℕ) (s values : List ℤ) → limit < length s + length values
-    → refusal_of f limit s (Append values) ≡ Some (TooManySamples limit)
+JudgesTheLimitFirst = (f : Format) (limit first : ℕ) (s values : List ℤ) → limit < length s + length values
+    → (refusal_of f limit s (Append values) ≡ Some (TooManySamples limit))
+    × (first ≤ length s → refusal_of f limit s (Insert first values) ≡ Some (TooManySamples limit))
 
--- an overwrite within the samples and an append within the limit are refused for the first value that is no sample, and for
--- no other
+-- an overwrite within the samples, an append within the limit and an insertion within both are refused for the first value that
+-- is no sample, and for no other
 abbrev pub NamesTheFirstValue : Type 0
 NamesTheFirstValue = (f : Format) (limit first : ℕ) (s values : List ℤ) (i : ℕ) → i < length values → AreHeld f (take i values)
     → f.holds (slice_index_or values i (pos 0)) ≡ false
     → (first + length values ≤ length s → refusal_of f limit s (Overwrite first values) ≡ Some (SampleRange i))
     × (length s + length values ≤ limit → refusal_of f limit s (Append values) ≡ Some (SampleRange i))
+    × (first ≤ length s → length s + length values ≤ limit → refusal_of f limit s (Insert first values) ≡ Some (SampleRange i))
 
 -- an edit whose values are samples, within the limit and the samples present, is not refused
 abbrev pub AllowsWhatFits : Type 0
-AllowsWhatFits = (f : Format) (limit first : ℕ) (s values : List ℤ) → AreHeld f values
+AllowsWhatFits = (f : Format) (limit first len : ℕ) (s values : List ℤ) → AreHeld f values
     → (first + length values ≤ length s → refusal_of f limit s (Overwrite first values) ≡ None)
     × (length s + length values ≤ limit → refusal_of f limit s (Append values) ≡ None)
     × (first ≤ length s → refusal_of f limit s (Truncate first) ≡ None)
+    × (first ≤ length s → length s + length values ≤ limit → refusal_of f limit s (Insert first values) ≡ None)
+    × (first + len ≤ length s → refusal_of f limit s (Remove first len) ≡ None)

@@ -1,6 +1,6 @@
 //! What codes samples, an interval at a time.
 
-ghost use Rattle.std.specs.Prelude.{◌≡◌, ◌+◌, ◌-◌, ◌^◌, ◌≤◌, ◌⊎◌, ◌↔◌, ◌++◌, ℕ, ℤ, List, Err, OnOk, OnErr, IfErr, length};
+ghost use Rattle.std.specs.Prelude.{◌≡◌, ◌+◌, ◌-◌, ◌^◌, ◌⊎◌, ◌↔◌, ◌++◌, ℕ, ℤ, List, Err, OnOk, OnErr, IfErr};
 ghost use Rattle.aec_params.specs.declared.fault.Fault.TheVariants.{Spent, Memory};
 ghost use Rattle.aec_bits.specs.Devices.{counted};
 ghost use Rattle.aec_bits.specs.Codec.{Format, IsLawful, IsInterval, BeginsAt};
@@ -39,7 +39,7 @@ pub trait Codec {
         ensures { result ≡ read self.now };
 
     /// Appends the bits of an interval. `Spent` exactly where `calls` is the greatest number of 64 bits, then `Memory`
-    /// where a growth was refused; the bits and `calls` are then as before. Room that was reserved and not used is still there.
+    /// where a growth was refused; the bits and `calls` are then as before.
     fn code(&mut self, samples: &[i64], out: &mut BitBuf) -> Result<(), Fault>
         requires { IsInterval (format self.old) samples.now }
         ensures ok { OnOk result (out.new.list ≡ out.old.list ++ (format self.old).bits_of samples.now) }
@@ -47,7 +47,6 @@ pub trait Codec {
         ensures spent { (result ≡ Err Spent) ↔ (called self.old ≡ 2 ^ 64 - 1) }
         ensures fault { IfErr result (λ e. (e ≡ Spent) ⊎ (e ≡ Memory)) }
         ensures err { OnErr result (out.new.list ≡ out.old.list) }
-        ensures room { out.old.room + length out.old.list ≤ out.new.room + length out.new.list }
         ensures calls_err { OnErr result (called self.new ≡ called self.old) }
         ensures same_reads { read self.new ≡ read self.old }
         ensures same_format { format self.new ≡ format self.old };

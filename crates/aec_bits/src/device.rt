@@ -1,6 +1,6 @@
 //! Where bytes come from and where they go.
 
-ghost use Rattle.std.specs.Prelude.{◌≡◌, ◌≤◌, ◌<◌, List, ℕ, Option, length, IfOk};
+ghost use Rattle.std.specs.Prelude.{◌≡◌, ◌≤◌, ◌<◌, List, ℕ, Option, None, length, IfOk};
 ghost use Rattle.std.specs.Io.KnownBytes.{Keeps, ReadConsumes, WriteAppends};
 ghost use Rattle.aec_params.specs.declared.fault.Fault.TheVariants.{Read as ReadFault, Write as WriteFault};
 ghost use Rattle.aec_bits.specs.Devices.{FailsOnce, counted};
@@ -38,10 +38,14 @@ pub trait Sink {
     /// How often `begin` has been called, refused calls too, up to the greatest number of 64 bits.
     ghost begun: { Self → ℕ };
 
+    /// What the sink had taken when `begin` was called last, where this kind of sink tells it.
+    ghost mark: { Self → Option (List ℕ) } = { λ _. None };
+
     /// Makes ready for bytes, and takes none. `Write` where the sink fails or has failed.
     fn begin(&mut self) -> Result<(), Fault>
         ensures bytes { Keeps (taken self.old) (taken self.new) }
         ensures count { begun self.new ≡ counted (begun self.old) }
+        ensures order { Keeps (mark self.new) (taken self.old) }
         ensures failure { FailsOnce WriteFault (failed self.old) (failed self.new) result };
 
     /// Takes bytes from the front of the piece. The number of them, which is 0 only for an empty piece. `Write` where
@@ -51,6 +55,7 @@ pub trait Sink {
         ensures progress { IfOk result (λ k. 0 < length piece.now → 0 < k) }
         ensures bytes { WriteAppends (taken self.old) (taken self.new) result piece.now }
         ensures count { begun self.new ≡ begun self.old }
+        ensures order { mark self.new ≡ mark self.old }
         ensures failure { FailsOnce WriteFault (failed self.old) (failed self.new) result };
 
     /// How often the sink has failed: 0, and from the first failure on 1.

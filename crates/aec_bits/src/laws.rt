@@ -107,17 +107,17 @@ pub fn has_one_list()
     ensures { HasOneList }
 {}
 
-/// An overwrite past the samples is refused for its place, whatever its values are; so is a truncate.
+/// An edit at a place past the samples is refused for that, whatever its values are.
 pub fn judges_places_first()
     ensures { JudgesPlacesFirst }
 {}
 
-/// An append past the limit is refused for it, whatever its values are.
+/// An append or an insertion past the limit is refused for it, whatever its values are.
 pub fn judges_the_limit_first()
     ensures { JudgesTheLimitFirst }
 {}
 
-/// An overwrite within the samples and an append within the limit are refused for the first value that is no sample.
+/// An edit within the samples and the limit is refused for its first value that is no sample.
 pub fn names_the_first_value()
     ensures { NamesTheFirstValue }
 {}

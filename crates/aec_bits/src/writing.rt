@@ -20,6 +20,7 @@ impl BitBuf {
         ensures ok { OnOk result (Appends (W.taken out.old) (W.taken out.new) (bytes_of self.now.list)) }
         ensures front { OnErr result (AppendsFront (W.taken out.old) (W.taken out.new) (bytes_of self.now.list)) }
         ensures begun { W.begun out.new ≡ W.begun out.old }
+        ensures order { W.mark out.new ≡ W.mark out.old }
         ensures fault { IfErr result (λ e. (e ≡ WriteFault) × (W.failed out.new ≡ 1)) }
         ensures failures { OnOk result (W.failed out.new ≡ W.failed out.old) }
         ensures refuses { OnOk result (0 < length self.now.list → W.failed out.old ≡ 0) }
@@ -68,6 +69,7 @@ pub fn put_all<W: Sink>(out: &mut W, piece: &[u8]) -> Result<(), Fault>
     ensures ok { OnOk result (Appends (W.taken out.old) (W.taken out.new) piece.now) }
     ensures front { OnErr result (AppendsFront (W.taken out.old) (W.taken out.new) piece.now) }
     ensures begun { W.begun out.new ≡ W.begun out.old }
+    ensures order { W.mark out.new ≡ W.mark out.old }
     ensures fault { IfErr result (λ e. (e ≡ WriteFault) × (W.failed out.new ≡ 1)) }
     ensures failures { OnOk result (W.failed out.new ≡ W.failed out.old) }
     ensures refuses { OnOk result (0 < length piece.now → W.failed out.old ≡ 0) }

@@ -37,10 +37,10 @@ struct Edits {
 }
 
 impl Edits {
-    fn new(alloc: Global, text: &str) -> Result<Edits, Fault> {
+    fn new(alloc: Global, limit: u32, text: &str) -> Result<Edits, Fault> {
         let codec = AecCodec::new(alloc, Params::new(Settings::USUAL)?);
         Ok(Edits {
-            work: Workspace::new(alloc, codec, 48),
+            work: Workspace::new(alloc, codec, u64::from(limit)),
             edits: script(alloc, text.as_bytes())?.edits,
             coded: 0,
             part: Vec::new(alloc),
@@ -110,17 +110,18 @@ impl Trial for Runs {
     }
 }
 
-// A script, and the edits and lines that it has.
+// A script, and the edits and lines that were read of it.
 #[derive(Drop)]
-struct Scripts {
+struct Scripts<'a> {
+    text: &'a str,
     edits: Vec<Edit>,
     lines: Vec<u64>,
     alloc: Global,
 }
 
-impl Trial for Scripts {
+impl<'a> Trial for Scripts<'a> {
     fn call(&mut self, _number: usize) -> Result<(), Fault> {
-        let script = script(self.alloc, b"# p\noverwrite 20 1 -2\nappend\ntruncate 5")?;
+        let script = script(self.alloc, self.text.as_bytes())?;
         self.edits = script.edits;
         self.lines = script.lines;
         Ok(())
@@ -140,6 +141,13 @@ impl Trial for Scripts {
                 Edit::Truncate { count } => {
                     let _ = print!(rt; " {line}: truncate {count}");
                 }
+                Edit::Insert { first, values } => {
+                    let _ = print!(rt; " {line}: insert {first}");
+                    print_samples(rt, values.as_slice());
+                }
+                Edit::Remove { first, len } => {
+                    let _ = print!(rt; " {line}: remove {first} {len}");
+                }
             };
         }
     }
@@ -154,6 +162,17 @@ overwrite 48
 append 0
 overwrite 20 1";
 
+// Forty-eight zeros and sixteen more between these; one zero, so that four intervals are coded; then a removal of whole intervals,
+// and one of less.
+const MOVED_ZEROS: &str = "\
+append 0 0 0 0 0 0 0 0 0 0 0 0 0 0 0 0 0 0 0 0 0 0 0 0 0 0 0 0 0 0 0 0 0 0 0 0 0 0 0 0 0 0 0 0 0 0 0 0
+insert 16 0 0 0 0 0 0 0 0 0 0 0 0 0 0 0 0
+insert 20 0
+insert 0 0
+remove 8 16
+remove 20 3
+remove 0 16";
+
 const SEVENS: &str = "append 7 7 7 7 7\nappend 7 7 7 8\ntruncate 5";
 
 const SPENT: &str = "\
@@ -163,6 +182,16 @@ overwrite 0 1
 truncate 0";
 
 const APPLY: &str = "Workspace::apply";
+
+const EDITED: [(usize, &str); 7] = [
+    (0, APPLY),
+    (1, APPLY),
+    (2, APPLY),
+    (3, APPLY),
+    (4, APPLY),
+    (5, APPLY),
+    (6, APPLY),
+];
 
 const ZEROS_EDITED: [(usize, &str); 7] = [
     (0, APPLY),
@@ -174,18 +203,29 @@ const ZEROS_EDITED: [(usize, &str); 7] = [
     (6, "Workspace::range"),
 ];
 
-/// Edits one by one, a range, a run, and a script.
+const LINES: &str = "# p\noverwrite 20 1 -2\nappend\ntruncate 5";
+
+const MOVING_LINES: &str = "insert 3 1 -2\nremove 4 5\ninsert 0";
+
+/// Edits one by one, a range, a run, and scripts.
 pub fn try_edits<R: Print + Eprint>(rt: &R, alloc: Global) -> Result<(), Fault> {
-    try_calls(rt, &ZEROS_EDITED, &mut Edits::new(alloc, ZEROS)?);
-    try_calls(rt, &ZEROS_EDITED[..3], &mut Edits::new(alloc, SEVENS)?);
+    try_calls(rt, &ZEROS_EDITED, &mut Edits::new(alloc, 48, ZEROS)?);
+    try_calls(rt, &EDITED[..3], &mut Edits::new(alloc, 48, SEVENS)?);
+    try_calls(rt, &EDITED, &mut Edits::new(alloc, 65, MOVED_ZEROS)?);
     try_runs(rt, alloc)?;
+    try_script(rt, alloc, LINES);
+    try_script(rt, alloc, MOVING_LINES);
+    Ok(())
+}
+
+fn try_script<R: Print + Eprint>(rt: &R, alloc: Global, text: &str) {
     let mut scripts = Scripts {
+        text,
         edits: Vec::new(alloc),
         lines: Vec::new(alloc),
         alloc,
     };
     try_calls(rt, &[(0, "script")], &mut scripts);
-    Ok(())
 }
 
 fn try_runs<R: Print + Eprint>(rt: &R, alloc: Global) -> Result<(), Fault> {

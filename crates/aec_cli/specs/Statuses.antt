@@ -12,6 +12,8 @@ use Rattle.aec_cli.specs.declared.usage.Usage.{Usage}
 use Rattle.aec_cli.specs.declared.usage.Usage.TheVariants.{Jobs, Count, Range, Setting, Memory}
 use Rattle.aec_cli.specs.declared.failure.Failure.{Failure}
 use Rattle.aec_cli.specs.declared.failure.Failure.TheVariants as failure
+use Rattle.aec_cli.specs.declared.start.StartFault.{StartFault}
+use Rattle.aec_cli.specs.declared.start.StartFault.TheVariants as start
 
 -- words that make no job: 2; but want of memory is no fault of the words
 abbrev pub usage_status : Usage → ℕ
@@ -26,6 +28,18 @@ abbrev pub status_of : Failure → ℕ
 status_of (failure.Usage usage) = usage_status usage
 status_of (failure.Fault fault) = 1
 status_of (failure.Edit fault) = 1
+
+-- where a process begins no run: 2 for words that are no text, and else 1
+abbrev pub start_status : StartFault → ℕ
+start_status start.Stream = 1
+start_status start.Words = 2
+start_status start.Memory = 1
+
+-- faults that have to do with the words: one is no text, or memory for them is wanting
+abbrev pub ConcernsWords : StartFault → Type 0
+ConcernsWords start.Stream = ⊥
+ConcernsWords start.Words = Unit {0}
+ConcernsWords start.Memory = Unit {0}
 
 -- where a parse gives no matches: 0 for what was asked for, 1 for want of memory, and else 2
 abbrev pub parse_status : ErrorKind → ℕ

@@ -171,6 +171,7 @@ impl<'a, F: Files> Sink for DestSink<'a, F> {
         ensures progress { IfOk result (λ k. 0 < length piece.now → 0 < k) }
         ensures bytes { WriteAppends (⟦<DestSink<'a, F> as Sink>⟧.taken self.old) (⟦<DestSink<'a, F> as Sink>⟧.taken self.new) result piece.now }
         ensures count { ⟦<DestSink<'a, F> as Sink>⟧.begun self.new ≡ ⟦<DestSink<'a, F> as Sink>⟧.begun self.old }
+        ensures order { ⟦<DestSink<'a, F> as Sink>⟧.mark self.new ≡ ⟦<DestSink<'a, F> as Sink>⟧.mark self.old }
         ensures failure { FailsOnce WriteFault (⟦<DestSink<'a, F> as Sink>⟧.failed self.old) (⟦<DestSink<'a, F> as Sink>⟧.failed self.new) result }
         ensures unbegun { ⟦<DestSink<'a, F> as Sink>⟧.begun self.old ≡ 0 → IsErr result }
     {

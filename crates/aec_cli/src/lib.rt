@@ -1,20 +1,22 @@
-//! The command `aec`: its words, its job, the files that it reads and writes, and one whole run.
+//! The command `aec`: its process, its words, its job, the files that it reads and writes, and one whole run.
 #![tactic(auto)]
 
 mod failure;
 mod files;
 mod job;
 mod program;
+mod start;
 mod usage;
 mod words;
 
 pub use aec_engine::{
-    Decoded, EditFault, Script, decode, decode_bytes, decode_edited, edit, encode, encode_bytes,
-    laws, range, script,
+    Decoded, EditFault, Script, decode, decode_bytes, decode_edited, edit, edit_over, encode,
+    encode_bytes, laws, range, script,
 };
 pub use failure::{Failure, status};
 pub use files::{DestSink, FileSource};
 pub use job::{Action, Job, settings};
 pub use program::perform;
+pub use start::{StartFault, fill_if_closed, process_words};
 pub use usage::Usage;
 pub use words::{command, parse};

@@ -70,7 +70,7 @@ fn act<R: Source, W: Sink>(
 ) -> Result<(), Fault>
     requires { HasNoScript action }
     ensures { let took : Taking = taking_of R.left R.failed source.old source.new in
-        let put : Putting = putting_of W.taken W.begun W.failed sink.old sink.new in
+        let put : Putting = putting_of W.taken W.begun W.mark W.failed sink.old sink.new in
         let enough : List ℕ → Bool = are_enough action params.now program_caps in
         Leaves (IsAnswerOf action params.now program_caps) took enough put result }
 {
@@ -95,7 +95,7 @@ fn act_by_script<Q: Source, R: Source, W: Sink>(
 ) -> Result<(), EditFault>
     ensures { let read : Taking = taking_of Q.left Q.failed from.old from.new in
         let took : Taking = taking_of R.left R.failed source.old source.new in
-        let put : Putting = putting_of W.taken W.begun W.failed sink.old sink.new in
+        let put : Putting = putting_of W.taken W.begun W.mark W.failed sink.old sink.new in
         LeavesEdited params.now program_caps count read took put result }
 {
     edit(alloc, params, limits(), count, from, source, sink)

@@ -1,12 +1,12 @@
 -- Calls that are left, and what an exchange answers.
-use Rattle.std.proofs.Common.{◌≡◌, ℕ, ◌+◌, ◌-◌, ◌/◌, ◌^◌, ◌<◌, ◌≤◌, Some, None, List, length, ℤ, refl, arith}
+use Rattle.std.proofs.Common.{◌≡◌, ℕ, ◌+◌, ◌-◌, ◌/◌, ◌^◌, ◌<◌, ◌≤◌, Some, None, List, ℤ, refl, arith}
 use Rattle.std.specs.Int.{div_ceil}
 use Rattle.std.proofs.lemmas.Bool.Decides.{nat_tests}
 use Rattle.aec_params.specs.declared.fault.Fault.{Fault}
 use Rattle.aec_params.specs.declared.fault.Fault.TheVariants.{Memory, Spent}
 use Rattle.aec_bits.specs.Codec.{Format}
 use Rattle.aec_edit.specs.Calls.{want_of_calls}
-use Rattle.aec_edit.specs.Changes.{IsRecoding, IsNotExchanged, recoded, exchange_calls}
+use Rattle.aec_edit.specs.Changes.{IsNotExchanged, recoded, exchange_calls}
 
 pub calls_left : (calls needed : ℕ) → needed ≤ 2 ^ 64 - 1 - calls → want_of_calls calls needed ≡ None
 calls_left calls needed enough = grind (arith, nat_tests)
@@ -25,16 +25,6 @@ lacks_memory needed calls after fault enough fault_is some least most =
     rw (calls_left calls needed enough) (record { fault_is = fault_is; some = some; stays = least; few = most })
 
 -- a recoding under other names
-pub recoding_at : (f g : Format) (limit limit' from from' to to' : ℕ) (s s' fresh fresh' : List ℤ) → g ≡ f → limit' ≡ limit → from' ≡ from → to' ≡ to
-    → s' ≡ s → fresh' ≡ fresh → IsRecoding f limit s from to fresh → IsRecoding g limit' s' from' to' fresh'
-recoding_at f g limit limit' from from' to to' s s' fresh fresh' format_is limit_is from_is to_is s_is fresh_is fits =
-    rw (format_is, limit_is, from_is, to_is, s_is, fresh_is) fits
-
 pub recoded_at : (f g : Format) (from from' to to' : ℕ) (s s' fresh fresh' : List ℤ) → g ≡ f → from' ≡ from → to' ≡ to
     → s' ≡ s → fresh' ≡ fresh → recoded g from' to' fresh' s' ≡ recoded f from to fresh s
 recoded_at f g from from' to to' s s' fresh fresh' format_is from_is to_is s_is fresh_is = rw (format_is, from_is, to_is, s_is, fresh_is) refl
-
--- how many intervals samples fill, under other names
-pub count_at : (f g : Format) (fresh fresh' : List ℤ) (k : ℕ) → g ≡ f → fresh' ≡ fresh → div_ceil (length fresh) f.most ≡ k
-    → div_ceil (length fresh') g.most ≡ k
-count_at f g fresh fresh' k format_is fresh_is count = rw (format_is, fresh_is) count

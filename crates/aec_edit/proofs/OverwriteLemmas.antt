@@ -30,7 +30,7 @@ ceil_last m n h some =
     let product : ((m - 1) / n + 1) * n ≡ (m - 1) / n * n + n = omega arith in
     ceil_unique m n ((m - 1) / n + 1) (omega (arith, begins.1)) (omega (arith, begins.0))
 
-last_after : (n first len : ℕ) → 0 < n → 0 < len → first / n ≤ (first + len - 1) / n
+pub last_after : (n first len : ℕ) → 0 < n → 0 < len → first / n ≤ (first + len - 1) / n
 last_after n first len h some = le-div (first / n) (first + len - 1) n h (omega (arith, (begins_before first n h).0))
 
 pub overwrite_calls : (n first len : ℕ) → 0 < n → 0 < len → exchange_calls n first len ≡ length (touched_intervals n first len)

@@ -22,7 +22,7 @@ module _ (f : Format) (limit from to : ℕ) (s fresh : List ℤ) (lawful : IsLaw
             ap (λ l. code_of f (fresh ++ l)) (drop_all (to * f.most) s past) ∙ ap (code_of f) (append-nil fresh)
             ∙ sym (ap (λ l. code_of f fresh ++ code_of f l) (drop_all (to * f.most) s past) ∙ ap (λ l. code_of f fresh ++ l) (code_of-nil f lawful.some)
             ∙ append-nil (code_of f fresh))
-        | inr whole ↦ code_of-append f (to - from) fresh (drop (to * f.most) s) lawful.some whole
+        | inr whole ↦ code_of-append f whole.0 fresh (drop (to * f.most) s) lawful.some whole.1
       ]
 
   fresh_starts : (place : ℕ) → starts_of f place (fresh ++ drop (to * f.most) s) ≡ starts_of f place fresh ++ starts_of f (place + length
@@ -33,7 +33,7 @@ module _ (f : Format) (limit from to : ℕ) (s fresh : List ℤ) (lawful : IsLaw
             ap (λ l. starts_of f place (fresh ++ l)) (drop_all (to * f.most) s past) ∙ ap (starts_of f place) (append-nil fresh)
             ∙ sym (ap (λ l. starts_of f place fresh ++ starts_of f (place + length (code_of f fresh)) l) (drop_all (to * f.most) s past)
             ∙ ap (λ l. starts_of f place fresh ++ l) (starts_of-nil f (place + length (code_of f fresh)) lawful.some) ∙ append-nil (starts_of f place fresh))
-        | inr whole ↦ starts_of-append f place (to - from) fresh (drop (to * f.most) s) lawful.some whole
+        | inr whole ↦ starts_of-append f place whole.0 fresh (drop (to * f.most) s) lawful.some whole.1
       ]
 
   recoded_code : code_of f (recoded f from to fresh s) ≡ code_of f (take (from * f.most) s) ++ (code_of f fresh ++ code_of f (drop (to * f.most) s))

@@ -8,7 +8,7 @@ use Rattle.std.proofs.lemmas.List.Folds.{list_all-append}
 use Rattle.aec_params.specs.declared.fault.Fault.{Fault}
 use Rattle.aec_params.specs.declared.fault.Fault.TheVariants.{SampleRange, TooManySamples, OutOfRange, Spent, Memory}
 use Rattle.aec_params.specs.declared.edit.Edit.{Edit}
-use Rattle.aec_params.specs.declared.edit.Edit.TheVariants.{Overwrite, Append, Truncate}
+use Rattle.aec_params.specs.declared.edit.Edit.TheVariants.{Overwrite, Append, Truncate, Insert, Remove}
 use Rattle.aec_params.specs.Edits.{needed_calls, samples_after}
 use Rattle.aec_bits.specs.Codec.{Format, AreHeld}
 use Rattle.aec_bits.specs.Refusals.{refusal_of, first_unheld, values_refusal}
@@ -70,6 +70,12 @@ refusal_no_want f limit s (Append values) =
     chosen_no_want (ltb limit (length s + length values)) (Some (TooManySamples limit)) (values_refusal f values) (λ e. cc) (values_no_want
     (first_unheld f.holds 0 values))
 refusal_no_want f limit s (Truncate count) = chosen_no_want (ltb (length s) count) (Some (OutOfRange (length s))) None (λ e. cc) tt
+refusal_no_want f limit s (Insert first values) =
+    chosen_no_want (ltb (length s) first) (Some (OutOfRange (length s)))
+    (cond (ltb limit (length s + length values)) (Some (TooManySamples limit)) (values_refusal f values)) (λ e. cc)
+    (chosen_no_want (ltb limit (length s + length values)) (Some (TooManySamples limit)) (values_refusal f values) (λ e. cc) (values_no_want
+    (first_unheld f.holds 0 values)))
+refusal_no_want f limit s (Remove first len) = chosen_no_want (ltb (length s) (first + len)) (Some (OutOfRange (length s))) None (λ e. cc) tt
 
 -- what is due for an edit is never want of memory
 due_no_want : (f : Format) (limit : ℕ) (s : List ℤ) (calls : ℕ) (e : Edit) → IsNoWant (due_refusal f limit s calls e)
@@ -202,6 +208,10 @@ fits_at : (b : Bool) (fault : Fault) → cond b (Some fault) None ≡ None → b
 fits_at true fault h = cc
 fits_at false fault h = refl
 
+fits_first : (b : Bool) (fault : Fault) (rest : Option Fault) → cond b (Some fault) rest ≡ None → rest ≡ None
+fits_first true fault rest h = cc
+fits_first false fault rest h = h
+
 no_refusal : (x y : Option Fault) → option_or x y ≡ None → x ≡ None
 no_refusal None y h = refl
 no_refusal (Some fault) y h = h
@@ -230,6 +240,25 @@ samples_after-within f limit s (Append values) h within =
     (held_joined f.holds s values within.0 (none_found f.holds 0 values fits.1), omega (arith, length-append s values))
 samples_after-within f limit s (Truncate count) h within =
     (held_front f.holds count s within.0, omega (arith, within.1, length-take count s))
+samples_after-within f limit s (Insert first values) h within =
+    let later = fits_first (ltb (length s) first) (OutOfRange (length s)) (cond (ltb limit (length s + length values)) (Some (TooManySamples limit))
+    (values_refusal f values)) h in
+    let fits = fits_by (ltb limit (length s + length values)) (TooManySamples limit) (first_unheld f.holds 0 values) later in
+    let few = ltb-false limit (length s + length values) fits.0 in (
+      held_joined f.holds (take first s) (values ++ drop first s) (held_front f.holds first s within.0)
+          (held_joined f.holds values (drop first s) (none_found f.holds 0 values fits.1) (held_rest f.holds first s within.0)),
+      omega (
+        arith,
+        length-append (take first s) (values ++ drop first s),
+        length-append values (drop first s),
+        length-take first s,
+        length-drop first s,
+      ),
+    )
+samples_after-within f limit s (Remove first len) h within = (
+  held_joined f.holds (take first s) (drop (first + len) s) (held_front f.holds first s within.0) (held_rest f.holds (first + len) s within.0),
+  omega (arith, within.1, length-append (take first s) (drop (first + len) s), length-take first s, length-drop (first + len) s),
+)
 
 pub samples_left-within : (f : Format) (limit : ℕ) (s : List ℤ) (calls : ℕ) (e : Edit) (o : Outcome) (after : ℕ)
     → Answers f limit s calls e o after → AreWithin f limit s → AreWithin f limit (samples_left s e o)

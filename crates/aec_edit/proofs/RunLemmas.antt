@@ -73,7 +73,7 @@ HasAdded-none f limit s calls reads before =
       };
     }
 
-HasRun-more : (f : Format) (limit : ℕ) (s : List ℤ) (calls reads : ℕ) (edits : List Edit) (edit : Edit) (done : List Outcome) (outcome : Outcome)
+pub HasRun-more : (f : Format) (limit : ℕ) (s : List ℤ) (calls reads : ℕ) (edits : List Edit) (edit : Edit) (done : List Outcome) (outcome : Outcome)
     (left next : List ℤ) (after last reads_after reads_last : ℕ) → HasRun f limit s calls reads edits done left after reads_after
     → Answers f limit left after edit outcome last → next ≡ samples_left left edit outcome
     → RisesAtMost (opened_at_most f limit left after edit) reads_after reads_last

@@ -1,12 +1,14 @@
 -- What the private functions do to the samples: places are exchanged for values, and for that intervals for fresh samples.
-use Rattle.std.specs.Prelude.{◌≡◌, ℕ, ◌+◌, ◌-◌, ◌*◌, ◌/◌, ◌≤◌, ◌⊎◌, min, Bool, ◌||◌, ◌&&◌}
+use Rattle.std.specs.Prelude.{◌≡◌, ℕ, ◌+◌, ◌-◌, ◌*◌, ◌/◌, ◌%◌, ◌≤◌, ◌⊎◌, min, Bool, ◌||◌, ◌&&◌}
 use Rattle.std.specs.Prelude.{nat_lt, ◌==◌, if◌then◌else◌, None, MatchOption, is_some, List, [], ◌++◌, length, take, drop, ℤ}
 use Rattle.std.specs.Int.{div_ceil}
-use Rattle.aec_bits.specs.Codec.{Format, AreHeld}
+use Rattle.aec_bits.specs.Codec.{Format, AreHeld, code_of}
 use Rattle.aec_params.specs.declared.fault.Fault.{Fault}
 use Rattle.aec_edit.specs.Workspace.{interval_count}
 use Rattle.aec_edit.specs.Calls.{want_of_calls}
 use Rattle.aec_edit.specs.Steps.{LacksMemory}
+use Rattle.aec_edit.specs.Index.{starts_of}
+use Rattle.aec_edit.specs.Fresh.{to_come}
 
 -- the samples with the places from first up to stop exchanged for values
 abbrev pub exchanged : ℕ → ℕ → List ℤ → List ℤ → List ℤ
@@ -28,13 +30,13 @@ exchange_calls n first len = div_ceil (first + len) n - first / n
 abbrev pub recoded : Format → ℕ → ℕ → List ℤ → List ℤ → List ℤ
 recoded f from to fresh s = exchanged (from * f.most) (to * f.most) fresh s
 
--- intervals that can be exchanged: the fresh samples fill whole intervals, or reach the end
+-- intervals that can be exchanged: the fresh samples fill whole intervals, as many as they like, or reach the end
 pub record IsRecoding (f : Format) (limit : ℕ) (s : List ℤ) (from to : ℕ) (fresh : List ℤ) : Type 0 where
   pub order : from ≤ to
   pub within : to ≤ interval_count f s
   pub begins : from * f.most ≤ length s
   pub held : AreHeld f fresh
-  pub fitting : (length s ≤ to * f.most) ⊎ (length fresh ≡ (to - from) * f.most)
+  pub fitting : (length s ≤ to * f.most) ⊎ ((k : ℕ) × (length fresh ≡ k * f.most))
   pub few : from * f.most + length fresh + (length s - to * f.most) ≤ limit
 
 -- what the interval of a place keeps in front of it
@@ -86,3 +88,45 @@ IsNotExchanged needed calls fault after =
 -- how many intervals it may decode
 abbrev pub opened_by : ℕ → ℕ → ℕ → ℕ
 opened_by needed calls opened = if is_some (want_of_calls calls needed) then 0 else opened
+
+-- ---- any exchange, of which the intervals up to number to are coded anew
+
+-- the places of the intervals up to number to that are kept
+abbrev pub kept_behind : ℕ → ℕ → ℕ → ℕ → ℕ
+kept_behind n count stop to = min count (to * n) - stop
+
+-- how many samples it codes, and how many intervals
+abbrev pub fresh_total : ℕ → ℕ → ℕ → ℕ → ℕ → ℕ → ℕ
+fresh_total n count first stop to len = first % n + (len + kept_behind n count stop to)
+
+abbrev pub recoding_calls : ℕ → ℕ → ℕ → ℕ → ℕ → ℕ → ℕ
+recoding_calls n count first stop to len = div_ceil (fresh_total n count first stop to len) n
+
+-- how many it decodes
+abbrev pub recoding_openings : ℕ → ℕ → ℕ → ℕ → ℕ → ℕ
+recoding_openings n count first stop to = opened_ends n count first stop + (to - div_ceil stop n)
+
+-- the samples that it codes
+abbrev pub fresh_of : ℕ → List ℤ → ℕ → ℕ → ℕ → List ℤ → List ℤ
+fresh_of n s first stop to values = to_come n s (head_of n first s) values (tail_of n stop s) (div_ceil stop n) to
+
+-- an exchange that a workspace can make so: what is coded fills whole intervals, or reaches the end
+pub record IsExchangeUpTo (f : Format) (limit : ℕ) (s : List ℤ) (first stop to : ℕ) (values : List ℤ) : Type 0 where
+  pub order : first ≤ stop
+  pub within : stop ≤ length s
+  pub reaches : div_ceil stop f.most ≤ to
+  pub inside : to ≤ interval_count f s
+  pub held : AreHeld f values
+  pub fitting : (length s ≤ to * f.most) ⊎ ((k : ℕ) × (fresh_total f.most (length s) first stop to (length values) ≡ k * f.most))
+  pub few : first + length values + (length s - stop) ≤ limit
+
+-- bits, starts and a count that are the code of fresh samples for the intervals from number from up to number to
+pub record IsCodeFor (f : Format) (limit : ℕ) (s : List ℤ) (from to : ℕ) (bits : List Bool) (starts : List ℕ) (count : ℕ) (fresh : List ℤ) : Type 0 where
+  pub recoding : IsRecoding f limit s from to fresh
+  pub bits_are : bits ≡ code_of f fresh
+  pub starts_are : starts ≡ starts_of f 0 fresh
+  pub count_is : count ≡ length fresh
+
+-- where the intervals end that an insertion of len samples codes: at the end of the one that is cut where they are whole intervals
+abbrev pub recoded_end : ℕ → ℕ → ℕ → ℕ → ℕ
+recoded_end n count first len = if len % n == 0 then div_ceil first n else div_ceil count n

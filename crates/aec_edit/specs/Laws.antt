@@ -1,10 +1,10 @@
 -- What the definitions of edits and runs were meant to say, each the contract of a function of laws.rt.
-use Rattle.std.specs.Prelude.{◌≡◌, ◌≢◌, ℕ, ◌+◌, ◌*◌, ◌^◌, ◌<◌, ◌≤◌, None, List, [], ◌∷◌, ◌++◌, length, ℤ}
+use Rattle.std.specs.Prelude.{◌≡◌, ◌≢◌, ℕ, ◌+◌, ◌-◌, ◌*◌, ◌^◌, ◌<◌, ◌≤◌, None, List, [], ◌∷◌, ◌++◌, length, ℤ}
 use Rattle.std.specs.List.{AllByRecursion}
 use Rattle.aec_params.specs.declared.fault.Fault.{Fault}
 use Rattle.aec_params.specs.declared.fault.Fault.TheVariants.{Memory}
 use Rattle.aec_params.specs.declared.edit.Edit.{Edit}
-use Rattle.aec_params.specs.declared.edit.Edit.TheVariants.{Overwrite, Append, Truncate}
+use Rattle.aec_params.specs.declared.edit.Edit.TheVariants.{Overwrite, Append, Truncate, Insert, Remove}
 use Rattle.aec_params.specs.declared.samples.Samples.{Samples}
 use Rattle.aec_params.specs.Edits.{touched_intervals, needed_calls}
 use Rattle.aec_bits.specs.Codec.{Format, AreHeld}
@@ -27,12 +27,17 @@ abbrev pub RefusedEditsChangeNothing : Type 0
 RefusedEditsChangeNothing = (f : Format) (limit : ℕ) (s : List ℤ) (calls : ℕ) (e : Edit) (fault : Fault) (after : ℕ)
     → Answers f limit s calls e (Refused fault) after → (samples_left s e (Refused fault) ≡ s) × (fault ≢ Memory → after ≡ calls)
 
--- edits that code nothing: those of no values, and a cut to the samples that are there or to whole intervals
+-- edits that code nothing: those of no values or no places, a cut to the samples that are there or to whole intervals, and a removal
+-- of whole intervals or from the beginning of one to the end
 pub record CodesNothing (n old : ℕ) : Type 0 where
   pub overwrite : (first : ℕ) → needed_calls n old (Overwrite first []) ≡ 0
   pub append : needed_calls n old (Append []) ≡ 0
   pub keep : needed_calls n old (Truncate old) ≡ 0
   pub cut : (k : ℕ) → needed_calls n old (Truncate (k * n)) ≡ 0
+  pub insert : (first : ℕ) → needed_calls n old (Insert first []) ≡ 0
+  pub remove : (first : ℕ) → needed_calls n old (Remove first 0) ≡ 0
+  pub remove_whole : (k j : ℕ) → needed_calls n old (Remove (k * n) (j * n)) ≡ 0
+  pub remove_rest : (k : ℕ) → k * n ≤ old → needed_calls n old (Remove (k * n) (old - k * n)) ≡ 0
 
 -- an edit that codes nothing and fits is made, whatever memory there is
 abbrev pub IsAlwaysMade : Type 0

@@ -2,6 +2,8 @@ pub mod Workspace
 pub mod Calls
 pub mod Steps
 pub mod Index
+pub mod Fresh
 pub mod Changes
 pub mod Runs
+pub mod Stops
 pub mod Laws

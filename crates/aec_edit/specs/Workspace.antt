@@ -1,7 +1,8 @@
 -- A workspace as its callers see it.
-use Rattle.std.specs.Prelude.{ℕ, ◌*◌, ℤ, List, length, take}
+use Rattle.std.specs.Prelude.{◌≡◌, ℕ, ◌*◌, Bool, ℤ, List, ◌++◌, length, take}
 use Rattle.std.specs.Int.{div_ceil}
-use Rattle.aec_bits.specs.Codec.{Format, code_of}
+use Rattle.aec_params.specs.Codewords.{bits_of_bytes}
+use Rattle.aec_bits.specs.Codec.{Format, AreHeld, code_of}
 
 -- the samples, the most of them that there may be, and the codec with its counts of calls
 pub record Contents (C : Type 0) : Type 0 where
@@ -16,3 +17,11 @@ interval_count f s = div_ceil (length s) f.most
 -- where interval i begins in the code of samples: after the code of the samples before it
 abbrev pub start_of : Format → List ℤ → ℕ → ℕ
 start_of f s i = length (code_of f (take (i * f.most) s))
+
+-- bytes have one reading with so many samples: their bits begin with the code of these held samples, whatever follows, and with that of
+-- no other held list of so many
+pub record HasOneReading (f : Format) (bytes : List ℕ) (samples : List ℤ) : Type 0 where
+  pub held : AreHeld f samples
+  pub begins : (rest : List Bool) × (bits_of_bytes bytes ≡ code_of f samples ++ rest)
+  pub only : (others : List ℤ) (rest : List Bool) → AreHeld f others → length others ≡ length samples
+      → bits_of_bytes bytes ≡ code_of f others ++ rest → others ≡ samples

@@ -7,6 +7,7 @@ ghost use Rattle.aec_params.specs.Codewords.{bytes_of};
 ghost use Rattle.aec_bits.specs.Codec.{code_of};
 ghost use Rattle.aec_bits.specs.Devices.{AppendsFront};
 ghost use Rattle.aec_edit.specs.Runs.{AnswersAll, all_left};
+ghost use Rattle.aec_edit.specs.Workspace.{HasOneReading};
 ghost use Rattle.aec_edit.specs.declared.outcome.Outcome.{Outcome as OutcomeOf};
 
 use crate::outcome::Outcome;
@@ -32,7 +33,7 @@ pub struct Edited {
 ///
 /// Each edit is answered as the definition says for the samples and the calls that those before it have left. What is
 /// written is, bit for bit, the code of the samples that the accepted edits leave; read with its count it gives these
-/// samples. `Memory` where there is no room for the outcomes or for the samples that are read, but not for no edits; nothing was
+/// samples and no others. `Memory` where there is no room for the outcomes or for the samples that are read, but not for no edits; nothing was
 /// written then.
 /// `Write` where the sink fails, which has then taken the front of the stream.
 pub fn write_edited<C: Codec + Drop, W: Sink>(
@@ -50,6 +51,8 @@ pub fn write_edited<C: Codec + Drop, W: Sink>(
     ensures bits { IfOk result (λ edited. let left = all_left [] edits.now edited.outcomes.items in
         edited.bits ≡ length (code_of (C.format codec) left)) }
     ensures samples { IfOk result (λ edited. edited.samples.items ≡ all_left [] edits.now edited.outcomes.items) }
+    ensures reading { IfOk result (λ edited. let left = all_left [] edits.now edited.outcomes.items in
+        HasOneReading (C.format codec) (bytes_of (code_of (C.format codec) left)) edited.samples.items) }
     ensures refuses { IfErr result (λ fault. (fault ≡ Memory) ⊎ (fault ≡ WriteFault)) }
     ensures memory { result ≡ Err Memory → (0 < length edits.now) × Keeps (W.taken sink.old) (W.taken sink.new) }
     ensures front { result ≡ Err WriteFault → (W.failed sink.new ≡ 1) × ((done : List OutcomeOf) × (calls : ℕ)
@@ -89,6 +92,8 @@ fn edit_from_nothing<C: Codec + Drop>(
 /// All samples of a workspace, read back out of their code. `Memory` where a growth was refused, but not for no samples.
 fn read_back<C: Codec>(alloc: Global, workspace: &mut Workspace<C>) -> Result<Vec<i64>, Fault>
     ensures ok { IfOk result (λ samples. samples.items ≡ workspace.old.samples) }
+    ensures reading { IfOk result (λ samples. HasOneReading (C.format workspace.old.codec)
+        (bytes_of (code_of (C.format workspace.old.codec) workspace.old.samples)) samples.items) }
     ensures fault { IfErr result (λ e. (e ≡ Memory) × (0 < length workspace.old.samples)) }
     ensures samples { workspace.new.samples ≡ workspace.old.samples }
     ensures calls { C.called workspace.new.codec ≡ C.called workspace.old.codec }

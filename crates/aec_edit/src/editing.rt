@@ -5,15 +5,14 @@ use aec_bits::Codec;
 use aec_params::{Edit, Fault};
 
 impl<C: Codec> Workspace<C> {
-    ghost use Rattle.std.specs.Prelude.{◌≡◌, None, Some, length, OnOk, IfErr};
-    ghost use Rattle.aec_params.specs.declared.edit.Edit.TheVariants.{Overwrite, Append, Truncate};
-    ghost use Rattle.aec_bits.specs.Codec.{AreHeld};
-    ghost use Rattle.aec_bits.specs.Refusals.{values_refusal, first_unheld as first_unheld_of};
+    ghost use Rattle.std.specs.Prelude.{◌≡◌, length};
+    ghost use Rattle.aec_params.specs.declared.edit.Edit.TheVariants.{Overwrite, Append, Truncate, Insert, Remove};
     ghost use Rattle.aec_edit.specs.Calls.{RisesAtMost, opened_at_most};
+    ghost use Rattle.aec_edit.specs.Changes.{recoded_end};
     ghost use Rattle.aec_edit.specs.Steps.{Answers, Applies, samples_left, outcome_of};
 
-    /// Makes an edit, and answers how many intervals it has coded. Only those are coded that hold a changed place, and of
-    /// these only those are decoded that keep a sample.
+    /// Makes an edit, and answers how many intervals it has coded: the number that is defined. It decodes at most as many as hold a
+    /// sample that is kept and coded anew.
     ///
     /// A refused edit changes no sample: one that doesn't fit is refused for that, then one that codes more intervals than the
     /// codec has calls left with `Spent`, and one that fits with `Memory` where a growth was refused. An edit that codes no
@@ -32,6 +31,8 @@ impl<C: Codec> Workspace<C> {
             Edit::Overwrite { first, values } => self.overwrite(*first, values.as_slice()),
             Edit::Append { values } => self.append(values.as_slice()),
             Edit::Truncate { count } => self.truncate(*count),
+            Edit::Insert { first, values } => self.insert(*first, values.as_slice()),
+            Edit::Remove { first, len } => self.remove(*first, *len),
         }
     }
 
@@ -42,11 +43,8 @@ impl<C: Codec> Workspace<C> {
         ensures limit { self.new.limit ≡ self.old.limit }
         ensures format { C.format self.new.codec ≡ C.format self.old.codec }
     {
-        let count = self.count();
         let len = values.len() as u64;
-        if len > count || first > count - len {
-            return Err(Fault::OutOfRange { count });
-        }
+        self.check_places(first, len)?;
         self.check_values(values)?;
         if values.is_empty() {
             return Ok(0);
@@ -61,15 +59,11 @@ impl<C: Codec> Workspace<C> {
         ensures limit { self.new.limit ≡ self.old.limit }
         ensures format { C.format self.new.codec ≡ C.format self.old.codec }
     {
-        let count = self.count();
-        let limit = self.limit();
-        if values.len() as u64 > limit - count {
-            return Err(Fault::TooManySamples { limit });
-        }
-        self.check_values(values)?;
+        self.check_growth(values)?;
         if values.is_empty() {
             return Ok(0);
         }
+        let count = self.count();
         self.exchange(count, count, values)
     }
 
@@ -90,27 +84,50 @@ impl<C: Codec> Workspace<C> {
         self.exchange(stop, count, &[])
     }
 
-    /// Whether all values are samples; else the place of the first one that isn't.
-    fn check_values(&self, values: &[i64]) -> Result<(), Fault>
-        ensures ok { OnOk result (values_refusal (C.format self.now.codec) values.now ≡ None) }
-        ensures held { OnOk result (AreHeld (C.format self.now.codec) values.now) }
-        ensures refuses { IfErr result (λ e. values_refusal (C.format self.now.codec) values.now ≡ Some e) }
+    /// Puts the values in front of the sample at place `first`, or behind the last one.
+    fn insert(&mut self, first: u64, values: &[i64]) -> Result<u64, Fault>
+        ensures applies { Applies (C.format self.old.codec) self.old.limit self.old.samples (C.called self.old.codec)
+            (C.read self.old.codec) (Insert first values.now) result self.new.samples (C.called self.new.codec) (C.read self.new.codec) }
+        ensures limit { self.new.limit ≡ self.old.limit }
+        ensures format { C.format self.new.codec ≡ C.format self.old.codec }
     {
-        match self.first_unheld(values) {
-            Some(index) => Err(Fault::SampleRange { index }),
-            None => Ok(()),
+        let count = self.count();
+        if first > count {
+            return Err(Fault::OutOfRange { count });
         }
+        self.check_growth(values)?;
+        if values.is_empty() {
+            return Ok(0);
+        }
+        let to = self.recoded_end(first, values.len() as u64);
+        self.exchange_up_to(first, first, to, values)
     }
 
-    /// The place of the first value that is no sample.
-    fn first_unheld(&self, values: &[i64]) -> Option<u64>
-        ensures { result ≡ first_unheld_of (C.format self.now.codec).holds 0 values.now }
+    /// Takes out the `len` samples from place `first` on.
+    fn remove(&mut self, first: u64, len: u64) -> Result<u64, Fault>
+        ensures applies { Applies (C.format self.old.codec) self.old.limit self.old.samples (C.called self.old.codec)
+            (C.read self.old.codec) (Remove first len) result self.new.samples (C.called self.new.codec) (C.read self.new.codec) }
+        ensures limit { self.new.limit ≡ self.old.limit }
+        ensures format { C.format self.new.codec ≡ C.format self.old.codec }
     {
-        for (index, x) in values.iter().enumerate() {
-            if !self.holds(*x) {
-                return Some(index as u64);
-            }
+        self.check_places(first, len)?;
+        if len == 0 {
+            return Ok(0);
         }
-        None
+        let stop = first + len;
+        let to = self.recoded_end(stop, len);
+        self.exchange_up_to(first, stop, to, &[])
+    }
+
+    /// Where the intervals end that are coded anew where `len` samples come or go in front of place `place`.
+    fn recoded_end(&self, place: u64, len: u64) -> u64
+        ensures { result ≡ recoded_end (C.format self.now.codec).most (length self.now.samples) place len }
+    {
+        let most = self.interval_len();
+        if len % most == 0 {
+            place.div_ceil(most)
+        } else {
+            self.intervals()
+        }
     }
 }

@@ -1,5 +1,6 @@
 //! The one operation behind every edit: places are exchanged for values.
 
+use crate::fresh::Fresh;
 use crate::workspace::Workspace;
 use aec_bits::Codec;
 use aec_params::Fault;
@@ -7,11 +8,13 @@ use std::alloc::Global;
 
 impl<C: Codec> Workspace<C> {
     ghost use Rattle.std.specs.Prelude.{◌≡◌, ◌<◌, ◌≤◌, ◌++◌, true, length, IfOk, OnOk, OnErr, IfErr, MatchResult};
+    ghost use Rattle.std.specs.Int.{div_ceil};
     ghost use Rattle.aec_params.specs.declared.fault.Fault.TheVariants.{Memory};
     ghost use Rattle.aec_edit.specs.Calls.{RisesAtMost};
-    ghost use Rattle.aec_edit.specs.Changes.{IsExchange, IsExchanged, IsNotExchanged, exchanged, exchange_calls, head_of, tail_of, opens_first, opens_last, one_if, first_samples, last_samples, end_samples, opened_ends, opened_by};
+    ghost use Rattle.aec_edit.specs.Changes.{IsExchange, IsExchanged, IsNotExchanged, exchanged, exchange_calls, head_of, tail_of, opens_first, opens_last, one_if, first_samples, last_samples, end_samples, opened_ends, opened_by, recoding_calls, recoding_openings, IsExchangeUpTo};
 
-    /// Exchanges the samples from place `first` up to place `stop` for values, and answers how many intervals it has coded.
+    /// Exchanges the samples from place `first` up to place `stop` for values, as many, or at the end, and answers how many
+    /// intervals it has coded.
     pub(crate) fn exchange(&mut self, first: u64, stop: u64, values: &[i64]) -> Result<u64, Fault>
         requires { IsExchange (C.format self.old.codec) self.old.limit self.old.samples first stop values.now }
         ensures answer { let needed = exchange_calls (C.format self.old.codec).most first (length values.now) in
@@ -28,23 +31,61 @@ impl<C: Codec> Workspace<C> {
         ensures format { C.format self.new.codec ≡ C.format self.old.codec }
     {
         let most = self.interval_len();
-        let from = first / most;
-        let needed = (first + values.len() as u64).div_ceil(most) - from;
+        self.exchange_up_to(first, stop, stop.div_ceil(most), values)
+    }
+
+    /// Exchanges the samples from place `first` up to place `stop` for values, and answers how many intervals it has coded: those
+    /// from that of the first place up to number `to`, as they are then.
+    pub(crate) fn exchange_up_to(
+        &mut self,
+        first: u64,
+        stop: u64,
+        to: u64,
+        values: &[i64],
+    ) -> Result<u64, Fault>
+        requires { IsExchangeUpTo (C.format self.old.codec) self.old.limit self.old.samples first stop to values.now }
+        ensures answer { let needed = recoding_calls (C.format self.old.codec).most (length self.old.samples) first stop to (length values.now) in
+            MatchResult result
+            (λ coded. IsExchanged needed (C.called self.old.codec) coded (C.called self.new.codec))
+            (λ fault. IsNotExchanged needed (C.called self.old.codec) fault (C.called self.new.codec)) }
+        ensures ok { OnOk result (self.new.samples ≡ exchanged first stop values.now self.old.samples) }
+        ensures err { OnErr result (self.new.samples ≡ self.old.samples) }
+        ensures reads { RisesAtMost
+            (opened_by (recoding_calls (C.format self.old.codec).most (length self.old.samples) first stop to (length values.now))
+            (C.called self.old.codec) (recoding_openings (C.format self.old.codec).most (length self.old.samples) first stop to))
+            (C.read self.old.codec) (C.read self.new.codec) }
+        ensures limit { self.new.limit ≡ self.old.limit }
+        ensures format { C.format self.new.codec ≡ C.format self.old.codec }
+    {
+        let most = self.interval_len();
+        let kept = self.count().min(to * most) - stop;
+        let total = first % most + (values.len() as u64 + kept);
+        let needed = total.div_ceil(most);
         if needed > u64::MAX - self.calls() {
             return Err(Fault::Spent);
         }
-        let fresh = self.fresh_samples(first, stop, values)?;
-        let coded = self.code(&fresh)?;
-        self.put(from, stop.div_ceil(most), &fresh, &coded)?;
+        let mut fresh = self.fresh(first, stop, to, values)?;
+        let coded = self.code_fresh(&mut fresh, total)?;
+        self.put(first / most, to, &coded)?;
         Ok(needed)
     }
 
-    /// The samples of the intervals that an exchange touches, as they are after it.
-    fn fresh_samples(&mut self, first: u64, stop: u64, values: &[i64]) -> Result<Vec<i64>, Fault>
-        requires { IsExchange (C.format self.old.codec) self.old.limit self.old.samples first stop values.now }
-        ensures ok { IfOk result (λ fresh. fresh.items ≡ head_of (C.format self.old.codec).most first self.old.samples
-            ++ (values.now ++ tail_of (C.format self.old.codec).most stop self.old.samples)) }
-        ensures fault { IfErr result (λ e. (e ≡ Memory) × (0 < exchange_calls (C.format self.old.codec).most first (length values.now))) }
+    /// The samples that are to be coded for an exchange.
+    fn fresh<'a>(
+        &mut self,
+        first: u64,
+        stop: u64,
+        to: u64,
+        values: &'a [i64],
+    ) -> Result<Fresh<'a>, Fault>
+        requires { IsExchangeUpTo (C.format self.old.codec) self.old.limit self.old.samples first stop to values.now }
+        ensures front { IfOk result (λ fresh. fresh.front.items ≡ head_of (C.format self.old.codec).most first self.old.samples) }
+        ensures values { IfOk result (λ fresh. fresh.values.now ≡ values.now) }
+        ensures back { IfOk result (λ fresh. fresh.back.items ≡ tail_of (C.format self.old.codec).most stop self.old.samples) }
+        ensures next { IfOk result (λ fresh. fresh.next ≡ div_ceil stop (C.format self.old.codec).most) }
+        ensures end { IfOk result (λ fresh. fresh.end ≡ to) }
+        ensures fault { IfErr result (λ e. (e ≡ Memory)
+            × (0 < recoding_calls (C.format self.old.codec).most (length self.old.samples) first stop to (length values.now))) }
         ensures samples { self.new.samples ≡ self.old.samples }
         ensures limit { self.new.limit ≡ self.old.limit }
         ensures calls { C.called self.new.codec ≡ C.called self.old.codec }
@@ -53,10 +94,18 @@ impl<C: Codec> Workspace<C> {
         ensures format { C.format self.new.codec ≡ C.format self.old.codec }
     {
         let most = self.interval_len();
+        let next = stop.div_ceil(most);
         let head = (first % most) as usize;
-        let tail = (self.count().min(stop.div_ceil(most) * most) - stop) as usize;
+        let tail = (self.count().min(next * most) - stop) as usize;
         let ends = self.end_intervals(first, stop)?;
-        join(self.alloc(), &ends, head, values, tail)
+        let (front, back) = head_and_tail(self.alloc(), ends, head, tail)?;
+        Ok(Fresh {
+            front,
+            values,
+            back,
+            next,
+            end: to,
+        })
     }
 
     /// The first and the last interval that an exchange touches, where they keep a sample.
@@ -128,25 +177,23 @@ impl<C: Codec> Workspace<C> {
     }
 }
 
-ghost use Rattle.std.specs.Prelude.{◌≡◌, ◌+◌, ◌-◌, ◌<◌, ◌≤◌, ◌++◌, length, take, drop, IfOk, IfErr};
+ghost use Rattle.std.specs.Prelude.{◌≡◌, ◌-◌, ◌<◌, ◌≤◌, length, take, drop, IfOk, IfErr};
 ghost use Rattle.aec_params.specs.declared.fault.Fault.TheVariants.{Memory};
 
-/// Values between the front and the end of a list. `Memory` where a growth was refused.
-fn join(
+/// The first `head` items, and the last `tail`. `Memory` where a growth was refused.
+fn head_and_tail(
     alloc: Global,
-    ends: &[i64],
+    mut items: Vec<i64>,
     head: usize,
-    values: &[i64],
     tail: usize,
-) -> Result<Vec<i64>, Fault>
-    requires head { head ≤ length ends.now }
-    requires tail { tail ≤ length ends.now }
-    ensures ok { IfOk result (λ v. v.items ≡ take head ends.now ++ (values.now ++ drop (length ends.now - tail) ends.now)) }
-    ensures fault { IfErr result (λ e. (e ≡ Memory) × (0 < head + (length values.now + tail))) }
+) -> Result<(Vec<i64>, Vec<i64>), Fault>
+    requires { tail ≤ length items.items }
+    ensures head { IfOk result (λ ends. ends.0.items ≡ take head items.items) }
+    ensures tail { IfOk result (λ ends. ends.1.items ≡ drop (length items.items - tail) items.items) }
+    ensures fault { IfErr result (λ e. (e ≡ Memory) × (0 < tail)) }
 {
-    let mut joined = Vec::new(alloc);
-    joined.extend_from_slice(&ends[..head])?;
-    joined.extend_from_slice(values)?;
-    joined.extend_from_slice(&ends[ends.len() - tail..])?;
-    Ok(joined)
+    let mut last = Vec::new(alloc);
+    last.extend_from_slice(&items[items.len() - tail..])?;
+    items.truncate(head);
+    Ok((items, last))
 }

@@ -2,17 +2,20 @@
 #![tactic(auto)]
 
 mod coded;
-mod coding;
 mod edited;
 mod editing;
 mod exchanging;
+mod fresh;
 mod index;
+mod judging;
 pub mod laws;
 mod outcome;
 mod ranging;
 mod running;
+mod stopping;
 mod workspace;
 
 pub use edited::{Edited, write_edited};
 pub use outcome::Outcome;
+pub use stopping::Stop;
 pub use workspace::Workspace;

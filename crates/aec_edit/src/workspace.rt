@@ -1,5 +1,6 @@
 //! The workspace: a coded list of samples.
 
+mod fresh_coding;
 mod intervals;
 mod recoding;
 
@@ -119,6 +120,7 @@ impl<C: Codec> Workspace<C> {
         ensures front { OnErr result (AppendsFront (W.taken out.old) (W.taken out.new)
             (bytes_of (code_of (C.format self.now.codec) self.now.samples))) }
         ensures begun { W.begun out.new ≡ W.begun out.old }
+        ensures order { W.mark out.new ≡ W.mark out.old }
         ensures fault { IfErr result (λ e. (e ≡ WriteFault) × (W.failed out.new ≡ 1)) }
         ensures failures { OnOk result (W.failed out.new ≡ W.failed out.old) }
         ensures refuses { OnOk result

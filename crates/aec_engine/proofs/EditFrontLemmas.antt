@@ -11,7 +11,7 @@ use Rattle.aec_engine.specs.declared.scripts.EditFault.TheVariants.{Plain}
 use Rattle.aec_engine.specs.Transfers.{Input, input_of, are_past}
 use Rattle.aec_engine.specs.Output.{intake_refusal, not_taken}
 use Rattle.aec_engine.specs.Scripts.{listing_of}
-use Rattle.aec_engine.specs.Editing.{script_refusal, IsEdited, no_script, not_decoded, not_edited, edited}
+use Rattle.aec_engine.specs.Editing.{script_refusal, Recoded, IsEdited, no_script, not_decoded, not_edited, edited}
 use Rattle.aec_engine.specs.Laws.{IsJudgedByFront, IsJudgedWhole}
 use Rattle.aec_engine.proofs.AnswerLemmas.{only-not_taken}
 use Rattle.aec_engine.proofs.FrontLemmas.{judged_by_intake, judged_by_limit}
@@ -23,7 +23,7 @@ script_refusal-intake : (limit : ℕ) (script : Input) (fault : Fault) → intak
 script_refusal-intake limit script fault is = ap (λ t. option_or t (option_map (λ n. Script n) (listing_of script.bytes).bad)) is
 
 -- a script that is refused has one answer
-judged_no_script : (s : Settings) (caps : Caps) (count : Option ℕ) (script input : Input) (fault : Fault) (answer : Result (List ℕ) EditFault)
+judged_no_script : (s : Settings) (caps : Caps) (count : Option ℕ) (script input : Input) (fault : Fault) (answer : Result Recoded EditFault)
     → script_refusal caps.bytes script ≡ Some fault → IsEdited s caps count script input answer ↔ (answer ≡ Err (Plain fault))
 judged_no_script s caps count script input fault answer refused = (
   λ answered. only-no_script s caps count script input fault answer refused answered,
@@ -38,7 +38,7 @@ scripts-front s caps count input front rest past =
 
 -- ---- coded inputs
 
-only-untaken : (s : Settings) (caps : Caps) (count : Option ℕ) (script input : Input) (fault : Fault) (answer : Result (List ℕ) EditFault)
+only-untaken : (s : Settings) (caps : Caps) (count : Option ℕ) (script input : Input) (fault : Fault) (answer : Result Recoded EditFault)
     → script_refusal caps.bytes script ≡ None → intake_refusal caps.bytes input ≡ Some fault → IsEdited s caps count script input answer
     → answer ≡ Err (Plain fault)
 only-untaken s caps count script input fault answer sound refused (no_script f is) = absurd (cc)

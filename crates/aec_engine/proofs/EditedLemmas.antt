@@ -26,10 +26,10 @@ use Rattle.aec_interval.specs.IntervalFormat.{interval_format}
 use Rattle.aec_engine.specs.Scripts.{listing_of}
 use Rattle.aec_engine.specs.Transfers.{input_of, Taking, IsTakenWhole, RefusesIntake}
 use Rattle.aec_engine.specs.Output.{GaveSamples}
-use Rattle.aec_engine.specs.Editing.{script_refusal}
-use Rattle.aec_engine.specs.EditingSteps.{GaveScript, RefusesScript, no_memory, no_edits, most_calls}
+use Rattle.aec_engine.specs.Editing.{script_refusal, first_calls}
+use Rattle.aec_engine.specs.EditingSteps.{GaveScript, RefusesScript, no_memory, no_edits}
 use Rattle.aec_engine.proofs.OutputLemmas.{taking, gave_whole, none_refused, intake_given}
-use Rattle.aec_engine.proofs.CallLemmas.{needed_calls-le, script-calls, script-lines}
+use Rattle.aec_engine.proofs.CallLemmas.{append_calls-le, script-lines}
 
 -- ---- the script
 
@@ -84,7 +84,7 @@ refuses_script r before after failures limit most bytes text limited same taken 
         subst (RefusesScript (taking before after failures) limit) (sym is) (no_edits (input_of bytes false) (Script n)
         (gave_whole before after failures limit bytes taken) (refusal-whole limit bytes taken.within ∙ listed))
 
--- each edit of it has a line, and its edits call for no more than it has bytes
+-- each edit of it has a line
 pub lines_within : {X : Type 0} (edits_in : X → List Edit) (lines_in : X → List ℕ) (r : Result X Fault) (text : List ℕ)
     → IfOk r (λ x. ((listing_of text).bad ≡ None) × (edits_in x ≡ (listing_of text).edits) × (lines_in x ≡ (listing_of text).lines))
     → IfOk r (λ x. length (edits_in x) ≤ length (lines_in x))
@@ -92,16 +92,6 @@ lines_within edits_in lines_in r text ok =
     IfOk-weaker r (λ x. ((listing_of text).bad ≡ None) × (edits_in x ≡ (listing_of text).edits) × (lines_in x ≡ (listing_of text).lines))
     (λ x. length (edits_in x) ≤ length (lines_in x))
     (λ x read. omega (arith, ap length read.1, ap length read.2, script-lines text)) ok
-
-pub calls_within : {X : Type 0} (edits_in : X → List Edit) (lines_in : X → List ℕ) (r : Result X Fault) (before after : Option (List ℕ)) (failures limit : ℕ)
-    (bytes text : List ℕ) → limit ≤ 2 ^ 40 → text ≡ bytes → IsTakenWhole before after failures limit bytes
-    → IfOk r (λ x. ((listing_of text).bad ≡ None) × (edits_in x ≡ (listing_of text).edits) × (lines_in x ≡ (listing_of text).lines))
-    → IfOk r (λ x. most_calls (edits_in x) ≤ 2 ^ 40)
-calls_within edits_in lines_in r before after failures limit bytes text low same taken ok =
-    let within = taken.within in
-    IfOk-weaker r (λ x. ((listing_of text).bad ≡ None) × (edits_in x ≡ (listing_of text).edits) × (lines_in x ≡ (listing_of text).lines))
-    (λ x. most_calls (edits_in x) ≤ 2 ^ 40)
-    (λ x read. omega (arith, ap most_calls read.1, script-calls text, ap length same, within, low)) ok
 
 -- ---- the samples
 
@@ -142,12 +132,6 @@ read-within s caps count source samples allowed gave = by_count count gave.read.
         let count_is : length reading.blocks ≡ walk.end_block = omega (arith, ap length walk.kept, blocks) in
         omega (arith, ap length reading.counted, reading.filled.whole, ap (λ n. n * s.block_size) count_is, kept)
 
--- a count that is at most so many is below the limit of the program's numbers
-pub counted-low : {X : Type 0} (calls_in : X → ℕ) (r : Result X Fault) (count limit : ℕ) → count ≤ limit → limit ≤ 2 ^ 32
-    → IfOk r (λ x. calls_in x ≤ count) → IfOk r (λ x. calls_in x ≤ 2 ^ 32)
-counted-low calls_in r count limit within low ok =
-    IfOk-weaker r (λ x. calls_in x ≤ count) (λ x. calls_in x ≤ 2 ^ 32) (λ x few. omega (arith, few, within, low)) ok
-
 -- ---- the first append
 
 unheld-none : (holds : ℤ → Bool) (i : ℕ) (v : List ℤ) → list_all holds v ≡ true → first_unheld holds i v ≡ None
@@ -164,7 +148,7 @@ pub first-append : {X : Type 0} (r : Result X Fault) (fault f : Fault) (format :
     → r ≡ Err fault → fault ≡ f
     → s ≡ [] → calls ≡ 0 → 0 < format.most → limit ≤ 2 ^ 32 → length values ≤ limit → AreHeld format values
     → IsRefused format limit s calls (Append values) f after → IfErr r (λ e. e ≡ Memory)
-first-append {X} r fault f format limit s values calls after is same none fresh some low few held refused =
+first-append {X} r fault f format limit s values calls after is same none none_called some low few held refused =
     let P : Result X Fault → Type 0 = λ r. IfErr r (λ e. e ≡ Memory) in
     subst P (sym (is ∙ ap Err same)) lacks.fault_is
   where
@@ -178,15 +162,23 @@ first-append {X} r fault f format limit s values calls after is same none fresh 
 
     enough : want_of_calls calls needed ≡ None
     enough = ap (λ t. if t then Some Spent else None)
-        (le-ltb (2 ^ 64 - 1 - calls) needed (omega (arith, needed_calls-le format.most (length s) (Append values) some, few, low, fresh)))
+        (le-ltb (2 ^ 64 - 1 - calls) needed (omega (arith, append_calls-le format.most (length s) values some, few, low, none_called)))
 
     lacks : LacksMemory needed calls f after
     lacks = subst (λ t. MatchOption (option_or t None) (LacksMemory needed calls f after) (λ due. (f ≡ due) × (after ≡ calls))) fits
         (subst (λ want. MatchOption (option_or (refusal_of format limit s (Append values)) want) (LacksMemory needed calls f after) (λ due.
         (f ≡ due) × (after ≡ calls))) enough refused)
 
--- an append calls the coder at most once for each value
-pub append-calls : (format : Format) (limit : ℕ) (s values all : List ℤ) (calls coded after : ℕ) → values ≡ all → calls ≡ 0 → 0 < format.most
-    → IsAccepted format limit s calls (Append values) coded after → after ≤ length all
-append-calls format limit s values all calls coded after same fresh some made =
-    omega (arith, made.calls_are, made.coded_is, needed_calls-le format.most (length s) (Append values) some, fresh, ap length same)
+-- the first append calls the coder as often as it needs
+pub append-calls : (format f : Format) (limit : ℕ) (s values all : List ℤ) (calls coded after : ℕ) → values ≡ all → s ≡ [] → calls ≡ 0 → format ≡ f
+    → IsAccepted format limit s calls (Append values) coded after → after ≡ first_calls f all
+append-calls format f limit s values all calls coded after same none none_called is made =
+    omega (
+      arith,
+      made.calls_are,
+      made.coded_is,
+      none_called,
+      ap (λ f. needed_calls f.most (length s) (Append values)) is,
+      ap (λ s. needed_calls f.most (length s) (Append values)) none,
+      ap (λ v. first_calls f v) same,
+    )

@@ -1,138 +1,126 @@
--- Edits made one after the other.
-use Rattle.std.proofs.Common.{◌≡◌, ℕ, suc, ◌+◌, ◌-◌, ◌^◌, ◌<◌, ◌≤◌, inl, inr, if◌then◌else◌, Option, Some, None, Ok, Err, ℤ, List, [], ◌∷◌, length, drop, get_or, slice_index, refl, sym, ap, ◌∙◌, subst, arith}
+-- Edits of a script that were made one after the other, up to the first that is refused.
+use Rattle.std.proofs.Common.{◌≡◌, ℕ, ◌+◌, ◌<◌, ◌≤◌, inl, inr, Option, Some, None, Result, Ok, Err, ℤ, List, [], ◌∷◌, ◌++◌, length, slice_index, refl, sym, ap, ◌∙◌, subst, arith}
 use Rattle.std.specs.Prelude.{MatchOption}
-use Rattle.std.specs.Option.{option_or, option_map_or}
-use Rattle.std.proofs.lemmas.Bool.{le-ltb}
-use Rattle.std.proofs.Math.Seq.{drop-cons}
+use Rattle.std.specs.Option.{option_map_or}
+use Rattle.std.proofs.lemmas.List.{length-append}
 use Rattle.aec_params.specs.declared.fault.Fault.{Fault}
-use Rattle.aec_params.specs.declared.fault.Fault.TheVariants.{Spent}
+use Rattle.aec_params.specs.declared.fault.Fault.TheVariants.{Memory}
 use Rattle.aec_params.specs.declared.edit.Edit.{Edit}
 use Rattle.aec_params.specs.Edits.{samples_after, needed_calls}
 use Rattle.aec_bits.specs.Codec.{Format}
-use Rattle.aec_bits.specs.Refusals.{refusal_of}
-use Rattle.aec_edit.specs.Calls.{want_of_calls}
-use Rattle.aec_edit.specs.Steps.{LacksMemory, IsAccepted, IsRefused}
+use Rattle.aec_edit.specs.declared.outcome.Outcome.{Outcome}
+use Rattle.aec_edit.specs.declared.outcome.Outcome.TheVariants.{Done, Refused}
+use Rattle.aec_edit.specs.declared.stopping.Stop.{Stop}
+use Rattle.aec_edit.specs.Calls.{due_refusal}
+use Rattle.aec_edit.specs.Steps.{LacksMemory, IsRefused}
+use Rattle.aec_edit.specs.Runs.{AnswersAll, all_left}
+use Rattle.aec_edit.specs.Stops.{AreDone, StopsAtRefusal, all_made, stopped}
+use Rattle.aec_engine.specs.declared.scripts.EditFault.{EditFault}
 use Rattle.aec_engine.specs.declared.scripts.EditFault.TheVariants.{Line}
-use Rattle.aec_engine.specs.Editing.{samples_edited, LacksMemoryOn}
+use Rattle.aec_engine.specs.Editing.{left_of, edits_left, LacksMemoryOn}
 use Rattle.aec_engine.specs.EditingSteps as steps
-use Rattle.aec_engine.specs.EditingSteps.{StopsEditing, misfit, most_calls_of, most_calls}
-use Rattle.aec_engine.proofs.CallLemmas.{needed_calls-le}
+use Rattle.aec_engine.specs.EditingSteps.{StopsEditing, misfit}
 
--- i edits were made: what becomes of all is what becomes of the others on the samples so far
-pub record IsCarriedTo (f : Format) (limit : ℕ) (s : List ℤ) (edits : List Edit) (lines : List ℕ) (i : ℕ) (reached : List ℤ) : Type 0 where
-  pub same : samples_edited f limit s edits lines ≡ samples_edited f limit reached (drop i edits) (drop i lines)
-  pub lacks : (line : ℕ) → LacksMemoryOn f limit reached (drop i edits) (drop i lines) line → LacksMemoryOn f limit s edits lines line
+-- an edit that is made
+edits_left-made : (f : Format) (limit calls : ℕ) (s : List ℤ) (e : Edit) (n : ℕ) (edits : List Edit) (lines : List ℕ)
+    → due_refusal f limit s calls e ≡ None
+    → edits_left f limit calls s (e ∷ edits) (n ∷ lines)
+    ≡ edits_left f limit (calls + needed_calls f.most (length s) e) (samples_after s e) edits lines
+edits_left-made f limit calls s e n edits lines fits =
+    ap (λ t. option_map_or (λ fault. Err (Line n fault)) t
+    (edits_left f limit (calls + needed_calls f.most (length s) e) (samples_after s e) edits lines)) fits
 
-pub carried-none : (f : Format) (limit : ℕ) (s : List ℤ) (edits : List Edit) (lines : List ℕ) → IsCarriedTo f limit s edits lines 0 s
-carried-none f limit s edits lines = record { same = refl; lacks = λ line lacks. lacks }
+-- all edits were made
+edits_left-all : (f : Format) (limit calls after : ℕ) (s : List ℤ) (edits : List Edit) (done : List Outcome) (lines : List ℕ)
+    → AreDone done → AnswersAll f limit s calls edits done after → length edits ≤ length lines
+    → edits_left f limit calls s edits lines ≡ Ok (left_of (all_left s edits done) after)
+edits_left-all f limit calls after s [] [] lines made answers enough = ap (λ k. Ok (left_of s k)) (sym answers)
+edits_left-all f limit calls after s [] (outcome ∷ done) lines made answers enough = absurd answers
+edits_left-all f limit calls after s (e ∷ edits) [] lines made answers enough = absurd answers
+edits_left-all f limit calls after s (e ∷ edits) (Refused fault ∷ done) lines made answers enough = absurd made
+edits_left-all f limit calls after s (e ∷ edits) (Done coded ∷ done) [] made answers enough = absurd (omega (arith, enough))
+edits_left-all f limit calls after s (e ∷ edits) (Done coded ∷ done) (n ∷ lines) made answers enough =
+    let here = answers.1 in
+    let then : answers.0 ≡ calls + needed_calls f.most (length s) e = omega (arith, here.calls_are, here.coded_is) in
+    edits_left-made f limit calls s e n edits lines here.fits
+    ∙ (ap (λ k. edits_left f limit k (samples_after s e) edits lines) (sym then)
+    ∙ edits_left-all f limit answers.0 after (samples_after s e) edits done lines made answers.2 (omega (arith, enough)))
 
-next-item : {X : Type 0} (xs : List X) (i : ℕ) (x other : X) → i < length xs → x ≡ get_or xs i other → drop i xs ≡ x ∷ drop (i + 1) xs
-next-item xs i x other within is =
-    let one : suc i ≡ i + 1 = omega arith in
-    drop-cons xs i other within ∙ (ap (λ y. y ∷ drop (suc i) xs) (sym is) ∙ ap (λ n. x ∷ drop n xs) one)
+-- what stops edits behind one that is made stops all
+stops-behind : (f : Format) (limit calls between : ℕ) (s : List ℤ) (e : Edit) (n : ℕ) (edits : List Edit) (lines : List ℕ) (why : EditFault)
+    → due_refusal f limit s calls e ≡ None → between ≡ calls + needed_calls f.most (length s) e
+    → StopsEditing f limit between (samples_after s e) edits lines why → StopsEditing f limit calls s (e ∷ edits) (n ∷ lines) why
+stops-behind f limit calls between s e n edits lines why fits then (misfit fault is) = misfit fault
+    (edits_left-made f limit calls s e n edits lines fits ∙ (ap (λ k. edits_left f limit k (samples_after s e) edits lines) (sym then) ∙ is))
+stops-behind f limit calls between s e n edits lines why fits then (steps.lacks_memory line lacks) =
+    steps.lacks_memory line (fits, inr (subst (λ k. LacksMemoryOn f limit k (samples_after s e) edits lines line) then lacks))
 
--- the edit at place i and its line
-pub record IsNext (edits : List Edit) (lines : List ℕ) (i : ℕ) (e : Edit) (n : ℕ) : Type 0 where
-  pub edit_is : drop i edits ≡ e ∷ drop (i + 1) edits
-  pub line_is : drop i lines ≡ n ∷ drop (i + 1) lines
-
-pub is-next : (all edits : List Edit) (lines : List ℕ) (i : ℕ) (e : Edit) (n : ℕ) → all ≡ edits → length edits ≤ length lines → i < length all
-    → e ≡ get_or all i e → n ≡ slice_index lines i → IsNext edits lines i e n
-is-next all edits lines i e n same enough within this line =
-    let inside : i < length lines = omega (arith, ap length same, within, enough) in record {
-      edit_is = subst (λ edits. drop i edits ≡ e ∷ drop (i + 1) edits) same (next-item all i e e within this);
-      line_is = next-item lines i n 0 inside line;
-    }
-
--- nothing is due where enough calls are left and the edit fits
-none-due : (f : Format) (limit : ℕ) (s : List ℤ) (calls : ℕ) (e : Edit) → 0 < f.most → calls + most_calls_of e ≤ 2 ^ 64 - 1
-    → want_of_calls calls (needed_calls f.most (length s) e) ≡ None
-none-due f limit s calls e some few =
-    let needed = needed_calls f.most (length s) e in
-    let within : needed ≤ 2 ^ 64 - 1 - calls = omega (arith, needed_calls-le f.most (length s) e some, few) in
-    ap (λ t. if t then Some Spent else None) (le-ltb (2 ^ 64 - 1 - calls) needed within)
-
--- one more edit is made
-pub carried-on : (f : Format) (limit : ℕ) (s : List ℤ) (edits : List Edit) (lines : List ℕ) (i : ℕ) (reached after : List ℤ) (e : Edit) (n : ℕ)
-    → IsCarriedTo f limit s edits lines i reached → drop i edits ≡ e ∷ drop (i + 1) edits → drop i lines ≡ n ∷ drop (i + 1) lines
-    → refusal_of f limit reached e ≡ None → after ≡ samples_after reached e → IsCarriedTo f limit s edits lines (i + 1) after
-carried-on f limit s edits lines i reached after e n carried this line fits is = record {
-  same = carried.same ∙ (ap (λ es. samples_edited f limit reached es (drop i lines)) this
-      ∙ (ap (λ ns. samples_edited f limit reached (e ∷ drop (i + 1) edits) ns) line
-      ∙ (ap (λ t. option_map_or (λ fault. Err (Line n fault)) t (samples_edited f limit (samples_after reached e) (drop (i + 1) edits) (drop
-      (i + 1) lines))) fits
-      ∙ ap (λ s. samples_edited f limit s (drop (i + 1) edits) (drop (i + 1) lines)) (sym is))));
-  lacks = λ at lacks.
-      let later : LacksMemoryOn f limit (samples_after reached e) (drop (i + 1) edits) (drop (i + 1) lines) at =
-      subst (λ s. LacksMemoryOn f limit s (drop (i + 1) edits) (drop (i + 1) lines) at) is lacks in
-      let here : LacksMemoryOn f limit reached (e ∷ drop (i + 1) edits) (n ∷ drop (i + 1) lines) at = (fits, inr later) in
-      carried.lacks at (subst (λ es. LacksMemoryOn f limit reached es (drop i lines) at) (sym this)
-      (subst (λ ns. LacksMemoryOn f limit reached (e ∷ drop (i + 1) edits) ns at) (sym line) here));
-}
-
--- all are made
-pub carried-all : (f : Format) (limit : ℕ) (s : List ℤ) (edits : List Edit) (lines : List ℕ) (i : ℕ) (reached : List ℤ)
-    → IsCarriedTo f limit s edits lines i reached → drop i edits ≡ [] → samples_edited f limit s edits lines ≡ Ok reached
-carried-all f limit s edits lines i reached carried none =
-    carried.same ∙ ap (λ es. samples_edited f limit reached es (drop i lines)) none
-
--- the next is refused
-pub carried-stops : (f : Format) (limit : ℕ) (s : List ℤ) (edits : List Edit) (lines : List ℕ) (i : ℕ) (reached : List ℤ) (e : Edit)
-    (n calls after : ℕ) (fault : Fault)
-    → IsCarriedTo f limit s edits lines i reached → drop i edits ≡ e ∷ drop (i + 1) edits → drop i lines ≡ n ∷ drop (i + 1) lines
-    → 0 < f.most → calls + most_calls_of e ≤ 2 ^ 64 - 1 → IsRefused f limit reached calls e fault after
-    → StopsEditing f limit s edits lines (Line n fault)
-carried-stops f limit s edits lines i reached e n calls after fault carried this line some few refused =
-    by_refusal (refusal_of f limit reached e) refl
-    (subst (λ want. MatchOption (option_or (refusal_of f limit reached e) want) (LacksMemory needed calls fault after) (λ due. (fault ≡ due) × (after ≡ calls)))
-    (none-due f limit reached calls e some few) refused)
+-- an edit that is refused
+next_stops : (f : Format) (limit calls after : ℕ) (s : List ℤ) (e : Edit) (n : ℕ) (fault : Fault) (edits : List Edit) (lines : List ℕ)
+    → IsRefused f limit s calls e fault after → StopsEditing f limit calls s (e ∷ edits) (n ∷ lines) (Line n fault)
+next_stops f limit calls after s e n fault edits lines refused = by_refusal (due_refusal f limit s calls e) refl refused
   where
     needed : ℕ
-    needed = needed_calls f.most (length reached) e
+    needed = needed_calls f.most (length s) e
 
-    turned : (t : Option Fault) → refusal_of f limit reached e ≡ t → samples_edited f limit s edits lines
-        ≡ option_map_or (λ fault. Err (Line n fault)) t (samples_edited f limit (samples_after reached e) (drop (i + 1) edits) (drop (i + 1) lines))
-    turned t is = carried.same ∙ (ap (λ es. samples_edited f limit reached es (drop i lines)) this
-        ∙ (ap (λ ns. samples_edited f limit reached (e ∷ drop (i + 1) edits) ns) line
-        ∙ ap (λ t. option_map_or (λ fault. Err (Line n fault)) t (samples_edited f limit (samples_after reached e) (drop (i + 1) edits) (drop
-        (i + 1) lines))) is))
-
-    by_refusal : (t : Option Fault) → refusal_of f limit reached e ≡ t
-        → MatchOption (option_or t None) (LacksMemory needed calls fault after) (λ due. (fault ≡ due) × (after ≡ calls))
-        → StopsEditing f limit s edits lines (Line n fault)
-    by_refusal (Some due) is named = misfit (Line n fault) (turned (Some due) is ∙ ap (λ due. Err (Line n due)) (sym named.0))
+    by_refusal : (t : Option Fault) → due_refusal f limit s calls e ≡ t
+        → MatchOption t (LacksMemory needed calls fault after) (λ due. (fault ≡ due) × (after ≡ calls))
+        → StopsEditing f limit calls s (e ∷ edits) (n ∷ lines) (Line n fault)
+    by_refusal (Some due) is named = misfit (Line n fault)
+        (ap (λ t. option_map_or (λ fault. Err (Line n fault)) t (edits_left f limit (calls + needed) (samples_after s e) edits lines)) is
+        ∙ ap (λ due. Err (Line n due)) (sym named.0))
     by_refusal None is lacks =
-        let here : LacksMemoryOn f limit reached (e ∷ drop (i + 1) edits) (n ∷ drop (i + 1) lines) n = (is, inl (refl, lacks.some)) in
-        let stands : LacksMemoryOn f limit reached (drop i edits) (drop i lines) n =
-        subst (λ es. LacksMemoryOn f limit reached es (drop i lines) n) (sym this)
-        (subst (λ ns. LacksMemoryOn f limit reached (e ∷ drop (i + 1) edits) ns n) (sym line) here) in
-        subst (λ fault. StopsEditing f limit s edits lines (Line n fault)) (sym lacks.fault_is) (steps.lacks_memory n (carried.lacks n stands))
+        subst (λ fault. StopsEditing f limit calls s (e ∷ edits) (n ∷ lines) (Line n fault)) (sym lacks.fault_is)
+        (steps.lacks_memory n (is, inl (refl, lacks.some)))
+
+-- one that is refused behind others that were made
+stops-after : (f : Format) (limit calls after : ℕ) (s : List ℤ) (before : List Edit) (e : Edit) (behind : List Edit) (done : List Outcome)
+    (fault : Fault) (lines : List ℕ) (n : ℕ) → AreDone done → AnswersAll f limit s calls (before ++ (e ∷ [])) (done ++ (Refused fault ∷ [])) after
+    → length before < length lines → n ≡ slice_index lines (length before)
+    → StopsEditing f limit calls s (before ++ (e ∷ behind)) lines (Line n fault)
+stops-after f limit calls after s before e behind done fault [] n made answers inside line = absurd (omega (arith, inside))
+stops-after f limit calls after s [] e behind [] fault (m ∷ lines) n made answers inside line =
+    subst (λ n. StopsEditing f limit calls s (e ∷ behind) (m ∷ lines) (Line n fault)) (sym line)
+    (next_stops f limit calls answers.0 s e m fault behind lines answers.1)
+stops-after f limit calls after s [] e behind (outcome ∷ []) fault (m ∷ lines) n made answers inside line = absurd answers.2
+stops-after f limit calls after s [] e behind (outcome ∷ other ∷ done) fault (m ∷ lines) n made answers inside line = absurd answers.2
+stops-after f limit calls after s (d ∷ []) e behind [] fault (m ∷ lines) n made answers inside line = absurd answers.2
+stops-after f limit calls after s (d ∷ c ∷ before) e behind [] fault (m ∷ lines) n made answers inside line = absurd answers.2
+stops-after f limit calls after s (d ∷ before) e behind (Refused other ∷ done) fault (m ∷ lines) n made answers inside line = absurd made
+stops-after f limit calls after s (d ∷ before) e behind (Done coded ∷ done) fault (m ∷ lines) n made answers inside line =
+    let here = answers.1 in
+    let then : answers.0 ≡ calls + needed_calls f.most (length s) d = omega (arith, here.calls_are, here.coded_is) in
+    stops-behind f limit calls answers.0 s d m (before ++ (e ∷ behind)) lines (Line n fault) here.fits then
+    (stops-after f limit answers.0 after (samples_after s d) before e behind done fault lines n made answers.2 (omega (arith, inside)) line)
 
 -- ---- in the form in which the code has the facts
 
--- an edit that was made leaves enough calls for the others
-pub step-made : (f g : Format) (limit most : ℕ) (s : List ℤ) (edits : List Edit) (lines : List ℕ) (i : ℕ) (reached left : List ℤ) (e : Edit)
-    (n calls coded after : ℕ)
-    → g ≡ f → most ≡ limit → IsCarriedTo f limit s edits lines i reached → IsNext edits lines i e n → 0 < g.most
-    → calls + most_calls (drop i edits) ≤ 2 ^ 64 - 1 → IsAccepted g most reached calls e coded after → left ≡ samples_after reached e
-    → IsCarriedTo f limit s edits lines (i + 1) left × (after + most_calls (drop (i + 1) edits) ≤ 2 ^ 64 - 1)
-step-made f g limit most s edits lines i reached left e n calls coded after format limited carried next some few made is = (
-  carried-on f limit s edits lines i reached left e n carried next.edit_is next.line_is
-      (subst (λ f. refusal_of f limit reached e ≡ None) format (subst (λ limit. refusal_of g limit reached e ≡ None) limited
-      (first-none (refusal_of g most reached e) (want_of_calls calls (needed_calls g.most (length reached) e)) made.fits))) is,
-  omega (arith, ap most_calls next.edit_is, needed_calls-le g.most (length reached) e some, few, made.coded_is, made.calls_are),
-)
-  where
-    first-none : (t want : Option Fault) → option_or t want ≡ None → t ≡ None
-    first-none None want none = refl
-    first-none (Some due) want none = absurd (cc)
+pub carried-all : (f : Format) (limit calls reads after reads_after : ℕ) (s left : List ℤ) (given edits : List Edit) (lines : List ℕ)
+    (r : Result (Unit {0}) Stop) (u : Unit {0}) → r ≡ Ok u → given ≡ edits → StopsAtRefusal f limit s calls reads given r left after reads_after
+    → length edits ≤ length lines → edits_left f limit calls s edits lines ≡ Ok (left_of left after)
+carried-all f limit calls reads after reads_after s left given edits lines r u is same (all_made done l last reads_last made run) enough =
+    subst (λ es. edits_left f limit calls s es lines ≡ Ok (left_of left after)) same
+    (edits_left-all f limit calls after s given done lines made run.answers (omega (arith, ap length same, enough))
+    ∙ ap (λ l. Ok (left_of l after)) (sym run.samples))
+carried-all f limit calls reads after reads_after s left given edits lines r u is same
+    (stopped before e behind done fault l last reads_last split made run) enough = absurd (cc)
 
-pub step-stops : (f g : Format) (limit most : ℕ) (s : List ℤ) (edits : List Edit) (lines : List ℕ) (i : ℕ) (reached : List ℤ) (e : Edit)
-    (n calls after : ℕ) (fault : Fault)
-    → g ≡ f → most ≡ limit → IsCarriedTo f limit s edits lines i reached → IsNext edits lines i e n → 0 < g.most
-    → calls + most_calls (drop i edits) ≤ 2 ^ 64 - 1 → IsRefused g most reached calls e fault after
-    → StopsEditing f limit s edits lines (Line n fault)
-step-stops f g limit most s edits lines i reached e n calls after fault format limited carried next some few refused =
-    carried-stops f limit s edits lines i reached e n calls after fault carried next.edit_is next.line_is (subst (λ f. 0 < f.most) format some)
-    (omega (arith, ap most_calls next.edit_is, few))
-    (subst (λ f. IsRefused f limit reached calls e fault after) format (subst (λ limit. IsRefused g limit reached calls e fault after) limited refused))
+pub carried-stops : (f : Format) (limit calls reads after reads_after : ℕ) (s left : List ℤ) (given edits : List Edit) (lines : List ℕ)
+    (r : Result (Unit {0}) Stop) (stop : Stop) (n : ℕ) → r ≡ Err stop → given ≡ edits → StopsAtRefusal f limit s calls reads given r left after reads_after
+    → length edits ≤ length lines → n ≡ slice_index lines stop.place → StopsEditing f limit calls s edits lines (Line n stop.fault)
+carried-stops f limit calls reads after reads_after s left given edits lines r stop n is same (all_made done l last reads_last made run) enough line =
+    absurd (cc)
+carried-stops f limit calls reads after reads_after s left given edits lines r stop n is same
+    (stopped before e behind done fault l last reads_last split made run) enough line =
+    subst (λ es. StopsEditing f limit calls s es lines (Line n stop.fault)) (sym split ∙ same)
+    (subst (λ fault. StopsEditing f limit calls s (before ++ (e ∷ behind)) lines (Line n fault)) named
+    (stops-after f limit calls last s before e behind done fault lines n made run.answers inside (line ∙ ap (slice_index lines) (sym place))))
+  where
+    place : length before ≡ stop.place
+    place = cc
+
+    named : fault ≡ stop.fault
+    named = cc
+
+    inside : length before < length lines
+    inside = omega (arith, ap length split, ap length same, length-append before (e ∷ behind), enough)

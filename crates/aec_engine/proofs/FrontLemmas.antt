@@ -59,8 +59,8 @@ refused_whole limit bytes failed past =
     ap (λ t. if t then Some (StreamTooLong limit) else (if failed then Some Read else None)) (lt-ltb limit (length bytes) past)
 
 -- answers that begin with the refusal of the intake
-pub judged_by_intake : {E : Type 0} (named : Fault → E) (answers : Input → Result (List ℕ) E → Type 0) (limit : ℕ) (front rest : List ℕ) → limit < length front
-    → ((input : Input) (fault : Fault) (answer : Result (List ℕ) E) → intake_refusal limit input ≡ Some fault
+pub judged_by_intake : {A E : Type 0} (named : Fault → E) (answers : Input → Result A E → Type 0) (limit : ℕ) (front rest : List ℕ) → limit < length front
+    → ((input : Input) (fault : Fault) (answer : Result A E) → intake_refusal limit input ≡ Some fault
     → answers input answer ↔ (answer ≡ Err (named fault)))
     → IsJudgedByFront answers front rest
 judged_by_intake named answers limit front rest past refusing =
@@ -98,7 +98,7 @@ ranging-front s caps count first len front rest past =
 
 -- ---- what a source gave
 
-pub judged_whole : {E : Type 0} (answers : Input → Result (List ℕ) E → Type 0) (enough : List ℕ → Bool)
+pub judged_whole : {A E : Type 0} (answers : Input → Result A E → Type 0) (enough : List ℕ → Bool)
     → ((front rest : List ℕ) → enough front ≡ true → IsJudgedByFront answers front rest) → IsJudgedWhole answers enough
 judged_whole answers enough fronts source input bytes answer before sound gave answered =
     by_after source.after (subst (λ given. Consumes given source.after input.bytes) before gave.taken) (λ short. gave.whole short ends)
@@ -127,7 +127,7 @@ judged_whole answers enough fronts source input bytes answer before sound gave a
     by_after (Some rest) taken whole = by_test (enough input.bytes) rest refl taken whole
 
 -- of bytes that are enough where they are past a limit
-pub judged_by_limit : {E : Type 0} (answers : Input → Result (List ℕ) E → Type 0) (limit : ℕ)
+pub judged_by_limit : {A E : Type 0} (answers : Input → Result A E → Type 0) (limit : ℕ)
     → ((front rest : List ℕ) → limit < length front → IsJudgedByFront answers front rest) → IsJudgedWhole answers (are_past limit)
 judged_by_limit answers limit fronts = judged_whole answers (are_past limit) (λ front rest e. fronts front rest (ltb-true limit (length front) e))
 

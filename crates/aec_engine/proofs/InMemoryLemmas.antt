@@ -23,7 +23,7 @@ answered_ok : (answers : Input → Result (List ℕ) Fault → Type 0) (enough :
     (r : Result (Unit {0}) Fault)
     → IsJudgedWhole answers enough → source.before ≡ Some bytes → source.failures ≡ 0 → sink.before ≡ Some [] → sink.after ≡ Some held
     → Leaves answers source enough sink r → r ≡ Ok tt → answers (input_of bytes false) (Ok held)
-answered_ok answers enough source sink bytes held r whole before sound empty holds (written input out gave answered appends counts) is =
+answered_ok answers enough source sink bytes held r whole before sound empty holds (written input out gave answered appends counts sounds) is =
     let grown : Appends (Some []) (Some held) out = subst (λ b. Appends b (Some held) out) empty (subst (λ a. Appends sink.before a out) holds appends) in
     subst (λ out. answers (input_of bytes false) (Ok out)) (sym grown) (whole source input bytes (Ok out) before sound gave answered)
 answered_ok answers enough source sink bytes held r whole before sound empty holds (refused input fault gave answered nothing) is = absurd (cc)
@@ -34,7 +34,7 @@ answered_err : (answers : Input → Result (List ℕ) Fault → Type 0) (enough 
     (r : Result (Unit {0}) Fault) (fault : Fault)
     → IsJudgedWhole answers enough → source.before ≡ Some bytes → source.failures ≡ 0
     → Leaves answers source enough sink r → r ≡ Err fault → (fault ≡ Memory) ⊎ ((fault ≡ Write) ⊎ answers (input_of bytes false) (Err fault))
-answered_err answers enough source sink bytes r fault whole before sound (written input out gave answered appends counts) is = absurd (cc)
+answered_err answers enough source sink bytes r fault whole before sound (written input out gave answered appends counts sounds) is = absurd (cc)
 answered_err answers enough source sink bytes r fault whole before sound (refused input f gave answered nothing) is =
     let same : f ≡ fault = cc in
     inr (inr (subst (λ f. answers (input_of bytes false) (Err f)) same (whole source input bytes (Err f) before sound gave answered)))

@@ -4,7 +4,7 @@ use Rattle.std.proofs.lemmas.Bool.{lt-ltb, le-ltb, ltb-false}
 use Rattle.std.proofs.lemmas.Result.{IfOk-weaker, IfErr-weaker}
 use Rattle.std.specs.Io.KnownBytes.{Keeps, Appends}
 use Rattle.std.proofs.Common.{OnOk, OnErr}
-use Rattle.aec_bits.specs.Devices.{counted, AppendsFront}
+use Rattle.aec_bits.specs.Devices.{AppendsFront}
 use Rattle.std.specs.List.{AllByRecursion}
 use Rattle.aec_params.specs.declared.settings.Settings.{Settings}
 use Rattle.aec_params.specs.declared.fault.Fault.{Fault}
@@ -16,7 +16,7 @@ use Rattle.aec_params.specs.Reading.{counted_samples, IsReading}
 use Rattle.aec_interval.specs.Reached.{count_refusal, no_memory, faulty, RefusesDecoding, above_limit, unread}
 use Rattle.aec_engine.specs.Transfers as transfers
 use Rattle.aec_engine.specs.Transfers.{Input, Taking, are_past, Gave, IsTakenWhole, RefusesIntake, source_failed, too_many_bytes, GivesAnswer, given, lacks_memory, Leaves, written, refused, no_answer, not_written}
-use Rattle.aec_engine.specs.Transfers.{Putting, WroteNothing, answer_of, Settles, settled, not_begun, stopped}
+use Rattle.aec_engine.specs.Transfers.{Putting, WroteNothing, IsBegunFirst, answer_of, Settles, settled, not_begun, stopped}
 use Rattle.aec_engine.specs.Output as output
 use Rattle.aec_engine.specs.Output.{IsRead, GaveSamples, IsDecoded, intake_refusal, all_stored, not_taken, not_counted, decoded}
 
@@ -201,32 +201,33 @@ leaves_nothing answers source enough sink answer fault is lacks_memory nothing =
 pub leaves_settled : (answers : Input → Result (List ℕ) Fault → Type 0) (source : Taking) (enough : List ℕ → Bool) (sink : Putting)
     (answer : Result (List ℕ) Fault) (r : Result (Unit {0}) Fault) → GivesAnswer answers source enough answer → Settles sink answer r
     → Leaves answers source enough sink r
-leaves_settled answers source enough sink answer r gives (settled bytes appends begun) =
+leaves_settled answers source enough sink answer r gives (settled bytes appends begun sound) =
     let answered = answered_ok answers source enough answer bytes refl gives in
-    written answered.0 bytes answered.1 answered.2 appends begun
+    written answered.0 bytes answered.1 answered.2 appends begun sound
 leaves_settled answers source enough sink answer r gives (not_begun fault nothing) =
     leaves_nothing answers source enough sink answer fault refl gives nothing
 leaves_settled answers source enough sink answer r gives (stopped bytes front begun failed) =
     let answered = answered_ok answers source enough answer bytes refl gives in
     not_written answered.0 bytes answered.1 answered.2 front begun failed
 
-pub settles_refused : {X : Type 0} (view : X → List ℕ) (answer : Result X Fault) (r : Result (Unit {0}) Fault) (fault f : Fault) (before : Option (List ℕ))
+pub settles_refused : {X : Type 0} (view : X → List ℕ) (answer : Result X Fault) (r : Result (Unit {0}) Fault) (fault f : Fault) (before mark : Option (List ℕ))
     (begun failures : ℕ) → answer ≡ Err f → r ≡ Err fault → fault ≡ f
-    → Settles (record { before = before; after = before; begun_before = begun; begun_after = begun; failures = failures }) (answer_of view answer) r
-settles_refused {X} view answer r fault f before begun failures was is same =
-    let sink : Putting = record { before = before; after = before; begun_before = begun; begun_after = begun; failures = failures } in
+    → Settles (record { before = before; after = before; begun_before = begun; begun_after = begun; mark = mark; failures = failures }) (answer_of view answer) r
+settles_refused {X} view answer r fault f before mark begun failures was is same =
+    let sink : Putting = record { before = before; after = before; begun_before = begun; begun_after = begun; mark = mark; failures = failures } in
     let refusal : Settles sink (Err f) (Err f) = not_begun f (record { kept = Keeps-same before; begun = refl }) in
     subst (λ r. Settles sink (answer_of view answer) r) (sym (is ∙ ap Err same))
     (subst (λ answer. Settles sink (answer_of view answer) (Err f)) (sym was) refusal)
 
 pub settles_delivered : {X : Type 0} (view : X → List ℕ) (answer : Result X Fault) (r : Result (Unit {0}) Fault) (x : X) (written_bytes : List ℕ)
     (sink : Putting) → answer ≡ Ok x → written_bytes ≡ view x → OnOk r (Appends sink.before sink.after written_bytes)
-    → OnErr r (AppendsFront sink.before sink.after written_bytes) → sink.begun_after ≡ counted sink.begun_before
-    → IfErr r (λ e. (e ≡ Write) × (sink.failures ≡ 1)) → Settles sink (answer_of view answer) r
-settles_delivered {X} view answer r x written_bytes sink was same ok front begun fault =
-    subst (λ answer. Settles sink (answer_of view answer) r) (sym was) (subst (λ bytes. Settles sink (Ok bytes) r) same (by_result r ok front fault))
+    → OnErr r (AppendsFront sink.before sink.after written_bytes) → IsBegunFirst sink
+    → IfErr r (λ e. (e ≡ Write) × (sink.failures ≡ 1)) → OnOk r (sink.failures ≡ 0) → Settles sink (answer_of view answer) r
+settles_delivered {X} view answer r x written_bytes sink was same ok front begun fault sound =
+    subst (λ answer. Settles sink (answer_of view answer) r) (sym was) (subst (λ bytes. Settles sink (Ok bytes) r) same (by_result r ok front fault sound))
   where
     by_result : (r : Result (Unit {0}) Fault) → OnOk r (Appends sink.before sink.after written_bytes)
-        → OnErr r (AppendsFront sink.before sink.after written_bytes) → IfErr r (λ e. (e ≡ Write) × (sink.failures ≡ 1)) → Settles sink (Ok written_bytes) r
-    by_result (Ok done) ok front fault = settled written_bytes ok begun
-    by_result (Err e) ok front fault = subst (λ e. Settles sink (Ok written_bytes) (Err e)) (sym fault.0) (stopped written_bytes front begun fault.1)
+        → OnErr r (AppendsFront sink.before sink.after written_bytes) → IfErr r (λ e. (e ≡ Write) × (sink.failures ≡ 1)) → OnOk r (sink.failures ≡ 0)
+        → Settles sink (Ok written_bytes) r
+    by_result (Ok done) ok front fault sound = settled written_bytes ok begun sound
+    by_result (Err e) ok front fault sound = subst (λ e. Settles sink (Ok written_bytes) (Err e)) (sym fault.0) (stopped written_bytes front begun fault.1)

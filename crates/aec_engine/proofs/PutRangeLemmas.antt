@@ -75,11 +75,11 @@ begun_then (Some xs) None after bytes kept appended = absurd kept
 begun_then (Some xs) (Some ys) None bytes kept appended = appended
 begun_then (Some xs) (Some ys) (Some zs) bytes kept appended = appended ∙ ap (λ l. l ++ bytes) kept
 
--- one that failed when it was begun
-pub begun_front : (r : Result (Unit {0}) Fault) (fault : Fault) (before after : Option (List ℕ)) (bytes : List ℕ) → r ≡ Err fault → Keeps before after
-    → PutsAllOrFront before after bytes r
-begun_front r fault before after bytes is kept =
-    subst (PutsAllOrFront before after bytes) (sym is) (0, begun_then before after after [] kept (Appends-nil after))
+-- and is given bytes then
+pub begun_puts : {X : Type 0} (r : Result X Fault) (before mid after : Option (List ℕ)) (bytes : List ℕ) → Keeps before mid
+    → PutsAllOrFront mid after bytes r → PutsAllOrFront before after bytes r
+begun_puts (Ok x) before mid after bytes kept puts = begun_then before mid after bytes kept puts
+begun_puts (Err e) before mid after bytes kept puts = (puts.0, begun_then before mid after (take puts.0 bytes) kept puts.1)
 
 pub puts_none : (start : Place) (s : Settings) (first len : ℕ) (before after : Option (List ℕ)) (waiting : List ℕ) → Keeps before after → waiting ≡ []
     → (samples : List ℤ) × AreSamplesOf start samples → PutsSoFar start start s first len first len before after waiting

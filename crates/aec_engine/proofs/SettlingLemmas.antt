@@ -8,11 +8,11 @@ use Rattle.aec_params.specs.declared.fault.Fault.TheVariants.{Write, OutOfRange}
 use Rattle.aec_params.specs.Limits.{Caps}
 use Rattle.aec_params.specs.Codewords.{bits_of_bytes}
 use Rattle.aec_params.specs.Reading.{IsReading}
-use Rattle.aec_bits.specs.Devices.{counted, AppendsFront}
+use Rattle.aec_bits.specs.Devices.{AppendsFront}
 use Rattle.aec_interval.specs.Reached.{count_refusal, RefusesReading, RefusesDecoding, above_limit, unread}
 use Rattle.aec_interval.specs.Pieces.{Place, place_at}
 use Rattle.aec_engine.specs.Output.{IsDecoded, decoded, IsRanged, outside, cut_out, all_stored, samples_from}
-use Rattle.aec_engine.specs.Transfers.{Input, Taking, are_past, Putting, RefusesIntake, IsTakenWhole, GivesAnswer, given, Settles, not_begun, Leaves}
+use Rattle.aec_engine.specs.Transfers.{Input, Taking, are_past, Putting, IsBegunFirst, RefusesIntake, IsTakenWhole, GivesAnswer, given, Settles, not_begun, Leaves}
 use Rattle.aec_engine.specs.ReadingTwice as twice
 use Rattle.aec_engine.specs.Transfers as transfers
 use Rattle.aec_engine.specs.ReadingTwice.{GaveWhole, AreSamplesOf, HaveSamples, StoresPart, DecodesBits, CutsBits, SettlesOne, PutsAllOrFront}
@@ -20,22 +20,22 @@ use Rattle.aec_engine.proofs.RangingLemmas.{refused_as_decoding}
 use Rattle.aec_engine.proofs.OutputLemmas.{Keeps-same, settles_delivered, leaves_settled, refused_intake, refused_decoding, read_samples}
 
 -- a refusal with nothing written
-pub settles_refusal : (answers : Result (List ℕ) Fault → Type 0) (r : Result (Unit {0}) Fault) (fault f : Fault) (before : Option (List ℕ)) (begun failures : ℕ)
+pub settles_refusal : (answers : Result (List ℕ) Fault → Type 0) (r : Result (Unit {0}) Fault) (fault f : Fault) (before mark : Option (List ℕ)) (begun failures : ℕ)
     → r ≡ Err fault → fault ≡ f → answers (Err f)
-    → SettlesOne answers (record { before = before; after = before; begun_before = begun; begun_after = begun; failures = failures }) r
-settles_refusal answers r fault f before begun failures is same answered =
-    let sink : Putting = record { before = before; after = before; begun_before = begun; begun_after = begun; failures = failures } in
+    → SettlesOne answers (record { before = before; after = before; begun_before = begun; begun_after = begun; mark = mark; failures = failures }) r
+settles_refusal answers r fault f before mark begun failures is same answered =
+    let sink : Putting = record { before = before; after = before; begun_before = begun; begun_after = begun; mark = mark; failures = failures } in
     subst (SettlesOne answers sink) (sym (is ∙ ap Err same))
     (record { answer = Err f; answered = answered; settles = not_begun f (record { kept = Keeps-same before; begun = refl }) })
 
 -- bytes that are written
 pub settles_written : (answers : Result (List ℕ) Fault → Type 0) (r : Result (Unit {0}) Fault) (bytes : List ℕ) (sink : Putting) → answers (Ok bytes)
-    → PutsAllOrFront sink.before sink.after bytes r → sink.begun_after ≡ counted sink.begun_before
-    → IfErr r (λ e. (e ≡ Write) × (sink.failures ≡ 1)) → SettlesOne answers sink r
-settles_written answers r bytes sink answered puts begun fault = record {
+    → PutsAllOrFront sink.before sink.after bytes r → IsBegunFirst sink
+    → IfErr r (λ e. (e ≡ Write) × (sink.failures ≡ 1)) → OnOk r (sink.failures ≡ 0) → SettlesOne answers sink r
+settles_written answers r bytes sink answered puts begun fault sound = record {
   answer = Ok bytes;
   answered = answered;
-  settles = settles_delivered {X = List ℕ} (λ b. b) (Ok bytes) r bytes bytes sink refl refl (all_put r puts) (front_put r puts) begun fault;
+  settles = settles_delivered {X = List ℕ} (λ b. b) (Ok bytes) r bytes bytes sink refl refl (all_put r puts) (front_put r puts) begun fault sound;
 }
   where
     all_put : (r : Result (Unit {0}) Fault) → PutsAllOrFront sink.before sink.after bytes r → OnOk r (Appends sink.before sink.after bytes)
@@ -109,10 +109,10 @@ cuts_past s count limit first len bits p total fault is none have past =
 -- ---- sources
 
 pub leaves_refused_intake : (answers : Input → Result (List ℕ) Fault → Type 0) (caps : Caps) (source : Taking) (r : Result (Unit {0}) Fault) (fault f : Fault)
-    (before : Option (List ℕ)) (begun failures : ℕ) → r ≡ Err fault → fault ≡ f → GivesAnswer answers source (are_past caps.bytes) (Err f)
-    → Leaves answers source (are_past caps.bytes) (record { before = before; after = before; begun_before = begun; begun_after = begun; failures = failures }) r
-leaves_refused_intake answers caps source r fault f before begun failures is same gives =
-    let one = settles_refusal (λ a. GivesAnswer answers source (are_past caps.bytes) a) r fault f before begun failures is same gives in
+    (before mark : Option (List ℕ)) (begun failures : ℕ) → r ≡ Err fault → fault ≡ f → GivesAnswer answers source (are_past caps.bytes) (Err f)
+    → Leaves answers source (are_past caps.bytes) (record { before = before; after = before; begun_before = begun; begun_after = begun; mark = mark; failures = failures }) r
+leaves_refused_intake answers caps source r fault f before mark begun failures is same gives =
+    let one = settles_refusal (λ a. GivesAnswer answers source (are_past caps.bytes) a) r fault f before mark begun failures is same gives in
     leaves_settled answers source (are_past caps.bytes) _ one.answer r one.answered one.settles
 
 gives_decoded : (s : Settings) (caps : Caps) (count : Option ℕ) (before after : Option (List ℕ)) (failures : ℕ) (bytes : List ℕ) (answer : Result (List ℕ) Fault)

@@ -1,17 +1,17 @@
--- What the private functions of the engine that carries out scripts give, and how often its coder may be called.
-use Rattle.std.specs.Prelude.{◌≡◌, ℕ, ◌+◌, Some, None, Result, Ok, Err, ℤ, List, [], ◌∷◌, length}
+-- What the private functions of the engine that carries out scripts give.
+use Rattle.std.specs.Prelude.{◌≡◌, ℕ, Some, None, Result, Ok, Err, ℤ, List}
 use Rattle.std.specs.Io.KnownBytes.{Appends}
 use Rattle.aec_params.specs.declared.fault.Fault.{Fault}
 use Rattle.aec_params.specs.declared.fault.Fault.TheVariants.{Memory, Write}
 use Rattle.aec_params.specs.declared.edit.Edit.{Edit}
-use Rattle.aec_params.specs.declared.edit.Edit.TheVariants.{Overwrite, Append, Truncate}
-use Rattle.aec_bits.specs.Codec.{Format}
-use Rattle.aec_bits.specs.Devices.{counted, AppendsFront}
+use Rattle.aec_params.specs.Codewords.{bytes_of}
+use Rattle.aec_bits.specs.Codec.{Format, code_of}
+use Rattle.aec_bits.specs.Devices.{AppendsFront}
 use Rattle.aec_engine.specs.declared.scripts.EditFault.{EditFault}
 use Rattle.aec_engine.specs.declared.scripts.EditFault.TheVariants.{Plain, Line}
 use Rattle.aec_engine.specs.Scripts.{listing_of}
-use Rattle.aec_engine.specs.Transfers.{Input, Taking, Putting, are_past, Gave, WroteNothing}
-use Rattle.aec_engine.specs.Editing.{script_refusal, samples_edited, LacksMemoryOn}
+use Rattle.aec_engine.specs.Transfers.{Input, Taking, Putting, are_past, Gave, WroteNothing, IsBegunFirst}
+use Rattle.aec_engine.specs.Editing.{script_refusal, edits_left, LacksMemoryOn, Recoded}
 
 -- a source gave a script, with these edits on these lines
 pub record GaveScript (from : Taking) (limit : ℕ) (edits : List Edit) (lines : List ℕ) : Type 0 where
@@ -26,24 +26,20 @@ pub data RefusesScript (from : Taking) (limit : ℕ) : Fault → Type 0 where
   no_memory : RefusesScript from limit Memory
   no_edits : (script : Input) (fault : Fault) → Gave from (are_past limit) script → script_refusal limit script ≡ Some fault → RefusesScript from limit fault
 
--- why edits were not all made: one doesn't fit, or there was no memory for one
-pub data StopsEditing (f : Format) (limit : ℕ) (s : List ℤ) (edits : List Edit) (lines : List ℕ) : EditFault → Type 0 where
-  misfit : (fault : EditFault) → samples_edited f limit s edits lines ≡ Err fault → StopsEditing f limit s edits lines fault
-  lacks_memory : (line : ℕ) → LacksMemoryOn f limit s edits lines line → StopsEditing f limit s edits lines (Line line Memory)
+-- why edits were not all made: one is refused where there is memory, or there was no memory for one
+pub data StopsEditing (f : Format) (limit calls : ℕ) (s : List ℤ) (edits : List Edit) (lines : List ℕ) : EditFault → Type 0 where
+  misfit : (fault : EditFault) → edits_left f limit calls s edits lines ≡ Err fault → StopsEditing f limit calls s edits lines fault
+  lacks_memory : (line : ℕ) → LacksMemoryOn f limit calls s edits lines line → StopsEditing f limit calls s edits lines (Line line Memory)
 
--- What writing an answer leaves: its bytes, begun once; nothing for a refusal; or a front of its bytes where the sink failed.
-pub data SettlesEdited (sink : Putting) : Result (List ℕ) EditFault → Result (Unit {0}) EditFault → Type 0 where
-  settled : (bytes : List ℕ) → Appends sink.before sink.after bytes → sink.begun_after ≡ counted sink.begun_before → SettlesEdited sink (Ok bytes) (Ok tt)
-  not_begun : (fault : EditFault) → WroteNothing sink → SettlesEdited sink (Err fault) (Err fault)
-  stopped : (bytes : List ℕ) → AppendsFront sink.before sink.after bytes → sink.begun_after ≡ counted sink.begun_before → sink.failures ≡ 1
-      → SettlesEdited sink (Ok bytes) (Err (Plain Write))
+-- what a workspace with these samples gives, whose codec was called so often
+abbrev pub recoded_of : Format → List ℤ → ℕ → Recoded
+recoded_of f samples calls = record { bytes = bytes_of (code_of f samples); calls = calls }
 
--- calls of the coder that an edit doesn't pass, whatever samples it finds
-abbrev pub most_calls_of : Edit → ℕ
-most_calls_of (Overwrite first values) = length values
-most_calls_of (Append values) = length values
-most_calls_of (Truncate count) = 1
-
-abbrev pub most_calls : List Edit → ℕ
-most_calls [] = 0
-most_calls (e ∷ edits) = most_calls_of e + most_calls edits
+-- What writing an answer leaves: its bytes, begun once, and its number of calls; nothing for a refusal; or a front of its bytes where
+-- the sink failed.
+pub data SettlesRecoded (sink : Putting) : Result Recoded EditFault → Result ℕ EditFault → Type 0 where
+  settled : (made : Recoded) → Appends sink.before sink.after made.bytes → IsBegunFirst sink → sink.failures ≡ 0
+      → SettlesRecoded sink (Ok made) (Ok made.calls)
+  not_begun : (fault : EditFault) → WroteNothing sink → SettlesRecoded sink (Err fault) (Err fault)
+  stopped : (made : Recoded) → AppendsFront sink.before sink.after made.bytes → IsBegunFirst sink → sink.failures ≡ 1
+      → SettlesRecoded sink (Ok made) (Err (Plain Write))

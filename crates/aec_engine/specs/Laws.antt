@@ -2,7 +2,8 @@
 use Rattle.std.specs.Prelude.{◌≡◌, ◌↔◌, ℕ, ◌/◌, ◌<◌, Bool, true, false, Option, Some, None, Result, Ok, Err, ℤ, List, [], ◌++◌, length}
 use Rattle.aec_params.specs.declared.settings.Settings.{Settings}
 use Rattle.aec_params.specs.Limits.{Caps}
-use Rattle.aec_params.specs.Params.{IsAllowed, storage_len}
+use Rattle.std.specs.Int.{div_ceil}
+use Rattle.aec_params.specs.Params.{IsAllowed, interval_len, storage_len}
 use Rattle.aec_params.specs.Codewords.{bytes_of}
 use Rattle.aec_params.specs.Streams.{stream_of}
 use Rattle.aec_engine.specs.Transfers.{Input, input_of, Taking, are_past, Gave}
@@ -13,10 +14,10 @@ use Rattle.aec_engine.specs.Editing.{script_refusal, IsEdited}
 -- ---- bytes or one refusal
 
 -- an input has one answer
-pub record HasOneAnswer {E : Type 0} (answers : Input → Result (List ℕ) E → Type 0) (input : Input) : Type 0 where
-  pub answer : Result (List ℕ) E
+pub record HasOneAnswer {A E : Type 0} (answers : Input → Result A E → Type 0) (input : Input) : Type 0 where
+  pub answer : Result A E
   pub is_answer : answers input answer
-  pub only : (other : Result (List ℕ) E) → answers input other → other ≡ answer
+  pub only : (other : Result A E) → answers input other → other ≡ answer
 
 -- each input is coded into bytes or has one refusal; so it is decoded, and so is each range of it
 pub record EachInputHasOneAnswer : Type 0 where
@@ -30,19 +31,19 @@ abbrev pub EachScriptHasOneAnswer : Type 0
 EachScriptHasOneAnswer = (s : Settings) (caps : Caps) (count : Option ℕ) (script input : Input) → IsAllowed s
     → HasOneAnswer (IsEdited s caps count script) input
 
--- a script that asks for nothing leaves all samples: each input has the code of what it is read as
+-- a script that asks for nothing leaves all samples: each input has the code of what it is read as, with one call an interval
 abbrev pub NoEditsKeepTheSamples : Type 0
 NoEditsKeepTheSamples = (s : Settings) (caps : Caps) (count : Option ℕ) (script input : Input) (samples : List ℤ)
     → script_refusal caps.bytes script ≡ None → (listing_of script.bytes).edits ≡ [] → IsRead s caps count input samples
-    → IsEdited s caps count script input (Ok (bytes_of (stream_of s samples)))
+    → IsEdited s caps count script input (Ok (record { bytes = bytes_of (stream_of s samples); calls = div_ceil (length samples) (interval_len s) }))
 
 -- ---- inputs of which a front is enough
 
 -- the front of an input is enough: both have one answer, the same refusal, whether or not their source failed
-pub record IsJudgedByFront {E : Type 0} (answers : Input → Result (List ℕ) E → Type 0) (front rest : List ℕ) : Type 0 where
+pub record IsJudgedByFront {A E : Type 0} (answers : Input → Result A E → Type 0) (front rest : List ℕ) : Type 0 where
   pub fault : E
-  pub of_front : (failed : Bool) (answer : Result (List ℕ) E) → answers (input_of front failed) answer ↔ (answer ≡ Err fault)
-  pub of_whole : (failed : Bool) (answer : Result (List ℕ) E) → answers (input_of (front ++ rest) failed) answer ↔ (answer ≡ Err fault)
+  pub of_front : (failed : Bool) (answer : Result A E) → answers (input_of front failed) answer ↔ (answer ≡ Err fault)
+  pub of_whole : (failed : Bool) (answer : Result A E) → answers (input_of (front ++ rest) failed) answer ↔ (answer ≡ Err fault)
 
 -- a front is enough that holds a sample which is refused; of coded data and scripts, one that is past the limit
 pub record RefusedFrontsAreEnough : Type 0 where
@@ -61,8 +62,8 @@ pub record RefusedFrontsAreEnough : Type 0 where
       → IsJudgedByFront (λ script. IsEdited s caps count script input) front rest
 
 -- what a source gave is judged as all bytes that it had left, where it did not fail
-abbrev pub IsJudgedWhole : {E : Type 0} → (Input → Result (List ℕ) E → Type 0) → (List ℕ → Bool) → Type 0
-IsJudgedWhole {E} answers enough = (source : Taking) (input : Input) (bytes : List ℕ) (answer : Result (List ℕ) E)
+abbrev pub IsJudgedWhole : {A E : Type 0} → (Input → Result A E → Type 0) → (List ℕ → Bool) → Type 0
+IsJudgedWhole {A} {E} answers enough = (source : Taking) (input : Input) (bytes : List ℕ) (answer : Result A E)
     → source.before ≡ Some bytes → source.failures ≡ 0 → Gave source enough input → answers input answer → answers (input_of bytes false) answer
 
 pub record WhatIsTakenIsEnough : Type 0 where

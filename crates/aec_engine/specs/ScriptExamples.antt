@@ -1,6 +1,6 @@
 -- What scripts that are written out ask for. A wrong line here fails the check.
 use Rattle.std.specs.Prelude.{◌≡◌, List, [], ◌∷◌, ◌++◌, ℕ, pos, negsuc, Some, None, codes, refl}
-use Rattle.aec_params.specs.declared.edit.Edit.TheVariants.{Overwrite, Append, Truncate}
+use Rattle.aec_params.specs.declared.edit.Edit.TheVariants.{Overwrite, Append, Truncate, Insert, Remove}
 use Rattle.aec_engine.specs.Numerals.{Text}
 use Rattle.aec_engine.specs.Scripts.{listing_of}
 
@@ -21,6 +21,15 @@ four_lines : listing_of (line (codes "# p") ++ (line (codes "overwrite 20 1 -2")
       bad = None;
     }
 four_lines = refl
+
+-- values that come at a place, or none; a number of samples that go
+lines_that_move : listing_of (line (codes "insert 3 7 -8") ++ (line (codes "insert 0") ++ codes "remove 18446744073709551615 0"))
+    ≡ record {
+      edits = Insert 3 (pos 7 ∷ negsuc 7 ∷ []) ∷ Insert 0 [] ∷ Remove 18446744073709551615 0 ∷ [];
+      lines = 1 ∷ 2 ∷ 3 ∷ [];
+      bad = None;
+    }
+lines_that_move = refl
 
 -- a carriage return and no line feed; leading zeros, and a minus before nothing
 return_at_the_end : listing_of (codes "append 007 -0" ++ 13 ∷ [])
@@ -49,6 +58,19 @@ minus_alone = refl
 
 too_large : (listing_of (codes "append 9223372036854775808")).bad ≡ Some 1
 too_large = refl
+
+-- nor are these: no place, no number of samples, one too many, one that 64 bits don't hold
+no_place_to_insert : (listing_of (codes "insert")).bad ≡ Some 1
+no_place_to_insert = refl
+
+no_len : (listing_of (codes "remove 1")).bad ≡ Some 1
+no_len = refl
+
+two_lens : (listing_of (codes "remove 1 2 3")).bad ≡ Some 1
+two_lens = refl
+
+len_too_large : (listing_of (codes "remove 0 18446744073709551616")).bad ≡ Some 1
+len_too_large = refl
 
 -- the least value
 least_value : (listing_of (codes "append -9223372036854775808")).edits ≡ Append (negsuc 9223372036854775807 ∷ []) ∷ []

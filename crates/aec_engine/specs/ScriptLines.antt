@@ -20,12 +20,15 @@ said line.Nothing = nothing
 said (line.Overwrite first values) = change_if (option_map (λ xs. edit.Overwrite first xs) (values_in (words_of values.now)))
 said (line.Append values) = change_if (option_map (λ xs. edit.Append xs) (values_in (words_of values.now)))
 said (line.Truncate count) = change (edit.Truncate count)
+said (line.Insert first values) = change_if (option_map (λ xs. edit.Insert first xs) (values_in (words_of values.now)))
+said (line.Remove first len) = change (edit.Remove first len)
 said line.Unknown = unknown
 
 -- the values of a judged line are values
 abbrev pub IsJudged : Line → Type 0
 IsJudged (line.Overwrite first values) = are_values values.now ≡ true
 IsJudged (line.Append values) = are_values values.now ≡ true
+IsJudged (line.Insert first values) = are_values values.now ≡ true
 IsJudged _ = Unit {0}
 
 -- a line that is kept: an edit, or nothing

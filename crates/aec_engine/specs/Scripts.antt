@@ -5,7 +5,7 @@ use Rattle.std.specs.Str.{bytes_eq}
 use Rattle.std.specs.Str.Lines.{strip_carriage_return}
 use Rattle.std.specs.Str.Parse.{signed_digits_value, without_leading_sign}
 use Rattle.aec_params.specs.declared.edit.Edit.{Edit}
-use Rattle.aec_params.specs.declared.edit.Edit.TheVariants.{Overwrite, Append, Truncate}
+use Rattle.aec_params.specs.declared.edit.Edit.TheVariants.{Overwrite, Append, Truncate, Insert, Remove}
 use Rattle.aec_engine.specs.Numerals.{Text, is_numeral, fits_i64, decimal_in}
 
 -- ---- words and values
@@ -65,6 +65,16 @@ abbrev pub truncate_in : List Text → Option Edit
 truncate_in (count ∷ []) = option_map (λ n. Truncate n) (decimal_in 64 count)
 truncate_in _ = None
 
+-- `FIRST V..`
+abbrev pub insert_in : List Text → Option Edit
+insert_in [] = None
+insert_in (first ∷ values) = option_and_then (λ i. option_map (λ xs. Insert i xs) (values_in values)) (decimal_in 64 first)
+
+-- `FIRST LEN`
+abbrev pub remove_in : List Text → Option Edit
+remove_in (first ∷ len ∷ []) = option_and_then (λ i. option_map (λ n. Remove i n) (decimal_in 64 len)) (decimal_in 64 first)
+remove_in _ = None
+
 -- the first word names the edit; a line whose first word begins with `#` says nothing
 abbrev pub meaning_of_words : List Text → Meaning
 meaning_of_words [] = nothing
@@ -72,7 +82,9 @@ meaning_of_words (name ∷ words) =
     if slice_index name 0 == 35 then nothing
     else (if bytes_eq name (codes "overwrite") then change_if (overwrite_in words)
     else (if bytes_eq name (codes "append") then change_if (append_in words)
-    else (if bytes_eq name (codes "truncate") then change_if (truncate_in words) else unknown)))
+    else (if bytes_eq name (codes "truncate") then change_if (truncate_in words)
+    else (if bytes_eq name (codes "insert") then change_if (insert_in words)
+    else (if bytes_eq name (codes "remove") then change_if (remove_in words) else unknown)))))
 
 -- one carriage return at the end of a line is no part of it
 abbrev pub meaning_of : Text → Meaning

@@ -55,12 +55,14 @@ pub record Putting : Type 0 where
   pub after : Option (List ℕ)
   pub begun_before : ℕ
   pub begun_after : ℕ
+  pub mark : Option (List ℕ)
   pub failures : ℕ
 
--- by what a kind of sink tells: the bytes that it has taken, how often it was begun, and how often it has failed
-abbrev pub putting_of : {W : Type 0} → (W → Option (List ℕ)) → (W → ℕ) → (W → ℕ) → W → W → Putting
-putting_of taken begun failed old new =
-    record { before = taken old; after = taken new; begun_before = begun old; begun_after = begun new; failures = failed new }
+-- by what a kind of sink tells: the bytes that it has taken, how often it was begun, what it had taken before it was begun last,
+-- and how often it has failed
+abbrev pub putting_of : {W : Type 0} → (W → Option (List ℕ)) → (W → ℕ) → (W → Option (List ℕ)) → (W → ℕ) → W → W → Putting
+putting_of taken begun mark failed old new =
+    record { before = taken old; after = taken new; begun_before = begun old; begun_after = begun new; mark = mark new; failures = failed new }
 
 -- bytes that are more than a limit
 abbrev pub are_past : ℕ → List ℕ → Bool
@@ -78,31 +80,37 @@ pub record WroteNothing (sink : Putting) : Type 0 where
   pub kept : Keeps sink.before sink.after
   pub begun : sink.begun_after ≡ sink.begun_before
 
+-- begin was called once, before anything was taken: what the sink tells to have held then is what it held before
+pub record IsBegunFirst (sink : Putting) : Type 0 where
+  pub once : sink.begun_after ≡ counted sink.begun_before
+  pub first : Keeps sink.mark sink.before
+
 -- What an engine leaves whose answers are a function of its input: its answer written and begun once; or its refusal and nothing
 -- written; want of memory and nothing written; or a front of its answer where the sink failed.
 pub data Leaves (answers : Input → Result (List ℕ) Fault → Type 0) (source : Taking) (enough : List ℕ → Bool) (sink : Putting)
     : Result (Unit {0}) Fault → Type 0 where
   written : (input : Input) (bytes : List ℕ) → Gave source enough input → answers input (Ok bytes) → Appends sink.before sink.after bytes
-      → sink.begun_after ≡ counted sink.begun_before → Leaves answers source enough sink (Ok tt)
+      → IsBegunFirst sink → sink.failures ≡ 0 → Leaves answers source enough sink (Ok tt)
   refused : (input : Input) (fault : Fault) → Gave source enough input → answers input (Err fault) → WroteNothing sink
       → Leaves answers source enough sink (Err fault)
   no_answer : WroteNothing sink → Leaves answers source enough sink (Err Memory)
   not_written : (input : Input) (bytes : List ℕ) → Gave source enough input → answers input (Ok bytes) → AppendsFront sink.before sink.after bytes
-      → sink.begun_after ≡ counted sink.begun_before → sink.failures ≡ 1 → Leaves answers source enough sink (Err Write)
+      → IsBegunFirst sink → sink.failures ≡ 1 → Leaves answers source enough sink (Err Write)
 
 -- what a run over a source answers before anything is written: the answer to its input, or want of memory
 pub data GivesAnswer (answers : Input → Result (List ℕ) Fault → Type 0) (source : Taking) (enough : List ℕ → Bool) : Result (List ℕ) Fault → Type 0 where
   given : (input : Input) (answer : Result (List ℕ) Fault) → Gave source enough input → answers input answer → GivesAnswer answers source enough answer
   lacks_memory : GivesAnswer answers source enough (Err Memory)
 
--- an answer as its bytes, or its refusal
-abbrev pub answer_of : {X E : Type 0} → (X → List ℕ) → Result X E → Result (List ℕ) E
-answer_of bytes_in (Ok x) = Ok (bytes_in x)
-answer_of bytes_in (Err fault) = Err fault
+-- an answer by what is asked of it, as its bytes; or its refusal
+abbrev pub answer_of : {X A E : Type 0} → (X → A) → Result X E → Result A E
+answer_of asked (Ok x) = Ok (asked x)
+answer_of asked (Err fault) = Err fault
 
 -- what writing an answer leaves: its bytes, begun once; nothing for a refusal; or a front of its bytes where the sink failed
 pub data Settles (sink : Putting) : Result (List ℕ) Fault → Result (Unit {0}) Fault → Type 0 where
-  settled : (bytes : List ℕ) → Appends sink.before sink.after bytes → sink.begun_after ≡ counted sink.begun_before → Settles sink (Ok bytes) (Ok tt)
+  settled : (bytes : List ℕ) → Appends sink.before sink.after bytes → IsBegunFirst sink → sink.failures ≡ 0
+      → Settles sink (Ok bytes) (Ok tt)
   not_begun : (fault : Fault) → WroteNothing sink → Settles sink (Err fault) (Err fault)
-  stopped : (bytes : List ℕ) → AppendsFront sink.before sink.after bytes → sink.begun_after ≡ counted sink.begun_before → sink.failures ≡ 1
+  stopped : (bytes : List ℕ) → AppendsFront sink.before sink.after bytes → IsBegunFirst sink → sink.failures ≡ 1
       → Settles sink (Ok bytes) (Err Write)

@@ -11,5 +11,5 @@ mod two_readings;
 
 pub use coding::encode;
 pub use decoding::decode;
-pub use editing::edit;
+pub use editing::{edit, edit_over};
 pub use ranging::range;

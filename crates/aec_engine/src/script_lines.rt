@@ -3,7 +3,7 @@
 ghost use Rattle.std.specs.Prelude.{◌≡◌, ◌<◌, ◌≢◌, true, ◌∷◌, length, is_some, Some, IfOk, IfErr};
 ghost use Rattle.aec_params.specs.declared.fault.Fault.TheVariants.{Memory};
 ghost use Rattle.aec_params.specs.declared.edit.Edit.{Edit};
-ghost use Rattle.aec_engine.specs.Scripts.{nothing, unknown, meaning_of, meaning_of_words, change_if, append_in, overwrite_in, truncate_in, words_of, values_in};
+ghost use Rattle.aec_engine.specs.Scripts.{nothing, unknown, meaning_of, meaning_of_words, change_if, append_in, overwrite_in, truncate_in, insert_in, remove_in, words_of, values_in};
 ghost use Rattle.aec_engine.specs.ScriptLines.{said, kept, IsJudged, are_values};
 
 use crate::script_words::{next_word, number_of, value_of};
@@ -17,6 +17,8 @@ pub(crate) enum Line<'a> {
     Overwrite { first: u64, values: &'a [u8] },
     Append { values: &'a [u8] },
     Truncate { count: u64 },
+    Insert { first: u64, values: &'a [u8] },
+    Remove { first: u64, len: u64 },
     Unknown,
 }
 
@@ -74,6 +76,37 @@ fn truncate_line<'a>(words: &[u8]) -> Line<'a>
     }
 }
 
+/// `FIRST V..`
+fn insert_line(words: &[u8]) -> Line<'_>
+    ensures says { said result ≡ change_if (insert_in (words_of words.now)) }
+    ensures judged { IsJudged result }
+{
+    let Some((first, values)) = next_word(words) else {
+        return Line::Unknown;
+    };
+    match number_of(first) {
+        Some(first) if are_values(values) => Line::Insert { first, values },
+        _ => Line::Unknown,
+    }
+}
+
+/// `FIRST LEN`
+fn remove_line<'a>(words: &[u8]) -> Line<'a>
+    ensures says { said result ≡ change_if (remove_in (words_of words.now)) }
+    ensures judged { IsJudged result }
+{
+    let Some((first, rest)) = next_word(words) else {
+        return Line::Unknown;
+    };
+    let Some((len, rest)) = next_word(rest) else {
+        return Line::Unknown;
+    };
+    match (number_of(first), number_of(len), next_word(rest)) {
+        (Some(first), Some(len), None) => Line::Remove { first, len },
+        _ => Line::Unknown,
+    }
+}
+
 /// A line by its first word and what follows it.
 fn named_line<'a>(name: &[u8], words: &'a [u8]) -> Line<'a>
     requires { 0 < length name.now }
@@ -91,6 +124,12 @@ fn named_line<'a>(name: &[u8], words: &'a [u8]) -> Line<'a>
     }
     if name == b"truncate".as_slice() {
         return truncate_line(words);
+    }
+    if name == b"insert".as_slice() {
+        return insert_line(words);
+    }
+    if name == b"remove".as_slice() {
+        return remove_line(words);
     }
     Line::Unknown
 }
@@ -142,5 +181,10 @@ pub(crate) fn edit_of(alloc: Global, line: Line<'_>) -> Result<Option<Edit>, Fau
             values: values_of(alloc, values)?,
         }),
         Line::Truncate { count } => Some(Edit::Truncate { count }),
+        Line::Insert { first, values } => Some(Edit::Insert {
+            first,
+            values: values_of(alloc, values)?,
+        }),
+        Line::Remove { first, len } => Some(Edit::Remove { first, len }),
     })
 }

@@ -48,9 +48,10 @@ pub equal_lengths : (s : Settings) (v w : List ℤ) (x y : List Bool) → IsAllo
 equal_lengths s v w x y a h k some few len e =
     let blocks : length (blocks_of s v) ≡ length (blocks_of s w) = length-blocks_of s v a ∙ ap (λ n. div_ceil n s.block_size) len
     ∙ sym (length-blocks_of s w a) in
-    let plain = same_readings s (unpadded_bits s v) (unpadded_bits s w) (padding_of s v ++ x) (padding_of s w ++ y) (blocks_of s v) (blocks_of s w) a blocks
+    let plain = same_readings s (unpadded_bits s v) (unpadded_bits s w) (padding_of s (unpadded_bits s v) ++ x) (padding_of s (unpadded_bits s w) ++ y)
+    (blocks_of s v) (blocks_of s w) a blocks
     (ReadsBlocks-unpadded_bits s v a h some few) (ReadsBlocks-unpadded_bits s w a k (omega arith) (omega arith))
-    (sym (append_assoc (unpadded_bits s v) (padding_of s v) x) ∙ ap (λ z. z ++ x) (sym (interval_bits-padded s v)) ∙ e
-    ∙ ap (λ z. z ++ y) (interval_bits-padded s w) ∙ append_assoc (unpadded_bits s w) (padding_of s w) y) in
+    (sym (append_assoc (unpadded_bits s v) (padding_of s (unpadded_bits s v)) x) ∙ ap (λ z. z ++ x) (sym (interval_bits-padded s v)) ∙ e
+    ∙ ap (λ z. z ++ y) (interval_bits-padded s w) ∙ append_assoc (unpadded_bits s w) (padding_of s (unpadded_bits s w)) y) in
     let same = blocks_of-one_to_one s v w a h k len plain.0 in
     (same, append_cancel_left (interval_bits s v) x y (e ∙ ap (λ u. interval_bits s u ++ y) (sym same)))

@@ -18,9 +18,10 @@ use Rattle.aec_interval.specs.IntervalFormat.{interval_format}
 use Rattle.aec_interval.specs.Laws.{AreOfInterval}
 use Rattle.aec_interval.specs.Reached.{IsReadFrom, RefusesReading, no_memory, faulty}
 use Rattle.aec_interval.proofs.BlockLemmas.{length-blocks_of}
+use Rattle.aec_interval.proofs.IntervalLemmas.{ReadsBlocks-unpadded_bits}
 use Rattle.aec_interval.proofs.PlaceLemmas.{end_of}
-use Rattle.aec_interval.proofs.StreamLemmas.{IsPart, part_of}
-use Rattle.aec_interval.proofs.RoundTripLemmas.{all_blocks_of-one, FillBlocks-all_blocks_of}
+use Rattle.aec_interval.proofs.StreamLemmas.{interval_bits-padded, all_blocks_of-one, IsPart, part_of}
+use Rattle.aec_interval.proofs.RoundTripLemmas.{FillBlocks-all_blocks_of}
 use Rattle.aec_interval.proofs.WalkLemmas.{same_blocks, no_reading_and_fault}
 use Rattle.aec_interval.proofs.IntervalFormatLemmas.{AreOfInterval-format}
 
@@ -28,8 +29,9 @@ use Rattle.aec_interval.proofs.IntervalFormatLemmas.{AreOfInterval-format}
 IsBlockReading-behind : (s : Settings) (limit : ℕ) (pre rest bits : List Bool) (start : ℕ) (v : List ℤ) → IsAllowed s → AreOfInterval s v → start ≡ length pre
     → bits ≡ pre ++ (interval_bits s v ++ rest) → IsBlockReading s (Some (length v)) limit bits 0 start (blocks_of s v)
 IsBlockReading-behind s limit pre rest bits start v a h starts spelled =
-    let part : IsPart s (length v) limit 0 0 start pre bits v =
-    part_of s (length v) limit 0 0 start pre (interval_bits s v ++ rest) rest bits v a h.some h.fits h.held (omega arith) starts spelled refl (omega arith) in
+    let part : IsPart s (length v) limit 0 0 start pre bits (unpadded_bits s v) v =
+    part_of s (length v) limit 0 0 start pre (unpadded_bits s v) rest bits v a h.some h.fits (ReadsBlocks-unpadded_bits s v a h.held h.some h.fits)
+    (omega arith) starts (spelled ∙ ap (λ code. pre ++ (code ++ rest)) (interval_bits-padded s v)) (omega arith) in
     let len = length-blocks_of s v a in
     record {
       sets = part.sets;

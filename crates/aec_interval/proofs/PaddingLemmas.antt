@@ -1,5 +1,5 @@
 -- The padding of an interval.
-use Rattle.std.proofs.Common.{◌≡◌, ℕ, zero, suc, ◌-◌, ◌+◌, ◌≤◌, ◌%◌, ◌/◌, ◌^◌, Bool, true, false, List, ◌∷◌, ◌++◌, length, replicate, refl, sym, ap, ◌∙◌, arith}
+use Rattle.std.proofs.Common.{◌≡◌, ℕ, zero, suc, ◌-◌, ◌%◌, ◌/◌, ◌^◌, Bool, true, false, List, ◌∷◌, ◌++◌, length, replicate, refl, sym, ap, ◌∙◌, arith}
 use Rattle.std.specs.Prelude.{◌==◌, ℤ}
 use Rattle.std.proofs.Math.Nat.{zero-div}
 use Rattle.std.proofs.lemmas.List.{append_assoc, length-append}
@@ -8,7 +8,6 @@ use Rattle.aec_params.specs.declared.settings.Settings.{Settings}
 use Rattle.aec_params.specs.Cutting.{up_to_multiple}
 use Rattle.aec_params.specs.Codewords.{binary, padded_to_byte}
 use Rattle.aec_params.specs.Intervals.{unpadded_bits, interval_bits}
-use Rattle.aec_bits.proofs.CodewordLaws.{length-binary}
 
 pub binary-zeros : (w : ℕ) → binary w 0 ≡ replicate w false
 binary-zeros zero = refl
@@ -25,10 +24,3 @@ interval-padded s v old mid new n m pad e f front written =
   where
     len : n - m ≡ length (unpadded_bits s v)
     len = omega (arith, e, f, ap length front, length-append old (unpadded_bits s v))
-
--- what there was of bits and room is there behind the padding too
-pub padded-room : (before room later w v : ℕ) (a b : List Bool) → before ≤ room + length a → b ≡ a ++ binary w v → room ≤ later + w
-    → before ≤ later + length b
-padded-room before room later w v a b so_far e grown =
-    let len : length b ≡ length a + w = ap length e ∙ length-append a (binary w v) ∙ ap (λ n. length a + n) (length-binary w v) in
-    omega (arith, len, so_far, grown)

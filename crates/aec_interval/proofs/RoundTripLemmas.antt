@@ -1,5 +1,5 @@
--- Reading the code of samples with their count gives the samples.
-use Rattle.std.proofs.Common.{◌≡◌, ℕ, ◌+◌, ◌-◌, ◌*◌, ◌%◌, ◌<◌, ◌≤◌, Bool, Option, Some, None, List, [], ◌∷◌, ◌++◌, length, replicate, refl, sym, ap, ap₂, ◌∙◌, subst, arith}
+-- Reading codes of samples with their count gives the samples.
+use Rattle.std.proofs.Common.{◌≡◌, ℕ, ◌+◌, ◌-◌, ◌*◌, ◌%◌, ◌<◌, ◌≤◌, Bool, false, Option, Some, None, List, [], ◌∷◌, ◌++◌, length, map, replicate, refl, sym, ap, ap₂, ◌∙◌, subst, arith}
 use Rattle.std.specs.Prelude.{ℤ, pos, unwrap_or}
 use Rattle.std.specs.List.{AllByRecursion, flat_map, last_or}
 use Rattle.std.specs.Int.{div_ceil}
@@ -10,28 +10,16 @@ use Rattle.aec_params.specs.declared.settings.Settings.{Settings}
 use Rattle.aec_params.specs.Params.{IsAllowed, IsHeld, interval_len}
 use Rattle.aec_params.specs.Cutting.{pieces_of, up_to_multiple}
 use Rattle.aec_params.specs.Mapping.{mapped_values}
-use Rattle.aec_params.specs.Blocks.{filled_samples, reference_of, with_reference, blocks_of, all_blocks_of}
+use Rattle.aec_params.specs.Blocks.{intervals_of, filled_samples, reference_of, with_reference, blocks_of, all_blocks_of}
+use Rattle.aec_params.specs.Intervals.{unpadded_bits}
 use Rattle.aec_params.specs.Streams.{stream_of}
 use Rattle.aec_params.specs.Reading.{IsBlockReading, FillBlocks, IsReading}
-use Rattle.aec_interval.proofs.CuttingLemmas.{IsPieceBefore, by_pieces, pieces_of-one, div_ceil-zero, div_ceil-times}
+use Rattle.aec_interval.specs.Laws.{ReadsEach}
+use Rattle.aec_interval.proofs.CuttingLemmas.{IsPieceBefore, by_pieces, div_ceil-zero}
 use Rattle.aec_interval.proofs.BlockLemmas.{all-filled_samples, length-filled_samples, length-blocks_of, blocks-few, block_size-positive}
-use Rattle.aec_interval.proofs.StreamLemmas.{walk_of, interval_len-positive, div_ceil-add, all_blocks_of-nil, all_blocks_of-cons}
+use Rattle.aec_interval.proofs.StreamLemmas.{padded_code, no_padding, walk_of, stream_of-codes, ReadsEach-unpadded_bits, interval_len-positive, length-full_blocks, div_ceil-interval, all_blocks_of-nil, all_blocks_of-one, all_blocks_of-cons}
 
 -- ---- how many blocks there are
-
-pub all_blocks_of-one : (s : Settings) (v : List ℤ) → 0 < length v → length v ≤ interval_len s → all_blocks_of s v ≡ blocks_of s v
-all_blocks_of-one s v some few = ap (flat_map (blocks_of s)) (pieces_of-one (interval_len s) v some few) ∙ append-nil (blocks_of s v)
-
--- full intervals in front of samples
-pub div_ceil-interval : (s : Settings) (front rest : List ℤ) → IsAllowed s → length front ≡ interval_len s
-    → div_ceil (length (front ++ rest)) s.block_size ≡ s.interval + div_ceil (length rest) s.block_size
-div_ceil-interval s front rest a full =
-    ap (λ m. div_ceil m s.block_size) (length-append front rest ∙ ap (λ m. m + length rest) full)
-    ∙ div_ceil-add s.interval (length rest) s.block_size (block_size-positive s a)
-
-pub length-full_blocks : (s : Settings) (front : List ℤ) → IsAllowed s → length front ≡ interval_len s → length (blocks_of s front) ≡ s.interval
-length-full_blocks s front a full =
-    length-blocks_of s front a ∙ ap (λ m. div_ceil m s.block_size) (full ∙ omega arith) ∙ div_ceil-times s.interval s.block_size (block_size-positive s a)
 
 pub length-all_blocks_of : (s : Settings) → IsAllowed s → (xs : List ℤ) → length (all_blocks_of s xs) ≡ div_ceil (length xs) s.block_size
 length-all_blocks_of s a = by_pieces Counted (interval_len s) (interval_len-positive s a)
@@ -125,10 +113,12 @@ FillBlocks-all_blocks_of s xs a held = record {
   mapped = all_blocks_of-filled s a xs;
 }
 
-pub IsBlockReading-stream_of : (s : Settings) (limit : ℕ) (xs : List ℤ) (rest : List Bool) → IsAllowed s → AllByRecursion (IsHeld s) xs
-    → IsBlockReading s (Some (length xs)) limit (stream_of s xs ++ rest) 0 0 (all_blocks_of s xs)
-IsBlockReading-stream_of s limit xs rest a held =
-    let walk = walk_of s (length xs) limit rest a xs 0 0 0 [] (stream_of s xs ++ rest) held (λ _. refl) (omega arith) refl refl (omega arith) in
+-- codes that read the intervals of samples one by one, each padded by its own length where the parameters pad, are read as the samples
+IsBlockReading-codes : (s : Settings) (limit : ℕ) (xs : List ℤ) (codes : List (List Bool)) (rest : List Bool) → IsAllowed s
+    → ReadsEach s codes (intervals_of s xs) → IsBlockReading s (Some (length xs)) limit (flat_map (padded_code s) codes ++ rest) 0 0 (all_blocks_of s xs)
+IsBlockReading-codes s limit xs codes rest a each =
+    let bits = flat_map (padded_code s) codes ++ rest in
+    let walk = walk_of s (length xs) limit rest a xs codes 0 0 0 [] bits each (λ _. refl) (omega arith) refl refl (omega arith) in
     record {
       sets = walk.sets;
       end_block = walk.end_block;
@@ -138,12 +128,30 @@ IsBlockReading-stream_of s limit xs rest a held =
       kept = sym walk.blocks;
     }
 
-pub IsReading-stream_of : (s : Settings) (limit : ℕ) (xs : List ℤ) (rest : List Bool) → IsAllowed s → AllByRecursion (IsHeld s) xs
-    → IsReading s (Some (length xs)) limit (stream_of s xs ++ rest) xs
-IsReading-stream_of s limit xs rest a held = record {
+IsReading-codes : (s : Settings) (limit : ℕ) (xs : List ℤ) (codes : List (List Bool)) (rest : List Bool) → IsAllowed s → AllByRecursion (IsHeld s) xs
+    → ReadsEach s codes (intervals_of s xs) → IsReading s (Some (length xs)) limit (flat_map (padded_code s) codes ++ rest) xs
+IsReading-codes s limit xs codes rest a held each = record {
   blocks = all_blocks_of s xs;
-  read = IsBlockReading-stream_of s limit xs rest a held;
+  read = IsBlockReading-codes s limit xs codes rest a each;
   all_samples = filled_samples s xs;
   filled = FillBlocks-all_blocks_of s xs a held;
   counted = sym (take_at xs (replicate (up_to_multiple s.block_size (length xs)) (unwrap_or (last_or None xs) (pos 0))) (length xs) refl);
 }
+
+-- the code of samples is such codes
+pub IsReading-stream_of : (s : Settings) (limit : ℕ) (xs : List ℤ) (rest : List Bool) → IsAllowed s → AllByRecursion (IsHeld s) xs
+    → IsReading s (Some (length xs)) limit (stream_of s xs ++ rest) xs
+IsReading-stream_of s limit xs rest a held =
+    subst (λ code. IsReading s (Some (length xs)) limit (code ++ rest) xs) (sym (stream_of-codes s (intervals_of s xs)))
+    (IsReading-codes s limit xs (map (unpadded_bits s) (intervals_of s xs)) rest a held (ReadsEach-unpadded_bits s a xs held))
+
+-- and without padding so are codes as they stand
+pub each_code_is_read : (s : Settings) (limit : ℕ) (xs : List ℤ) (codes : List (List Bool)) (rest : List Bool) → IsAllowed s → s.pad ≡ false
+    → AllByRecursion (IsHeld s) xs → ReadsEach s codes (intervals_of s xs)
+    → IsReading s (Some (length xs)) limit (flat_map (λ code. code) codes ++ rest) xs
+each_code_is_read s limit xs codes rest a t held each =
+    subst (λ bits. IsReading s (Some (length xs)) limit (bits ++ rest) xs) (as_they_stand codes) (IsReading-codes s limit xs codes rest a held each)
+  where
+    as_they_stand : (codes : List (List Bool)) → flat_map (padded_code s) codes ≡ flat_map (λ code. code) codes
+    as_they_stand [] = refl
+    as_they_stand (code ∷ codes) = ap₂ ◌++◌ (no_padding s code t) (as_they_stand codes)

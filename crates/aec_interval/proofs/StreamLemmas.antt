@@ -1,5 +1,5 @@
--- The code of all samples is read as the samples.
-use Rattle.std.proofs.Common.{◌≡◌, ℕ, ◌+◌, ◌-◌, ◌*◌, ◌/◌, ◌%◌, ◌<◌, ◌≤◌, min, Bool, true, false, Some, List, [], ◌∷◌, ◌++◌, length, take, replicate, refl, sym, ap, ap₂, ◌∙◌, subst, arith, ⊎_elim}
+-- The codes of intervals, one behind the other, are read as the intervals.
+use Rattle.std.proofs.Common.{◌≡◌, ℕ, ◌+◌, ◌-◌, ◌*◌, ◌/◌, ◌%◌, ◌<◌, ◌≤◌, min, Bool, true, false, Some, List, [], ◌∷◌, ◌++◌, length, map, take, replicate, refl, sym, ap, ap₂, ◌∙◌, subst, arith, ⊎_elim}
 use Rattle.std.specs.Prelude.{ℤ, ◌==◌, ◌&&◌, if◌then◌else◌}
 use Rattle.std.specs.List.{AllByRecursion, flat_map}
 use Rattle.std.specs.Int.{div_ceil, next_multiple_of}
@@ -10,11 +10,12 @@ use Rattle.std.proofs.lemmas.Bool.{cases_Bool, cond-true, cond-false, and_from, 
 use Rattle.aec_params.specs.declared.settings.Settings.{Settings}
 use Rattle.aec_params.specs.Params.{IsAllowed, IsHeld, interval_len}
 use Rattle.aec_params.specs.Cutting.{up_to_multiple}
-use Rattle.aec_params.specs.Blocks.{blocks_of, all_blocks_of}
-use Rattle.aec_params.specs.CodedDataSets.{CodedDataSet, cds_bits}
+use Rattle.aec_params.specs.Blocks.{intervals_of, blocks_of, all_blocks_of}
+use Rattle.aec_params.specs.CodedDataSets.{CodedDataSet}
 use Rattle.aec_params.specs.Intervals.{unpadded_bits, interval_bits}
 use Rattle.aec_params.specs.Streams.{stream_of}
-use Rattle.aec_params.specs.Reading.{covered_blocks, begin_of, LeadsTo, stream_blocks}
+use Rattle.aec_params.specs.Reading.{covered_blocks, ReadsBlocks, begin_of, LeadsTo, stream_blocks}
+use Rattle.aec_interval.specs.Laws.{ReadsEach}
 use Rattle.aec_interval.proofs.CuttingLemmas.{IsPieceBefore, by_pieces, pieces_of-nil, pieces_of-cons, pieces_of-one, div_ceil-zero, div_ceil-positive, div_ceil-times}
 use Rattle.aec_interval.proofs.BlockLemmas.{all_left, all_right, length-blocks_of, blocks-few, block_size-positive}
 use Rattle.aec_interval.proofs.IntervalLemmas.{ReadsBlocks-unpadded_bits}
@@ -25,7 +26,7 @@ pub use Rattle.aec_params.proofs.SampleLaws.{interval_len-positive, all_blocks_o
 -- ---- whole intervals in front
 
 -- so many whole pieces more
-pub div_ceil-add : (k m n : ℕ) → 0 < n → div_ceil (n * k + m) n ≡ k + div_ceil m n
+div_ceil-add : (k m n : ℕ) → 0 < n → div_ceil (n * k + m) n ≡ k + div_ceil m n
 div_ceil-add k m n h =
     let e : n * k + m ≡ m + k * n = omega arith in
     let q = ap (λ x. x / n) e ∙ add-mul-div_right m k h in
@@ -43,75 +44,85 @@ pub all_blocks_of-cons : (s : Settings) (front rest : List ℤ) → IsPieceBefor
     → all_blocks_of s (front ++ rest) ≡ blocks_of s front ++ all_blocks_of s rest
 all_blocks_of-cons s front rest h = ap (flat_map (blocks_of s)) (pieces_of-cons (interval_len s) front rest h)
 
+-- the blocks of one interval
+pub all_blocks_of-one : (s : Settings) (v : List ℤ) → 0 < length v → length v ≤ interval_len s → all_blocks_of s v ≡ blocks_of s v
+all_blocks_of-one s v some few = ap (flat_map (blocks_of s)) (pieces_of-one (interval_len s) v some few) ∙ append-nil (blocks_of s v)
+
+-- the blocks of a full interval, and of what is behind it
+pub length-full_blocks : (s : Settings) (front : List ℤ) → IsAllowed s → length front ≡ interval_len s → length (blocks_of s front) ≡ s.interval
+length-full_blocks s front a full =
+    length-blocks_of s front a ∙ ap (λ m. div_ceil m s.block_size) (full ∙ omega arith) ∙ div_ceil-times s.interval s.block_size (block_size-positive s a)
+
+pub div_ceil-interval : (s : Settings) (front rest : List ℤ) → IsAllowed s → length front ≡ interval_len s
+    → div_ceil (length (front ++ rest)) s.block_size ≡ s.interval + div_ceil (length rest) s.block_size
+div_ceil-interval s front rest a full =
+    ap (λ m. div_ceil m s.block_size) (length-append front rest ∙ ap (λ m. m + length rest) full)
+    ∙ div_ceil-add s.interval (length rest) s.block_size (block_size-positive s a)
+
 -- ---- what padding adds
 
-abbrev pub padding_of : Settings → List ℤ → List Bool
-padding_of s v = if s.pad then replicate (up_to_multiple 8 (length (unpadded_bits s v))) false else []
+abbrev pub padding_of : Settings → List Bool → List Bool
+padding_of s code = if s.pad then replicate (up_to_multiple 8 (length code)) false else []
 
-pub interval_bits-padded : (s : Settings) (v : List ℤ) → interval_bits s v ≡ unpadded_bits s v ++ padding_of s v
+-- a code, padded by its own length where the parameters pad
+abbrev pub padded_code : Settings → List Bool → List Bool
+padded_code s code = code ++ padding_of s code
+
+pub interval_bits-padded : (s : Settings) (v : List ℤ) → interval_bits s v ≡ padded_code s (unpadded_bits s v)
 interval_bits-padded s v = padded s.pad (unpadded_bits s v) (replicate (up_to_multiple 8 (length (unpadded_bits s v))) false)
   where
     padded : (t : Bool) (x z : List Bool) → (if t then x ++ z else x) ≡ x ++ (if t then z else [])
     padded true x z = refl
     padded false x z = sym (append-nil x)
 
-pub length-padding_of : (s : Settings) (v : List ℤ) → s.pad ≡ true → length (padding_of s v) ≡ up_to_multiple 8 (length (unpadded_bits s v))
-length-padding_of s v t =
-    ap length (cond-true s.pad (replicate (up_to_multiple 8 (length (unpadded_bits s v))) false) [] t)
-    ∙ length-replicate (up_to_multiple 8 (length (unpadded_bits s v))) false
+length-padding_of : (s : Settings) (code : List Bool) → s.pad ≡ true → length (padding_of s code) ≡ up_to_multiple 8 (length code)
+length-padding_of s code t =
+    ap length (cond-true s.pad (replicate (up_to_multiple 8 (length code)) false) [] t) ∙ length-replicate (up_to_multiple 8 (length code)) false
 
-pub no_padding : (s : Settings) (v : List ℤ) → s.pad ≡ false → length (padding_of s v) ≡ 0
-no_padding s v t = ap length (cond-false s.pad (replicate (up_to_multiple 8 (length (unpadded_bits s v))) false) [] t)
+pub no_padding : (s : Settings) (code : List Bool) → s.pad ≡ false → padded_code s code ≡ code
+no_padding s code t = ap (◌++◌ code) (cond-false s.pad (replicate (up_to_multiple 8 (length code)) false) [] t) ∙ append-nil code
 
 -- bits that begin an interval: with padding whole bytes stand before them
 abbrev pub IsAligned : Settings → List Bool → Type 0
 IsAligned s pre = s.pad ≡ true → length pre % 8 ≡ 0
 
--- behind a full interval the next one begins behind the padding
-pub begin_of-interval : (s : Settings) (v : List ℤ) (pre rest : List Bool) (k : ℕ) → IsAligned s pre
-    → begin_of s (pre ++ (interval_bits s v ++ rest)) (k * s.interval) (length pre + length (unpadded_bits s v)) ≡ length (pre ++ interval_bits s v)
-begin_of-interval s v pre rest k aligned = ⊎_elim padded plain (cases_Bool s.pad)
+-- behind the code of a full interval the next one begins behind the padding
+begin_of-code : (s : Settings) (code pre rest : List Bool) (k : ℕ) → IsAligned s pre
+    → begin_of s (pre ++ (padded_code s code ++ rest)) (k * s.interval) (length pre + length code) ≡ length (pre ++ padded_code s code)
+begin_of-code s code pre rest k aligned = ⊎_elim padded plain (cases_Bool s.pad)
   where
     bits : List Bool
-    bits = pre ++ (interval_bits s v ++ rest)
+    bits = pre ++ (padded_code s code ++ rest)
 
     i : ℕ
     i = k * s.interval
 
     b : ℕ
-    b = length pre + length (unpadded_bits s v)
+    b = length pre + length code
 
-    len : length (pre ++ interval_bits s v) ≡ b + length (padding_of s v)
-    len = length-append pre (interval_bits s v)
-        ∙ ap (λ x. length pre + x) (ap length (interval_bits-padded s v) ∙ length-append (unpadded_bits s v) (padding_of s v)) ∙ omega arith
+    len : length (pre ++ padded_code s code) ≡ b + length (padding_of s code)
+    len = omega (arith, length-append pre (padded_code s code), length-append code (padding_of s code))
 
-    enough : length (pre ++ interval_bits s v) ≤ length bits
-    enough = omega (arith, length-append pre (interval_bits s v), length-append pre (interval_bits s v ++ rest), length-append (interval_bits s v) rest)
+    enough : length (pre ++ padded_code s code) ≤ length bits
+    enough = omega (arith, length-append pre (padded_code s code), length-append pre (padded_code s code ++ rest), length-append (padded_code s code) rest)
 
-    plain : s.pad ≡ false → begin_of s bits i b ≡ length (pre ++ interval_bits s v)
+    plain : s.pad ≡ false → begin_of s bits i b ≡ length (pre ++ padded_code s code)
     plain t = cond-false (s.pad && (i % s.interval == 0)) (min (next_multiple_of b 8) (length bits)) b (and_left s.pad (i % s.interval == 0) t)
-        ∙ omega (arith, len, no_padding s v t)
+        ∙ omega (arith, length-append pre (padded_code s code), ap length (no_padding s code t))
 
-    padded : s.pad ≡ true → begin_of s bits i b ≡ length (pre ++ interval_bits s v)
+    padded : s.pad ≡ true → begin_of s bits i b ≡ length (pre ++ padded_code s code)
     padded t =
         cond-true (s.pad && (i % s.interval == 0)) (min (next_multiple_of b 8) (length bits)) b
         (and_from s.pad (i % s.interval == 0) t (eq-eqb (i % s.interval) 0 (mul-mod_left k s.interval)))
-        ∙ omega (arith, len, enough, length-padding_of s v t, aligned t)
+        ∙ omega (arith, len, enough, length-padding_of s code t, aligned t)
 
-pub IsAligned-interval : (s : Settings) (v : List ℤ) (pre : List Bool) → IsAligned s pre → IsAligned s (pre ++ interval_bits s v)
-IsAligned-interval s v pre aligned t =
-    omega (
-      arith,
-      length-append pre (interval_bits s v),
-      ap length (interval_bits-padded s v),
-      length-append (unpadded_bits s v) (padding_of s v),
-      length-padding_of s v t,
-      aligned t,
-    )
+IsAligned-code : (s : Settings) (code pre : List Bool) → IsAligned s pre → IsAligned s (pre ++ padded_code s code)
+IsAligned-code s code pre aligned t =
+    omega (arith, length-append pre (padded_code s code), length-append code (padding_of s code), length-padding_of s code t, aligned t)
 
 -- ---- from interval to interval
 
--- a walk through the code of samples, of so many blocks in all, which stands for their blocks, whatever follows the code
+-- a walk through codes of samples, of so many blocks in all, which stands for their blocks, whatever follows the codes
 pub record IsWalk (s : Settings) (count limit : ℕ) (bits : List Bool) (i b : ℕ) (xs : List ℤ) : Type 0 where
   pub sets : List CodedDataSet
   pub end_block : ℕ
@@ -120,12 +131,13 @@ pub record IsWalk (s : Settings) (count limit : ℕ) (bits : List Bool) (i b : �
   pub enough : div_ceil count s.block_size ≤ end_block
   pub blocks : take (div_ceil count s.block_size - i) (stream_blocks s i sets) ≡ all_blocks_of s xs
 
-abbrev HasWalk : Settings → ℕ → ℕ → List Bool → List ℤ → Type 0
-HasWalk s count limit tail xs = (k i b : ℕ) (pre bits : List Bool) → AllByRecursion (IsHeld s) xs → IsAligned s pre → i ≡ k * s.interval → b ≡ length pre
-    → bits ≡ pre ++ (stream_of s xs ++ tail) → i + div_ceil (length xs) s.block_size ≡ div_ceil count s.block_size → IsWalk s count limit bits i b xs
+abbrev pub HasWalk : Settings → ℕ → ℕ → List Bool → List ℤ → Type 0
+HasWalk s count limit tail xs = (codes : List (List Bool)) (k i b : ℕ) (pre bits : List Bool) → ReadsEach s codes (intervals_of s xs) → IsAligned s pre
+    → i ≡ k * s.interval → b ≡ length pre → bits ≡ pre ++ (flat_map (padded_code s) codes ++ tail)
+    → i + div_ceil (length xs) s.block_size ≡ div_ceil count s.block_size → IsWalk s count limit bits i b xs
 
 no_walk : (s : Settings) (count limit : ℕ) (tail : List Bool) → IsAllowed s → HasWalk s count limit tail []
-no_walk s count limit tail a k i b pre bits held aligned e f spelled need =
+no_walk s count limit tail a codes k i b pre bits each aligned e f spelled need =
     let z : div_ceil count s.block_size - i ≡ 0 = omega (arith, div_ceil-zero s.block_size (block_size-positive s a)) in
     record {
       sets = [];
@@ -136,42 +148,33 @@ no_walk s count limit tail a k i b pre bits held aligned e f spelled need =
       blocks = ap (λ n. take n []) z ∙ sym (all_blocks_of-nil s a);
     }
 
--- an interval's code before a rest, as its coded data sets
-interval-spelled : (s : Settings) (v : List ℤ) (sets : List CodedDataSet) (pre after rest bits : List Bool) → unpadded_bits s v ≡ flat_map (cds_bits s) sets
-    → bits ≡ pre ++ after → after ≡ interval_bits s v ++ rest → bits ≡ pre ++ (flat_map (cds_bits s) sets ++ (padding_of s v ++ rest))
-interval-spelled s v sets pre after rest bits e spelled one =
-    spelled ∙ ap (◌++◌ pre) (one ∙ ap (λ x. x ++ rest) (interval_bits-padded s v ∙ ap (λ x. x ++ padding_of s v) e)
-    ∙ append_assoc (flat_map (cds_bits s) sets) (padding_of s v) rest)
-
--- the walk through one interval
-pub record IsPart (s : Settings) (count limit k i b : ℕ) (pre bits : List Bool) (v : List ℤ) : Type 0 where
+-- the walk through the code of one interval
+pub record IsPart (s : Settings) (count limit k i b : ℕ) (pre bits code : List Bool) (v : List ℤ) : Type 0 where
   pub sets : List CodedDataSet
   pub leads : LeadsTo s (Some count) limit bits i b sets (k * s.interval + end_of s 0 sets)
-      (begin_of s bits (k * s.interval + end_of s 0 sets) (length pre + length (unpadded_bits s v)))
+      (begin_of s bits (k * s.interval + end_of s 0 sets) (length pre + length code))
   pub reaches : length (blocks_of s v) ≤ end_of s 0 sets
   pub within : end_of s 0 sets ≤ s.interval
   pub len : length (covered_blocks s 0 sets) ≡ end_of s 0 sets
   pub covered : stream_blocks s i sets ≡ covered_blocks s 0 sets
   pub stand_for : take (length (blocks_of s v)) (covered_blocks s 0 sets) ≡ blocks_of s v
 
-pub part_of : (s : Settings) (count limit k i b : ℕ) (pre after rest bits : List Bool) (v : List ℤ) → IsAllowed s → 0 < length v → length v ≤ interval_len s
-    → AllByRecursion (IsHeld s) v
-    → i ≡ k * s.interval → b ≡ length pre → bits ≡ pre ++ after → after ≡ interval_bits s v ++ rest
+pub part_of : (s : Settings) (count limit k i b : ℕ) (pre code rest bits : List Bool) (v : List ℤ) → IsAllowed s → 0 < length v → length v ≤ interval_len s
+    → ReadsBlocks s code (blocks_of s v) → i ≡ k * s.interval → b ≡ length pre → bits ≡ pre ++ (padded_code s code ++ rest)
     → i + div_ceil (length v) s.block_size ≤ div_ceil count s.block_size
-    → IsPart s count limit k i b pre bits v
-part_of s count limit k i b pre after rest bits v a some few held e f spelled one need =
-    let r = ReadsBlocks-unpadded_bits s v a held some few in
+    → IsPart s count limit k i b pre bits code v
+part_of s count limit k i b pre code rest bits v a some few r e f spelled need =
     let n = length (blocks_of s v) in
     let len : n ≡ div_ceil (length v) s.block_size = length-blocks_of s v a in
     let within : n ≤ s.interval = blocks-few s v a few in
     let positive : 0 < n = omega (arith, div_ceil-positive (length v) s.block_size (block_size-positive s a) some) in
+    let cut = spelled ∙ ap (◌++◌ pre) (append_assoc code (padding_of s code) rest ∙ ap (λ x. x ++ (padding_of s code ++ rest)) r.spelled) in
     record {
       sets = r.sets;
       leads = subst (λ x. LeadsTo s (Some count) limit bits i b r.sets (k * s.interval + end_of s 0 r.sets)
           (begin_of s bits (k * s.interval + end_of s 0 r.sets) (length pre + length x)))
           (sym r.spelled)
-          (LeadsTo-interval s count limit n 0 k i b pre r.sets (padding_of s v ++ rest) bits r.covers positive within (omega arith) (omega arith) f
-          (interval-spelled s v r.sets pre after rest bits r.spelled spelled one));
+          (LeadsTo-interval s count limit n 0 k i b pre r.sets (padding_of s code ++ rest) bits r.covers positive within (omega arith) (omega arith) f cut);
       reaches = end_of-reaches s n 0 r.sets r.covers;
       within = end_of-within s n 0 r.sets r.covers within (omega arith);
       len = omega (arith, length-covered_blocks s n 0 r.sets r.covers within);
@@ -181,25 +184,30 @@ part_of s count limit k i b pre after rest bits v a some few held e f spelled on
 
 last_walk : (s : Settings) (count limit : ℕ) (tail : List Bool) → IsAllowed s → (v : List ℤ) → 0 < length v → length v ≤ interval_len s
     → HasWalk s count limit tail v
-last_walk s count limit tail a v some few k i b pre bits held aligned e f spelled need =
-    let part = part_of s count limit k i b pre (stream_of s v ++ tail) tail bits v a some few held e f spelled
-    (ap (λ x. x ++ tail) (ap (flat_map (interval_bits s)) (pieces_of-one (interval_len s) v some few) ∙ append-nil (interval_bits s v))) (omega arith) in
+last_walk s count limit tail a v some few [] k i b pre bits each aligned e f spelled need =
+    absurd (subst (ReadsEach s []) (pieces_of-one (interval_len s) v some few) each)
+last_walk s count limit tail a v some few (code ∷ codes) k i b pre bits each aligned e f spelled need =
+    let parts = subst (ReadsEach s (code ∷ codes)) (pieces_of-one (interval_len s) v some few) each in
+    let later = flat_map (padded_code s) codes ++ tail in
+    let part = part_of s count limit k i b pre code later bits v a some few parts.0 e f
+    (spelled ∙ ap (◌++◌ pre) (append_assoc (padded_code s code) (flat_map (padded_code s) codes) tail)) (omega arith) in
     let len = length-blocks_of s v a in
     let needed : div_ceil count s.block_size - i ≡ length (blocks_of s v) = omega arith in
     record {
       sets = part.sets;
       end_block = k * s.interval + end_of s 0 part.sets;
-      end_bit = begin_of s bits (k * s.interval + end_of s 0 part.sets) (length pre + length (unpadded_bits s v));
+      end_bit = begin_of s bits (k * s.interval + end_of s 0 part.sets) (length pre + length code);
       leads = part.leads;
       enough = omega (arith, part.reaches);
-      blocks = ap₂ take needed part.covered ∙ part.stand_for
-          ∙ sym (append-nil (blocks_of s v)) ∙ sym (ap (flat_map (blocks_of s)) (pieces_of-one (interval_len s) v some few));
+      blocks = ap₂ take needed part.covered ∙ part.stand_for ∙ sym (all_blocks_of-one s v some few);
     }
 
--- the walk through a full interval, and on
-walk_on : (s : Settings) (count limit : ℕ) (tail : List Bool) → IsAllowed s → (front rest : List ℤ) → IsPieceBefore (interval_len s) front rest → 0 < length rest
-    → HasWalk s count limit tail rest → HasWalk s count limit tail (front ++ rest)
-walk_on s count limit tail a front rest piece more ih k i b pre bits held aligned e f spelled need =
+-- the walk through the code of a full interval, and on
+walk_on : (s : Settings) (count limit : ℕ) (tail : List Bool) → IsAllowed s → (front rest : List ℤ) → IsPieceBefore (interval_len s) front rest
+    → 0 < length rest → HasWalk s count limit tail rest → HasWalk s count limit tail (front ++ rest)
+walk_on s count limit tail a front rest piece more ih [] k i b pre bits each aligned e f spelled need =
+    absurd (subst (ReadsEach s []) (pieces_of-cons (interval_len s) front rest piece) each)
+walk_on s count limit tail a front rest piece more ih (code ∷ codes) k i b pre bits each aligned e f spelled need =
     record {
       sets = part.sets ++ later.sets;
       end_block = later.end_block;
@@ -212,44 +220,40 @@ walk_on s count limit tail a front rest piece more ih k i b pre bits held aligne
           ∙ ap₂ ◌++◌ here later.blocks ∙ sym (all_blocks_of-cons s front rest piece);
     }
   where
-    full : length front ≡ s.block_size * s.interval
-    full = piece.full more
+    parts : ReadsEach s (code ∷ codes) (front ∷ intervals_of s rest)
+    parts = subst (ReadsEach s (code ∷ codes)) (pieces_of-cons (interval_len s) front rest piece) each
 
     counted : div_ceil (length (front ++ rest)) s.block_size ≡ s.interval + div_ceil (length rest) s.block_size
-    counted = ap (λ m. div_ceil m s.block_size) (length-append front rest ∙ ap (λ m. m + length rest) full)
-        ∙ div_ceil-add s.interval (length rest) s.block_size (block_size-positive s a)
+    counted = div_ceil-interval s front rest a (piece.full more)
 
     n : length (blocks_of s front) ≡ s.interval
-    n = length-blocks_of s front a ∙ ap (λ m. div_ceil m s.block_size) (full ∙ omega arith)
-        ∙ div_ceil-times s.interval s.block_size (block_size-positive s a)
+    n = length-full_blocks s front a (piece.full more)
 
-    cut : stream_of s (front ++ rest) ++ tail ≡ interval_bits s front ++ (stream_of s rest ++ tail)
-    cut = ap (λ x. x ++ tail) (stream_of-cons s front rest piece) ∙ append_assoc (interval_bits s front) (stream_of s rest) tail
+    behind : List Bool
+    behind = flat_map (padded_code s) codes ++ tail
 
-    part : IsPart s count limit k i b pre bits front
-    part = part_of s count limit k i b pre (stream_of s (front ++ rest) ++ tail) (stream_of s rest ++ tail) bits front a piece.some piece.fits
-        (all_left (IsHeld s) front rest held) e f spelled
-        cut (omega (arith, n, length-blocks_of s front a, counted, need))
+    cut : bits ≡ pre ++ (padded_code s code ++ behind)
+    cut = spelled ∙ ap (◌++◌ pre) (append_assoc (padded_code s code) (flat_map (padded_code s) codes) tail)
+
+    part : IsPart s count limit k i b pre bits code front
+    part = part_of s count limit k i b pre code behind bits front a piece.some piece.fits parts.0 e f cut
+        (omega (arith, n, length-blocks_of s front a, counted, need))
 
     j : ℕ
     j = k * s.interval + end_of s 0 part.sets
 
     g : ℕ
-    g = begin_of s bits j (length pre + length (unpadded_bits s front))
+    g = begin_of s bits j (length pre + length code)
 
     next : j ≡ (k + 1) * s.interval
     next = omega (arith, part.reaches, part.within, n)
 
-    behind : bits ≡ pre ++ (interval_bits s front ++ (stream_of s rest ++ tail))
-    behind = spelled ∙ ap (◌++◌ pre) cut
-
-    start : g ≡ length (pre ++ interval_bits s front)
-    start = ap₂ (λ x q. begin_of s x q (length pre + length (unpadded_bits s front))) behind next
-        ∙ begin_of-interval s front pre (stream_of s rest ++ tail) (k + 1) aligned
+    start : g ≡ length (pre ++ padded_code s code)
+    start = ap₂ (λ x q. begin_of s x q (length pre + length code)) cut next ∙ begin_of-code s code pre behind (k + 1) aligned
 
     later : IsWalk s count limit bits j g rest
-    later = ih (k + 1) j g (pre ++ interval_bits s front) bits (all_right (IsHeld s) front rest held) (IsAligned-interval s front pre aligned) next start
-        (behind ∙ sym (append_assoc pre (interval_bits s front) (stream_of s rest ++ tail))) (omega (arith, counted, need, e, next))
+    later = ih codes (k + 1) j g (pre ++ padded_code s code) bits parts.1 (IsAligned-code s code pre aligned) next start
+        (cut ∙ sym (append_assoc pre (padded_code s code) behind)) (omega (arith, counted, need, e, next))
 
     all_needed : div_ceil count s.block_size - i ≡ length (covered_blocks s 0 part.sets) + (div_ceil count s.block_size - j)
     all_needed = omega (arith, part.len, part.reaches, part.within, n, counted, need, e)
@@ -266,3 +270,23 @@ step s count limit tail a front (x ∷ rest) piece ih = walk_on s count limit ta
 pub walk_of : (s : Settings) (count limit : ℕ) (tail : List Bool) → IsAllowed s → (xs : List ℤ) → HasWalk s count limit tail xs
 walk_of s count limit tail a =
     by_pieces (HasWalk s count limit tail) (interval_len s) (interval_len-positive s a) (no_walk s count limit tail a) (step s count limit tail a)
+
+-- ---- the code of samples is such codes
+
+-- the code of samples, as the codes of their intervals
+pub stream_of-codes : (s : Settings) (intervals : List (List ℤ))
+    → flat_map (interval_bits s) intervals ≡ flat_map (padded_code s) (map (unpadded_bits s) intervals)
+stream_of-codes s [] = refl
+stream_of-codes s (v ∷ intervals) = ap₂ ◌++◌ (interval_bits-padded s v) (stream_of-codes s intervals)
+
+pub ReadsEach-unpadded_bits : (s : Settings) → IsAllowed s → (xs : List ℤ) → AllByRecursion (IsHeld s) xs
+    → ReadsEach s (map (unpadded_bits s) (intervals_of s xs)) (intervals_of s xs)
+ReadsEach-unpadded_bits s a = by_pieces (λ xs. AllByRecursion (IsHeld s) xs → AreRead (intervals_of s xs)) (interval_len s) (interval_len-positive s a)
+    (λ held. subst AreRead (sym (pieces_of-nil (interval_len s) (interval_len-positive s a))) tt)
+    (λ front rest piece ih held. subst AreRead (sym (pieces_of-cons (interval_len s) front rest piece)) (
+      ReadsBlocks-unpadded_bits s front a (all_left (IsHeld s) front rest held) piece.some piece.fits,
+      ih (all_right (IsHeld s) front rest held),
+    ))
+  where
+    AreRead : List (List ℤ) → Type 0
+    AreRead intervals = ReadsEach s (map (unpadded_bits s) intervals) intervals

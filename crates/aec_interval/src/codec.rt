@@ -63,7 +63,7 @@ impl AecCodec {
 }
 
 impl Codec for AecCodec {
-    ghost use Rattle.std.specs.Prelude.{◌≤◌, ◌⊎◌, length, Err};
+    ghost use Rattle.std.specs.Prelude.{◌⊎◌, Err};
     ghost use Rattle.aec_params.specs.declared.fault.Fault.TheVariants.{Spent};
     ghost use Rattle.aec_params.specs.Intervals.{interval_bits};
     ghost use Rattle.aec_bits.specs.Codec.{IsInterval};
@@ -93,7 +93,7 @@ impl Codec for AecCodec {
     }
 
     /// Appends the code of an interval. `Spent` exactly where `calls` is the greatest number of 64 bits, then `Memory`
-    /// where a growth was refused; the bits and `calls` are then as before. Room that was reserved and not used is still there.
+    /// where a growth was refused; the bits and `calls` are then as before.
     fn code(&mut self, samples: &[i64], out: &mut BitBuf) -> Result<(), Fault>
         requires { IsInterval (interval_format self.old.params) samples.now }
         ensures ok { OnOk result (out.new.list ≡ out.old.list ++ interval_bits self.old.params samples.now) }
@@ -101,7 +101,6 @@ impl Codec for AecCodec {
         ensures spent { (result ≡ Err Spent) ↔ (self.old.calls ≡ 2 ^ 64 - 1) }
         ensures fault { IfErr result (λ e. (e ≡ Spent) ⊎ (e ≡ Memory)) }
         ensures err { OnErr result (out.new.list ≡ out.old.list) }
-        ensures room { out.old.room + length out.old.list ≤ out.new.room + length out.new.list }
         ensures calls_err { OnErr result (self.new.calls ≡ self.old.calls) }
         ensures same_reads { self.new.reads ≡ self.old.reads }
         ensures same_params { self.new.params ≡ self.old.params }

@@ -1,6 +1,6 @@
 //! The code of one reference sample interval.
 
-ghost use Rattle.std.specs.Prelude.{◌≡◌, ◌+◌, ◌*◌, ◌<◌, ◌≤◌, ◌++◌, None, length, OnOk, OnErr, IfErr};
+ghost use Rattle.std.specs.Prelude.{◌≡◌, ◌++◌, None, OnOk, OnErr, IfErr};
 ghost use Rattle.aec_params.specs.declared.fault.Fault.TheVariants.{Memory};
 ghost use Rattle.aec_params.specs.Runs.{segment_len};
 ghost use Rattle.aec_params.specs.Intervals.{unpadded_bits, interval_bits};
@@ -30,7 +30,6 @@ fn write_segment(
     requires { AreSamplesAfter params.now previous segment_len samples.now }
     ensures ok { OnOk result (out.new.list ≡ out.old.list ++ segment_bits params.now (blocks_after params.now previous samples.now)) }
     ensures kept { IsKept out.old.list out.new.list }
-    ensures room { out.old.room + length out.old.list ≤ out.new.room + length out.new.list }
     ensures fault { IfErr result (λ e. e ≡ Memory) }
 {
     let mut preceding = previous;
@@ -54,7 +53,6 @@ fn write_segments(
     requires { AreOfInterval params.now samples.now }
     ensures ok { OnOk result (out.new.list ≡ out.old.list ++ unpadded_bits params.now samples.now) }
     ensures kept { IsKept out.old.list out.new.list }
-    ensures room { out.old.room + length out.old.list ≤ out.new.room + length out.new.list }
     ensures fault { IfErr result (λ e. e ≡ Memory) }
 {
     let mut preceding = None;
@@ -76,7 +74,6 @@ pub(crate) fn write_interval(
     requires { AreOfInterval params.now samples.now }
     ensures ok { OnOk result (out.new.list ≡ out.old.list ++ interval_bits params.now samples.now) }
     ensures kept { IsKept out.old.list out.new.list }
-    ensures room { out.old.room + length out.old.list ≤ out.new.room + length out.new.list }
     ensures fault { IfErr result (λ e. e ≡ Memory) }
 {
     let start = out.len();
@@ -88,8 +85,7 @@ pub(crate) fn write_interval(
     Ok(())
 }
 
-/// Appends the code of an interval. `Memory` where a growth was refused; the bits are then as before. Room that was
-/// reserved and not used is still there.
+/// Appends the code of an interval. `Memory` where a growth was refused; the bits are then as before.
 pub(crate) fn append_interval(
     alloc: Global,
     params: &Params,
@@ -99,7 +95,6 @@ pub(crate) fn append_interval(
     requires { AreOfInterval params.now samples.now }
     ensures ok { OnOk result (out.new.list ≡ out.old.list ++ interval_bits params.now samples.now) }
     ensures err { OnErr result (out.new.list ≡ out.old.list) }
-    ensures room { out.old.room + length out.old.list ≤ out.new.room + length out.new.list }
     ensures fault { IfErr result (λ e. e ≡ Memory) }
 {
     let start = out.len();

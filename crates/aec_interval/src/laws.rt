@@ -7,6 +7,7 @@ ghost use Rattle.aec_interval.specs.Laws.{
   AllBitsAreReadInOneWay,
   AllReadingsAreSamples,
   AllCodesAreShortest,
+  EachCodeIsRead,
 };
 ghost use Rattle.aec_interval.specs.CutLaws.{AllCutsMakeNoDifference};
 ghost use Rattle.aec_interval.specs.PieceLaws.{AllStepsAreTheReading};
@@ -41,6 +42,13 @@ pub fn readings_are_samples()
 /// the code of all samples where nothing is padded.
 pub fn codes_are_shortest()
     ensures { AllCodesAreShortest }
+{}
+
+/// Coded data sets for the blocks of each interval, one behind the other, are read with the count of the samples as the
+/// samples, whatever bits follow, where nothing is padded. So all that `codes_are_shortest` compares with the code of the
+/// samples is read as these samples.
+pub fn each_code_is_read()
+    ensures { EachCodeIsRead }
 {}
 
 /// However the input of a `StreamCoder` is cut into pieces, what its calls append is the stream of the samples of all bytes,

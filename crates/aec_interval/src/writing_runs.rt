@@ -1,6 +1,6 @@
 //! Runs of zero blocks: they are counted, and written where they end.
 
-ghost use Rattle.std.specs.Prelude.{◌≡◌, ◌+◌, ◌-◌, ◌<◌, ◌≤◌, ◌++◌, ◌∷◌, List, length, OnOk, OnErr, IfOk, IfErr, if◌then◌else◌};
+ghost use Rattle.std.specs.Prelude.{◌≡◌, ◌+◌, ◌-◌, ◌<◌, ◌++◌, ◌∷◌, List, OnOk, OnErr, IfOk, IfErr, if◌then◌else◌};
 ghost use Rattle.aec_params.specs.declared.fault.Fault.TheVariants.{Memory};
 ghost use Rattle.aec_params.specs.Blocks.{Block as Values};
 ghost use Rattle.aec_params.specs.Runs.{segment_len};
@@ -46,7 +46,6 @@ impl Run {
         requires { IsRun params.now (if to_end then segment_len else segment_len - 1) self }
         ensures ok { OnOk result (out.new.list ≡ out.old.list ++ bits_of_run params.now self.reference self.blocks to_end) }
         ensures err { OnErr result (out.new.list ≡ out.old.list) }
-        ensures room { out.old.room + length out.old.list ≤ out.new.room + length out.new.list }
         ensures fault { IfErr result (λ e. e ≡ Memory) }
     {
         if self.blocks == 0 {
@@ -70,7 +69,6 @@ pub(crate) fn write_next(
         out.new.list ++ pending_bits params.now next rest ≡ out.old.list ++ pending_bits params.now run (block.now ∷ rest)) }
     ensures run { IfOk result (λ next. IsRun params.now (run.blocks + 1) next) }
     ensures kept { IsKept out.old.list out.new.list }
-    ensures room { out.old.room + length out.old.list ≤ out.new.room + length out.new.list }
     ensures fault { IfErr result (λ e. e ≡ Memory) }
 {
     if block.is_zero() {

@@ -9,12 +9,13 @@ use Rattle.std.proofs.lemmas.List.FromFn.{length-range_with_len}
 use Rattle.std.proofs.Math.Nat.{div-mul-le_self, add-div_right, div-add-mod', mul-le-mul_right, mod-lt}
 use Rattle.aec_params.specs.declared.samples.Samples.{Samples}
 use Rattle.aec_params.specs.declared.edit.Edit.{Edit}
-use Rattle.aec_params.specs.declared.edit.Edit.TheVariants.{Overwrite, Append, Truncate}
+use Rattle.aec_params.specs.declared.edit.Edit.TheVariants.{Overwrite, Append, Truncate, Insert, Remove}
 use Rattle.aec_params.specs.Edits.{touched_intervals, keeps_a_sample, needed_calls, opened_intervals}
+use Rattle.aec_params.specs.EditLaws.{MovesNone}
 
 -- ---- quotients of consecutive numbers
 
-div-le : (n a b : ℕ) → 0 < n → a ≤ b → a / n ≤ b / n
+pub div-le : (n a b : ℕ) → 0 < n → a ≤ b → a / n ≤ b / n
 div-le n a b h l = le-div (a / n) b n h (let e = div-mul-le_self a n in omega arith)
 
 div-step : (n a : ℕ) → 0 < n → ((a + 1) / n ≡ a / n) ⊎ ((a + 1) / n ≡ a / n + 1)
@@ -69,7 +70,7 @@ length-touched_intervals n first len h l =
 
 -- ---- intervals that are opened
 
-length-filter-le : (test : ℕ → Bool) (xs : List ℕ) → length (filter test xs) ≤ length xs
+pub length-filter-le : (test : ℕ → Bool) (xs : List ℕ) → length (filter test xs) ≤ length xs
 length-filter-le test [] = omega arith
 length-filter-le test (x ∷ xs) = one (test x) x (filter test xs) (length-filter-le test xs)
   where
@@ -77,14 +78,14 @@ length-filter-le test (x ∷ xs) = one (test x) x (filter test xs) (length-filte
     one true x rest h = omega arith
     one false x rest h = omega arith
 
-filter-one_more : (test : ℕ → Bool) (x : ℕ) (xs : List ℕ) → length (filter test (x ∷ xs)) ≤ length (filter test xs) + 1
+pub filter-one_more : (test : ℕ → Bool) (x : ℕ) (xs : List ℕ) → length (filter test (x ∷ xs)) ≤ length (filter test xs) + 1
 filter-one_more test x xs = one (test x) x (filter test xs)
   where
     one : (b : Bool) (x : ℕ) (rest : List ℕ) → length (cond b (x ∷ rest) rest) ≤ length rest + 1
     one true x rest = omega arith
     one false x rest = omega arith
 
-filter-none : (test : ℕ → Bool) (a m : ℕ) → ((k : ℕ) → a ≤ k → k < a + m → test k ≡ false) → filter test (range_with_len a m) ≡ []
+pub filter-none : (test : ℕ → Bool) (a m : ℕ) → ((k : ℕ) → a ≤ k → k < a + m → test k ≡ false) → filter test (range_with_len a m) ≡ []
 filter-none test a zero none = refl
 filter-none test a (suc m) none =
     rw (none a (omega arith) (omega arith)) (filter-none test (a + 1) m (λ k h l. none k (omega arith) (omega arith)))
@@ -141,7 +142,7 @@ needs_one true c m h = omega arith
 needs_one false true m h = omega arith
 needs_one false false m h = h refl refl
 
-positive : (m : ℕ) → (m ≡ 0 → ⊥) → 0 < m
+pub positive : (m : ℕ) → (m ≡ 0 → ⊥) → 0 < m
 positive zero h = absurd (h refl)
 positive (suc m) h = omega arith
 
@@ -160,18 +161,22 @@ ceil_more n old len h r l = ⊎_elim (same n old len r l) (λ (k : old / n < (ol
         let f = ap (λ (t : ℕ). t * n) e in
         omega arith
 
-pub opened_intervals-two : (n old : ℕ) (edit : Edit) → 0 < n → opened_intervals n old edit ≤ 2
-opened_intervals-two n old (Overwrite first values) h = opened-two n old first (length values) h
-opened_intervals-two n old (Append values) h = one_at_most (eqb (length values) 0) (eqb (old % n) 0)
-opened_intervals-two n old (Truncate count) h = one_at_most (eqb count old) (eqb (count % n) 0)
+pub opened_intervals-two : (n old : ℕ) (edit : Edit) → 0 < n → MovesNone edit → opened_intervals n old edit ≤ 2
+opened_intervals-two n old (Overwrite first values) h stays = opened-two n old first (length values) h
+opened_intervals-two n old (Append values) h stays = one_at_most (eqb (length values) 0) (eqb (old % n) 0)
+opened_intervals-two n old (Truncate count) h stays = one_at_most (eqb count old) (eqb (count % n) 0)
+opened_intervals-two n old (Insert first values) h stays = absurd stays
+opened_intervals-two n old (Remove first len) h stays = absurd stays
 
-pub opened_intervals-le-needed_calls : (n old : ℕ) (edit : Edit) → 0 < n → opened_intervals n old edit ≤ needed_calls n old edit
-opened_intervals-le-needed_calls n old (Overwrite first values) h =
+pub opened_intervals-le-needed_calls : (n old : ℕ) (edit : Edit) → 0 < n → MovesNone edit → opened_intervals n old edit ≤ needed_calls n old edit
+opened_intervals-le-needed_calls n old (Overwrite first values) h stays =
     length-filter-le (keeps_a_sample n old first (length values)) (touched_intervals n first (length values))
-opened_intervals-le-needed_calls n old (Append values) h =
+opened_intervals-le-needed_calls n old (Append values) h stays =
     needs_one (eqb (length values) 0) (eqb (old % n) 0) (div_ceil (old + length values) n - old / n)
     (λ b c. ceil_more n old (length values) h (positive (old % n) (eqb-false (old % n) 0 c)) (positive (length values) (eqb-false (length values) 0 b)))
-opened_intervals-le-needed_calls n old (Truncate count) h = omega arith
+opened_intervals-le-needed_calls n old (Truncate count) h stays = omega arith
+opened_intervals-le-needed_calls n old (Insert first values) h stays = absurd stays
+opened_intervals-le-needed_calls n old (Remove first len) h stays = absurd stays
 
 -- an append codes the intervals that its samples lie in
 ceil-pred : (m n : ℕ) → 0 < n → 0 < m → div_ceil m n ≡ (m - 1) / n + 1

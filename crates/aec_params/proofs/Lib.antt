@@ -24,4 +24,5 @@ pub mod FillLaws
 pub mod StreamLaws
 pub mod ReadingLaws
 pub mod EditLaws
+pub mod MoveLaws
 pub mod SampleShapeLaws

@@ -1,7 +1,7 @@
 -- Edits on small lists, computed from the definitions: what they leave, and the intervals that they code.
 use Rattle.std.proofs.Common.{◌≡◌, ℕ, ◌*◌, ℤ, pos, List, [], ◌∷◌, map, replicate, take, length, refl}
 use Rattle.aec_params.specs.declared.edit.Edit.{Edit}
-use Rattle.aec_params.specs.declared.edit.Edit.TheVariants.{Overwrite, Append, Truncate}
+use Rattle.aec_params.specs.declared.edit.Edit.TheVariants.{Overwrite, Append, Truncate, Insert, Remove}
 use Rattle.aec_params.specs.Codewords.{bytes_of}
 use Rattle.aec_params.specs.Streams.{stream_of}
 use Rattle.aec_params.specs.Edits.{samples_after, touched_intervals, needed_calls, opened_intervals}
@@ -68,3 +68,70 @@ five_again = refl
 
 pub calls_for_sevens : needed_calls 16 0 (Append sevens) ∷ needed_calls 16 5 four_more ∷ needed_calls 16 9 (Truncate 5) ∷ [] ≡ 1 ∷ 1 ∷ 1 ∷ []
 calls_for_sevens = refl
+
+-- ---- insertions and removals in forty-eight zeros, and back
+
+-- the intervals of 16 that an edit codes, and those that it opens, on so many samples
+abbrev work : ℕ → Edit → List ℕ
+work old edit = needed_calls 16 old edit ∷ opened_intervals 16 old edit ∷ []
+
+abbrev sixteen_zeros : List ℤ
+sixteen_zeros = map pos (replicate 16 0)
+
+-- a whole interval comes where another begins: it is coded, and none is opened
+abbrev four_intervals : List ℤ
+four_intervals = samples_after zeros (Insert 16 sixteen_zeros)
+
+pub whole_comes : work 48 (Insert 16 sixteen_zeros) ≡ 1 ∷ 0 ∷ []
+whole_comes = refl
+
+pub four_intervals_coded : coded four_intervals ≡ 0x00 ∷ 0x04 ∷ 0x00 ∷ 0x10 ∷ 0x00 ∷ 0x40 ∷ 0x01 ∷ []
+four_intervals_coded = refl
+
+-- one sample comes inside the second interval: all from there on are coded
+abbrev one_more : List ℤ
+one_more = samples_after four_intervals (Insert 20 (pos 0 ∷ []))
+
+pub one_comes : work 64 (Insert 20 (pos 0 ∷ [])) ≡ 4 ∷ 3 ∷ []
+one_comes = refl
+
+pub one_more_coded : coded one_more ≡ 0x00 ∷ 0x04 ∷ 0x00 ∷ 0x10 ∷ 0x00 ∷ 0x40 ∷ 0x01 ∷ 0x00 ∷ 0x08 ∷ []
+one_more_coded = refl
+
+-- a whole interval goes, and then the last sample, which stands alone in its own: nothing is coded
+abbrev forty_nine : List ℤ
+forty_nine = samples_after one_more (Remove 16 16)
+
+pub whole_goes : work 65 (Remove 16 16) ∷ work 49 (Remove 48 1) ∷ [] ≡ (0 ∷ 0 ∷ []) ∷ (0 ∷ 0 ∷ []) ∷ []
+whole_goes = refl
+
+pub forty_nine_coded : coded forty_nine ≡ 0x00 ∷ 0x04 ∷ 0x00 ∷ 0x10 ∷ 0x00 ∷ 0x40 ∷ 0x02 ∷ []
+forty_nine_coded = refl
+
+pub forty_nine_offsets : map (λ i. length (stream_of usual (take (i * 16) forty_nine))) (0 ∷ 1 ∷ 2 ∷ 3 ∷ []) ≡ 0 ∷ 14 ∷ 28 ∷ 42 ∷ []
+forty_nine_offsets = refl
+
+pub zeros_again : samples_after forty_nine (Remove 48 1) ≡ zeros
+zeros_again = refl
+
+-- the first sample goes: all three are coded
+abbrev forty_seven : List ℤ
+forty_seven = samples_after zeros (Remove 0 1)
+
+pub first_goes : work 48 (Remove 0 1) ≡ 3 ∷ 3 ∷ []
+first_goes = refl
+
+pub forty_seven_coded : (coded forty_seven ≡ coded zeros) × (length forty_seven ≡ 47)
+forty_seven_coded = (refl, refl)
+
+-- no values at the end, then a whole interval inside the first, in and out
+pub inside_comes_and_goes : work 47 (Insert 47 []) ∷ work 47 (Insert 8 sixteen_zeros) ∷ work 63 (Remove 8 16) ∷ []
+    ≡ (0 ∷ 0 ∷ []) ∷ (2 ∷ 1 ∷ []) ∷ (1 ∷ 2 ∷ []) ∷ []
+inside_comes_and_goes = refl
+
+pub forty_seven_again : samples_after (samples_after forty_seven (Insert 8 sixteen_zeros)) (Remove 8 16) ≡ forty_seven
+forty_seven_again = refl
+
+-- a removal that opens two more than it codes: three samples are left of three intervals
+pub one_of_three : work 33 (Remove 1 30) ≡ 1 ∷ 3 ∷ []
+one_of_three = refl

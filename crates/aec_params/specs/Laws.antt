@@ -1,6 +1,6 @@
 -- What the definitions of the format were meant to say: codewords tell numbers apart, values and pieces give back what they came from.
-use Rattle.std.specs.Prelude.{◌≡◌, ℕ, ◌+◌, ◌-◌, ◌/◌, ◌^◌, ◌<◌, ◌≤◌, Bool, true, ℤ, Option, ⊤, List, [], ◌∷◌, ◌++◌, length, map}
-use Rattle.std.specs.List.{range_with_len, flat_map, list_all, AllByRecursion}
+use Rattle.std.specs.Prelude.{◌≡◌, ℕ, ◌+◌, ◌^◌, ◌<◌, ◌≤◌, Bool, true, ℤ, Option, ⊤, List, [], ◌∷◌, ◌++◌, length, map}
+use Rattle.std.specs.List.{flat_map, list_all, AllByRecursion}
 use Rattle.aec_params.specs.Codewords.{fs, binary, bits_number, padded_to_byte, bytes_of, bits_of_bytes}
 use Rattle.aec_params.specs.Cutting.{pieces_of}
 use Rattle.std.specs.Int.{div_ceil, next_multiple_of}
@@ -10,10 +10,6 @@ use Rattle.aec_params.specs.Params.{IsAllowed, IsHeld, sample_pattern}
 use Rattle.aec_params.specs.Mapping.{mapped_value}
 use Rattle.aec_params.specs.Blocks.{Block, blocks_of, all_blocks_of}
 use Rattle.aec_params.specs.Reading.{FillBlocks, IsBlockReading}
-use Rattle.aec_params.specs.declared.edit.Edit.{Edit}
-use Rattle.aec_params.specs.declared.edit.Edit.TheVariants.{Append}
-use Rattle.aec_params.specs.declared.samples.Samples.{Samples}
-use Rattle.aec_params.specs.Edits.{touched_intervals, opened_intervals, needed_calls}
 use Rattle.aec_params.specs.BlockShapes.{AreBlocksFrom}
 
 -- ---- codewords
@@ -121,14 +117,3 @@ pub record ReadingsHaveSamples : Type 0 where
   pub samples : (s : Settings) (count : Option ℕ) (limit : ℕ) (bits : List Bool) (blocks : List Block) → IsAllowed s
       → IsBlockReading s count limit bits 0 0 blocks → (samples : List ℤ) × FillBlocks s samples blocks
   pub unique : (s : Settings) (xs ys : List ℤ) (blocks : List Block) → IsAllowed s → FillBlocks s xs blocks → FillBlocks s ys blocks → xs ≡ ys
-
--- ---- edits
-
--- the intervals that an edit touches are consecutive, and it opens at most two of those that it codes
-pub record EditsTouchFew : Type 0 where
-  pub touched : (n first len : ℕ) → 0 < n → 0 < len
-      → touched_intervals n first len ≡ range_with_len (first / n) ((first + len - 1) / n - first / n + 1)
-  pub count : (n first len : ℕ) → 0 < n → 0 < len → length (touched_intervals n first len) ≡ (first + len - 1) / n - first / n + 1
-  pub none : (n first : ℕ) → touched_intervals n first 0 ≡ []
-  pub appended : (n old : ℕ) (values : Samples) → 0 < n → needed_calls n old (Append values) ≡ length (touched_intervals n old (length values))
-  pub opened : (n old : ℕ) (edit : Edit) → 0 < n → (opened_intervals n old edit ≤ 2) × (opened_intervals n old edit ≤ needed_calls n old edit)

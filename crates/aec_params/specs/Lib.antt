@@ -17,3 +17,4 @@ pub mod Faults
 pub mod Edits
 pub mod BlockShapes
 pub mod Laws
+pub mod EditLaws

@@ -11,4 +11,8 @@ pub enum Edit {
     Append { values: Samples },
     /// Keeps the first `count` samples.
     Truncate { count: u64 },
+    /// Puts the values in front of the sample at place `first`, or behind the last sample.
+    Insert { first: u64, values: Samples },
+    /// Takes out the `len` samples from place `first` on.
+    Remove { first: u64, len: u64 },
 }

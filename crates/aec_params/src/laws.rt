@@ -1,6 +1,7 @@
 //! Laws of the format's definitions. Their functions do nothing: what each one's contract says is proved.
 
-ghost use Rattle.aec_params.specs.Laws.{FundamentalSequencesDiffer, BinaryNumbersDiffer, CodewordLengths, BinaryNumbersAreReadBack, ListsAreTold, EachNumberIsOnePair, SamplesAreValues, PiecesAreTheCut, WholePiecesComeFirst, BytesAreBits, BlocksTellSamples, SamplesAreBlocks, ReadingsHaveSamples, EditsTouchFew};
+ghost use Rattle.aec_params.specs.Laws.{FundamentalSequencesDiffer, BinaryNumbersDiffer, CodewordLengths, BinaryNumbersAreReadBack, ListsAreTold, EachNumberIsOnePair, SamplesAreValues, PiecesAreTheCut, WholePiecesComeFirst, BytesAreBits, BlocksTellSamples, SamplesAreBlocks, ReadingsHaveSamples};
+ghost use Rattle.aec_params.specs.EditLaws.{EditsTouchFew, EndsMeet, MovesOpenFew, MovesCodeNothing};
 
 /// Fundamental sequences of two numbers differ, whatever bits follow them.
 pub fn fundamental_sequences_differ()
@@ -67,7 +68,22 @@ pub fn readings_have_samples()
     ensures { ReadingsHaveSamples }
 {}
 
-/// Which intervals an edit touches, and that it opens at most two of those that it codes.
+/// Which intervals an edit touches, and that one that moves no sample opens at most two of those that it codes.
 pub fn edits_touch_few()
     ensures { EditsTouchFew }
+{}
+
+/// An insertion at the end codes as many intervals as the append does, a removal up to the end as many as the truncate.
+pub fn ends_meet()
+    ensures { EndsMeet }
+{}
+
+/// An insertion opens at most as many intervals as it codes, a removal at most two more.
+pub fn moves_open_few()
+    ensures { MovesOpenFew }
+{}
+
+/// Which insertions and removals code nothing.
+pub fn moves_code_nothing()
+    ensures { MovesCodeNothing }
 {}

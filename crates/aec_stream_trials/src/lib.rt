@@ -5,6 +5,8 @@
 #[cfg(test)]
 mod asserts;
 #[cfg(test)]
+mod every_place;
+#[cfg(test)]
 mod interval;
 #[cfg(test)]
 mod library_example;
@@ -14,6 +16,8 @@ mod many_intervals;
 mod mixed_edits;
 #[cfg(test)]
 mod octets;
+#[cfg(test)]
+mod plain_lists;
 #[cfg(test)]
 mod settings;
 #[cfg(test)]

@@ -2,29 +2,16 @@
 //! holds by then.
 
 use crate::asserts::{holds, holds_at, same, same_at};
-use crate::steps::{apply, calls, counts, range, start_of, stream};
+use crate::plain_lists::{Row, expect_edit};
+use crate::steps::{counts, range, start_of, stream};
 use crate::workspaces::workspace;
-use aec_bits::{Codec, WriteSink};
+use aec_bits::WriteSink;
 use aec_edit::Workspace;
 use aec_interval::{AecCodec, encode_all};
 use aec_params::{Edit, Fault, Params, Samples, Settings};
 use std::alloc::{AllocError, Global};
 use std::process::Abort;
 use std::test::Fail;
-
-/// Settings, and what they say of lists.
-#[derive(Clone, Copy)]
-pub(crate) struct Row {
-    pub(crate) settings: Settings,
-    // The least sample and the greatest.
-    pub(crate) low: i64,
-    pub(crate) high: i64,
-    // The samples of an interval.
-    pub(crate) most: u64,
-    // How many samples there are before the first edit, and at most.
-    pub(crate) start: u64,
-    pub(crate) limit: u64,
-}
 
 const SHORT: Row = Row {
     settings: Settings {
@@ -210,95 +197,48 @@ fn some_place(seed: &mut u64, row: &Row, count: u64) -> u64 {
     place
 }
 
+/// How many samples an edit puts in or takes out: any number of some two blocks, or whole intervals where these are short.
+fn some_len(seed: &mut u64, row: &Row) -> u64 {
+    let any = below(seed, row.most.min(80).saturating_mul(2).saturating_add(3));
+    if row.most <= 128 && below(seed, 4) == 0 {
+        return row.most.saturating_mul(below(seed, 3));
+    }
+    any
+}
+
 pub(crate) fn some_edit(
     alloc: Global,
     seed: &mut u64,
     row: &Row,
     count: u64,
 ) -> Result<Edit, AllocError> {
-    let kind = below(seed, 16);
+    let kind = below(seed, 20);
     let place = some_place(seed, row, count);
     if kind < 2 {
         return Ok(Edit::Truncate {
             count: place.max(row.start),
         });
     }
-    let len = below(seed, row.most.min(80).saturating_mul(2).saturating_add(3));
+    let len = some_len(seed, row);
+    if kind < 5 {
+        let first = place.saturating_sub(below(seed, len.saturating_add(1)));
+        let len = len.min(count.saturating_sub(row.start));
+        return Ok(Edit::Remove { first, len });
+    }
     let values = Samples::new(some_values(alloc, seed, row, len)?);
-    if kind < 9 {
+    if kind < 10 {
         return Ok(Edit::Append { values });
+    }
+    if kind < 15 {
+        return Ok(Edit::Insert {
+            first: place,
+            values,
+        });
     }
     Ok(Edit::Overwrite {
         first: place.saturating_sub(below(seed, len.saturating_add(1))),
         values,
     })
-}
-
-/// The place of the first value that is no sample.
-fn first_unheld(row: &Row, values: &[i64]) -> Option<u64> {
-    for (index, x) in values.iter().enumerate() {
-        if *x < row.low || row.high < *x {
-            return Some(index as u64);
-        }
-    }
-    None
-}
-
-/// Why an edit of a list of so many samples is refused.
-fn refusal(row: &Row, count: u64, edit: &Edit) -> Option<Fault> {
-    let values = match edit {
-        Edit::Overwrite { first, values } => {
-            if first.saturating_add(values.as_slice().len() as u64) > count {
-                return Some(Fault::OutOfRange { count });
-            }
-            values.as_slice()
-        }
-        Edit::Append { values } => {
-            if count.saturating_add(values.as_slice().len() as u64) > row.limit {
-                return Some(Fault::TooManySamples { limit: row.limit });
-            }
-            values.as_slice()
-        }
-        Edit::Truncate { count: kept } => {
-            return (*kept > count).then_some(Fault::OutOfRange { count });
-        }
-    };
-    first_unheld(row, values).map(|index| Fault::SampleRange { index })
-}
-
-/// How many intervals hold a place from `first` up to `stop`.
-fn touched(row: &Row, first: u64, stop: u64) -> u64 {
-    if first == stop {
-        return 0;
-    }
-    let last = stop.saturating_sub(1).checked_div(row.most).unwrap_or(0);
-    let before = first.checked_div(row.most).unwrap_or(0);
-    last.saturating_sub(before).saturating_add(1)
-}
-
-/// Makes an edit of a plain list, and says how many intervals are to be coded.
-fn change(row: &Row, list: &mut Vec<i64>, edit: &Edit) -> Result<u64, AllocError> {
-    let count = list.len() as u64;
-    match edit {
-        Edit::Overwrite { first, values } => {
-            for (place, x) in values.as_slice().iter().enumerate() {
-                if let Some(slot) = list.get_mut((*first as usize).saturating_add(place)) {
-                    *slot = *x;
-                }
-            }
-            let stop = first.saturating_add(values.as_slice().len() as u64);
-            Ok(touched(row, *first, stop))
-        }
-        Edit::Append { values } => {
-            list.extend_from_slice(values.as_slice())?;
-            Ok(touched(row, count, list.len() as u64))
-        }
-        Edit::Truncate { count: kept } => {
-            list.truncate(*kept as usize);
-            let is_cut = *kept < count && kept.checked_rem(row.most) != Some(0);
-            Ok(u64::from(is_cut))
-        }
-    }
 }
 
 /// The code of the first samples of a list: its bits, how many they are, and the bytes that they fill.
@@ -325,7 +265,7 @@ fn expect_code<R: Abort>(
     list: &[i64],
 ) -> Result<(), Fail> {
     let count = list.len() as u64;
-    let intervals = touched(row, 0, count);
+    let intervals = row.intervals_of(count);
     let (bits, bytes) = code_of(alloc, params, list, count)?;
     same(rt, counts(work), (count, intervals, bits));
     holds(rt, stream(alloc, work)? == bytes);
@@ -337,52 +277,42 @@ fn expect_code<R: Abort>(
     Ok(())
 }
 
-/// Makes an edit of both, and answers a number with a one in the byte of what became of it: made, or refused as out of
-/// range, as too many, as no samples.
-pub(crate) fn expect_edit<R: Abort, C: Codec>(
-    rt: &R,
-    row: &Row,
-    work: &mut Workspace<C>,
-    list: &mut Vec<i64>,
-    edit: &Edit,
-) -> Result<u32, Fail> {
-    let before = calls(work);
-    let answer = apply(work, edit);
-    let Some(fault) = refusal(row, list.len() as u64, edit) else {
-        let coded = change(row, list, edit)?;
-        same_at(rt, answer, Ok(coded), &edit);
-        same_at(rt, calls(work), before.saturating_add(coded), &edit);
-        return Ok(1);
-    };
-    same_at(rt, answer, Err(fault), &edit);
-    same_at(rt, calls(work), before, &edit);
-    Ok(match fault {
-        Fault::OutOfRange { .. } => 1 << 8,
-        Fault::TooManySamples { .. } => 1 << 16,
-        _ => 1 << 24,
-    })
-}
-
 /// Two hundred edits, after a first one, beside a plain list. There are enough of each kind, made and refused.
 fn expect_edits<R: Abort>(rt: &R, alloc: Global, row: &Row) -> Result<(), Fail> {
     let params = Params::new(row.settings)?;
     let mut work = workspace(alloc, params, 0, row.limit);
     let mut list = Vec::new(alloc);
     let mut seed = 1;
-    let mut tally = 0u32;
+    let mut tally = 0u64;
     let mut edit = Edit::Append {
         values: Samples::new(vec![in alloc; row.low; row.start as usize]?),
     };
     for _ in 0..201 {
-        let became = expect_edit(rt, row, &mut work, &mut list, &edit)?;
+        let became = expect_edit(rt, alloc, row, &mut work, &mut list, &edit)?;
         tally = tally.saturating_add(became);
         expect_code(rt, alloc, &params, row, &work, &list)?;
         edit = some_edit(alloc, &mut seed, row, list.len() as u64)?;
     }
     holds(rt, range(&mut work, alloc, 0, list.len() as u64)? == list);
-    let [bad, many, outside, made] = tally.to_be_bytes();
-    holds_at(rt, made > 80 && outside > 4 && many > 4 && bad > 4, &tally);
+    expect_each_kind(rt, tally);
     Ok(())
+}
+
+/// Of each kind there are ten at least: refused for a value, as too many, as out of range; made.
+fn expect_each_kind(rt: &impl Abort, tally: u64) {
+    let [
+        bad,
+        many,
+        outside,
+        removed,
+        inserted,
+        cut,
+        appended,
+        overwritten,
+    ] = tally.to_be_bytes();
+    holds_at(rt, bad >= 10 && many >= 10 && outside >= 10, &tally);
+    holds_at(rt, removed >= 10 && inserted >= 10 && cut >= 10, &tally);
+    holds_at(rt, appended >= 10 && overwritten >= 10, &tally);
 }
 
 #[test]

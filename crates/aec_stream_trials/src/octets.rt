@@ -1,8 +1,11 @@
 //! Workspaces over a coder of octets, four in an interval, so that each stream can be read off its samples.
 
-use crate::asserts::{holds_at, same, same_at};
-use crate::mixed_edits::{Row, expect_edit, some_edit};
-use crate::steps::{apply, calls, expect_run, expect_steps, range, reads, start_of, stream};
+use crate::asserts::{holds_at, same};
+use crate::mixed_edits::some_edit;
+use crate::plain_lists::{Row, expect_edit};
+use crate::steps::{
+    apply, calls, expect_run, expect_steps, expect_stop, range, reads, start_of, stream,
+};
 use aec_bits::laws::Octets;
 use aec_bits::{Sink, WriteSink};
 use aec_edit::{Outcome, Workspace, laws, write_edited};
@@ -14,12 +17,12 @@ use std::process::Abort;
 use std::test::Fail;
 
 /// An empty workspace, whose codec counts on from so many calls.
-fn workspace(alloc: Global, calls: u64, limit: u64) -> Workspace<Octets> {
+pub(crate) fn workspace(alloc: Global, calls: u64, limit: u64) -> Workspace<Octets> {
     Workspace::new(alloc, Octets::new(alloc, calls), limit.min(1 << 32))
 }
 
 // The calls that a codec counts on from, the limit, and the steps from nothing on.
-const TABLES: [(u64, u64, &str); 7] = [
+const TABLES: [(u64, u64, &str); 9] = [
     (
         0,
         8,
@@ -135,6 +138,57 @@ range 12 0 | position outside the 11 samples | 00 01 02 03 04 05 06 07 08 09 0A 
 range 18446744073709551615 2 | position outside the 11 samples | 00 01 02 03 04 05 06 07 08 09 0A | 88 0 32 64 | 0
 range 2 18446744073709551615 | position outside the 11 samples | 00 01 02 03 04 05 06 07 08 09 0A | 88 0 32 64 | 0",
     ),
+    // Insertions and removals of whole intervals and of less, between intervals, within them, and up to the end.
+    (
+        0,
+        18,
+        "\
+append 1 2 3 4 5 6 7 8 9 10 | 3 | 01 02 03 04 05 06 07 08 09 0A | 80 0 32 64 | 0
+insert 4 11 12 13 14 | 1 | 01 02 03 04 0B 0C 0D 0E 05 06 07 08 09 0A | 112 0 32 64 96 | 0
+insert 2 21 22 23 24 | 2 | 01 02 15 16 17 18 03 04 0B 0C 0D 0E 05 06 07 08 09 0A | 144 0 32 64 96 128 | 1
+remove 5 8   | 1 | 01 02 15 16 17 06 07 08 09 0A | 80 0 32 64 | 2
+remove 2 3   | 2 | 01 02 06 07 08 09 0A | 56 0 32 | 3
+remove 3 4   | 1 | 01 02 06 | 24 0 | 1
+insert 3 7 8 9 10 11 | 2 | 01 02 06 07 08 09 0A 0B | 64 0 32 | 1
+insert 8 1 2 3 4 | 1 | 01 02 06 07 08 09 0A 0B 01 02 03 04 | 96 0 32 64 | 0
+insert 12 5*7 | more than 18 samples | 01 02 06 07 08 09 0A 0B 01 02 03 04 | 96 0 32 64 | 0
+remove 0 12  | 0 | | 0 | 0
+insert 0 1 2 3 4 5 | 2 | 01 02 03 04 05 | 40 0 32 | 0
+insert 0 6   | 2 | 06 01 02 03 04 05 | 48 0 32 | 2
+remove 0 4   | 0 | 04 05 | 16 0 | 0
+remove 0 2   | 0 | | 0 | 0",
+    ),
+    // Three calls are left, then one, then none: places come before the limit, that before values, and these before calls.
+    (
+        18446744073709551612,
+        16,
+        "\
+append 1 2 3 4 5 6 7 8 | 2 | 01 02 03 04 05 06 07 08 | 64 0 32 | 0
+insert 3 9   | coder calls are spent | 01 02 03 04 05 06 07 08 | 64 0 32 | 0
+insert 8 9   | 1 | 01 02 03 04 05 06 07 08 09 | 72 0 32 64 | 0
+insert 4     | 0 | 01 02 03 04 05 06 07 08 09 | 72 0 32 64 | 0
+insert 10 256*8 | position outside the 9 samples | 01 02 03 04 05 06 07 08 09 | 72 0 32 64 | 0
+insert 4 256*8 | more than 16 samples | 01 02 03 04 05 06 07 08 09 | 72 0 32 64 | 0
+insert 4 1 256 | sample 1 is out of range | 01 02 03 04 05 06 07 08 09 | 72 0 32 64 | 0
+insert 4 5*4 | coder calls are spent | 01 02 03 04 05 06 07 08 09 | 72 0 32 64 | 0
+insert 9 5   | coder calls are spent | 01 02 03 04 05 06 07 08 09 | 72 0 32 64 | 0
+remove 2 4   | coder calls are spent | 01 02 03 04 05 06 07 08 09 | 72 0 32 64 | 0
+remove 9 0   | 0 | 01 02 03 04 05 06 07 08 09 | 72 0 32 64 | 0
+remove 4 4   | 0 | 01 02 03 04 09 | 40 0 32 | 0
+remove 4 1   | 0 | 01 02 03 04 | 32 0 | 0
+remove 3 1   | coder calls are spent | 01 02 03 04 | 32 0 | 0
+remove 1 4   | position outside the 4 samples | 01 02 03 04 | 32 0 | 0
+remove 5 0   | position outside the 4 samples | 01 02 03 04 | 32 0 | 0
+remove 2 18446744073709551615 | position outside the 4 samples | 01 02 03 04 | 32 0 | 0
+remove 18446744073709551615 18446744073709551615 | position outside the 4 samples | 01 02 03 04 | 32 0 | 0
+insert 18446744073709551615 1 | position outside the 4 samples | 01 02 03 04 | 32 0 | 0
+remove 0 4   | 0 | | 0 | 0
+insert 0     | 0 | | 0 | 0
+remove 0 0   | 0 | | 0 | 0
+insert 1     | position outside the 0 samples | | 0 | 0
+remove 0 1   | position outside the 0 samples | | 0 | 0
+insert 0 1   | coder calls are spent | | 0 | 0",
+    ),
 ];
 
 #[test]
@@ -143,6 +197,7 @@ fn octets_answer_step_by_step(rt: HostRuntime) -> Result<(), Fail> {
     for (calls, limit, table) in TABLES {
         expect_steps(&rt, alloc, &mut workspace(alloc, calls, limit), table)?;
         expect_run(&rt, alloc, &mut workspace(alloc, calls, limit), table)?;
+        expect_stop(&rt, alloc, &mut workspace(alloc, calls, limit), table)?;
     }
     Ok(())
 }
@@ -158,50 +213,12 @@ const ROW: Row = Row {
 };
 
 /// Whether bytes are the values of a list.
-fn are_bytes_of(bytes: &[u8], list: &[i64]) -> bool {
+pub(crate) fn are_bytes_of(bytes: &[u8], list: &[i64]) -> bool {
     bytes.len() == list.len() && bytes.iter().zip(list).all(|(b, x)| i64::from(*b) == *x)
 }
 
-/// How many intervals of four an edit of so many octets decodes: those that it codes, and of which an octet stays.
-fn decoded_by(count: u64, edit: &Edit) -> u64 {
-    let (first, stop) = match edit {
-        Edit::Overwrite { first, values } => (
-            *first,
-            first.saturating_add(values.as_slice().len() as u64),
-        ),
-        Edit::Append { values } => (count, count.saturating_add(values.as_slice().len() as u64)),
-        Edit::Truncate { count: kept } => return u64::from(*kept < count && *kept % 4 != 0),
-    };
-    let mut decoded = 0u64;
-    for k in 0..ROW.limit {
-        let (begin, end) = (4 * k, count.min(4 * k + 4));
-        let is_coded = first < stop && begin < stop && first < begin + 4;
-        if is_coded && begin < end && (begin < first || stop < end) {
-            decoded = decoded.saturating_add(1);
-        }
-    }
-    decoded
-}
-
-// An edit of both a workspace and a plain list: what becomes of it, the octets after it, and how many intervals it decodes.
-fn expect_octets<R: Abort>(
-    rt: &R,
-    alloc: Global,
-    work: &mut Workspace<Octets>,
-    list: &mut Vec<i64>,
-    edit: &Edit,
-) -> Result<u32, Fail> {
-    let before = reads(work);
-    let opened = decoded_by(list.len() as u64, edit);
-    let became = expect_edit(rt, &ROW, work, list, edit)?;
-    let decoded = if became == 1 { opened } else { 0 };
-    same_at(rt, reads(work), before.saturating_add(decoded), &edit);
-    holds_at(rt, are_bytes_of(&stream(alloc, work)?, list), &edit);
-    Ok(became)
-}
-
 // Counts one edit of the kind whose byte is 1.
-fn count(tally: &mut [u64; 4], became: u32) {
+fn count(tally: &mut [u64; 8], became: u64) {
     for (sum, one) in tally.iter_mut().zip(became.to_be_bytes()) {
         *sum = sum.saturating_add(u64::from(one));
     }
@@ -213,13 +230,14 @@ fn mixed_edits_leave_the_octets_of_a_plain_list(rt: HostRuntime) -> Result<(), F
     let mut work = workspace(alloc, 0, ROW.limit);
     let mut list = Vec::new(alloc);
     let mut seed = 1;
-    let mut tally = [0; 4];
+    let mut tally = [0; 8];
     for _ in 0..2000 {
         let edit = some_edit(alloc, &mut seed, &ROW, list.len() as u64)?;
-        let became = expect_octets(&rt, alloc, &mut work, &mut list, &edit)?;
+        let became = expect_edit(&rt, alloc, &ROW, &mut work, &mut list, &edit)?;
+        holds_at(&rt, are_bytes_of(&stream(alloc, &work)?, &list), &edit);
         count(&mut tally, became);
     }
-    // Refused for a value, as too many, as out of range; made.
+    // Refused for a value, as too many, as out of range; made, of each kind.
     holds_at(&rt, tally.iter().all(|edits| *edits > 100), &tally);
     Ok(())
 }

@@ -75,6 +75,14 @@ fn edit_of(alloc: Global, text: &str) -> Result<Edit, Fail> {
         "append" => Ok(Edit::Append {
             values: values_of(alloc, rest)?,
         }),
+        "insert" => Ok(Edit::Insert {
+            first: first.parse::<u64>()?,
+            values: values_of(alloc, values)?,
+        }),
+        "remove" => Ok(Edit::Remove {
+            first: first.parse::<u64>()?,
+            len: values.trim().parse::<u64>()?,
+        }),
         _ => Ok(Edit::Truncate {
             count: rest.parse::<u64>()?,
         }),
@@ -232,5 +240,56 @@ pub(crate) fn expect_run<R: Abort, C: Codec>(
         spelled(alloc, last_stream(table))?,
         &table,
     );
+    Ok(())
+}
+
+// What became of edits up to the first that was refused: its place among them and why, or that all were made.
+fn stop_text<C: Codec>(
+    alloc: Global,
+    work: &mut Workspace<C>,
+    edits: &[Edit],
+) -> Result<String, Fail> {
+    match work.run_until_refused(edits) {
+        Ok(()) => Ok(String::from_str(alloc, "made")?),
+        Err(stop) => Ok(format!(in alloc; "{} {}", stop.place, stop.fault)?),
+    }
+}
+
+// The same as the lines of answers say it.
+fn first_refusal(alloc: Global, answers: &str) -> Result<String, Fail> {
+    for (place, answer) in answers.lines().enumerate() {
+        if answer.parse::<u64>().is_err() {
+            return Ok(format!(in alloc; "{place} {answer}")?);
+        }
+    }
+    Ok(String::from_str(alloc, "made")?)
+}
+
+// The stream before the first edit of a table that is refused.
+fn stream_before_refusal(table: &str) -> &str {
+    let mut bytes = "";
+    for row in table.lines() {
+        let (step, rest) = cell(row);
+        let (answer, rest) = cell(rest);
+        if !step.starts_with("range ") && answer.trim().parse::<u64>().is_err() {
+            return bytes;
+        }
+        bytes = cell(rest).0;
+    }
+    bytes
+}
+
+/// The edits of a table, up to the first that is refused.
+pub(crate) fn expect_stop<R: Abort, C: Codec>(
+    rt: &R,
+    alloc: Global,
+    work: &mut Workspace<C>,
+    table: &str,
+) -> Result<(), Fail> {
+    let (edits, answers) = edits_of(alloc, table)?;
+    let text = stop_text(alloc, work, &edits)?;
+    same_at(rt, text, first_refusal(alloc, &answers)?, &table);
+    let bytes = spelled(alloc, stream_before_refusal(table))?;
+    same_at(rt, stream(alloc, work)?, bytes, &table);
     Ok(())
 }

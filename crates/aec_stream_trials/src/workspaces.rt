@@ -1,6 +1,6 @@
 //! Workspaces over the coder itself, edit by edit.
 
-use crate::steps::{expect_run, expect_steps};
+use crate::steps::{expect_run, expect_steps, expect_stop};
 use aec_edit::Workspace;
 use aec_interval::AecCodec;
 use aec_params::{Params, Settings};
@@ -19,7 +19,7 @@ pub(crate) fn workspace(
 }
 
 // The calls that a codec counts on from, the limit, and the steps from nothing on.
-const TABLES: [(u64, u64, &str); 6] = [
+const TABLES: [(u64, u64, &str); 9] = [
     // One of forty-eight zeros is changed; ranges around it, and past the end; all of its interval is zero again.
     (
         0,
@@ -61,6 +61,19 @@ append 0*16   | 1 | 00 04 | 14 0 | 0
 overwrite 0 1 | coder calls are spent | 00 04 | 14 0 | 0
 truncate 0    | 0 | | 0 | 0",
     ),
+    // Four calls are left: three for the samples, and one. So an insertion is refused that needs three, but for its place before that.
+    (
+        18446744073709551611,
+        65,
+        "\
+append 0*48    | 3 | 00 04 00 10 00 40    | 42 0 14 28 | 0
+overwrite 20 1 | 1 | 00 04 40 30 C2 00 08 | 53 0 14 39 | 1
+remove 0 16    | 0 | 10 0C 30 80 02       | 39 0 25    | 0
+insert 4 0     | coder calls are spent | 10 0C 30 80 02 | 39 0 25 | 0
+insert 33 1    | position outside the 32 samples | 10 0C 30 80 02 | 39 0 25 | 0
+truncate 16    | 0 | 10 0C 30 80          | 25 0       | 0
+insert 16      | 0 | 10 0C 30 80          | 25 0       | 0",
+    ),
     // What has no place in the list; then lists of one interval and of two, up to a place in them and up to their ends.
     (
         0,
@@ -101,6 +114,46 @@ overwrite 0 0*8 | 1 | 00 08 | 13 0 | 0",
         0,
         "append 1 | more than 0 samples | | 0 | 0\nappend | 0 | | 0 | 0",
     ),
+    // Zeros are put in and taken out, by the interval and one by one.
+    (
+        0,
+        65,
+        "\
+append 0*48    | 3 | 00 04 00 10 00 40          | 42 0 14 28       | 0
+insert 16 0*16 | 1 | 00 04 00 10 00 40 01       | 56 0 14 28 42    | 0
+insert 20 0    | 4 | 00 04 00 10 00 40 01 00 08 | 69 0 14 28 42 56 | 3
+insert 0 0     | more than 65 samples | 00 04 00 10 00 40 01 00 08 | 69 0 14 28 42 56 | 0
+remove 16 16   | 0 | 00 04 00 10 00 40 02       | 55 0 14 28 42    | 0
+remove 48 1    | 0 | 00 04 00 10 00 40          | 42 0 14 28       | 0
+remove 0 1     | 3 | 00 04 00 10 00 40          | 42 0 14 28       | 3
+range 47 0     |   | 00 04 00 10 00 40          | 42 0 14 28       | 0
+remove 40 8    | position outside the 47 samples | 00 04 00 10 00 40 | 42 0 14 28 | 0
+insert 48      | position outside the 47 samples | 00 04 00 10 00 40 | 42 0 14 28 | 0
+insert 47      | 0 | 00 04 00 10 00 40          | 42 0 14 28       | 0
+insert 0 256   | sample 0 is out of range | 00 04 00 10 00 40 | 42 0 14 28 | 0
+insert 8 0*16  | 2 | 00 04 00 10 00 40 01       | 56 0 14 28 42    | 1
+remove 8 16    | 1 | 00 04 00 10 00 40          | 42 0 14 28       | 2
+range 47 1     | position outside the 47 samples | 00 04 00 10 00 40 | 42 0 14 28 | 0",
+    ),
+    // A 1 among zeros, and all intervals behind it; then at the end, and in the one interval that there is.
+    (
+        0,
+        65,
+        "\
+append 0*48    | 3 | 00 04 00 10 00 40          | 42 0 14 28    | 0
+insert 20 1    | 3 | 00 04 40 30 C2 00 08 00 40 | 66 0 14 39 53 | 2
+range 19 3     | 0 1 0 | 00 04 40 30 C2 00 08 00 40 | 66 0 14 39 53 | 1
+remove 0 16    | 0 | 10 0C 30 80 02 00 10       | 52 0 25 39    | 0
+remove 4 1     | 2 | 00 04 00 10                | 28 0 14       | 3
+insert 32 5    | 1 | 00 04 00 10 05 80          | 41 0 14 28    | 0
+remove 32 1    | 0 | 00 04 00 10                | 28 0 14       | 0
+remove 0 32    | 0 |                            | 0             | 0
+insert 0 0 1 2 3 4 5 6 7 | 1 | 20 09 24 92      | 31 0          | 0
+remove 4 4     | 1 | 20 09 3E                   | 23 0          | 1
+insert 4 4 5 6 7 | 1 | 20 09 24 92              | 31 0          | 1
+insert 2 -1    | sample 0 is out of range | 20 09 24 92 | 31 0  | 0
+remove 8 1     | position outside the 8 samples | 20 09 24 92 | 31 0 | 0",
+    ),
 ];
 
 #[test]
@@ -115,6 +168,12 @@ fn workspaces_answer_step_by_step(rt: HostRuntime) -> Result<(), Fail> {
             table,
         )?;
         expect_run(
+            &rt,
+            alloc,
+            &mut workspace(alloc, params, calls, limit),
+            table,
+        )?;
+        expect_stop(
             &rt,
             alloc,
             &mut workspace(alloc, params, calls, limit),

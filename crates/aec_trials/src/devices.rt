@@ -1,5 +1,7 @@
 //! Sources and sinks that give, take and fail as a test says.
 
+ghost use Rattle.std.specs.Prelude.{◌≤◌, length};
+
 use aec_bits::{Sink, Source};
 use aec_params::Fault;
 use std::alloc::Global;
@@ -142,6 +144,71 @@ impl Sink for Basin {
         }
         self.room -= count;
         Ok(count)
+    }
+
+    fn failures(&self) -> u64 {
+        u64::from(self.failed)
+    }
+
+    fn begins(&self) -> u64 {
+        self.begins
+    }
+}
+
+/// Keeps what it takes behind what it held, and tells what that was when it was begun last.
+#[derive(Drop)]
+pub(crate) struct Marked {
+    pub(crate) bytes: Vec<u8>,
+    pub(crate) mark: usize,
+    failed: bool,
+    begins: u64,
+    ghost sound: { mark ≤ length bytes.items },
+}
+
+impl Marked {
+    /// It holds these bytes, and was never begun.
+    pub(crate) fn behind(alloc: Global, bytes: &[u8]) -> Result<Marked, Fault> {
+        Ok(Marked {
+            bytes: bytes.to_vec(alloc)?,
+            mark: 0,
+            failed: false,
+            begins: 0,
+        })
+    }
+}
+
+impl Sink for Marked {
+    ghost use Rattle.std.specs.Prelude.{if◌then◌else◌, Some, take};
+
+    ghost taken = { λ s. Some s.bytes.items };
+
+    ghost failed = { λ s. if s.failed then 1 else 0 };
+
+    ghost begun = { λ s. s.begins };
+
+    ghost mark = { λ s. Some (take s.mark s.bytes.items) };
+
+    fn begin(&mut self) -> Result<(), Fault> {
+        self.begins = self.begins.saturating_add(1);
+        self.mark = self.bytes.len();
+        if self.failed {
+            Err(Fault::Write)
+        } else {
+            Ok(())
+        }
+    }
+
+    fn put(&mut self, piece: &[u8]) -> Result<usize, Fault> {
+        if self.failed {
+            return Err(Fault::Write);
+        }
+        match self.bytes.extend_from_slice(piece) {
+            Ok(()) => Ok(piece.len()),
+            Err(_error) => {
+                self.failed = true;
+                Err(Fault::Write)
+            }
+        }
     }
 
     fn failures(&self) -> u64 {

@@ -104,13 +104,59 @@ fn scripts_are_carried_out(rt: HostRuntime) -> Result<(), Fail> {
     written(&rt, "append 0 0 0 0 0 0 0 0", &[], None, &EIGHT_ZEROS)
 }
 
+// Sixteen zeros more, and what is left of 48 zeros, of which one is 1, without the first sixteen.
+const MORE_ZEROS: [u8; 7] = [0x00, 0x04, 0x00, 0x10, 0x00, 0x40, 0x01];
+
+const FRONT_REMOVED: [u8; 5] = [0x10, 0x0C, 0x30, 0x80, 0x02];
+
+#[test]
+fn samples_are_put_in_and_taken_out(rt: HostRuntime) -> Result<(), Fail> {
+    let zeros = "insert 16 0 0 0 0 0 0 0 0 0 0 0 0 0 0 0 0\n";
+    written(&rt, zeros, &ZEROS, None, &MORE_ZEROS)?;
+    written(&rt, "remove 8 16", &MORE_ZEROS, None, &ZEROS)?;
+    written(&rt, "remove 0 16", &ONE_CHANGED, None, &FRONT_REMOVED)?;
+    written(&rt, "insert 20 1\nremove 20 1", &ZEROS, None, &ZEROS)?;
+    written(&rt, "remove 3 5\ninsert 3 3 4 5 6 7", &RAMP, None, &RAMP)?;
+    written(&rt, "insert 0 0 1 2 3 4 5 6 7", &[], None, &RAMP)?;
+    written(&rt, "remove 0 8", &RAMP, None, &[])?;
+    written(&rt, "insert 5 7 7 7 8", &SEVENS, Some(5), &SEVENS_AND_EIGHT)?;
+    written(&rt, "remove 5 4", &SEVENS_AND_EIGHT, Some(9), &SEVENS)
+}
+
+// Places and lengths past all samples, and sums past all numbers; a value that is none of 8 bits.
+#[test]
+fn insertions_and_removals_are_refused_by_their_line(rt: HostRuntime) -> Result<(), Fail> {
+    let outside = Fault::OutOfRange { count: 8 };
+    let value = Fault::SampleRange { index: 0 };
+    let after = Fault::OutOfRange { count: 7 };
+    let refusals = [
+        ("insert 9", outside, 1),
+        ("insert 18446744073709551615 1", outside, 1),
+        ("remove 0 18446744073709551615", outside, 1),
+        (
+            "remove 18446744073709551615 18446744073709551615",
+            outside,
+            1,
+        ),
+        ("remove 8 1", outside, 1),
+        ("insert 0 256", value, 1),
+        ("remove 8 0\n# none\ninsert 8\ninsert 0 256 1", value, 4),
+        ("insert 9 256", outside, 1),
+        ("remove 0 1\nremove 7 1", after, 2),
+    ];
+    for (text, fault, line) in refusals {
+        refused(&rt, text, &RAMP, None, EditFault::Line { line, fault })?;
+    }
+    Ok(())
+}
+
 #[test]
 fn a_script_of_nothing_gives_the_own_code_of_a_foreign_stream(rt: HostRuntime) -> Result<(), Fail> {
     written(&rt, "", &FOREIGN_RAMP, None, &RAMP)?;
     written(&rt, "# nothing\n\n", &FOREIGN_RAMP, Some(8), &RAMP)?;
     written(
         &rt,
-        "append\noverwrite 8\ntruncate 8\n",
+        "append\noverwrite 8\ntruncate 8\ninsert 3\nremove 8 0\n",
         &FOREIGN_RAMP,
         None,
         &RAMP,
@@ -287,32 +333,65 @@ fn sinks_of_an_edit_fail(rt: HostRuntime) -> Result<(), Fail> {
 }
 
 #[test]
+fn an_empty_edit_needs_a_sink_that_begins(rt: HostRuntime) -> Result<(), Fail> {
+    let script = Pieces::of(&[], 1, After::Ends);
+    let source = Pieces::of(&[], 1, After::Ends);
+    let (answer, counts, _) = left(rt.alloc(), script, source, Basin::shut(rt.alloc()))?;
+    same(&rt, answer, Err(EditFault::Plain(Fault::Write)));
+    same(&rt, counts, [0, 0, 1, 1]);
+    Ok(())
+}
+
+// The limits of samples and of bytes, a script, and the line that is refused, or 0 where the script is.
+const LIMITED: [(u64, u64, &str, Fault, u64); 5] = [
+    (8, 8, "truncate 0", Fault::StreamTooLong { limit: 8 }, 0),
+    (8, 8, "append 1", Fault::TooManySamples { limit: 8 }, 1),
+    (8, 64, "insert 0 1", Fault::TooManySamples { limit: 8 }, 1),
+    (
+        8,
+        64,
+        "remove 3 2\ninsert 6 1 2\ninsert 4 256",
+        Fault::TooManySamples { limit: 8 },
+        3,
+    ),
+    (9, 64, "insert 4 256", Fault::SampleRange { index: 0 }, 1),
+];
+
+#[test]
 fn limits_hold_for_scripts_streams_and_edits(rt: HostRuntime) -> Result<(), Fail> {
-    let params = Params::new(DEFAULTS)?;
-    let limits = Limits::new(8, 8).ok_or("limits")?;
-    let refusals = [
-        ("truncate 0", Fault::StreamTooLong { limit: 8 }, 0),
-        ("append 1", Fault::TooManySamples { limit: 8 }, 1),
-    ];
-    for (text, fault, line) in refusals {
+    for (samples, bytes, text, fault, line) in LIMITED {
+        let limits = Limits::new(samples, bytes).ok_or("limits")?;
         let expected = match line {
             0 => EditFault::Plain(fault),
             line => EditFault::Line { line, fault },
         };
-        let mut script = Pieces::of(text.as_bytes(), 64, After::Ends);
-        let mut source = Pieces::of(&RAMP, 64, After::Ends);
-        let mut sink = Basin::of(rt.alloc(), 64, 1 << 20);
-        let answer = edit(
-            rt.alloc(),
-            &params,
-            limits,
-            None,
-            &mut script,
-            &mut source,
-            &mut sink,
-        );
-        same_at(&rt, answer, Err(expected), &text);
-        same(&rt, sink.begins(), 0);
+        expect_limited(&rt, rt.alloc(), limits, text, expected)?;
     }
+    Ok(())
+}
+
+// An edit of the bytes 0 to 7 within limits, which is refused.
+fn expect_limited(
+    rt: &impl Abort,
+    alloc: Global,
+    limits: Limits,
+    text: &str,
+    expected: EditFault,
+) -> Result<(), Fail> {
+    let params = Params::new(DEFAULTS)?;
+    let mut script = Pieces::of(text.as_bytes(), 64, After::Ends);
+    let mut source = Pieces::of(&RAMP, 64, After::Ends);
+    let mut sink = Basin::of(alloc, 64, 1 << 20);
+    let answer = edit(
+        alloc,
+        &params,
+        limits,
+        None,
+        &mut script,
+        &mut source,
+        &mut sink,
+    );
+    same_at(rt, answer, Err(expected), &text);
+    same(rt, sink.begins(), 0);
     Ok(())
 }

@@ -1,8 +1,8 @@
 //! The engines over devices in memory: what is written, and what is left where a device fails.
 
 use crate::asserts::same;
-use crate::devices::{After, Basin, Pieces};
-use crate::shared::{DEFAULTS, Outcome, run_engine};
+use crate::devices::{After, Basin, Marked, Pieces};
+use crate::shared::{DEFAULTS, Outcome, engine_into, run_engine};
 use aec_cli::{Action, encode};
 use aec_params::{Fault, Limits, Params, Settings};
 use std::alloc::Global;
@@ -116,6 +116,60 @@ fn failed_sinks_have_a_front(rt: HostRuntime) -> Result<(), Fail> {
             sink,
             (Err(Fault::Write), &[], 1, [0, 1]),
         )?;
+    }
+    Ok(())
+}
+
+// Of nothing each makes nothing: only `begin` can show that the sink fails.
+const OF_NOTHING: [Action; 3] = [
+    Action::Encode,
+    Action::Decode { count: None },
+    Action::Range {
+        first: 0,
+        len: 0,
+        count: None,
+    },
+];
+
+#[test]
+fn empty_answers_need_a_sink_that_begins(rt: HostRuntime) -> Result<(), Fail> {
+    for action in OF_NOTHING.iter() {
+        let source = Pieces::of(&[], 8, After::Ends);
+        let sink = Basin::shut(rt.alloc());
+        leaves(
+            &rt,
+            rt.alloc(),
+            action,
+            source,
+            sink,
+            (Err(Fault::Write), &[], 1, [0, 1]),
+        )?;
+    }
+    Ok(())
+}
+
+// Behind the bytes `old` of a sink: begun there, and then written.
+fn writes_behind<R: Abort>(
+    rt: &R,
+    alloc: Global,
+    action: &Action,
+    given: &[u8],
+    wanted: &[u8],
+) -> Result<(), Fail> {
+    let params = Params::new(DEFAULTS)?;
+    let limits = Limits::new(1 << 32, 1 << 40).ok_or("limits")?;
+    let mut source = Pieces::of(given, 3, After::Ends);
+    let mut sink = Marked::behind(alloc, b"old")?;
+    let answer = engine_into(alloc, &params, action, limits, &mut source, &mut sink);
+    same(rt, (answer, sink.mark), (Ok(()), 3));
+    same(rt, sink.bytes.strip_prefix(b"old"), Some(wanted));
+    Ok(())
+}
+
+#[test]
+fn sinks_are_begun_before_they_take(rt: HostRuntime) -> Result<(), Fail> {
+    for (action, given, wanted) in WAYS.iter() {
+        writes_behind(&rt, rt.alloc(), action, given, wanted)?;
     }
     Ok(())
 }

@@ -11,6 +11,8 @@ mod bytes;
 #[cfg(test)]
 mod coded_files;
 #[cfg(test)]
+mod counted_edits;
+#[cfg(test)]
 mod cut_streams;
 #[cfg(test)]
 mod devices;

@@ -22,6 +22,11 @@ fn shown(alloc: Global, script: &Script) -> Result<String, Fail> {
                 show_values(&mut text, values.as_slice())?;
             }
             Edit::Truncate { count } => write!(text, "truncate {count}")?,
+            Edit::Insert { first, values } => {
+                write!(text, "insert {first}")?;
+                show_values(&mut text, values.as_slice())?;
+            }
+            Edit::Remove { first, len } => write!(text, "remove {first} {len}")?,
         }
         write!(text, ";")?;
     }
@@ -36,7 +41,7 @@ fn show_values(text: &mut String, values: &[i64]) -> Result<(), Fail> {
 }
 
 // Scripts, and the edits that they have.
-const READ: [(&str, &str); 22] = [
+const READ: [(&str, &str); 30] = [
     ("", ""),
     ("\n\n", ""),
     ("\r", ""),
@@ -77,6 +82,26 @@ const READ: [(&str, &str); 22] = [
     ("append \r", "1 append;"),
     ("append 1\n\r", "1 append 1;"),
     ("append 1\n \n\nappend 2\n", "1 append 1;4 append 2;"),
+    ("insert 0", "1 insert 0;"),
+    (
+        "# p\ninsert 20 1 -2\nremove 3 5\n",
+        "2 insert 20 1 -2;3 remove 3 5;",
+    ),
+    ("\tinsert  007 \t-0 \r", "1 insert 7 0;"),
+    (
+        "insert 18446744073709551615 -9223372036854775808",
+        "1 insert 18446744073709551615 -9223372036854775808;",
+    ),
+    ("remove 0 0", "1 remove 0 0;"),
+    (" remove\t00  007\t\r\n", "1 remove 0 7;"),
+    (
+        "remove 0 18446744073709551615",
+        "1 remove 0 18446744073709551615;",
+    ),
+    (
+        "remove 18446744073709551615 18446744073709551615",
+        "1 remove 18446744073709551615 18446744073709551615;",
+    ),
 ];
 
 // What a script has, or why it is refused: `script` without its clauses, which callers would be proved with.
@@ -94,7 +119,7 @@ fn edits_stand_on_their_lines(rt: HostRuntime) -> Result<(), Fail> {
 }
 
 // Scripts, and the number of their first line that is no edit.
-const REFUSED: [(&str, u64); 24] = [
+const REFUSED: [(&str, u64); 42] = [
     ("append 1\n\ntruncate x\n", 3),
     ("overwrite", 1),
     ("overwrite x 1", 1),
@@ -119,6 +144,24 @@ const REFUSED: [(&str, u64); 24] = [
     ("append 1\rappend 2", 1),
     ("append 1\n\u{b}\n", 2),
     ("append 1\nappend \0", 2),
+    ("insert", 1),
+    ("insert x 1", 1),
+    ("insert -1 1", 1),
+    ("insert +1 1", 1),
+    ("insert 18446744073709551616", 1),
+    ("insert 0 9223372036854775808", 1),
+    ("insert 0 1 x", 1),
+    ("Insert 0 1", 1),
+    ("inserts 0 1", 1),
+    ("insert 0\n\ninsert", 3),
+    ("remove", 1),
+    ("remove 1", 1),
+    ("remove 1 2 3", 1),
+    ("remove -1 1", 1),
+    ("remove 1 -1", 1),
+    ("remove 0 18446744073709551616", 1),
+    ("remove 18446744073709551616 0", 1),
+    ("remove 0 0\nREMOVE 0 0", 2),
 ];
 
 #[test]

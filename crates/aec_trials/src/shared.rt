@@ -37,7 +37,27 @@ pub(crate) struct Outcome {
     pub(crate) failures: [u64; 2],
 }
 
-/// Does what is asked for with what the source gives.
+/// Does what is asked for with what the source gives, and writes to the sink.
+pub(crate) fn engine_into<W: Sink>(
+    alloc: Global,
+    params: &Params,
+    action: &Action,
+    limits: Limits,
+    source: &mut Pieces<'_>,
+    sink: &mut W,
+) -> Result<(), Fault> {
+    match action {
+        Action::Encode => encode(alloc, params, limits, source, sink),
+        Action::Decode { count } => decode(alloc, params, limits, *count, source, sink),
+        Action::Range { first, len, count } => {
+            range(alloc, params, limits, *count, *first, *len, source, sink)
+        }
+        // It takes a script too, and no row asks for it: `edits` has its tests.
+        Action::Edit { .. } => Err(Fault::Script { line: 0 }),
+    }
+}
+
+/// The same, and what it leaves.
 pub(crate) fn run_engine(
     alloc: Global,
     params: &Params,
@@ -46,26 +66,7 @@ pub(crate) fn run_engine(
     mut source: Pieces<'_>,
     mut sink: Basin,
 ) -> Outcome {
-    let answer = match action {
-        Action::Encode => encode(alloc, params, limits, &mut source, &mut sink),
-        Action::Decode { count } => {
-            decode(alloc, params, limits, *count, &mut source, &mut sink)
-        }
-        Action::Range { first, len, count } => {
-            range(
-                alloc,
-                params,
-                limits,
-                *count,
-                *first,
-                *len,
-                &mut source,
-                &mut sink,
-            )
-        }
-        // It takes a script too, and no row asks for it: `edits` has its tests.
-        Action::Edit { .. } => Err(Fault::Script { line: 0 }),
-    };
+    let answer = engine_into(alloc, params, action, limits, &mut source, &mut sink);
     let begins = sink.begins();
     let failures = [source.failures(), sink.failures()];
     Outcome {

@@ -2,7 +2,7 @@
 
 use crate::asserts::{holds, holds_at, same, same_at};
 use crate::shared::{DEFAULTS, job_by, job_of, run_of, words_of};
-use aec_cli::{Action, Failure, Usage, perform, status};
+use aec_cli::{Action, Failure, StartFault, Usage, perform, status};
 use aec_params::{Fault, Params, Settings};
 use std::io;
 use std::io::Write;
@@ -209,6 +209,22 @@ fn failures_have_their_texts(rt: HostRuntime) -> Result<(), Fail> {
     for (failure, text, expected) in cases {
         same(&rt, failure.to_string(rt.alloc())?.as_str(), text);
         same_at(&rt, status(&failure), expected, &text);
+    }
+    Ok(())
+}
+
+#[test]
+fn start_faults_have_their_texts(rt: HostRuntime) -> Result<(), Fail> {
+    let cases = [
+        (
+            StartFault::Stream,
+            "a standard stream is closed and /dev/null can't be opened",
+        ),
+        (StartFault::Words, "words must be UTF-8 text"),
+        (StartFault::Memory, "out of memory"),
+    ];
+    for (fault, text) in cases {
+        same(&rt, fault.to_string(rt.alloc())?.as_str(), text);
     }
     Ok(())
 }

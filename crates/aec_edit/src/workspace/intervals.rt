@@ -1,20 +1,17 @@
 //! One interval of a workspace, and what is asked of its codec.
 
 use super::Workspace;
-use crate::coded::{Coded, Cut};
-use crate::coding::code_all;
+use crate::coded::Cut;
 use aec_bits::Codec;
 use aec_params::Fault;
 use std::alloc::Global;
 
 impl<C: Codec> Workspace<C> {
-    ghost use Rattle.std.specs.Prelude.{◌≡◌, ◌+◌, ◌-◌, ◌*◌, ◌^◌, ◌<◌, ◌≤◌, ◌++◌, length, take, drop, IfOk, OnOk, OnErr, IfErr};
-    ghost use Rattle.std.specs.Int.{div_ceil};
+    ghost use Rattle.std.specs.Prelude.{◌≡◌, ◌*◌, ◌^◌, ◌<◌, ◌≤◌, ◌++◌, take, drop, OnOk, OnErr, IfErr};
     ghost use Rattle.aec_params.specs.declared.fault.Fault.TheVariants.{Memory};
-    ghost use Rattle.aec_bits.specs.Codec.{AreHeld, code_of};
+    ghost use Rattle.aec_bits.specs.Codec.{AreHeld};
     ghost use Rattle.aec_edit.specs.Workspace.{interval_count, start_of};
     ghost use Rattle.aec_edit.specs.Calls.{RisesAtMost};
-    ghost use Rattle.aec_edit.specs.Index.{starts_of};
 
     /// What new memory is asked of.
     pub(crate) fn alloc(&self) -> Global {
@@ -88,25 +85,5 @@ impl<C: Codec> Workspace<C> {
         let most = self.interval_len();
         let len = most.min(self.coded.count - i * most);
         self.codec.decode(&self.coded.bits, start, len, out)
-    }
-
-    /// Codes fresh samples. `Memory` where a growth was refused; some calls may have been made then.
-    pub(crate) fn code(&mut self, fresh: &[i64]) -> Result<Coded, Fault>
-        requires held { AreHeld (C.format self.old.codec) fresh.now }
-        requires calls { C.called self.old.codec + div_ceil (length fresh.now) (C.format self.old.codec).most ≤ 2 ^ 64 - 1 }
-        ensures bits { IfOk result (λ coded. coded.bits.list ≡ code_of (C.format self.old.codec) fresh.now) }
-        ensures starts { IfOk result (λ coded. coded.starts.items ≡ starts_of (C.format self.old.codec) 0 fresh.now) }
-        ensures count { IfOk result (λ coded. coded.count ≡ length fresh.now) }
-        ensures calls { OnOk result (C.called self.new.codec
-            ≡ C.called self.old.codec + div_ceil (length fresh.now) (C.format self.old.codec).most) }
-        ensures fault { IfErr result (λ e. (e ≡ Memory) × (0 < length fresh.now)) }
-        ensures rises { RisesAtMost (div_ceil (length fresh.now) (C.format self.old.codec).most)
-            (C.called self.old.codec) (C.called self.new.codec) }
-        ensures samples { self.new.samples ≡ self.old.samples }
-        ensures limit { self.new.limit ≡ self.old.limit }
-        ensures reads { C.read self.new.codec ≡ C.read self.old.codec }
-        ensures format { C.format self.new.codec ≡ C.format self.old.codec }
-    {
-        code_all(self.alloc, &mut self.codec, fresh)
     }
 }

@@ -60,11 +60,11 @@ fn encode_source<R: Source>(
     Ok(bits)
 }
 
-#[tactic(auto, using(crate::proofs::OutputLemmas::leaves_settled))]
 /// Codes the stored samples of a source, each piece before the next is taken, to the source's end, its failure or the first
 /// sample that is refused, and writes the bytes of their code. The refusals are answered as they are met: at each sample
 /// `TooManySamples`, then `SampleRange`; `Read` where the source fails; `Memory`. Nothing has been written then and `begin`
 /// was not called. After `begin` only `Write` can come, and a front of the answer has been written. `limits.bytes` is not used.
+#[tactic(auto, using(crate::proofs::OutputLemmas::leaves_settled))]
 pub fn encode<R: Source, W: Sink>(
     alloc: Global,
     params: &Params,
@@ -73,7 +73,7 @@ pub fn encode<R: Source, W: Sink>(
     sink: &mut W,
 ) -> Result<(), Fault>
     ensures { let took : Taking = taking_of R.left R.failed source.old source.new in
-        let put : Putting = putting_of W.taken W.begun W.failed sink.old sink.new in
+        let put : Putting = putting_of W.taken W.begun W.mark W.failed sink.old sink.new in
         let enough : List ℕ → Bool = are_refused params.now limits.samples in
         Leaves (IsEncoded params.now limits) took enough put result }
 {

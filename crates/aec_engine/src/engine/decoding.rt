@@ -43,7 +43,7 @@ fn decode_bits<W: Sink>(
     bits: &BitBuf,
     sink: &mut W,
 ) -> Result<(), Fault>
-    ensures { let put : Putting = putting_of W.taken W.begun W.failed sink.old sink.new in
+    ensures { let put : Putting = putting_of W.taken W.begun W.mark W.failed sink.old sink.new in
         SettlesOne (DecodesBits params.now count limits.samples bits.now.list) put result }
 {
     let mut reader = StreamReader::new(alloc, *params, bits, count, limits.samples())?;
@@ -54,7 +54,8 @@ fn decode_bits<W: Sink>(
 /// Reads the source whole, and writes the bytes of the samples that it codes: with a count the first `count`, without one
 /// all. The refusals in their order: `Read`, `StreamTooLong` and `Memory` as they are met while the source is read; then
 /// those of `decode_all`; then `Memory`, for the room that the second reading takes. That `Memory` comes last is no part of the
-/// contract. Nothing has been written then and `begin` was not called. After `begin` only `Write` can come, and a front of the answer has been written.
+/// contract. Nothing has been written then and `begin` was not called. After `begin` only `Write` can come, and a front of the
+/// answer has been written.
 ///
 /// The coded bits are read twice, so that the samples are not kept: memory is taken for the bytes of the source, and for
 /// one interval of samples and their bytes.
@@ -67,7 +68,7 @@ pub fn decode<R: Source, W: Sink>(
     sink: &mut W,
 ) -> Result<(), Fault>
     ensures { let took : Taking = taking_of R.left R.failed source.old source.new in
-        let put : Putting = putting_of W.taken W.begun W.failed sink.old sink.new in
+        let put : Putting = putting_of W.taken W.begun W.mark W.failed sink.old sink.new in
         Leaves (IsDecoded params.now limits count) took (are_past limits.bytes) put result }
 {
     let bits = read_bits(alloc, source, limits.bytes())?;

@@ -1,7 +1,7 @@
 //! Coded data edited by a script.
 
-ghost use Rattle.std.specs.Prelude.{◌≡◌, ◌+◌, ◌-◌, ◌^◌, ◌<◌, ◌≤◌, length, slice_index, Ok, Err, IfOk, IfErr, OnOk, OnErr};
-ghost use Rattle.std.specs.Io.KnownBytes.{Appends};
+ghost use Rattle.std.specs.Prelude.{◌≡◌, ℕ, ◌^◌, ◌<◌, ◌≤◌, length, slice_index, Result, Ok, Err, IfOk, IfErr, OnOk, OnErr};
+ghost use Rattle.std.specs.Io.KnownBytes.{Appends, Keeps};
 ghost use Rattle.aec_params.specs.declared.fault.Fault.TheVariants.{Memory, Write as WriteFault};
 ghost use Rattle.aec_params.specs.Codewords.{bytes_of};
 ghost use Rattle.aec_bits.specs.Codec.{AreHeld, code_of};
@@ -9,8 +9,8 @@ ghost use Rattle.aec_bits.specs.Devices.{counted, AppendsFront};
 ghost use Rattle.aec_interval.specs.IntervalFormat.{interval_format};
 ghost use Rattle.aec_engine.specs.Transfers.{are_past, Taking, taking_of, Putting, putting_of, answer_of, GivesAnswer};
 ghost use Rattle.aec_engine.specs.Output.{GaveSamples, IsDecoded};
-ghost use Rattle.aec_engine.specs.Editing.{samples_edited, GivesEdited, LeavesEdited};
-ghost use Rattle.aec_engine.specs.EditingSteps.{GaveScript, RefusesScript, StopsEditing, SettlesEdited, most_calls};
+ghost use Rattle.aec_engine.specs.Editing.{edits_left, left_of, first_calls, GivesEdited, LeavesRecoded, LeavesEdited};
+ghost use Rattle.aec_engine.specs.EditingSteps.{GaveScript, RefusesScript, StopsEditing, SettlesRecoded, recoded_of};
 
 use crate::engine::decoding::read_source;
 use crate::engine::intake::read_whole;
@@ -27,7 +27,6 @@ fn read_script<Q: Source>(alloc: Global, limits: Limits, from: &mut Q) -> Result
     ensures ok { let took : Taking = taking_of Q.left Q.failed from.old from.new in
         IfOk result (λ s. GaveScript took limits.bytes s.edits.items s.lines.items) }
     ensures lines { IfOk result (λ s. length s.edits.items ≤ length s.lines.items) }
-    ensures calls { IfOk result (λ s. most_calls s.edits.items ≤ 2 ^ 40) }
     ensures refuses { let took : Taking = taking_of Q.left Q.failed from.old from.new in
         IfErr result (λ fault. RefusesScript took limits.bytes fault) }
 {
@@ -49,7 +48,7 @@ fn workspace_with<C: Codec + Drop>(
     ensures ok { IfOk result (λ w. w.samples ≡ samples.items) }
     ensures limit { IfOk result (λ w. w.limit ≡ limit) }
     ensures format { IfOk result (λ w. C.format w.codec ≡ C.format codec) }
-    ensures calls { IfOk result (λ w. C.called w.codec ≤ length samples.items) }
+    ensures calls { IfOk result (λ w. C.called w.codec ≡ first_calls (C.format codec) samples.items) }
     ensures fault { IfErr result (λ e. e ≡ Memory) }
 {
     let mut workspace = Workspace::new(alloc, codec, limit);
@@ -58,24 +57,28 @@ fn workspace_with<C: Codec + Drop>(
     Ok(workspace)
 }
 
-/// A workspace with the samples that a source is read as.
-fn workspace_of<R: Source>(
+/// A workspace with the samples that a source is read as, over a codec that has coded nothing.
+fn workspace_of<C: Codec + Drop, R: Source>(
     alloc: Global,
+    codec: C,
     params: &Params,
     limits: Limits,
     count: Option<u64>,
     source: &mut R,
-) -> Result<Workspace<AecCodec>, Fault>
+) -> Result<Workspace<C>, Fault>
+    requires format { C.format codec ≡ interval_format params.now }
+    requires fresh { C.called codec ≡ 0 }
     ensures ok { let took : Taking = taking_of R.left R.failed source.old source.new in
         IfOk result (λ w. GaveSamples params.now limits count took w.samples) }
     ensures limit { IfOk result (λ w. w.limit ≡ limits.samples) }
-    ensures format { IfOk result (λ w. ⟦<AecCodec as Codec>⟧.format w.codec ≡ interval_format params.now) }
-    ensures calls { IfOk result (λ w. ⟦<AecCodec as Codec>⟧.called w.codec ≤ 2 ^ 32) }
+    ensures format { IfOk result (λ w. C.format w.codec ≡ interval_format params.now) }
+    ensures calls { IfOk result (λ w. C.called w.codec ≡ first_calls (interval_format params.now) w.samples) }
     ensures refuses { let took : Taking = taking_of R.left R.failed source.old source.new in
         IfErr result (λ fault. GivesAnswer (IsDecoded params.now limits count) took (are_past limits.bytes) (Err fault)) }
 {
+    // What the parameters promise is told by their calls.
+    let _len = params.interval_len();
     let samples = read_source(alloc, params, limits, count, source)?;
-    let codec = AecCodec::new(alloc, *params);
     workspace_with(alloc, codec, limits.samples(), samples)
 }
 
@@ -90,38 +93,41 @@ fn line_of(script: &Script, place: usize) -> u64
 /// Makes the edits of a script, up to the first that is refused.
 fn carry_out<C: Codec>(workspace: &mut Workspace<C>, script: &Script) -> Result<(), EditFault>
     requires lines { length script.now.edits.items ≤ length script.now.lines.items }
-    requires calls { C.called workspace.old.codec + most_calls script.now.edits.items ≤ 2 ^ 64 - 1 }
-    ensures ok { OnOk result (samples_edited (C.format workspace.old.codec) workspace.old.limit workspace.old.samples
-        script.now.edits.items script.now.lines.items ≡ Ok workspace.new.samples) }
-    ensures refuses { IfErr result (λ fault. StopsEditing (C.format workspace.old.codec) workspace.old.limit workspace.old.samples
-        script.now.edits.items script.now.lines.items fault) }
+    ensures ok { OnOk result (edits_left (C.format workspace.old.codec) workspace.old.limit (C.called workspace.old.codec) workspace.old.samples
+        script.now.edits.items script.now.lines.items ≡ Ok (left_of workspace.new.samples (C.called workspace.new.codec))) }
+    ensures refuses { IfErr result (λ fault. StopsEditing (C.format workspace.old.codec) workspace.old.limit (C.called workspace.old.codec)
+        workspace.old.samples script.now.edits.items script.now.lines.items fault) }
     ensures format { C.format workspace.new.codec ≡ C.format workspace.old.codec }
 {
-    for (place, edit) in script.edits.iter().enumerate() {
-        let line = line_of(script, place);
-        if let Err(fault) = workspace.apply(edit) {
-            return Err(EditFault::Line { line, fault });
-        }
+    match workspace.run_until_refused(script.edits.as_slice()) {
+        Ok(()) => Ok(()),
+        Err(stop) => Err(EditFault::Line {
+            line: line_of(script, stop.place as usize),
+            fault: stop.fault,
+        }),
     }
-    Ok(())
 }
 
 /// What carrying out a script answers: a workspace with the samples that its edits leave.
-fn edit_source<Q: Source, R: Source>(
+fn edit_source<C: Codec + Drop, Q: Source, R: Source>(
     alloc: Global,
+    codec: C,
     params: &Params,
     limits: Limits,
     count: Option<u64>,
     from: &mut Q,
     source: &mut R,
-) -> Result<Workspace<AecCodec>, EditFault>
-    ensures { let read : Taking = taking_of Q.left Q.failed from.old from.new in
+) -> Result<Workspace<C>, EditFault>
+    requires format { C.format codec ≡ interval_format params.now }
+    requires fresh { C.called codec ≡ 0 }
+    ensures gives { let read : Taking = taking_of Q.left Q.failed from.old from.new in
         let took : Taking = taking_of R.left R.failed source.old source.new in
         GivesEdited params.now limits count read took
-        (answer_of (λ w. bytes_of (code_of (⟦<AecCodec as Codec>⟧.format w.codec) w.samples)) result) }
+        (answer_of (λ w. recoded_of (C.format w.codec) w.samples (C.called w.codec)) result) }
+    ensures format { IfOk result (λ w. C.format w.codec ≡ interval_format params.now) }
 {
     let script = read_script(alloc, limits, from)?;
-    let mut workspace = workspace_of(alloc, params, limits, count, source)?;
+    let mut workspace = workspace_of(alloc, codec, params, limits, count, source)?;
     carry_out(&mut workspace, &script)?;
     Ok(workspace)
 }
@@ -133,32 +139,64 @@ fn deliver_code<C: Codec, W: Sink>(workspace: &Workspace<C>, sink: &mut W) -> Re
     ensures front { OnErr result (AppendsFront (W.taken sink.old) (W.taken sink.new)
         (bytes_of (code_of (C.format workspace.now.codec) workspace.now.samples))) }
     ensures begun { W.begun sink.new ≡ counted (W.begun sink.old) }
+    ensures order { Keeps (W.mark sink.new) (W.taken sink.old) }
     ensures fault { IfErr result (λ e. (e ≡ WriteFault) × (W.failed sink.new ≡ 1)) }
+    ensures sound { OnOk result (W.failed sink.new ≡ 0) }
 {
     sink.begin()?;
     workspace.write_to(sink)
 }
 
 /// Begins, and writes the code of an answer that is ready; or answers its refusal.
-fn settle_code<W: Sink>(
-    answer: Result<Workspace<AecCodec>, EditFault>,
+fn settle_code<C: Codec + Drop, W: Sink>(
+    answer: Result<Workspace<C>, EditFault>,
     sink: &mut W,
-) -> Result<(), EditFault>
-    ensures { let put : Putting = putting_of W.taken W.begun W.failed sink.old sink.new in
-        SettlesEdited put (answer_of (λ w. bytes_of (code_of (⟦<AecCodec as Codec>⟧.format w.codec) w.samples)) answer) result }
+) -> Result<Workspace<C>, EditFault>
+    ensures settles { let put : Putting = putting_of W.taken W.begun W.mark W.failed sink.old sink.new in
+        SettlesRecoded put (answer_of (λ w. recoded_of (C.format w.codec) w.samples (C.called w.codec)) answer)
+        (answer_of (λ w. C.called w.codec) result) }
+    ensures stream { IfOk result (λ w. Appends (W.taken sink.old) (W.taken sink.new) (bytes_of (code_of (C.format w.codec) w.samples))) }
+    ensures same { IfOk result (λ w. answer ≡ Ok w) }
 {
     let workspace = answer?;
     deliver_code(&workspace, sink)?;
-    Ok(())
+    Ok(workspace)
 }
 
-#[tactic(auto, using(crate::proofs::EditAnswerLemmas::leaves_edited))]
+/// Does what `edit` does over a codec of intervals that has coded nothing, and gives the workspace whose stream was written. So it
+/// is seen how often the codec was called: once for each interval of the samples that the source codes, and for each edit once for each
+/// interval that it codes. The refusals are those of `edit`.
+#[tactic(auto, using(crate::proofs::EditAnswerLemmas::leaves_recoded))]
+pub fn edit_over<C: Codec + Drop, Q: Source, R: Source, W: Sink>(
+    alloc: Global,
+    codec: C,
+    params: &Params,
+    limits: Limits,
+    count: Option<u64>,
+    from: &mut Q,
+    source: &mut R,
+    sink: &mut W,
+) -> Result<Workspace<C>, EditFault>
+    requires format { C.format codec ≡ interval_format params.now }
+    requires fresh { C.called codec ≡ 0 }
+    ensures leaves { let read : Taking = taking_of Q.left Q.failed from.old from.new in
+        let took : Taking = taking_of R.left R.failed source.old source.new in
+        let put : Putting = putting_of W.taken W.begun W.mark W.failed sink.old sink.new in
+        LeavesRecoded params.now limits count read took put (answer_of (λ w. C.called w.codec) result) }
+    ensures stream { IfOk result (λ w. Appends (W.taken sink.old) (W.taken sink.new) (bytes_of (code_of (C.format w.codec) w.samples))) }
+    ensures format { IfOk result (λ w. C.format w.codec ≡ interval_format params.now) }
+{
+    let answer = edit_source(alloc, codec, params, limits, count, from, source);
+    settle_code(answer, sink)
+}
+
 /// Reads a script whole, then the source, makes the edits of the script on the samples that the source codes (with a count
 /// the first `count`, without one all), and writes the bytes of the code of the samples that they leave.
 ///
 /// The refusals in their order: `Read`, `StreamTooLong` and `Memory` as they are met while the script is read, then
 /// `Script` or `Memory`, and until then nothing is taken of the source; those of `decode`; `Memory`. The first edit that is
-/// refused, for its samples or for want of memory, is named by its line; all other refusals are plain. `Spent` doesn't come.
+/// refused, for its place, the limit, its values, or want of calls or of memory, is named by its line and ends the run; all other
+/// refusals are plain.
 /// Nothing has been written then and `begin` was not called. After `begin` only `Write` can come, and a front of the answer
 /// has been written.
 pub fn edit<Q: Source, R: Source, W: Sink>(
@@ -172,9 +210,12 @@ pub fn edit<Q: Source, R: Source, W: Sink>(
 ) -> Result<(), EditFault>
     ensures { let read : Taking = taking_of Q.left Q.failed from.old from.new in
         let took : Taking = taking_of R.left R.failed source.old source.new in
-        let put : Putting = putting_of W.taken W.begun W.failed sink.old sink.new in
+        let put : Putting = putting_of W.taken W.begun W.mark W.failed sink.old sink.new in
         LeavesEdited params.now limits count read took put result }
 {
-    let answer = edit_source(alloc, params, limits, count, from, source);
-    settle_code(answer, sink)
+    let codec = AecCodec::new(alloc, *params);
+    match edit_over(alloc, codec, params, limits, count, from, source, sink) {
+        Ok(_workspace) => Ok(()),
+        Err(fault) => Err(fault),
+    }
 }

@@ -36,7 +36,7 @@ fn range_bits<W: Sink>(
     bits: &BitBuf,
     sink: &mut W,
 ) -> Result<(), Fault>
-    ensures { let put : Putting = putting_of W.taken W.begun W.failed sink.old sink.new in
+    ensures { let put : Putting = putting_of W.taken W.begun W.mark W.failed sink.old sink.new in
         SettlesOne (CutsBits params.now count limits.samples first len bits.now.list) put result }
 {
     let mut reader = StreamReader::new(alloc, *params, bits, count, limits.samples())?;
@@ -48,8 +48,8 @@ fn range_bits<W: Sink>(
 /// Reads the source whole, and writes the bytes of `len` of the samples that it codes, from place `first` on. The refusals
 /// in their order: those of `decode`, so that coded data after the range are judged too; then `OutOfRange` where the
 /// range passes the samples, which are `count` where a count is given; then `Memory`, though that it comes last is no part of
-/// the contract. Nothing has been written then and `begin` was not called. After `begin` only `Write` can come, and a front of the answer has been written. The coded bits
-/// are read twice and the samples are not kept, as in `decode`.
+/// the contract. Nothing has been written then and `begin` was not called. After `begin` only `Write` can come, and a front of
+/// the answer has been written. The coded bits are read twice and the samples are not kept, as in `decode`.
 pub fn range<R: Source, W: Sink>(
     alloc: Global,
     params: &Params,
@@ -61,7 +61,7 @@ pub fn range<R: Source, W: Sink>(
     sink: &mut W,
 ) -> Result<(), Fault>
     ensures { let took : Taking = taking_of R.left R.failed source.old source.new in
-        let put : Putting = putting_of W.taken W.begun W.failed sink.old sink.new in
+        let put : Putting = putting_of W.taken W.begun W.mark W.failed sink.old sink.new in
         Leaves (IsRanged params.now limits count first len) took (are_past limits.bytes) put result }
 {
     let bits = read_bits(alloc, source, limits.bytes())?;

@@ -2,7 +2,7 @@
 
 ghost use Rattle.std.specs.Prelude.{◌≡◌, ℕ, ◌+◌, ◌*◌, ◌<◌, ◌≤◌, ◌++◌, [], List, ℤ, length, vec_len, vec_capacity, IfOk, IfErr, OnOk, OnErr};
 ghost use Rattle.std.specs.List.{AllByRecursion};
-ghost use Rattle.std.specs.Io.KnownBytes.{Appends};
+ghost use Rattle.std.specs.Io.KnownBytes.{Appends, Keeps};
 ghost use Rattle.aec_params.specs.declared.fault.Fault.TheVariants.{Memory, Write as WriteFault};
 ghost use Rattle.aec_params.specs.Params.{IsAllowed, IsHeld, interval_len};
 ghost use Rattle.aec_bits.specs.Devices.{counted, AppendsFront};
@@ -65,7 +65,9 @@ fn put_waiting<W: Sink>(bytes: &mut Vec<u8>, sink: &mut W) -> Result<(), Fault>
     ensures front { OnErr result (AppendsFront (W.taken sink.old) (W.taken sink.new) bytes.old.items) }
     ensures none { OnOk result (bytes.new.items ≡ []) }
     ensures begun { W.begun sink.new ≡ W.begun sink.old }
+    ensures order { W.mark sink.new ≡ W.mark sink.old }
     ensures fault { IfErr result (λ e. (e ≡ WriteFault) × (W.failed sink.new ≡ 1)) }
+    ensures failures { OnOk result (W.failed sink.new ≡ W.failed sink.old) }
     ensures capacity { vec_capacity bytes.old ≤ vec_capacity bytes.new }
 {
     put_all(sink, bytes)?;
@@ -85,7 +87,9 @@ fn put_part<W: Sink>(
     ensures ok { OnOk result (PutsPart (W.taken sink.old) (W.taken sink.new) bytes.old.items (all_stored params.now samples.now) bytes.new.items) }
     ensures front { OnErr result (AppendsFront (W.taken sink.old) (W.taken sink.new) (bytes.old.items ++ all_stored params.now samples.now)) }
     ensures begun { W.begun sink.new ≡ W.begun sink.old }
+    ensures order { W.mark sink.new ≡ W.mark sink.old }
     ensures fault { IfErr result (λ e. (e ≡ WriteFault) × (W.failed sink.new ≡ 1)) }
+    ensures failures { OnOk result (W.failed sink.new ≡ W.failed sink.old) }
     ensures few { OnOk result (vec_len bytes.new < 65536) }
     ensures capacity { vec_capacity bytes.old ≤ vec_capacity bytes.new }
 {
@@ -96,8 +100,45 @@ fn put_part<W: Sink>(
     Ok(())
 }
 
-/// Begins, reads the samples again, up to the last that is asked for, and puts the bytes of `len` of them from place
-/// `first` on. Takes no memory.
+/// Reads the samples again, up to the last that is asked for, and puts the bytes of `len` of them from place `first` on. Takes
+/// no memory.
+fn put_range<W: Sink>(
+    params: &Params,
+    reader: &mut StreamReader,
+    first: u64,
+    len: u64,
+    samples: &mut Vec<i64>,
+    bytes: &mut Vec<u8>,
+    sink: &mut W,
+) -> Result<(), Fault>
+    requires settings { reader.old.settings ≡ params.now }
+    requires read { (xs : List ℤ) × AreSamplesOf reader.old xs }
+    requires room { interval_len params.now ≤ vec_capacity samples.old }
+    requires empty { vec_len bytes.old ≡ 0 }
+    requires buffer { 65536 + 4 * interval_len params.now ≤ vec_capacity bytes.old }
+    ensures puts { (xs : List ℤ) → AreSamplesOf reader.old xs
+        → PutsAllOrFront (W.taken sink.old) (W.taken sink.new)
+        (all_stored params.now (samples_from first len xs)) result }
+    ensures begun { W.begun sink.new ≡ W.begun sink.old }
+    ensures order { W.mark sink.new ≡ W.mark sink.old }
+    ensures fault { IfErr result (λ e. (e ≡ WriteFault) × (W.failed sink.new ≡ 1)) }
+    ensures failures { OnOk result (W.failed sink.new ≡ W.failed sink.old) }
+{
+    // What the parameters promise is told by their calls.
+    let _len = params.interval_len();
+    let mut skip = first;
+    let mut left = len;
+    while left > 0 && reader.next(samples)? {
+        let part = part_of(samples, skip, left);
+        left -= part.len() as u64;
+        put_part(params, part, bytes, sink)?;
+        skip = skip.saturating_sub(samples.len() as u64);
+    }
+    put_all(sink, bytes)
+}
+
+/// Begins, and then puts a range of the samples, read again. `Write` where the sink fails.
+#[tactic(auto, using(crate::proofs::PutRangeLemmas::begun_puts))]
 fn deliver_range<W: Sink>(
     params: &Params,
     reader: &mut StreamReader,
@@ -116,20 +157,12 @@ fn deliver_range<W: Sink>(
         → PutsAllOrFront (W.taken sink.old) (W.taken sink.new)
         (all_stored params.now (samples_from first len xs)) result }
     ensures begun { W.begun sink.new ≡ counted (W.begun sink.old) }
+    ensures order { Keeps (W.mark sink.new) (W.taken sink.old) }
     ensures fault { IfErr result (λ e. (e ≡ WriteFault) × (W.failed sink.new ≡ 1)) }
+    ensures sound { OnOk result (W.failed sink.new ≡ 0) }
 {
-    // What the parameters promise is told by their calls.
-    let _len = params.interval_len();
     sink.begin()?;
-    let mut skip = first;
-    let mut left = len;
-    while left > 0 && reader.next(samples)? {
-        let part = part_of(samples, skip, left);
-        left -= part.len() as u64;
-        put_part(params, part, bytes, sink)?;
-        skip = skip.saturating_sub(samples.len() as u64);
-    }
-    put_all(sink, bytes)
+    put_range(params, reader, first, len, samples, bytes, sink)
 }
 
 /// Room for the samples of an interval, and for their bytes behind a piece.
@@ -157,7 +190,7 @@ pub(crate) fn write_range<W: Sink>(
 ) -> Result<(), Fault>
     requires settings { reader.old.settings ≡ params.now }
     requires read { (xs : List ℤ) × AreSamplesOf reader.old xs }
-    ensures { let put : Putting = putting_of W.taken W.begun W.failed sink.old sink.new in
+    ensures { let put : Putting = putting_of W.taken W.begun W.mark W.failed sink.old sink.new in
         (xs : List ℤ) → AreSamplesOf reader.old xs → SettlesOne (StoresPart params.now first len xs) put result }
 {
     let (mut samples, mut bytes) = buffers(alloc, params)?;

@@ -7,6 +7,7 @@ invariant-loop-done g l = record {
   within : l.done ≤ length l.piece;
   bytes : Appends (g.W.Sink.taken l.initial.out) (g.W.Sink.taken l.out) (take l.done l.piece);
   begun : g.W.Sink.begun l.out ≡ g.W.Sink.begun l.initial.out;
+  order : g.W.Sink.mark l.out ≡ g.W.Sink.mark l.initial.out;
   failures : g.W.Sink.failed l.out ≡ g.W.Sink.failed l.initial.out;
   refuses : 0 < l.done → g.W.Sink.failed l.initial.out ≡ 0;
 }

@@ -16,7 +16,6 @@ loop-chunk-preserved c =
     record {
       can_next = omega (arith, steps.0, c.loop-chunk.invariant.can_next);
       is_finite = tt;
-      room = omega (arith, c.loop-chunk.invariant.room, c.in_ok-run.ensures.room);
       size = steps.0 ∙ size;
       so_far = segment-more c.args.params.now _ _ _ _ _ _ _ _ _ _ _ positive so_far next steps.1.0 (c.copied-preceding.ensures ∙ c.last.ensures.value) c.in_ok-run.ensures.run c.in_ok-run.ensures.kept
           (λ blocks. c.in_ok-run.ensures.ok blocks ∙ ap (λ (b : Block). c.loop-chunk.out.list ++ pending_bits c.args.params.now c.loop-chunk.run (b ∷ blocks)) c.fill_from.ensures.value);

@@ -1,4 +1,4 @@
-use Rattle.std.proofs.Common.{◌≡◌, ◌+◌, ◌≤◌, length}
+use Rattle.std.proofs.Common.{◌≡◌}
 use Rattle.std.specs.Slice.Iter.{chunks_rest, chunks_size}
 use Rattle.aec_interval.specs.Chunks.{blocks_after}
 use Rattle.aec_interval.specs.Pending.{segment_bits}
@@ -9,7 +9,6 @@ abbrev pub invariant-loop-chunk : goal.invariant-loop-chunk
 invariant-loop-chunk l = record {
   can_next : (goal.iterator-loop-chunk).can_next l.chunk-iterator;
   is_finite : (goal.iterator-loop-chunk).is_finite l.chunk-iterator;
-  room : l.initial.out.room + length l.initial.out.list ≤ l.out.room + length l.out.list;
   size : chunks_size l.chunk-iterator ≡ l.params.block_size;
   so_far : SegmentSoFar l.params l.initial.out.list l.out.list (segment_bits l.params (blocks_after l.params l.fn.previous l.fn.samples)) l.preceding l.run (chunks_rest l.chunk-iterator);
 }

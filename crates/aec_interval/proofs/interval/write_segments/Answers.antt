@@ -16,7 +16,6 @@ loop-segment-preserved c =
     record {
       can_next = omega (arith, steps.0, c.loop-segment.invariant.can_next);
       is_finite = tt;
-      room = omega (arith, c.loop-segment.invariant.room, c.in_ok-write_segment.ensures.room);
       size = steps.0 ∙ size;
       so_far = interval-more c.args.params.now _ _ _ _ _ _ _ _ _ positive so_far piece steps.1.0 (c.copied-preceding.ensures ∙ c.last.ensures.value)
           c.in_ok-write_segment.ensures.kept c.in_ok-write_segment.ensures.ok;

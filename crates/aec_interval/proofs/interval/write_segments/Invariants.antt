@@ -1,4 +1,4 @@
-use Rattle.std.proofs.Common.{◌≡◌, ◌+◌, ◌*◌, ◌≤◌, length}
+use Rattle.std.proofs.Common.{◌≡◌, ◌*◌}
 use Rattle.std.specs.Slice.Iter.{chunks_rest, chunks_size}
 use Rattle.aec_params.specs.Intervals.{unpadded_bits}
 use Rattle.aec_interval.proofs.SegmentLemmas.{IntervalSoFar}
@@ -8,7 +8,6 @@ abbrev pub invariant-loop-segment : goal.invariant-loop-segment
 invariant-loop-segment l = record {
   can_next : (goal.iterator-loop-segment).can_next l.segment-iterator;
   is_finite : (goal.iterator-loop-segment).is_finite l.segment-iterator;
-  room : l.initial.out.room + length l.initial.out.list ≤ l.out.room + length l.out.list;
   size : chunks_size l.segment-iterator ≡ l.params.block_size * 64;
   so_far : IntervalSoFar l.params l.initial.out.list l.out.list (unpadded_bits l.params l.fn.samples) l.preceding (chunks_rest l.segment-iterator);
 }

@@ -8,5 +8,5 @@ returns c = record {
   count = length-touched_intervals;
   appended = needed_calls-append;
   none = λ n first. refl;
-  opened = λ n old edit h. (opened_intervals-two n old edit h, opened_intervals-le-needed_calls n old edit h);
+  opened = λ n old edit h stays. (opened_intervals-two n old edit h stays, opened_intervals-le-needed_calls n old edit h stays);
 }

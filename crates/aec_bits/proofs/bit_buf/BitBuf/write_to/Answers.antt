@@ -19,6 +19,7 @@ loop-done-preserved g c =
       bytes = Appends_more _ _ _ bytes c.loop-done.done c.fill-count.result c.loop-done.invariant.bytes
           (rw c.fill-count.ensures.bytes at c.in_ok-put_all.ensures.ok);
       begun = c.in_ok-put_all.ensures.begun ∙ c.loop-done.invariant.begun;
+      order = c.in_ok-put_all.ensures.order ∙ c.loop-done.invariant.order;
       failures = c.in_ok-put_all.ensures.failures ∙ c.loop-done.invariant.failures;
       refuses = λ _. sym c.loop-done.invariant.failures
           ∙ c.in_ok-put_all.ensures.refuses (rw (c.fill-count.ensures.bytes, length-take, length-drop) (omega arith));

@@ -1,6 +1,5 @@
-use Rattle.std.proofs.Common.{◌≤◌, ◌^◌, arith}
 use Rattle.std.proofs.lemmas.Result.{err_from_is_err_and}
-use Rattle.aec_engine.proofs.EditedLemmas.{gave_script, refuses_intake, refuses_script, lines_within, calls_within}
+use Rattle.aec_engine.proofs.EditedLemmas.{gave_script, refuses_intake, refuses_script, lines_within}
 use Rattle.aec_engine.proofs.engine.editing.read_script.Goals as goal
 
 pub returns-in_err-text-clause-refuses : goal.returns-in_err-text-clause-refuses
@@ -15,12 +14,6 @@ returns-clause-ok g c =
 
 pub returns-clause-lines : goal.returns-clause-lines
 returns-clause-lines g c = lines_within (λ s. s.edits.items) (λ s. s.lines.items) c.script.result c.deref.result.now c.script.ensures.ok
-
-pub returns-clause-calls : goal.returns-clause-calls
-returns-clause-calls g c =
-    let low : c.bytes.result ≤ 2 ^ 40 = omega (arith, c.bytes.ensures.limits.bytes, c.bytes.ensures.value) in
-    calls_within (λ s. s.edits.items) (λ s. s.lines.items) c.script.result _ _ _ _ c.in_ok-text.text.items c.deref.result.now
-    low c.deref.ensures.value c.in_ok-text.ensures.ok c.script.ensures.ok
 
 pub returns-clause-refuses : goal.returns-clause-refuses
 returns-clause-refuses g c =

@@ -19,5 +19,6 @@ returns-in_err-apply-clause-fault g c =
 
 pub returns-clause-calls : goal.returns-clause-calls
 returns-clause-calls g c =
-    append-calls (g.C.Codec.format c.new-workspace.result.codec) _ _ c.new-values.result c.args.samples.items _ c.in_ok-apply.field-0 _ c.new-values.ensures
-    (ap g.C.Codec.called c.new-workspace.ensures.codec ∙ c.requires.fresh) (g.C.Codec.lawful c.new-workspace.result.codec).some c.in_ok-apply.ensures.answer
+    append-calls (g.C.Codec.format c.new-workspace.result.codec) _ _ _ c.new-values.result c.args.samples.items _ c.in_ok-apply.field-0 _ c.new-values.ensures
+    c.new-workspace.ensures.samples (ap g.C.Codec.called c.new-workspace.ensures.codec ∙ c.requires.fresh) (ap g.C.Codec.format c.new-workspace.ensures.codec)
+    c.in_ok-apply.ensures.answer

@@ -7,14 +7,16 @@ use Rattle.aec_engine.proofs.engine.ranging.range_bits.Goals as goal
 pub returns-in_err-reader : goal.returns-in_err-reader
 returns-in_err-reader g c =
     let exit = err_from_is_err_and c.from_residual.result c.from_residual.ensures.1 in
-    settles_refusal _ _ exit.0 exit.0 (g.W.Sink.taken c.args.sink.now) (g.W.Sink.begun c.args.sink.now) (g.W.Sink.failed c.args.sink.now) exit.1 refl
+    settles_refusal _ _ exit.0 exit.0 (g.W.Sink.taken c.args.sink.now) (g.W.Sink.mark c.args.sink.now)
+    (g.W.Sink.begun c.args.sink.now) (g.W.Sink.failed c.args.sink.now) exit.1 refl
     (subst (λ limit. CutsBits c.args.params.now c.args.count limit c.args.first c.args.len c.args.bits.now.list (Err exit.0)) c.samples.ensures.value
     (not_read exit.0 (refuses_count _ _ _ _ exit.0 (ap Some exit.2 ∙ c.in_err-reader.ensures.refuses))))
 
 pub returns-in_err-total : goal.returns-in_err-total
 returns-in_err-total g c =
     let exit = err_from_is_err_and c.from_residual-in_err-total.result c.from_residual-in_err-total.ensures.1 in
-    settles_refusal _ _ exit.0 c.in_err-total.field-0.0 (g.W.Sink.taken c.args.sink.now) (g.W.Sink.begun c.args.sink.now) (g.W.Sink.failed c.args.sink.now)
+    settles_refusal _ _ exit.0 c.in_err-total.field-0.0 (g.W.Sink.taken c.args.sink.now) (g.W.Sink.mark c.args.sink.now)
+    (g.W.Sink.begun c.args.sink.now) (g.W.Sink.failed c.args.sink.now)
     exit.1 exit.2
     (subst (λ limit. CutsBits c.args.params.now c.args.count limit c.args.first c.args.len c.args.bits.now.list (Err c.in_err-total.field-0.0)) c.samples.ensures.value
     (not_read c.in_err-total.field-0.0 (refuses_reading _ _ _ _ c.in_ok-reader.reader c.in_err-total.field-0.0 c.in_ok-reader.ensures.ok
@@ -23,7 +25,8 @@ returns-in_err-total g c =
 pub returns-in_err-judge_range : goal.returns-in_err-judge_range
 returns-in_err-judge_range g c =
     let exit = err_from_is_err_and c.from_residual-in_err-judge_range.result c.from_residual-in_err-judge_range.ensures.1 in
-    settles_refusal _ _ exit.0 c.in_err-judge_range.field-0.0 (g.W.Sink.taken c.args.sink.now) (g.W.Sink.begun c.args.sink.now) (g.W.Sink.failed c.args.sink.now)
+    settles_refusal _ _ exit.0 c.in_err-judge_range.field-0.0 (g.W.Sink.taken c.args.sink.now) (g.W.Sink.mark c.args.sink.now)
+    (g.W.Sink.begun c.args.sink.now) (g.W.Sink.failed c.args.sink.now)
     exit.1 exit.2
     (subst (λ limit. CutsBits c.args.params.now c.args.count limit c.args.first c.args.len c.args.bits.now.list (Err c.in_err-judge_range.field-0.0))
     c.samples.ensures.value

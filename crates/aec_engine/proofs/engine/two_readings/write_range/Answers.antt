@@ -9,10 +9,12 @@ use Rattle.aec_engine.proofs.engine.two_readings.write_range.Goals as goal
 pub returns-in_err-samples : goal.returns-in_err-samples
 returns-in_err-samples g c xs given =
     let exit = err_from_is_err_and c.from_residual.result c.from_residual.ensures.1 in
-    settles_refusal _ _ exit.0 Memory (g.W.Sink.taken c.args.sink.now) (g.W.Sink.begun c.args.sink.now) (g.W.Sink.failed c.args.sink.now) exit.1
+    settles_refusal _ _ exit.0 Memory (g.W.Sink.taken c.args.sink.now) (g.W.Sink.mark c.args.sink.now)
+    (g.W.Sink.begun c.args.sink.now) (g.W.Sink.failed c.args.sink.now) exit.1
     (exit.2 ∙ c.in_err-samples.ensures.fault) no_room
 
 pub returns : goal.returns
 returns g c xs given =
     settles_written _ c.deliver_range.result (all_stored c.args.params.now (samples_from c.args.first c.args.len xs)) _ stored
-    (c.deliver_range.ensures.puts xs given) c.deliver_range.ensures.begun c.deliver_range.ensures.fault
+    (c.deliver_range.ensures.puts xs given)
+    (record { once = c.deliver_range.ensures.begun; first = c.deliver_range.ensures.order }) c.deliver_range.ensures.fault c.deliver_range.ensures.sound

@@ -1,0 +1,78 @@
+//! What the process of the program does before a run: it sees to its standard streams, and reads its words.
+
+ghost use Rattle.std.specs.Prelude.{◌≡◌, IfErr};
+ghost use Rattle.aec_cli.specs.declared.start.StartFault.TheVariants.{Stream};
+ghost use Rattle.aec_cli.specs.Statuses.{ConcernsWords, start_status};
+
+use std::alloc::{Alloc, Global};
+use std::env;
+use std::fs::OpenOptions;
+use std::io::ErrorKind;
+use std::os::fd::{AsFd, IntoRawFd};
+use std::rt::{Env, Files};
+use thiserror::Error;
+
+/// Why a process begins no run. Its text is what stands on the printed line after `aec: `.
+#[derive(Clone, Copy, Debug, PartialEq, Eq, Error)]
+pub enum StartFault {
+    /// A standard stream is closed, and nothing can be opened in its place.
+    #[error("a standard stream is closed and /dev/null can't be opened")]
+    Stream,
+    /// A word is no text.
+    #[error("words must be UTF-8 text")]
+    Words,
+    /// A growth was refused.
+    #[error("out of memory")]
+    Memory,
+}
+
+impl StartFault {
+    /// The status that the program ends with: 2 for words that are no text, and else 1.
+    pub fn status(&self) -> u8
+        ensures { result ≡ start_status self.now }
+    {
+        match self {
+            StartFault::Words => 2,
+            StartFault::Stream | StartFault::Memory => 1,
+        }
+    }
+}
+
+// What the system answers to a call with a descriptor that isn't open (EBADF).
+const BAD_DESCRIPTOR: i32 = 9;
+
+// Whether the descriptor of a stream isn't open. One that is, and can't be duplicated, as where no number is free, isn't closed.
+fn is_closed<S: AsFd>(stream: &S) -> bool {
+    match stream.as_fd().try_clone_to_owned() {
+        Ok(_) => false,
+        Err(error) => error.raw_os_error() == Some(BAD_DESCRIPTOR),
+    }
+}
+
+/// Opens `/dev/null`, for reading and writing, in the place of a standard stream that is closed, and leaves it open to the
+/// end of the process. The system gives a file the least number that is free. So call this for the three streams in the
+/// order of their numbers, before any file is opened: then no file gets the number of one.
+pub fn fill_if_closed<F: Files, S: AsFd>(rt: &F, stream: &S) -> Result<(), StartFault>
+where
+    F::File: IntoRawFd,
+    ensures { IfErr result (λ fault. fault ≡ Stream) }
+{
+    if is_closed(stream) {
+        let mut both = OpenOptions::new();
+        both.read(true).write(true);
+        let null = both.open(rt, "/dev/null").map_err(|_| StartFault::Stream)?;
+        let _ = null.into_raw_fd();
+    }
+    Ok(())
+}
+
+/// The words of the process, the program's name first. `Words` where one is no UTF-8 text, a name of a file too.
+pub fn process_words<R: Env + Alloc<A = Global>>(rt: &R) -> Result<Vec<String>, StartFault>
+    ensures { IfErr result (λ fault. ConcernsWords fault) }
+{
+    let words = env::args(rt).map_err(|error| match error.kind() {
+        ErrorKind::OutOfMemory => StartFault::Memory,
+        _ => StartFault::Words,
+    })?;
+    words.collect(rt.alloc()).map_err(|_| StartFault::Memory)
+}

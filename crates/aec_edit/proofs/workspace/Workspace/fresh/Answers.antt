@@ -1,0 +1,60 @@
+use Rattle.std.proofs.Common.{◌≡◌, ◌-◌, ◌%◌, length, take, drop, arith, ap, ◌∙◌}
+use Rattle.std.proofs.lemmas.Result.{err_from_is_err_and}
+use Rattle.aec_bits.specs.Codec.{Format}
+use Rattle.aec_edit.specs.Changes.{end_samples}
+use Rattle.aec_edit.proofs.OpenLemmas.{ends_head, ends_tail, opened_some, touched_end}
+use Rattle.aec_edit.proofs.UpToLemmas.{some_calls, kept_more}
+use Rattle.aec_edit.proofs.workspace.Workspace.fresh.Goals as goal
+
+pub returns-in_err-ends-clause-fault : goal.returns-in_err-ends-clause-fault
+returns-in_err-ends-clause-fault g c =
+    let p = err_from_is_err_and c.from_residual.result c.from_residual.ensures.1 in
+    let seen = c.args.self.now in
+    let f : Format = g.C.Codec.format seen.codec in
+    let lawful = g.C.Codec.lawful seen.codec in
+    let opened = opened_some f.most c.args.first c.args.stop seen.samples lawful.some c.requires.order c.requires.within c.in_err-ends.ensures.fault.1 in
+    let more = kept_more f seen.limit c.args.first c.args.stop c.args.to seen.samples c.args.values.now lawful c.count.ensures.held c.requires in
+    let codes = some_calls f seen.limit c.args.first c.args.stop c.args.to seen.samples c.args.values.now lawful c.count.ensures.held c.requires
+    (omega (arith, opened, more)) in
+    rw (p.1, p.2) (c.in_err-ends.ensures.fault.0, codes)
+
+pub head_and_tail-requires : goal.head_and_tail-requires
+head_and_tail-requires g c =
+    let f : Format = g.C.Codec.format c.args.self.now.codec in
+    let end = touched_end _ _ _ f.most _ c.args.stop _ c.count.ensures.value c.interval_len-most.ensures.value c.div_ceil-next.ensures c.min.ensures in
+    let there = ends_tail f.most c.args.first c.args.stop c.args.self.now.samples
+    (g.C.Codec.lawful c.args.self.now.codec).some c.requires.order c.requires.within in
+    omega (arith, end, there.0, ap length c.in_ok-ends.ensures.ok)
+
+pub returns-in_err-front-clause-fault : goal.returns-in_err-front-clause-fault
+returns-in_err-front-clause-fault g c =
+    let p = err_from_is_err_and c.from_residual-in_err-front.result c.from_residual-in_err-front.ensures.1 in
+    let seen = c.args.self.now in
+    let f : Format = g.C.Codec.format seen.codec in
+    let lawful = g.C.Codec.lawful seen.codec in
+    let end = touched_end _ _ _ f.most _ c.args.stop _ c.count.ensures.value c.interval_len-most.ensures.value c.div_ceil-next.ensures c.min.ensures in
+    let more = kept_more f seen.limit c.args.first c.args.stop c.args.to seen.samples c.args.values.now lawful c.count.ensures.held c.requires in
+    let codes = some_calls f seen.limit c.args.first c.args.stop c.args.to seen.samples c.args.values.now lawful c.count.ensures.held c.requires
+    (omega (arith, c.in_err-front.ensures.fault.1, end, more)) in
+    rw (p.1, p.2) (c.in_err-front.ensures.fault.0, codes)
+
+pub returns-clause-front : goal.returns-clause-front
+returns-clause-front g c =
+    let f : Format = g.C.Codec.format c.args.self.now.codec in
+    let head : c.args.first % c.interval_len-most.result ≡ c.args.first % f.most = ap (λ n. c.args.first % n) c.interval_len-most.ensures.value in
+    let there = ends_head f.most c.args.first c.args.stop c.args.self.now.samples
+    (g.C.Codec.lawful c.args.self.now.codec).some c.requires.order c.requires.within in
+    c.in_ok-front.ensures.head ∙ ap (λ l. take (c.args.first % c.interval_len-most.result) l) c.in_ok-ends.ensures.ok
+    ∙ ap (λ m. take m (end_samples f.most c.args.first c.args.stop c.args.self.now.samples)) head ∙ there.1
+
+pub returns-clause-back : goal.returns-clause-back
+returns-clause-back g c =
+    let f : Format = g.C.Codec.format c.args.self.now.codec in
+    let end = touched_end _ _ _ f.most _ c.args.stop _ c.count.ensures.value c.interval_len-most.ensures.value c.div_ceil-next.ensures c.min.ensures in
+    let there = ends_tail f.most c.args.first c.args.stop c.args.self.now.samples
+    (g.C.Codec.lawful c.args.self.now.codec).some c.requires.order c.requires.within in
+    c.in_ok-front.ensures.tail
+    ∙ ap (λ l. drop (length l - (c.min.result - c.args.stop)) l) c.in_ok-ends.ensures.ok
+    ∙ ap (λ m. drop (length (end_samples f.most c.args.first c.args.stop c.args.self.now.samples) - m)
+    (end_samples f.most c.args.first c.args.stop c.args.self.now.samples)) (ap (λ m. m - c.args.stop) end)
+    ∙ there.1

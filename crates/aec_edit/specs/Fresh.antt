@@ -1,0 +1,19 @@
+-- Fresh samples that are handed out one interval at a time.
+use Rattle.std.specs.Prelude.{◌≡◌, ℕ, ◌+◌, ◌*◌, ◌≤◌, ◌⊎◌, List, ◌++◌, length, take, drop, ℤ}
+
+-- the samples s of the intervals of n from number next up to number end
+abbrev pub old_part : ℕ → List ℤ → ℕ → ℕ → List ℤ
+old_part n s next end = drop (next * n) (take (end * n) s)
+
+-- the samples still to come: those in front, the values, those behind them, and those of old intervals
+abbrev pub to_come : ℕ → List ℤ → List ℤ → List ℤ → List ℤ → ℕ → ℕ → List ℤ
+to_come n s front values back next end = front ++ (values ++ (back ++ old_part n s next end))
+
+-- a whole interval stands in front, or all that is to come
+abbrev pub IsGathered : ℕ → List ℤ → List ℤ → Type 0
+IsGathered n front coming = (n ≤ length front) ⊎ (front ≡ coming)
+
+-- intervals are decoded one after the other: so many at most from now on
+pub record OpensAtMost (left left_after reads reads_after : ℕ) : Type 0 where
+  pub stays : reads ≤ reads_after
+  pub few : reads_after + left_after ≤ reads + left

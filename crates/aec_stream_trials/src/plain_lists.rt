@@ -1,0 +1,248 @@
+//! Edits of a workspace beside those of a plain list: what they leave, why they are refused, and what they cost.
+
+use crate::asserts::same_at;
+use crate::steps::{apply, calls, reads};
+use aec_bits::Codec;
+use aec_edit::Workspace;
+use aec_params::{Edit, Fault, Settings};
+use std::alloc::{AllocError, Global};
+use std::process::Abort;
+use std::test::Fail;
+
+/// Settings, and what they say of lists.
+#[derive(Clone, Copy)]
+pub(crate) struct Row {
+    pub(crate) settings: Settings,
+    // The least sample and the greatest.
+    pub(crate) low: i64,
+    pub(crate) high: i64,
+    // The samples of an interval.
+    pub(crate) most: u64,
+    // How many samples there are before the first edit, and at most.
+    pub(crate) start: u64,
+    pub(crate) limit: u64,
+}
+
+impl Row {
+    /// The number of the interval that a place lies in.
+    pub(crate) fn interval_of(&self, place: u64) -> u64 {
+        place.checked_div(self.most).unwrap_or(0)
+    }
+
+    /// How many intervals so many samples fill, wholly or in part.
+    pub(crate) fn intervals_of(&self, count: u64) -> u64 {
+        self.interval_of(count.saturating_add(self.most.saturating_sub(1)))
+    }
+
+    /// Whether an interval begins at a place.
+    fn begins_at(&self, place: u64) -> bool {
+        place.checked_rem(self.most) == Some(0)
+    }
+}
+
+/// The values that an edit has.
+fn values_of(edit: &Edit) -> &[i64] {
+    match edit {
+        Edit::Overwrite { values, .. } => values.as_slice(),
+        Edit::Append { values } => values.as_slice(),
+        Edit::Insert { values, .. } => values.as_slice(),
+        _ => &[],
+    }
+}
+
+/// From which place up to which one an edit of so many samples puts its values in place of what is there.
+fn places_of(count: u64, edit: &Edit) -> (u64, u64) {
+    match edit {
+        Edit::Overwrite { first, values } => (
+            *first,
+            first.saturating_add(values.as_slice().len() as u64),
+        ),
+        Edit::Append { .. } => (count, count),
+        Edit::Truncate { count: kept } => (*kept, count.max(*kept)),
+        Edit::Insert { first, .. } => (*first, *first),
+        Edit::Remove { first, len } => (*first, first.saturating_add(*len)),
+    }
+}
+
+/// How many samples an edit that fits leaves of so many.
+fn count_after(count: u64, edit: &Edit) -> u64 {
+    let (first, stop) = places_of(count, edit);
+    let values = values_of(edit).len() as u64;
+    count
+        .saturating_sub(stop.saturating_sub(first))
+        .saturating_add(values)
+}
+
+/// The place of the first value that is no sample.
+fn first_unheld(row: &Row, values: &[i64]) -> Option<u64> {
+    for (index, x) in values.iter().enumerate() {
+        if *x < row.low || row.high < *x {
+            return Some(index as u64);
+        }
+    }
+    None
+}
+
+/// Why an edit of a list of so many samples is refused.
+fn refusal(row: &Row, count: u64, edit: &Edit) -> Option<Fault> {
+    let (first, stop) = places_of(count, edit);
+    if first > count || stop > count {
+        return Some(Fault::OutOfRange { count });
+    }
+    if count_after(count, edit) > row.limit {
+        return Some(Fault::TooManySamples { limit: row.limit });
+    }
+    first_unheld(row, values_of(edit)).map(|index| Fault::SampleRange { index })
+}
+
+/// Makes an edit of a plain list.
+fn change(alloc: Global, list: &mut Vec<i64>, edit: &Edit) -> Result<(), AllocError> {
+    let (first, stop) = places_of(list.len() as u64, edit);
+    let mut behind = Vec::new(alloc);
+    behind.extend_from_slice(list.get(stop as usize..).unwrap_or(&[]))?;
+    list.truncate(first as usize);
+    list.extend_from_slice(values_of(edit))?;
+    list.extend_from_slice(&behind)
+}
+
+/// How many intervals hold a place from `first` up to `stop`.
+fn touched(row: &Row, first: u64, stop: u64) -> u64 {
+    if first == stop {
+        return 0;
+    }
+    row.intervals_of(stop)
+        .saturating_sub(row.interval_of(first))
+}
+
+/// How many intervals an edit of so many samples has to code.
+fn needed(row: &Row, count: u64, edit: &Edit) -> u64 {
+    let after = count_after(count, edit);
+    match edit {
+        Edit::Overwrite { first, values } => touched(
+            row,
+            *first,
+            first.saturating_add(values.as_slice().len() as u64),
+        ),
+        Edit::Append { .. } => touched(row, count, after),
+        Edit::Truncate { .. } => u64::from(after < count && !row.begins_at(after)),
+        Edit::Insert { first, values } => {
+            let moved = values.as_slice().len() as u64;
+            needed_to_move(row, *first, moved, after, row.interval_of(moved))
+        }
+        Edit::Remove { first, len } => needed_to_move(row, *first, *len, after, 0),
+    }
+}
+
+/// The same where the samples behind a place move by so many, with the count after it, and the number of whole intervals that come.
+fn needed_to_move(row: &Row, first: u64, moved: u64, after: u64, come: u64) -> u64 {
+    if moved == 0 {
+        return 0;
+    }
+    if row.begins_at(moved) {
+        return come.saturating_add(u64::from(!row.begins_at(first)));
+    }
+    row.intervals_of(after)
+        .saturating_sub(row.interval_of(first))
+}
+
+/// How many intervals an edit of so many samples decodes.
+fn opened(row: &Row, count: u64, edit: &Edit) -> u64 {
+    match edit {
+        Edit::Overwrite { .. } => keeping(row, count, edit, needed(row, count, edit)),
+        Edit::Append { values } => {
+            u64::from(!row.begins_at(count) && !values.as_slice().is_empty())
+        }
+        Edit::Truncate { .. } => needed(row, count, edit),
+        Edit::Insert { values, .. } => {
+            opened_to_move(row, count, edit, values.as_slice().len() as u64)
+        }
+        Edit::Remove { len, .. } => opened_to_move(row, count, edit, *len),
+    }
+}
+
+/// The same where the samples behind a place move by so many.
+fn opened_to_move(row: &Row, count: u64, edit: &Edit, moved: u64) -> u64 {
+    let (first, stop) = places_of(count, edit);
+    if moved == 0 {
+        return 0;
+    }
+    if !row.begins_at(moved) {
+        let from = row.interval_of(first);
+        return keeping(
+            row,
+            count,
+            edit,
+            row.intervals_of(count).saturating_sub(from),
+        );
+    }
+    if row.begins_at(first) {
+        return 0;
+    }
+    if first == stop || stop == count {
+        return 1;
+    }
+    2
+}
+
+/// How many of so many intervals, from that of the edit's first place on, keep a sample.
+fn keeping(row: &Row, count: u64, edit: &Edit, intervals: u64) -> u64 {
+    let (first, stop) = places_of(count, edit);
+    let mut kept = 0u64;
+    for k in 0..intervals {
+        let begin = row
+            .interval_of(first)
+            .saturating_add(k)
+            .saturating_mul(row.most);
+        let end = count.min(begin.saturating_add(row.most));
+        if begin < end && (begin < first || stop < end) {
+            kept = kept.saturating_add(1);
+        }
+    }
+    kept
+}
+
+/// Makes an edit of both, and answers a number with a one in the byte of what became of it: made, as an overwrite, an append, a
+/// truncate, an insertion or a removal; or refused as out of range, as too many, as no samples. The byte of overwrites is the last.
+pub(crate) fn expect_edit<R: Abort, C: Codec>(
+    rt: &R,
+    alloc: Global,
+    row: &Row,
+    work: &mut Workspace<C>,
+    list: &mut Vec<i64>,
+    edit: &Edit,
+) -> Result<u64, Fail> {
+    let count = list.len() as u64;
+    let (called, read) = (calls(work), reads(work));
+    let answer = apply(work, edit);
+    let cost = (calls(work), reads(work));
+    if let Some(fault) = refusal(row, count, edit) {
+        same_at(rt, answer, Err(fault), &edit);
+        same_at(rt, cost, (called, read), &edit);
+        return Ok(refused_byte(fault));
+    }
+    let coded = needed(row, count, edit);
+    let decoded = opened(row, count, edit);
+    same_at(rt, answer, Ok(coded), &edit);
+    let wanted = (called.saturating_add(coded), read.saturating_add(decoded));
+    same_at(rt, cost, wanted, &edit);
+    change(alloc, list, edit)?;
+    Ok(made_byte(edit))
+}
+
+fn made_byte(edit: &Edit) -> u64 {
+    match edit {
+        Edit::Overwrite { .. } => 1,
+        Edit::Append { .. } => 1 << 8,
+        Edit::Truncate { .. } => 1 << 16,
+        Edit::Insert { .. } => 1 << 24,
+        Edit::Remove { .. } => 1 << 32,
+    }
+}
+
+fn refused_byte(fault: Fault) -> u64 {
+    match fault {
+        Fault::OutOfRange { .. } => 1 << 40,
+        Fault::TooManySamples { .. } => 1 << 48,
+        _ => 1 << 56,
+    }
+}
