@@ -7,8 +7,7 @@ end with status 1, with the one line for want of memory on standard error, and h
 run that meets no refusal has to give the right bytes. Where the k-th alone is refused, a run may also go on without that
 growth, and then has to give the right bytes too.
 
-Beside that a short stream of very many samples is decoded and cut to a range with little memory, without the library; to edit
-it there is too little.
+Beside that a short stream of very many samples is decoded, cut to a range and edited with little memory, without the library.
 
 The library is built by `cc`; without that command its runs are skipped. Prints a table, the checks that fail and, last, how
 many passed. Ends with 1 where one failed.
@@ -25,6 +24,7 @@ from typing import NamedTuple, Optional
 from jobs import CHANGED_STREAM, EDIT_LINES, JOBS, LARGE_JOBS, LONGEST, ZEROS, ZEROS_STREAM, Job
 from program import Program, Tally
 from refusing import MOST_GROWTHS, NO_COMPILER, Growths, build, has_compiler, ways
+from spelling import bytes_of_bits
 
 OLD = b"what DEST held before"
 LITTLE = 2**25
@@ -148,12 +148,17 @@ def try_little_memory(path, tally):
         program = Program(path, folder)
         program.write("source", ZEROS_STREAM * 256)  # whole bytes, so that the next interval begins with a byte
         program.write("script", b"append 1")
-        for words, size in ((["-d"], 2**26), (["--range", "5:1", "--count", str(2**26)], 1), (["--edit", "script"], None)):
+        # Behind the zeros an interval of one sample: a block of equal ones, in a run of one.
+        appended = ZEROS_STREAM * 256 + bytes_of_bits("0000" + "00000001" + "1")
+        for words, wanted in (
+            (["-d"], bytes(2**26)),
+            (["--range", "5:1", "--count", str(2**26)], bytes(1)),
+            (["--edit", "script"], appended),
+        ):
             program.write("dest", OLD)
             what = f"{' '.join(words)} with {LITTLE >> 20} MB"
-            answer = (0, "") if size else (1, WANT)
-            tally.check(what, program.run(*words, *LONGEST, "source", "dest", preexec_fn=limit), answer)
-            tally.check(f"{what}: DEST", program.read("dest"), bytes(size) if size else OLD)
+            tally.check(what, program.run(*words, *LONGEST, "source", "dest", preexec_fn=limit), (0, ""))
+            tally.check(f"{what}: DEST", program.read("dest"), wanted)
 
 
 def main():

@@ -10,8 +10,8 @@ mod usage;
 mod words;
 
 pub use aec_engine::{
-    Decoded, EditFault, Script, decode, decode_bytes, decode_edited, edit, edit_over, encode,
-    encode_bytes, laws, range, script,
+    Decoded, EditFault, Script, carry_out, decode, decode_bytes, decode_edited, edit, edit_over,
+    encode, encode_bytes, laws, range, script,
 };
 pub use failure::{Failure, status};
 pub use files::{DestSink, FileSource};

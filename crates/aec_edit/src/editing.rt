@@ -52,8 +52,8 @@ impl<C: Codec> Workspace<C> {
         self.exchange(first, first + len, values)
     }
 
-    /// Adds the values behind the last sample.
-    fn append(&mut self, values: &[i64]) -> Result<u64, Fault>
+    /// Adds the values behind the last sample, as `apply` does with an `Append` of them, and answers what it answers.
+    pub fn append(&mut self, values: &[i64]) -> Result<u64, Fault>
         ensures applies { Applies (C.format self.old.codec) self.old.limit self.old.samples (C.called self.old.codec)
             (C.read self.old.codec) (Append values.now) result self.new.samples (C.called self.new.codec) (C.read self.new.codec) }
         ensures limit { self.new.limit ≡ self.old.limit }

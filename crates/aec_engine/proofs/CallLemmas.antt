@@ -1,7 +1,11 @@
 -- How often an append calls the coder at most, and that each edit of a script has a line.
-use Rattle.std.proofs.Common.{◌≡◌, ℕ, zero, suc, ◌+◌, ◌-◌, ◌*◌, ◌/◌, ◌<◌, ◌≤◌, ◌==◌, ◌↔◌, ℤ, List, [], ◌∷◌, length, refl, ap, ◌∙◌, arith}
+use Rattle.std.proofs.Common.{◌≡◌, ℕ, zero, suc, ◌+◌, ◌-◌, ◌*◌, ◌/◌, ◌%◌, ◌<◌, ◌≤◌, ◌==◌, ◌↔◌, eqb, min, cond, ℤ, List, [], ◌∷◌, ◌++◌, length, refl, ap, ◌∙◌, arith}
+use Rattle.std.specs.Int.{div_ceil}
 use Rattle.std.specs.List.{slice_split}
-use Rattle.std.proofs.Math.Nat.{div-lt_iff_lt-mul, lt-div-mul-add}
+use Rattle.std.proofs.lemmas.Bool.{cond-false, ne_eqb}
+use Rattle.std.proofs.lemmas.List.{length-append}
+use Rattle.std.proofs.lemmas.Nat.{le-div}
+use Rattle.std.proofs.Math.Nat.{div-lt_iff_lt-mul, lt-div-mul-add, div-mul-le_self}
 use Rattle.aec_params.specs.declared.edit.Edit.TheVariants.{Append}
 use Rattle.aec_params.specs.Edits.{touched_intervals, needed_calls}
 use Rattle.aec_params.proofs.EditLaws.{length-touched_intervals, needed_calls-append}
@@ -30,6 +34,39 @@ touched-le n first (suc len) some =
 -- an append calls the coder at most once for each value
 pub append_calls-le : (n old : ℕ) (values : List ℤ) → 0 < n → needed_calls n old (Append values) ≤ length values
 append_calls-le n old values some = omega (arith, needed_calls-append n old values some, touched-le n old (length values) some)
+
+-- ---- appends that begin where intervals do
+
+calls_between : (n old len : ℕ) → 0 < len → cond (eqb len 0) 0 (div_ceil (old + len) n - old / n) ≡ div_ceil (old + len) n - old / n
+calls_between n old len some = cond-false (eqb len 0) 0 (div_ceil (old + len) n - old / n) (ne_eqb len 0 (λ e. absurd (omega arith)))
+
+div-le : (n a b : ℕ) → 0 < n → a ≤ b → a / n ≤ b / n
+div-le n a b some less = le-div (a / n) b n some (let e = div-mul-le_self a n in omega arith)
+
+lengths-joined : (n old a b : ℕ) → 0 < n → (old + a) % n ≡ 0
+    → cond (eqb (a + b) 0) 0 (div_ceil (old + (a + b)) n - old / n)
+    ≡ cond (eqb a 0) 0 (div_ceil (old + a) n - old / n) + cond (eqb b 0) 0 (div_ceil (old + a + b) n - (old + a) / n)
+lengths-joined n old zero b some whole =
+    let l : 0 + b ≡ b = omega arith in
+    let o : old + 0 ≡ old = omega arith in
+    rw (l, o) (omega arith)
+lengths-joined n old (suc a) zero some whole =
+    let l : suc a + 0 ≡ suc a = omega arith in
+    rw l (omega arith)
+lengths-joined n old (suc a) (suc b) some whole =
+    let low = div-le n old (old + suc a) some (omega arith) in
+    let high = div-le n (old + suc a) (old + (suc a + suc b)) some (omega arith) in
+    let both = calls_between n old (suc a + suc b) (omega arith) in
+    let first = calls_between n old (suc a) (omega arith) in
+    let second = calls_between n (old + suc a) (suc b) (omega arith) in
+    let same : old + suc a + suc b ≡ old + (suc a + suc b) = omega arith in
+    omega (arith, both, first, second, ap (λ k. div_ceil k n) same, ap (min 1) whole)
+
+-- two appends call the coder as often as one of all values, where the first one ends where an interval does
+pub append_calls-joined : (n old : ℕ) (a b : List ℤ) → 0 < n → (old + length a) % n ≡ 0
+    → needed_calls n old (Append (a ++ b)) ≡ needed_calls n old (Append a) + needed_calls n (old + length a) (Append b)
+append_calls-joined n old a b some whole =
+    ap (λ len. cond (eqb len 0) 0 (div_ceil (old + len) n - old / n)) (length-append a b) ∙ lengths-joined n old (length a) (length b) some whole
 
 -- ---- lines
 

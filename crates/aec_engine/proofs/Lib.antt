@@ -17,6 +17,7 @@ pub mod ScriptNumberLemmas
 pub mod ScriptLineLemmas
 pub mod InMemoryLemmas
 pub mod CallLemmas
+pub mod LoadingLemmas
 pub mod EditingLemmas
 pub mod EditedLemmas
 pub mod EditAnswerLemmas

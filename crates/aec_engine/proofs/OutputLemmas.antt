@@ -20,20 +20,6 @@ use Rattle.aec_engine.specs.Transfers.{Putting, WroteNothing, IsBegunFirst, answ
 use Rattle.aec_engine.specs.Output as output
 use Rattle.aec_engine.specs.Output.{IsRead, GaveSamples, IsDecoded, intake_refusal, all_stored, not_taken, not_counted, decoded}
 
-all-take : (P : ℤ → Type 0) (n : ℕ) (xs : List ℤ) → AllByRecursion P xs → AllByRecursion P (take n xs)
-all-take P zero xs all = tt
-all-take P (suc n) [] all = tt
-all-take P (suc n) (x ∷ xs) all = (all.0, all-take P n xs all.1)
-
--- samples that are read are held
-pub held-reading : (s : Settings) (count : Option ℕ) (limit : ℕ) (bits : List Bool) (samples : List ℤ) → IsReading s count limit bits samples
-    → AllByRecursion (IsHeld s) samples
-held-reading s count limit bits samples reading = subst (AllByRecursion (IsHeld s)) (sym reading.counted) (by_count count)
-  where
-    by_count : (count : Option ℕ) → AllByRecursion (IsHeld s) (counted_samples count reading.all_samples)
-    by_count None = reading.filled.held
-    by_count (Some n) = all-take (IsHeld s) n reading.all_samples reading.filled.held
-
 -- an input that was taken whole
 abbrev sound_input : List ℕ → Input
 sound_input bytes = record { bytes = bytes; failed = false }
@@ -132,15 +118,18 @@ pub answers_memory : {X : Type 0} (r : Result X Fault) (fault f : Fault) (answer
     → IfErr r (λ e. GivesAnswer answers source enough (Err e))
 answers_memory r fault f answers source enough is same memory = answers_err r fault Memory answers source enough is (same ∙ memory) lacks_memory
 
-pub answers_decoding : {X : Type 0} (r : Result X Fault) (s : Settings) (caps : Caps) (count : Option ℕ) (before after : Option (List ℕ))
-    (failures limit most : ℕ) (bytes : List ℕ) (bits : List Bool) → limit ≡ caps.bytes → most ≡ caps.samples → bits ≡ bits_of_bytes bytes
-    → IsTakenWhole before after failures limit bytes → IfErr r (λ f. RefusesDecoding s count most bits f)
+-- memory was wanting, or the bits of an input that was taken whole are refused
+pub answers_loading : {X : Type 0} (r : Result X Fault) (s : Settings) (caps : Caps) (count : Option ℕ) (before after : Option (List ℕ))
+    (failures limit : ℕ) (bytes : List ℕ) (bits : List Bool) → limit ≡ caps.bytes → bits ≡ bits_of_bytes bytes
+    → IsTakenWhole before after failures limit bytes → IfErr r (λ f. (f ≡ Memory) ⊎ RefusesDecoding s count caps.samples bits f)
     → IfErr r (λ f. GivesAnswer (IsDecoded s caps count) (taking before after failures) (are_past caps.bytes) (Err f))
-answers_decoding r s caps count before after failures limit most bytes bits limited counted spelled taken refuses =
-    IfErr-weaker r (λ f. RefusesDecoding s count most bits f)
+answers_loading r s caps count before after failures limit bytes bits limited spelled taken refuses =
+    IfErr-weaker r (λ f. (f ≡ Memory) ⊎ RefusesDecoding s count caps.samples bits f)
     (λ f. GivesAnswer (IsDecoded s caps count) (taking before after failures) (are_past caps.bytes) (Err f))
-    (λ f refused. refused_decoding s caps count before after failures bytes f (subst (λ limit. IsTakenWhole before after failures limit bytes) limited taken)
-    (subst (λ bits. RefusesDecoding s count caps.samples bits f) spelled (subst (λ most. RefusesDecoding s count most bits f) counted refused))) refuses
+    (λ f. ⊎_elim (λ memory. subst (λ f. GivesAnswer (IsDecoded s caps count) (taking before after failures) (are_past caps.bytes) (Err f)) (sym memory)
+    lacks_memory)
+    (λ refused. refused_decoding s caps count before after failures bytes f (subst (λ limit. IsTakenWhole before after failures limit bytes) limited taken)
+    (subst (λ bits. RefusesDecoding s count caps.samples bits f) spelled refused))) refuses
 
 pub gave_samples : {X : Type 0} (view : X → List ℤ) (r : Result X Fault) (s : Settings) (caps : Caps) (count : Option ℕ) (before after : Option (List ℕ))
     (failures limit most : ℕ) (bytes : List ℕ) (bits : List Bool) → limit ≡ caps.bytes → most ≡ caps.samples → bits ≡ bits_of_bytes bytes
@@ -153,23 +142,11 @@ gave_samples view r s caps count before after failures limit most bytes bits lim
     (subst (λ most. count_refusal most count ≡ None) counted read.0)
     (subst (λ bits. IsReading s count caps.samples bits (view x)) spelled (subst (λ most. IsReading s count most bits (view x)) counted read.1))) ok
 
-pub held_samples : {X : Type 0} (view : X → List ℤ) (r : Result X Fault) (s : Settings) (count : Option ℕ) (most : ℕ) (bits : List Bool)
-    → IfOk r (λ x. (count_refusal most count ≡ None) × IsReading s count most bits (view x)) → IfOk r (λ x. AllByRecursion (IsHeld s) (view x))
-held_samples view r s count most bits ok =
-    IfOk-weaker r (λ x. (count_refusal most count ≡ None) × IsReading s count most bits (view x)) (λ x. AllByRecursion (IsHeld s) (view x))
-    (λ x read. held-reading s count most bits (view x) read.1) ok
-
 pub decoded_refused : {X : Type 0} (view : X → List ℕ) (r : Result X Fault) (fault f : Fault) (answers : Input → Result (List ℕ) Fault → Type 0)
     (source : Taking) (enough : List ℕ → Bool) → r ≡ Err fault → fault ≡ f → GivesAnswer answers source enough (Err f)
     → GivesAnswer answers source enough (answer_of view r)
 decoded_refused {X} view r fault f answers source enough is same gives =
     subst (λ r. GivesAnswer answers source enough (answer_of view r)) (sym (is ∙ ap Err same)) gives
-
-pub answers_storing : {X : Type 0} (r : Result X Fault) (answers : Input → Result (List ℕ) Fault → Type 0) (source : Taking) (enough : List ℕ → Bool)
-    → IfErr r (λ e. e ≡ Memory) → IfErr r (λ e. GivesAnswer answers source enough (Err e))
-answers_storing r answers source enough memory =
-    IfErr-weaker r (λ e. e ≡ Memory) (λ e. GivesAnswer answers source enough (Err e))
-    (λ e is. subst (λ e. GivesAnswer answers source enough (Err e)) (sym is) lacks_memory) memory
 
 -- a refused answer
 pub refused_answer : {X : Type 0} (view : X → List ℕ) (r : Result X Fault) (fault : Fault) (answers : Input → Result (List ℕ) Fault → Type 0)

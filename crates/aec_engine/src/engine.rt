@@ -5,11 +5,12 @@ mod coding;
 mod decoding;
 mod editing;
 mod intake;
+mod loading;
 mod outlet;
 mod ranging;
 mod two_readings;
 
 pub use coding::encode;
 pub use decoding::decode;
-pub use editing::{edit, edit_over};
+pub use editing::{carry_out, edit, edit_over};
 pub use ranging::range;

@@ -13,7 +13,7 @@ mod script_words;
 mod scripts;
 
 pub use edited_streams::{Decoded, decode_edited};
-pub use engine::{decode, edit, edit_over, encode, range};
+pub use engine::{carry_out, decode, edit, edit_over, encode, range};
 pub use in_memory::{decode_bytes, encode_bytes};
 pub use numerals::range_in;
 pub use script_reading::script;

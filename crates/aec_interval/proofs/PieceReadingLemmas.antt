@@ -195,7 +195,7 @@ module _ (s : Settings) (a : IsAllowed s) (count : Option ℕ) (limit : ℕ) (bi
         ap (λ k. xs ++ take (n - k) more) (sym xs-len) ∙ sym (take-append-past n xs more (omega (arith, xs-len, below)))
 
     module _ (begins : i % s.interval ≡ 0) where
-      intervals : length xs ≡ i / s.interval * interval_len s
+      pub intervals : length xs ≡ i / s.interval * interval_len s
       intervals = whole_intervals s i (length xs) begins xs-len
 
       pub read-more : (ys : List ℤ) (q : Place) → ReadsPiece (place_at s count limit bits i b) ys q → HasRead q (xs ++ ys)
@@ -264,6 +264,11 @@ has_read_more p q xs ys a read step = read-more p.settings a p.count p.limit p.b
 -- they are all where no more is wanted
 pub has_read_all : (p : Place) (xs : List ℤ) → IsAllowed p.settings → HasRead p xs → is_wanted_at p ≡ false → IsReading p.settings p.count p.limit p.bits xs
 has_read_all p xs a read done = reading-of_all p.settings a p.count p.limit p.bits p.block p.bit xs read done
+
+-- they fill whole intervals where more is wanted at the begin of one
+pub has_read_whole : (p : Place) (xs : List ℤ) → IsAllowed p.settings → HasRead p xs → is_wanted_at p ≡ true → p.block % p.settings.interval ≡ 0
+    → length xs ≡ p.block / p.settings.interval * interval_len p.settings
+has_read_whole p xs a read wanted begins = intervals p.settings a p.count p.limit p.bits p.block p.bit xs read wanted begins
 
 -- a refusal is that of all
 pub has_read_refused : (p : Place) (xs : List ℤ) (fault : Fault) → IsAllowed p.settings → HasRead p xs → RefusesAt p fault

@@ -1,11 +1,13 @@
-//! Scripts carried out over a codec that is given: how often it is called.
+//! Scripts carried out over a codec that is given: how often it is called, and what is left where its calls don't suffice.
 
-use crate::asserts::{same, same_at};
+use crate::asserts::{holds, same, same_at};
 use crate::devices::{After, Marked, Pieces};
 use crate::shared::DEFAULTS;
-use aec_cli::edit_over;
+use aec_bits::WriteSink;
+use aec_cli::{EditFault, carry_out, edit_over, script};
+use aec_edit::Workspace;
 use aec_interval::AecCodec;
-use aec_params::{Limits, Params};
+use aec_params::{Edit, Fault, Limits, Params, Samples};
 use std::alloc::Global;
 use std::process::Abort;
 use std::test::Fail;
@@ -57,5 +59,51 @@ fn calls_of_a_script_are_counted(rt: HostRuntime) -> Result<(), Fail> {
     ] {
         let _bytes = counted(&rt, rt.alloc(), text, calls)?;
     }
+    Ok(())
+}
+
+// A workspace of 48 zeros, whose codec has four calls left before them, and so one behind them.
+fn with_one_call(alloc: Global) -> Result<Workspace<AecCodec>, Fault> {
+    let codec = AecCodec::with_calls(alloc, Params::new(DEFAULTS)?, u64::MAX - 4);
+    let mut work = Workspace::new(alloc, codec, 65);
+    work.apply(&Edit::Append {
+        values: Samples::new(vec![in alloc; 0i64; 48]?),
+    })?;
+    Ok(work)
+}
+
+// What carrying out a script on a workspace answers.
+fn carried<R: Abort>(
+    rt: &R,
+    alloc: Global,
+    work: &mut Workspace<AecCodec>,
+    text: &str,
+) -> Result<Option<EditFault>, Fail> {
+    let script = script(alloc, text.as_bytes())?;
+    holds(rt, script.edits.len() <= script.lines.len());
+    Ok(carry_out(work, &script).err())
+}
+
+#[test]
+fn an_edit_without_calls_is_named_by_its_line(rt: HostRuntime) -> Result<(), Fail> {
+    let alloc = rt.alloc();
+    let mut work = with_one_call(alloc)?;
+    let text = "overwrite 20 1\n\nremove 0 16\ninsert 4 0\noverwrite 0 256";
+    let fault = Fault::Spent;
+    let line = Some(EditFault::Line { line: 4, fault });
+    same(&rt, carried(&rt, alloc, &mut work, text)?, line);
+    let mut sink = WriteSink::new(Vec::new(alloc));
+    work.write_to(&mut sink)?;
+    same(
+        &rt,
+        sink.into_inner().as_slice(),
+        [0x10, 0x0C, 0x30, 0x80, 0x02].as_slice(),
+    );
+    same(&rt, work.calls(), u64::MAX);
+    // One that doesn't fit is refused for that, and one that codes nothing is made.
+    let fault = Fault::OutOfRange { count: 32 };
+    let line = Some(EditFault::Line { line: 1, fault });
+    same(&rt, carried(&rt, alloc, &mut work, "insert 33 0")?, line);
+    same(&rt, carried(&rt, alloc, &mut work, "truncate 16")?, None);
     Ok(())
 }

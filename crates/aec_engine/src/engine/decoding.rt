@@ -15,24 +15,6 @@ use aec_interval::{StreamReader, decode_all};
 use aec_params::{Fault, Limits, Params};
 use std::alloc::Global;
 
-/// The samples that a source is read as, or the refusal of decoding.
-pub(crate) fn read_source<R: Source>(
-    alloc: Global,
-    params: &Params,
-    limits: Limits,
-    count: Option<u64>,
-    source: &mut R,
-) -> Result<Vec<i64>, Fault>
-    ensures ok { let took : Taking = taking_of R.left R.failed source.old source.new in
-        IfOk result (λ samples. GaveSamples params.now limits count took samples.items) }
-    ensures held { IfOk result (λ samples. AllByRecursion (IsHeld params.now) samples.items) }
-    ensures refuses { let took : Taking = taking_of R.left R.failed source.old source.new in
-        IfErr result (λ fault. GivesAnswer (IsDecoded params.now limits count) took (are_past limits.bytes) (Err fault)) }
-{
-    let bits = read_bits(alloc, source, limits.bytes())?;
-    decode_all(alloc, params, &bits, count, limits.samples())
-}
-
 /// Reads coded bits twice: judges them first, then begins and writes the bytes of their samples. The refusals are those of
 /// `decode_all`, and `Memory`; nothing was begun then.
 fn decode_bits<W: Sink>(

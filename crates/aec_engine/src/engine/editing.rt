@@ -12,8 +12,9 @@ ghost use Rattle.aec_engine.specs.Output.{GaveSamples, IsDecoded};
 ghost use Rattle.aec_engine.specs.Editing.{edits_left, left_of, first_calls, GivesEdited, LeavesRecoded, LeavesEdited};
 ghost use Rattle.aec_engine.specs.EditingSteps.{GaveScript, RefusesScript, StopsEditing, SettlesRecoded, recoded_of};
 
-use crate::engine::decoding::read_source;
+use crate::engine::bit_intake::read_bits;
 use crate::engine::intake::read_whole;
+use crate::engine::loading::load;
 use crate::script_reading::script;
 use crate::scripts::{EditFault, Script};
 use aec_bits::{Codec, Sink, Source};
@@ -32,29 +33,6 @@ fn read_script<Q: Source>(alloc: Global, limits: Limits, from: &mut Q) -> Result
 {
     let text = read_whole(alloc, from, limits.bytes())?;
     script(alloc, &text)
-}
-
-/// A workspace with samples, over a codec that has coded nothing.
-fn workspace_with<C: Codec + Drop>(
-    alloc: Global,
-    codec: C,
-    limit: u64,
-    samples: Vec<i64>,
-) -> Result<Workspace<C>, Fault>
-    requires limit { limit ≤ 2 ^ 32 }
-    requires few { length samples.items ≤ limit }
-    requires held { AreHeld (C.format codec) samples.items }
-    requires fresh { C.called codec ≡ 0 }
-    ensures ok { IfOk result (λ w. w.samples ≡ samples.items) }
-    ensures limit { IfOk result (λ w. w.limit ≡ limit) }
-    ensures format { IfOk result (λ w. C.format w.codec ≡ C.format codec) }
-    ensures calls { IfOk result (λ w. C.called w.codec ≡ first_calls (C.format codec) samples.items) }
-    ensures fault { IfErr result (λ e. e ≡ Memory) }
-{
-    let mut workspace = Workspace::new(alloc, codec, limit);
-    let values = Samples::new(samples);
-    workspace.apply(&Edit::Append { values })?;
-    Ok(workspace)
 }
 
 /// A workspace with the samples that a source is read as, over a codec that has coded nothing.
@@ -78,8 +56,8 @@ fn workspace_of<C: Codec + Drop, R: Source>(
 {
     // What the parameters promise is told by their calls.
     let _len = params.interval_len();
-    let samples = read_source(alloc, params, limits, count, source)?;
-    workspace_with(alloc, codec, limits.samples(), samples)
+    let bits = read_bits(alloc, source, limits.bytes())?;
+    load(alloc, codec, params, limits, count, &bits)
 }
 
 /// The line of the edit at a place of a script.
@@ -90,8 +68,8 @@ fn line_of(script: &Script, place: usize) -> u64
     script.lines[place]
 }
 
-/// Makes the edits of a script, up to the first that is refused.
-fn carry_out<C: Codec>(workspace: &mut Workspace<C>, script: &Script) -> Result<(), EditFault>
+/// Makes the edits of a script, up to the first that is refused: those before it are made, and it is named by its line.
+pub fn carry_out<C: Codec>(workspace: &mut Workspace<C>, script: &Script) -> Result<(), EditFault>
     requires lines { length script.now.edits.items ≤ length script.now.lines.items }
     ensures ok { OnOk result (edits_left (C.format workspace.old.codec) workspace.old.limit (C.called workspace.old.codec) workspace.old.samples
         script.now.edits.items script.now.lines.items ≡ Ok (left_of workspace.new.samples (C.called workspace.new.codec))) }
