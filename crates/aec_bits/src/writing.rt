@@ -11,7 +11,7 @@ use crate::device::Sink;
 use aec_params::Fault;
 
 /// How many bytes are handed to a sink at a time.
-const PIECE_LEN: usize = 4096;
+const PIECE_LEN: usize = 65536;
 
 impl BitBuf {
     /// Appends the bytes that the bits fill to what the sink has taken; zeros fill the last one. `Write` where the sink
