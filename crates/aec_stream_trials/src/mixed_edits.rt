@@ -3,6 +3,7 @@
 
 use crate::asserts::{holds, holds_at, same, same_at};
 use crate::plain_lists::{Row, expect_edit};
+use crate::settings::even_blocks;
 use crate::steps::{counts, range, start_of, stream};
 use crate::workspaces::workspace;
 use aec_bits::WriteSink;
@@ -26,7 +27,7 @@ const SHORT: Row = Row {
     limit: 100,
 };
 
-const ROWS: [Row; 10] = [
+const ROWS: [Row; 11] = [
     SHORT,
     Row {
         settings: Settings {
@@ -146,6 +147,17 @@ const ROWS: [Row; 10] = [
         most: 8,
         start: 0,
         limit: 100,
+    },
+    Row {
+        settings: Settings {
+            bits: 12,
+            ..even_blocks(14, 2)
+        },
+        low: 0,
+        high: 4095,
+        most: 28,
+        start: 30,
+        limit: 200,
     },
 ];
 
