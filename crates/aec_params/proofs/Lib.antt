@@ -8,6 +8,8 @@ pub mod WorkedEdits
 pub mod WorkedReadings
 pub mod WorkedRests
 pub mod WorkedCorners
+pub mod WorkedEvenBlocks
+pub mod WorkedEvenReadings
 pub mod ListLaws
 pub mod SettingLaws
 pub mod CodewordLaws

@@ -10,6 +10,10 @@ usual = usual_settings
 abbrev pub with_interval : ℕ → Settings
 with_interval r = record usual { interval = r }
 
+-- blocks of 10 in intervals of r
+abbrev pub tens : ℕ → Settings
+tens r = record usual { block_size = 10; interval = r; even_blocks = true }
+
 abbrev pub unprocessed : Settings
 unprocessed = record usual { preprocess = false }
 

@@ -1,22 +1,30 @@
 -- The parameters of a stream: which the format has, and the numbers that follow from them.
-use Rattle.std.specs.Prelude.{ℕ, ◌+◌, ◌-◌, ◌*◌, ◌^◌, Bool, true, false, ◌&&◌, ◌||◌, not, nat_le, nat_lt, ◌==◌, if◌then◌else◌, Option, Some, None, ℤ, pos, negsuc, neg_ℤ, ◌-ℤ◌, int_le, IsTrue}
+use Rattle.std.specs.Prelude.{ℕ, ◌+◌, ◌-◌, ◌*◌, ◌^◌, ◌%◌, Bool, true, false, ◌&&◌, ◌||◌, not, nat_le, nat_lt, ◌==◌, if◌then◌else◌, Option, Some, None, ℤ, pos, negsuc, neg_ℤ, ◌-ℤ◌, int_le, IsTrue}
 use Rattle.aec_params.specs.declared.settings.Settings.{Settings}
 use Rattle.aec_params.specs.declared.fault.Fault.{Fault}
-use Rattle.aec_params.specs.declared.fault.Fault.TheVariants.{BitsPerSample, BlockSize, Interval, RestrictedWidth}
+use Rattle.aec_params.specs.declared.fault.Fault.TheVariants.{BitsPerSample, BlockSize, Interval, RestrictedWidth, EvenBlockSize}
 
 -- whether n lies from low to high
 abbrev pub is_between : ℕ → ℕ → ℕ → Bool
 is_between low high n = nat_le low n && nat_le n high
 
--- the block sizes of the format
+-- the block sizes of the standard
 abbrev pub is_block_size : ℕ → Bool
 is_block_size j = (j == 8) || ((j == 16) || ((j == 32) || (j == 64)))
+
+-- the even numbers from 8 to 64
+abbrev pub is_even_block_size : ℕ → Bool
+is_even_block_size j = is_between 8 64 j && (j % 2 == 0)
+
+-- whether the block size is one that the settings may have
+abbrev pub has_block_size : Settings → Bool
+has_block_size s = if s.even_blocks then is_even_block_size s.block_size else is_block_size s.block_size
 
 -- the first rule that the settings break, if there is one
 abbrev pub settings_fault : Settings → Option Fault
 settings_fault s =
     if not (is_between 1 32 s.bits) then Some BitsPerSample
-    else (if not (is_block_size s.block_size) then Some BlockSize
+    else (if not (has_block_size s) then Some (if s.even_blocks then EvenBlockSize else BlockSize)
     else (if not (is_between 1 4096 s.interval) then Some Interval
     else (if s.restricted && nat_lt 4 s.bits then Some RestrictedWidth else None)))
 
@@ -32,12 +40,13 @@ usual_settings = record {
   preprocess = true;
   pad = false;
   restricted = false;
+  even_blocks = false;
 }
 
 -- settings that break no rule
 pub record IsAllowed (s : Settings) : Type 0 where
   pub bits : IsTrue (is_between 1 32 s.bits)
-  pub block_size : IsTrue (is_block_size s.block_size)
+  pub block_size : IsTrue (has_block_size s)
   pub interval : IsTrue (is_between 1 4096 s.interval)
   pub restricted : IsTrue (not (s.restricted && nat_lt 4 s.bits))
 

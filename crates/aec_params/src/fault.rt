@@ -9,7 +9,7 @@ pub enum Fault {
     /// The number of bits per sample is not 1 to 32.
     #[error("bits per sample must be 1 to 32")]
     BitsPerSample,
-    /// The block size is none of the format's.
+    /// The block size is none of the format's, where even ones aren't asked for.
     #[error("block size must be 8, 16, 32 or 64")]
     BlockSize,
     /// The reference sample interval is not 1 to 4096 blocks.
@@ -54,6 +54,9 @@ pub enum Fault {
     /// A coded input or a script is longer than the limit.
     #[error("input is longer than {limit} bytes")]
     StreamTooLong { limit: u64 },
+    /// The block size is no even number from 8 to 64, where even ones are asked for.
+    #[error("block size must be even, 8 to 64")]
+    EvenBlockSize,
 }
 
 impl From<AllocError> for Fault {

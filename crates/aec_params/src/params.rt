@@ -1,5 +1,9 @@
 //! Settings that the format has, and the numbers that follow from them.
 
+ghost use Rattle.std.specs.Prelude.{◌≡◌, if◌then◌else◌};
+ghost use Rattle.aec_params.specs.declared.fault.Fault.TheVariants.{BlockSize, EvenBlockSize};
+ghost use Rattle.aec_params.specs.Params.{has_block_size as may_have_block_size};
+
 use crate::fault::Fault;
 use crate::settings::Settings;
 use std::marker::Model;
@@ -23,14 +27,37 @@ impl Model for Params {
     ghost inverse = { λ s. record { settings = s } };
 }
 
+/// Whether the block size is one that the settings may have.
+fn has_block_size(settings: Settings) -> bool
+    ensures { result ≡ may_have_block_size settings }
+{
+    let size = settings.block_size;
+    if settings.even_blocks {
+        size >= 8 && size <= 64 && size % 2 == 0
+    } else {
+        matches!(size, 8 | 16 | 32 | 64)
+    }
+}
+
+/// The refusal of a block size.
+fn block_size_fault(even_blocks: bool) -> Fault
+    ensures { result ≡ (if even_blocks then EvenBlockSize else BlockSize) }
+{
+    if even_blocks {
+        Fault::EvenBlockSize
+    } else {
+        Fault::BlockSize
+    }
+}
+
 impl Params {
     ghost use Rattle.std.specs.Prelude.{◌≡◌, ◌<◌, ◌-◌, ◌^◌, ◌&&◌, IfOk, nat_le, nat_lt};
     ghost use Rattle.std.specs.Result.{result_err};
     ghost use Rattle.aec_params.specs.Params.{IsAllowed, settings_fault, interval_len as samples_in_interval, id_len as identifier_len, k_max as greatest_k, x_min as least_sample, x_max as greatest_sample, storage_len, is_held, IsHeld, sample_pattern, pattern_value};
 
     /// Parameters for the settings. The rules are judged in this order: bits per sample 1 to 32; block size 8, 16,
-    /// 32 or 64; interval 1 to 4096 blocks; the restricted set for at most 4 bits. The first that is broken is the
-    /// refusal.
+    /// 32 or 64, or with `even_blocks` an even number from 8 to 64; interval 1 to 4096 blocks; the restricted set for
+    /// at most 4 bits. The first that is broken is the refusal.
     pub fn new(settings: Settings) -> Result<Params, Fault>
         ensures ok { IfOk result (λ p. p ≡ settings) }
         ensures allowed { IfOk result (λ p. IsAllowed p) }
@@ -39,8 +66,8 @@ impl Params {
         if settings.bits < 1 || settings.bits > 32 {
             return Err(Fault::BitsPerSample);
         }
-        if !matches!(settings.block_size, 8 | 16 | 32 | 64) {
-            return Err(Fault::BlockSize);
+        if !has_block_size(settings) {
+            return Err(block_size_fault(settings.even_blocks));
         }
         if settings.interval < 1 || settings.interval > 4096 {
             return Err(Fault::Interval);

@@ -5,7 +5,7 @@
 pub struct Settings {
     /// Bits per sample, n.
     pub bits: u32,
-    /// Samples in a block, J.
+    /// Samples in a block, J: 8, 16, 32 or 64, and with `even_blocks` every even number from 8 to 64.
     pub block_size: u32,
     /// Blocks in a reference sample interval, r.
     pub interval: u32,
@@ -21,6 +21,8 @@ pub struct Settings {
     pub pad: bool,
     /// Whether the restricted set of code options is used.
     pub restricted: bool,
+    /// Whether blocks may have every even number of samples from 8 to 64. It says nothing of the stream but that.
+    pub even_blocks: bool,
 }
 
 impl Settings {
@@ -36,6 +38,7 @@ impl Settings {
         preprocess: true,
         pad: false,
         restricted: false,
+        even_blocks: false,
     };
 }
 
