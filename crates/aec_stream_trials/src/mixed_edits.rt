@@ -3,7 +3,6 @@
 
 use crate::asserts::{holds, holds_at, same, same_at};
 use crate::plain_lists::{Row, expect_edit};
-use crate::settings::even_blocks;
 use crate::steps::{counts, range, start_of, stream};
 use crate::workspaces::workspace;
 use aec_bits::WriteSink;
@@ -151,7 +150,9 @@ const ROWS: [Row; 11] = [
     Row {
         settings: Settings {
             bits: 12,
-            ..even_blocks(14, 2)
+            block_size: 14,
+            even_blocks: true,
+            ..Settings::USUAL
         },
         low: 0,
         high: 4095,
