@@ -11,6 +11,7 @@ use Rattle.aec_params.specs.Params.{IsAllowed, split_count}
 use Rattle.aec_params.specs.Blocks.{Block}
 use Rattle.aec_params.specs.CodedDataSets.{CodedDataSet, pair_number, cds_bits}
 use Rattle.aec_params.specs.Spellings.{after_reference, written_values, uncompressed, paired, split, is_shorter}
+use Rattle.aec_params.proofs.SettingLaws.{block_size-even}
 use Rattle.aec_block.specs.declared.choice.Coding.{Coding}
 use Rattle.aec_block.specs.declared.choice.Choice.{Choice}
 use Rattle.aec_block.specs.Choices.{spelling_by, IsFull, Names, IsChoice}
@@ -199,14 +200,11 @@ sum-great values options (suc k) bits best is many =
     let once : length values * 1 ≤ length values * (k + 1) = mul-le (length values) 1 (length values) (k + 1) (omega arith) (omega arith) in
     (omega arith, omega arith)
 
-even_size : (s : Settings) → IsAllowed s → s.block_size ≡ 2 * (s.block_size / 2)
-even_size s a = let b = a.block_size in grind arith
-
 pairs-longer : (s : Settings) (b : Block) (options k bits : ℕ) → IsAllowed s → IsFull s b → IsBestSplit options k (written_values b)
     → bits ≡ split_values_length k (written_values b) → (k ≡ 0 → 2 * length (written_values b) ≤ bits) → split_length s b k < paired_length s b
 pairs-longer s b options k bits a full best is many =
     let great = sum-great (written_values b) options k bits best is many in
-    let even = full.len ∙ even_size s a in
+    let even = full.len ∙ sym (block_size-even s a) in
     let pairs = pairs_length-twice (s.block_size / 2) b.values even in
     let written = sum_of_written b.reference b.values in
     let enough = great.0 in

@@ -2,9 +2,10 @@
 use Rattle.std.proofs.Common.{◌≡◌, ℕ, ◌*◌, ◌/◌, ◌^◌, ◌<◌, ◌==◌, Bool, true, false, Option, Some, None, List, ◌++◌, refl, sym, ap, ◌∙◌, append_assoc, inl, inr, if◌then◌else◌, nat_le, ◌||◌, IsTrue, lit<, arith}
 use Rattle.std.proofs.lemmas.Bool.{or_cases, eqb-true, cases_eq}
 use Rattle.aec_params.specs.declared.settings.Settings.{Settings}
-use Rattle.aec_params.specs.Params.{IsAllowed, id_len, is_block_size}
+use Rattle.aec_params.specs.Params.{IsAllowed, id_len}
 use Rattle.aec_params.specs.Codewords.{binary}
 use Rattle.aec_params.specs.CodedDataSets.{Body, uncompressed_values, value_pairs, split_values, zero_blocks, CodedDataSet, identifier, reference_bits, body_bits, cds_bits, HasReference, written_count, HasBody, HasShape}
+use Rattle.aec_params.proofs.SettingLaws.{block_size-least, block_size-even}
 use Rattle.aec_block.specs.declared.reading.Kind.{Kind}
 use Rattle.aec_block.specs.declared.reading.Kind.TheVariants.{ZeroBlocks, SecondExtension, Split, NoCompression}
 use Rattle.aec_block.specs.ReadAt.{nothing, taken, then_at, map_taken, fs_at, binary_at, values_at, members_at, split_at, kind_at, reference_at, body_at, set_of, set_after_reference, set_after_kind, cds_at}
@@ -26,35 +27,8 @@ id_len-positive s =
     (positive_choice (nat_le s.bits 2) 1 2 (lit< tt) (lit< tt))
     (positive_choice (nat_le s.bits 8) 3 (if nat_le s.bits 16 then 4 else 5) (lit< tt) (positive_choice (nat_le s.bits 16) 4 5 (lit< tt) (lit< tt)))
 
-halves : (j : ℕ) → IsTrue (is_block_size j) → 2 * (j / 2) ≡ j
-halves j is_size =
-    elim (or_cases (j == 8) ((j == 16) || ((j == 32) || (j == 64))) is_size) [
-      | inl eight ↦ rw (eqb-true j 8 eight) refl
-      | inr more ↦ elim (or_cases (j == 16) ((j == 32) || (j == 64)) more) [
-        | inl sixteen ↦ rw (eqb-true j 16 sixteen) refl
-        | inr most ↦ elim (or_cases (j == 32) (j == 64) most) [
-          | inl thirty_two ↦ rw (eqb-true j 32 thirty_two) refl
-          | inr sixty_four ↦ rw (eqb-true j 64 sixty_four) refl
-        ]
-      ]
-    ]
-
-pub block_size-even : (s : Settings) → IsAllowed s → 2 * (s.block_size / 2) ≡ s.block_size
-block_size-even s allowed = halves s.block_size allowed.block_size
-
-no_empty_size : IsTrue (is_block_size 0) → ⊥
-no_empty_size is_size = cc
-
 pub block_size-some : (s : Settings) → IsAllowed s → 0 < s.block_size / 2
-block_size-some s allowed =
-    elim (cases_eq (s.block_size / 2) 0) [
-      | inl none ↦
-          let even = block_size-even s allowed in
-          let empty : s.block_size ≡ 0 = omega arith in
-          let is_size : IsTrue (is_block_size 0) = rw empty at allowed.block_size in
-          absurd (no_empty_size is_size)
-      | inr some ↦ omega arith
-    ]
+block_size-some s allowed = omega (arith, block_size-least s allowed)
 
 -- ---- the kind of a body
 

@@ -13,6 +13,7 @@ use Rattle.aec_params.specs.CodedDataSets.{Body, uncompressed_values, value_pair
 use Rattle.aec_params.specs.Places.{placed_values, placed_members}
 use Rattle.aec_params.specs.Spellings.{after_reference, uncompressed, split, compressed_spellings, shortest_spelling}
 use Rattle.aec_params.proofs.CodewordLaws.{length-fs}
+use Rattle.aec_params.proofs.SettingLaws.{block_size-least}
 use Rattle.aec_block.specs.Laws.{single_block_of, NoOptionIsShorter}
 
 -- ---- the first of the least
@@ -106,9 +107,6 @@ shortest-value_pairs s reference members h =
     )
 
 -- ---- any coded data set of one block
-
-pub block_size-least : (s : Settings) → IsAllowed s → 8 ≤ s.block_size
-block_size-least s a = let b = a.block_size in grind arith
 
 shortest_by_body : (s : Settings) (is_reference : Bool) (reference : Option ℕ) (body : Body) (b : Block) → IsAllowed s → HasBody s is_reference body
     → single_block_of reference body ≡ Some b

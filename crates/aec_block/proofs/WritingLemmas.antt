@@ -1,12 +1,15 @@
 -- Codewords appended one after another into reserved room.
-use Rattle.std.proofs.Common.{◌≡◌, ℕ, zero, suc, ◌+◌, ◌-◌, ◌*◌, ◌/◌, ◌%◌, ◌^◌, ◌<◌, ◌≤◌, refl, ap, ◌∙◌, sym, arith, Bool, Option, Some, None, List, [], ◌∷◌, ◌++◌, length, take, drop, get_or, drop-cons, append_assoc, append-nil, length-append, length-drop}
+use Rattle.std.proofs.Common.{◌≡◌, ℕ, zero, suc, ◌+◌, ◌-◌, ◌*◌, ◌/◌, ◌%◌, ◌^◌, ◌<◌, ◌≤◌, refl, ap, ◌∙◌, sym, arith, Bool, Option, Some, None, List, [], ◌∷◌, ◌++◌, length, take, drop, get_or, drop-cons, append_assoc, append-nil, length-append, length-drop, if◌then◌else◌, nat_le, lit<}
 use Rattle.std.specs.List.{flat_map, AllByRecursion}
 use Rattle.std.proofs.lemmas.List.{take_rest}
+use Rattle.std.proofs.lemmas.Bool.{cond_both}
+use Rattle.std.proofs.lemmas.Nat.{one_shl}
 use Rattle.aec_params.specs.Codewords.{fs, binary}
-use Rattle.aec_params.specs.CodedDataSets.{pair_number, pair_bits}
+use Rattle.aec_params.specs.CodedDataSets.{pair_number, pair_bits, reference_bits, cds_bits}
 use Rattle.aec_params.specs.declared.settings.Settings.{Settings}
+use Rattle.aec_params.specs.Params.{id_len}
 use Rattle.aec_params.specs.Blocks.{Block}
-use Rattle.aec_params.specs.Spellings.{after_reference, written_values}
+use Rattle.aec_params.specs.Spellings.{after_reference, written_values, uncompressed}
 use Rattle.std.proofs.Math.Nat.{mod-eq_of_lt}
 use Rattle.aec_block.specs.Choices.{IsFull}
 use Rattle.aec_block.specs.Written.{high_parts, low_parts}
@@ -113,6 +116,24 @@ after_reference-small n (Some r) (v ∷ values) small = small.1
 pub low_parts-written : (s : Settings) (b : Block) → IsFull s b
     → low_parts s.bits (written_values b) ≡ flat_map (binary s.bits) (written_values b)
 low_parts-written s b full = low_parts-plain s.bits (written_values b) (after_reference-small s.bits b.reference b.values full.values)
+
+few_id_bits : (s : Settings) → id_len s < 32
+few_id_bits s =
+    cond_both s.restricted (if nat_le s.bits 2 then 1 else 2) (if nat_le s.bits 8 then 3 else (if nat_le s.bits 16 then 4 else 5)) (λ n. n < 32)
+    (λ _. cond_both (nat_le s.bits 2) 1 2 (λ n. n < 32) (λ _. lit< tt) (λ _. lit< tt))
+    (λ _. cond_both (nat_le s.bits 8) 3 (if nat_le s.bits 16 then 4 else 5) (λ n. n < 32) (λ _. lit< tt)
+    (λ _. cond_both (nat_le s.bits 16) 4 5 (λ n. n < 32) (λ _. lit< tt) (λ _. lit< tt)))
+
+-- the identifier of all ones, as code computes it, with the reference sample and the values
+pub uncompressed-parts : (s : Settings) (b : Block) (width n : ℕ) (reference : Option ℕ) (values : List ℕ) → IsFull s b → width ≡ id_len s → n ≡ s.bits
+    → reference ≡ b.reference → values ≡ written_values b
+    → (binary width (1 * 2 ^ width % 2 ^ 32 - 1) ++ reference_bits s reference) ++ low_parts n values ≡ cds_bits s (uncompressed b)
+uncompressed-parts s b width n reference values full is_width is_n is_reference is_values =
+    rw (is_width, is_n, is_reference, is_values) (
+    append_assoc (binary (id_len s) (1 * 2 ^ id_len s % 2 ^ 32 - 1)) (reference_bits s b.reference) (low_parts s.bits (written_values b))
+    ∙ (ap (λ (ones : ℕ). binary (id_len s) (ones - 1) ++ (reference_bits s b.reference ++ low_parts s.bits (written_values b))) (one_shl (id_len s) 32 (few_id_bits s))
+    ∙ ap (λ (bits : List Bool). binary (id_len s) (2 ^ id_len s - 1) ++ (reference_bits s b.reference ++ bits)) (low_parts-written s b full))
+    )
 
 pub ruleset behind = (take_rest)
 
