@@ -5,10 +5,10 @@ use Rattle.std.proofs.lemmas.List.{length-append}
 use Rattle.aec_params.specs.declared.fault.Fault.{Fault}
 use Rattle.aec_params.specs.Params.{IsAllowed}
 use Rattle.aec_params.specs.Reading.{IsReading}
+use Rattle.aec_params.proofs.SettingLaws.{block_size-most}
 use Rattle.aec_interval.specs.Reached.{RefusesReading, wrong_before}
 use Rattle.aec_interval.specs.Pieces.{Place, place_at, is_wanted_at, ReadsInterval, HasRead, RefusesAt}
 use Rattle.aec_interval.specs.Skipping.{HasInterval, IsFaultAt}
-use Rattle.aec_interval.proofs.WantedSetLemmas.{block_size-most}
 use Rattle.aec_interval.proofs.PieceReadingLemmas.{has_read_nothing, has_read_more, has_read_all, has_read_refused, has_read_few}
 use Rattle.aec_engine.specs.ReadingTwice.{HaveSamples}
 

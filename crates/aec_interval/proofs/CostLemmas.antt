@@ -13,7 +13,8 @@ use Rattle.aec_params.specs.Places.{is_reference_block, zero_block, placed_value
 use Rattle.aec_params.specs.Spellings.{shortest_spelling}
 use Rattle.aec_params.specs.Runs.{Group, zero_run, single_block, with_zero_block, groups_of, run_code}
 use Rattle.aec_params.specs.Intervals.{group_sets, is_empty, block_sets}
-use Rattle.aec_block.proofs.ShortestLemmas.{shortest-uncompressed_values, shortest-split_values, shortest-value_pairs, block_size-least}
+use Rattle.aec_params.proofs.SettingLaws.{block_size-least}
+use Rattle.aec_block.proofs.ShortestLemmas.{shortest-uncompressed_values, shortest-split_values, shortest-value_pairs}
 use Rattle.aec_interval.proofs.BlockLemmas.{AreDueFrom}
 use Rattle.aec_interval.proofs.GroupLemmas.{AreGroupsFrom, AreGroupsFrom-groups_of}
 use Rattle.aec_interval.proofs.IntervalLemmas.{AreDueFrom_right}

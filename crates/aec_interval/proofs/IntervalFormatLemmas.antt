@@ -8,12 +8,12 @@ use Rattle.std.proofs.lemmas.Int.{ints}
 use Rattle.aec_params.specs.declared.settings.Settings.{Settings}
 use Rattle.aec_params.specs.Params.{IsAllowed, is_held, IsHeld, interval_len}
 use Rattle.aec_params.proofs.ParamsLemmas.{held-positive, held-negative, values-most, pow-halves, bits-least}
+use Rattle.aec_params.proofs.SettingLaws.{block_size-most}
 use Rattle.aec_bits.specs.Codec.{IsInterval, IsLawful}
 use Rattle.aec_bits.specs.Refusals.{first_unheld}
 use Rattle.aec_interval.specs.IntervalFormat.{interval_format}
 use Rattle.aec_interval.specs.Laws.{AreOfInterval}
 use Rattle.aec_interval.proofs.EqualLengthLemmas.{equal_lengths}
-use Rattle.aec_interval.proofs.WantedSetLemmas.{block_size-most}
 use Rattle.aec_interval.proofs.StreamLemmas.{interval_len-positive}
 
 held_from : (t : Bool) → t ≡ true → IsTrue t

@@ -3,7 +3,7 @@ use Rattle.std.proofs.Common.{w64, to_z, of_z, ◌≡◌, ℕ, zero, suc, ◌+�
 use Rattle.std.specs.Prelude.{Result, Ok, Err}
 use Rattle.std.specs.Prelude.{min}
 use Rattle.std.specs.Result.{result_err}
-use Rattle.std.proofs.Math.Nat.{mul_comm, mul-sub, div-eq_of_eq-mul_left, mul-le-mul_right}
+use Rattle.std.proofs.Math.Nat.{mul_comm, mul-sub, div-eq_of_eq-mul_left, mul-le-mul, mul-le-mul_right}
 use Rattle.std.proofs.lemmas.Bool.{cases_lt}
 use Rattle.std.proofs.lemmas.List.{length-append, length-take, nil_from_length, take-append-drop}
 use Rattle.std.proofs.lemmas.Nat.{div-add-mod', mod_below}
@@ -16,7 +16,7 @@ use Rattle.aec_params.specs.Params.{IsAllowed, interval_len, storage_len}
 use Rattle.aec_params.specs.Intervals.{interval_bits}
 use Rattle.aec_params.specs.Stored.{byte_groups, samples_of_bytes, samples_behind}
 use Rattle.aec_params.specs.Streams.{stream_of}
-use Rattle.aec_params.proofs.StoredLemmas.{storage-least, byte_groups-short}
+use Rattle.aec_params.proofs.StoredLemmas.{storage-least, storage-most, byte_groups-short}
 use Rattle.aec_params.proofs.SampleLaws.{interval_len-positive}
 use Rattle.aec_bits.proofs.CodeLaws.{code_of_interval}
 use Rattle.aec_interval.specs.IntervalFormat.{interval_format}
@@ -26,6 +26,7 @@ use Rattle.aec_interval.specs.Feeding.{Coding, whole_front, left_behind, taken_o
 use Rattle.aec_interval.specs.Progress.{ArePart, IsProgress, CompletesRest, coding_at}
 use Rattle.aec_interval.specs.declared.joining.Progress.{Progress}
 use Rattle.aec_interval.specs.declared.joining.Terms.{Terms}
+use Rattle.aec_interval.proofs.IntervalFormatLemmas.{interval_len-most}
 use Rattle.aec_interval.proofs.PieceLemmas.{whole_front-few, left_behind-few_all, whole_front-all, left_behind-none, stream_of-none, byte_groups-one}
 use Rattle.aec_interval.proofs.FeedingLemmas.{coding_of, same_coding, feeds_both, stops_later, stops_before}
 
@@ -221,6 +222,14 @@ joined-more c d e bytes left g later n b0 b1 b2 a h cut whole feeds =
 some_samples : (n w size : ℕ) → size ≡ n * w → 0 < size → 0 < n
 some_samples zero w size e some = absurd (omega arith)
 some_samples (suc n) w size e some = omega arith
+
+-- the bytes of an interval's samples are few
+pub few_bytes : (s : Settings) (len held storage : ℕ) → IsAllowed s → len ≡ interval_len s → storage ≡ storage_len s
+    → (len - held) * storage < 18446744073709551616
+few_bytes s len held storage allowed is_len is_storage =
+    let places : len - held ≤ 262144 = omega (arith, interval_len-most s allowed) in
+    let bytes : storage ≤ 4 = omega (arith, storage-most s allowed) in
+    omega (arith, mul-le-mul places bytes)
 
 pub places_part : (s : Settings) (held : List ℤ) (bytes : List ℕ) (places w size : ℕ) → length bytes % storage_len s ≡ 0 → 0 < length bytes
     → w ≡ storage_len s → 0 < places → length held + places ≤ interval_len s → size ≡ min (length bytes) (places * w) → ArePart s held (take size bytes)

@@ -21,5 +21,3 @@ fewer-needed blocks size count some small =
           let past : count ≤ min (blocks * size) 18446744073709551615 = omega (arith, past_end blocks count size some enough, small) in
           enough-needed blocks (min (blocks * size) 18446744073709551615) (div_ceil count size) count enough past
     ]
-
-pub ruleset needed = (fewer-needed)

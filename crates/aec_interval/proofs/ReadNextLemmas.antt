@@ -1,6 +1,6 @@
 -- One coded data set more, in the form in which the reader has the facts.
 use Rattle.std.proofs.Common.{◌≡◌, ℕ, ◌+◌, ◌-◌, ◌%◌, ◌<◌, ◌≤◌, Bool, true, false, Option, Some, None, ℤ, List, [], length, refl, sym, ap, ◌∙◌, subst, arith, Result, Ok, Err, IfErr, IfSome}
-use Rattle.std.proofs.Math.Nat.{zero-div, zero-mod, zero-mul, add-mul-mod_self_right}
+use Rattle.std.proofs.Math.Nat.{zero-div, zero-mod, zero-mul, add-mul-mod_self_right, mul-le-mul_right}
 use Rattle.std.proofs.lemmas.Nat.{div-add-mod'}
 use Rattle.std.proofs.lemmas.List.{take_all}
 use Rattle.std.specs.List.{flat_map}
@@ -69,6 +69,10 @@ pub blocks_after : (s : Settings) (count : Option ℕ) (limit : ℕ) (bits : Lis
     → IsReached s count limit bits first start i b samples → first ≤ i
 blocks_after s count limit bits first start i b samples allowed reached =
     omega (arith, length-stream_blocks s count limit bits first start reached.sets i b (interval-positive s allowed) reached.leads)
+
+-- where there is no room for some blocks, there is none for more
+pub more_room : (kept left capacity len j : ℕ) → kept ≤ left → capacity < len + kept * j → capacity < len + left * j
+more_room kept left capacity len j most full = omega (arith, mul-le-mul_right j most, full)
 
 -- a reading has come to block i, where a coded data set is wanted and was read: `due` says whether it has a reference, `len` for how
 -- many blocks it stands

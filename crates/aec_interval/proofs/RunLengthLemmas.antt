@@ -9,9 +9,8 @@ use Rattle.aec_params.specs.Params.{IsAllowed, id_len}
 use Rattle.aec_params.specs.Codewords.{fs, binary}
 use Rattle.aec_params.specs.CodedDataSets.{uncompressed_values, value_pairs, split_values, zero_blocks, pair_number, pair_bits, reference_bits, cds_bits, written_count}
 use Rattle.aec_params.specs.Runs.{run_code}
-use Rattle.aec_params.proofs.SettingLaws.{at_least_one_bit}
+use Rattle.aec_params.proofs.SettingLaws.{at_least_one_bit, block_size-least}
 use Rattle.aec_params.proofs.CodewordLaws.{length-binary, length-fs}
-use Rattle.aec_block.proofs.ShortestLemmas.{block_size-least}
 
 -- ---- runs
 

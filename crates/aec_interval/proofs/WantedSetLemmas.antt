@@ -14,7 +14,7 @@ use Rattle.aec_params.specs.CodedDataSets.{Body, uncompressed_values, value_pair
 use Rattle.aec_params.specs.Places.{segment_left, body_blocks, block_count, is_reference_block, IsLawfulAt}
 use Rattle.aec_params.specs.Reading.{next_block, next_begin, begin_of, is_wanted, keeps_limit, LeadsTo}
 use Rattle.aec_params.specs.Faults.{IsNotRead, IsWrongAt, not_read, too_long, too_many}
-use Rattle.aec_params.proofs.SettingLaws.{block_size-positive, interval-positive}
+use Rattle.aec_params.proofs.SettingLaws.{block_size-positive, block_size-most, interval-positive}
 use Rattle.aec_params.proofs.StreamLaws.{run_len-some}
 use Rattle.aec_bits.specs.BitReader.{Cursor}
 use Rattle.aec_block.specs.declared.cds.RunLen.{RunLen}
@@ -24,9 +24,6 @@ use Rattle.aec_interval.specs.Steps.{ComesNext}
 use Rattle.aec_interval.specs.Skipping.{IsLedTo, IsFaultBefore}
 use Rattle.aec_interval.proofs.ReadingSteps.{LeadsTo-push}
 use Rattle.aec_interval.proofs.DecodeLemmas.{run_count-run_len_of}
-
-pub block_size-most : (s : Settings) → IsAllowed s → s.block_size ≤ 64
-block_size-most s allowed = let b = allowed.block_size in grind (arith, nat_tests)
 
 -- a reference is due at a block as at its place in the interval
 pub due_there : (s : Settings) (is_reference : Bool) (place i : ℕ) → is_reference ≡ is_reference_block s place → place ≡ i % s.interval

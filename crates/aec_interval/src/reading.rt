@@ -34,7 +34,6 @@ pub(crate) struct Wanted {
 }
 
 /// Whether so many blocks are fewer than `count` samples need.
-#[tactic(auto, using(crate::proofs::NeededLemmas::needed))]
 fn are_fewer(params: &Params, blocks: u64, count: u64) -> bool
     ensures { result ≡ nat_lt blocks (div_ceil count params.now.block_size) }
 {

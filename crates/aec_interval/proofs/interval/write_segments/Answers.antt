@@ -1,7 +1,7 @@
 use Rattle.std.proofs.Common.{arith, ◌*◌, ◌<◌, min, length, ap, ◌∙◌}
 use Rattle.std.specs.Slice.Iter.{chunks_rest}
 use Rattle.aec_interval.proofs.BlockLemmas.{block_size-positive}
-use Rattle.aec_interval.proofs.SegmentLemmas.{piece_taken, interval-more}
+use Rattle.aec_interval.proofs.SegmentLemmas.{piece_taken, interval-more, interval-end}
 use Rattle.aec_interval.proofs.interval.write_segments.Goals as goal
 
 pub loop-segment-preserved : goal.loop-segment-preserved
@@ -20,3 +20,8 @@ loop-segment-preserved c =
       so_far = interval-more c.args.params.now _ _ _ _ _ _ _ _ _ positive so_far piece steps.1.0 (c.copied-preceding.ensures ∙ c.last.ensures.value)
           c.in_ok-write_segment.ensures.kept c.in_ok-write_segment.ensures.ok;
     }
+
+pub returns-clause-ok : goal.returns-clause-ok
+returns-clause-ok c =
+    interval-end c.args.params.now _ _ _ _ _ (block_size-positive c.args.params.now c.block_size.ensures.allowed) c.in-None.ensures.steps.1.0
+    c.loop-segment.invariant.so_far

@@ -1,4 +1,4 @@
-use Rattle.std.proofs.Common.{ap, refl, sym, ◌∙◌, arith, length, vec_len}
+use Rattle.std.proofs.Common.{rules, ap, refl, sym, ◌∙◌, arith, length, vec_len}
 use Rattle.aec_interval.specs.Reached.{RefusesUpTo}
 use Rattle.aec_interval.proofs.ReadNextLemmas.{reached-start}
 use Rattle.aec_interval.proofs.ReadIntervalLemmas.{place, inside-begun, no_room-refuses, by_its_end, gone-over, len-within}
@@ -37,3 +37,13 @@ returns-then-not-goes_on-clause-len c =
 
 pub read_next-requires-clause-place : goal.read_next-requires-clause-place
 read_next-requires-clause-place c = sym (place _ _ _ _ _ _ _ _ c.loop-block.invariant.inside)
+
+pub loop-block-preserved : goal.loop-block-preserved
+loop-block-preserved c = record {
+  reached = search rules;
+  list = search rules;
+  inside = search rules;
+  len = (len-within _ _ _ _ _ _ _ _ c.loop-block.invariant.inside _ c.in_ok-block.ensures.next (vec_len c.loop-block.samples) _
+      c.loop-block.invariant.len c.in_ok-block.ensures.len).0;
+  capacity = omega arith;
+}

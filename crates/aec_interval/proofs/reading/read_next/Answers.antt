@@ -1,4 +1,5 @@
-use Rattle.std.proofs.Common.{◌-◌, sym, refl, subst}
+use Rattle.std.proofs.Common.{◌-◌, sym, refl, subst, arith, vec_len, vec_capacity}
+use Rattle.std.proofs.Math.Nat.{mul-le-mul_right}
 use Rattle.aec_block.specs.ReadCds.{as_cds}
 use Rattle.aec_interval.specs.NextBlock.{FillsNext}
 use Rattle.aec_interval.specs.NextSet.{IsNextCds, cds_front}
@@ -6,7 +7,7 @@ use Rattle.aec_interval.specs.Reached.{AreFilled}
 use Rattle.aec_interval.proofs.ReachedLemmas.{AreFilled-reached}
 use Rattle.aec_interval.proofs.RefusalLemmas.{of_refusal}
 use Rattle.aec_interval.proofs.WantedSetLemmas.{due_there, unread-wrong}
-use Rattle.aec_interval.proofs.ReadNextLemmas.{refuses-fault, led-reached, unplaced-refuses, memory-refuses, kept-bounds, next-cds, reached-next, few-wanted, comes-next}
+use Rattle.aec_interval.proofs.ReadNextLemmas.{refuses-fault, led-reached, unplaced-refuses, memory-refuses, kept-bounds, next-cds, reached-next, more_room, few-wanted, comes-next}
 use Rattle.aec_interval.proofs.reading.read_next.Goals as goal
 
 pub returns-in_err-found-clause-refuses : goal.returns-in_err-found-clause-refuses
@@ -75,3 +76,21 @@ returns-clause-next c =
     _ _ _ (due_there c.args.params.now _ _ _ c.has_reference.ensures.value c.requires.place)
     (c.stands_for.ensures _) c.in_ok-found.ensures.ok _ _ c.in_ok-next.ensures.value
     c.in_ok-next.ensures.within c.requires.wanted.low c.requires.wanted.counted
+
+pub returns-in_err-reserve_blocks-clause-full : goal.returns-in_err-reserve_blocks-clause-full
+returns-in_err-reserve_blocks-clause-full c =
+    let bounds =
+    kept-bounds _ _ _ _ _ c.args.reader.now c.read_into.new.reader _ _ c.has_reference.ensures.allowed c.requires.reached c.requires.wanted.wanted
+    _ _ _ (due_there c.args.params.now _ _ _ c.has_reference.ensures.value c.requires.place)
+    (c.stands_for.ensures _) c.in_ok-found.ensures.ok _ _ c.in_ok-next.ensures.value _ c.blocks_kept-kept.ensures in
+    of_refusal _ _ _ c.from_residual-in_err-reserve_blocks.ensures.1
+    (λ _. more_room _ _ (vec_capacity c.args.samples.now) (vec_len c.args.samples.now) c.args.params.now.block_size
+    (omega (arith, bounds.1, c.in_ok-next.ensures.within)) c.in_err-reserve_blocks.ensures.full)
+
+pub returns-clause-len : goal.returns-clause-len
+returns-clause-len c =
+    let bounds =
+    kept-bounds _ _ _ _ _ c.args.reader.now c.read_into.new.reader _ _ c.has_reference.ensures.allowed c.requires.reached c.requires.wanted.wanted
+    _ _ _ (due_there c.args.params.now _ _ _ c.has_reference.ensures.value c.requires.place)
+    (c.stands_for.ensures _) c.in_ok-found.ensures.ok _ _ c.in_ok-next.ensures.value _ c.blocks_kept-kept.ensures in
+    omega (arith, mul-le-mul_right c.args.params.now.block_size bounds.1, c.push_cds.ensures.len, c.in_ok-reserve_blocks.ensures.len)
