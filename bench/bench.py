@@ -5,8 +5,9 @@ Runs the program at PATH_OF_AEC ('ours') and the command-line client of libaec (
 variable LIBAEC, else /usr/bin/aec) on generated samples; both decode the stream that theirs has coded. Prints tables in
 Markdown: seconds of processor time (user and system, the least of nine runs in turn, starting included), peak memory (the
 maximum resident set, as /usr/bin/time tells it), the ratios, and how both grow from 1 to 16 MiB of samples. A further table
-has the speeds of each input both ways, theirs divided by ours in seconds, and their geometric mean; the last one the memory
-of both for 16 and 64 MiB of samples, and for a short stream of very many. Nothing is judged.
+has the speeds of each input both ways, theirs divided by ours in seconds, and their geometric mean; the next one the seconds of
+ours with even block sizes, which theirs doesn't code; the last one the memory of both for 16 and 64 MiB of samples, and for a
+short stream of very many. Nothing is judged.
 
 The inputs are one MiB of samples each, repeated for the greater sizes, so a coder that takes time in proportion to
 its input takes 16 times as long for 16 MiB. With --quick only 1 MiB is run, once.
@@ -25,6 +26,9 @@ import tempfile
 MIB = 1 << 20
 SIZES = [1, 4, 16]
 SETTINGS = [(8, 128), (16, 128), (64, 128), (8, 4096), (16, 4096), (64, 4096)]
+EVEN_BLOCKS = [8, 10, 12, 16, 30, 32]
+# Which of these are compared: a block size, and the next power of two below.
+BESIDE = [(10, 8), (12, 8), (30, 16)]
 
 
 # Each input: the options of its samples, and a function that gives one MiB of stored samples, least byte first.
@@ -160,6 +164,35 @@ def summary(coding, decoding):
     print(f"| geometric mean | | | {means[0]:.2f} | {means[1]:.2f} |")
 
 
+def even_row(name, job, runs, commands, folder):
+    """Prints the seconds of one job with each block size, from runs in turn, and what each takes beside a power of two."""
+    told = [[run(command, folder) for command in commands] for _ in range(runs)]
+    seconds = dict(zip(EVEN_BLOCKS, (least(one)[0] for one in zip(*told))))
+    ratios = [f"{seconds[block] / seconds[power]:.2f}" for block, power in BESIDE]
+    print(f"| {name} | {job} | {' | '.join([f'{it:.2f}' for it in seconds.values()] + ratios)} |", flush=True)
+
+
+def even_table(ours, pieces, folder, size, runs):
+    """Prints the seconds of ours with even block sizes, r 128. It decodes its own streams."""
+    heads = [f"J {block}, s" for block in EVEN_BLOCKS] + [f"{block} / {power}" for block, power in BESIDE]
+    print(f"\n### Even block sizes, {size} MiB of samples\n")
+    print(f"| Input | Job | {' | '.join(heads)} |")
+    print("|---" * (2 + len(heads)) + "|")
+    raw, dest = os.path.join(folder, "raw"), os.path.join(folder, "dest")
+    for name, options, _ in INPUTS:
+        with open(raw, "wb") as file:
+            file.write(pieces[name] * size)
+        coding, decoding = [], []
+        for block in EVEN_BLOCKS:
+            words = [*options, "--even-blocks", "-j", str(block), "-r", "128"]
+            coded = os.path.join(folder, f"coded{block}")
+            subprocess.run([ours, *words, raw, coded], check=True)
+            coding.append([ours, *words, raw, dest])
+            decoding.append([ours, "-d", *words, coded, dest])
+        even_row(name, "coding", runs, coding, folder)
+        even_row(name, "decoding", runs, decoding, folder)
+
+
 def memory_row(job, what, ours, theirs, words, source, folder):
     """Prints the memory of one job on one file."""
     (_, our_mib), (_, their_mib) = measure(job, ours, theirs, words, source, folder, 1)
@@ -203,6 +236,7 @@ def main():
             job: table(job, ours, theirs, pieces, folder, sizes, runs) for job in ("decoding", "coding")
         }
         summary(speeds["coding"], speeds["decoding"])
+        even_table(ours, pieces, folder, sizes[-1], runs)
         memory(ours, theirs, pieces["16-bit detector"], folder, [1] if quick else [16, 64], 1 if quick else 222)
 
 

@@ -32,6 +32,10 @@ CASES = [
     (ZEROS * 66 + RAMP + ZEROS * 5 + [255] + ZEROS * 9, Settings(preprocess=False, interval=128)),
     (STEPS * 4 + [200] * 300 + STEPS, Settings(block_size=16, interval=5)),
     (STEPS * 4 + [200] * 300 + STEPS, Settings(block_size=64, interval=3, pad=True)),
+    (STEPS + ZEROS * 7 + STEPS, Settings.of_blocks(10, preprocess=False, interval=5)),
+    (STEPS + [200] * 70 + STEPS, Settings.of_blocks(12, interval=3, pad=True)),
+    (RAMP * 4 + ZEROS * 12 + STEPS, Settings.of_blocks(14, interval=128)),
+    (STEPS * 4 + [200] * 300 + STEPS, Settings.of_blocks(62, interval=5)),
 ]
 
 

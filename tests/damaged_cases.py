@@ -33,7 +33,7 @@ def some_samples(settings, chance):
         nature = chance.randrange(4)
         if nature == 0:
             still = samples[-1] if samples and settings.preprocess else 0
-            samples += [still] * (chance.choice(RUNS if size == 8 else RUNS[:8]) * size)
+            samples += [still] * (chance.choice(RUNS if size < 16 else RUNS[:8]) * size)
         elif nature == 1:
             samples += [chance.randint(least, most) for _ in range(size)]
         elif nature == 2:

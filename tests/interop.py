@@ -6,7 +6,8 @@ of Debian's package libaec-tools), and checks for each case that
   - ours reads the stream of theirs back to the samples,
   - theirs reads the stream of ours back to the samples,
   - the stream of ours is never the longer one.
-The expected samples are those that were generated, so neither program is judged by itself. Where options tie, the two
+Its coder refuses the even block sizes that `--even-blocks` allows, and its decoder doesn't, so of these cases the second is
+checked alone. The expected samples are those that were generated, so neither program is judged by itself. Where options tie, the two
 may choose differently, so streams are compared in length alone. A stream carries no sample count: each program adds
 filler behind the samples, so the first samples are compared. Theirs answers status 0 for cut streams too, so it is
 judged by what it writes. Padded intervals are left out: the rule of -p is each program's own.
@@ -23,10 +24,9 @@ import tempfile
 from typing import NamedTuple
 
 from program import Program, Tally
-from settings import Settings
+from settings import EVEN_BLOCK_SIZES, STANDARD_BLOCK_SIZES, Settings
 
 WIDTHS = [1, 2, 3, 4, 5, 7, 8, 9, 12, 16, 17, 20, 24, 25, 31, 32]
-BLOCK_SIZES = [8, 16, 32, 64]
 INTERVALS = [1, 2, 3, 63, 64, 65, 128, 200, 4096]
 # Lengths of runs of zero blocks, around the ends of the run codes and of a segment of 64 blocks.
 RUNS = [1, 2, 3, 4, 5, 6, 7, 62, 63, 64, 65, 127, 128, 129]
@@ -135,7 +135,7 @@ KINDS = {
 def cases(chance):
     """Every width with every block size, sign, preprocessing and kind of samples; the other choices fall by chance."""
     for bits in WIDTHS:
-        for block_size in BLOCK_SIZES:
+        for block_size in STANDARD_BLOCK_SIZES:
             for number in range(4):
                 for kind in KINDS:
                     settings = Settings(
@@ -151,6 +151,16 @@ def cases(chance):
                     yield Case(kind, settings, cut=chance.choice([0, 0, 1, block_size // 2, block_size - 1]))
 
 
+def even_cases(chance):
+    """Two of every other even block size and kind of samples; the other choices fall by chance."""
+    for block_size in EVEN_BLOCK_SIZES:
+        for kind in KINDS if block_size not in STANDARD_BLOCK_SIZES else []:
+            for _ in range(2):
+                settings = Settings.by_chance(chance, WIDTHS, [block_size], INTERVALS, restricted=0.2)
+                settings = settings._replace(block_size=block_size, even_blocks=True, pad=False)
+                yield Case(kind, settings, cut=chance.choice([0, 0, 1, block_size // 2, block_size - 1]))
+
+
 def agrees(read, *wanted):
     """Whether what was read begins with one of the wanted bytes, and is nothing where these are nothing."""
     return read is not None and any(read[: len(it)] == it and bool(it) >= bool(read) for it in wanted)
@@ -159,7 +169,7 @@ def agrees(read, *wanted):
 def try_case(case, chance, ours, theirs, tally):
     """Both programs on one case."""
     settings = case.settings
-    options = settings.options()
+    options, their_options = settings.options(), settings._replace(even_blocks=False).options()
     samples = KINDS[case.kind](settings.least(), settings.most(), settings.block_size, chance)
     samples = samples[: len(samples) - case.cut]
     # unused bits: zero is what both take; in decoding ours writes copies of the sign, theirs that or zeros
@@ -168,15 +178,17 @@ def try_case(case, chance, ours, theirs, tally):
     def check(is_so, what):
         tally.holds(is_so, f"{what}: {' '.join(options)}: {case.kind}, {case.cut} short of a block")
 
-    their_stream = theirs.answer(options, given)
+    our_stream = ours.answer(options, given)
+    check(our_stream is not None, f"ours codes ({ours.said})")
+    read = theirs.answer(["-d", *their_options], our_stream or b"")
+    check(agrees(read, given, signed), f"theirs reads ours ({theirs.said})")
+    if settings.even_blocks:
+        return
+
+    their_stream = theirs.answer(their_options, given)
     check(their_stream is not None, f"theirs codes ({theirs.said})")
     read = ours.answer(["-d", *options], their_stream or b"")
     check(agrees(read, signed), f"ours reads theirs ({ours.said})")
-
-    our_stream = ours.answer(options, given)
-    check(our_stream is not None, f"ours codes ({ours.said})")
-    read = theirs.answer(["-d", *options], our_stream or b"")
-    check(agrees(read, given, signed), f"theirs reads ours ({theirs.said})")
     lengths = len(our_stream or b""), len(their_stream or b"")
     check(lengths[0] <= lengths[1], f"ours is no longer ({lengths[0]} and {lengths[1]} bytes)")
 
@@ -193,7 +205,7 @@ def main():
     path = os.environ.get("LIBAEC", "/usr/bin/aec")
     tally = Tally()
     chance = random.Random(121)
-    listed = list(cases(chance))
+    listed = [*cases(chance), *even_cases(chance)]
     if not is_theirs(path):
         tally.print(len(listed), f"libaec-tools isn't installed: no client of libaec at {path}")
         return 0

@@ -35,6 +35,15 @@ JOBS = [
     Job("an edit", ["--edit", "script", "--count", "48"], STILL_STREAM, CHANGED_STREAM, SCRIPT),
 ]
 
+# Blocks of ten samples, one in an interval; of those that are appended three are samples.
+TEN = ["--even-blocks", "-j", "10", "-r", "1"]
+RAMP, RAMP_STREAM = bytes(range(10)), bytes.fromhex("20 09 24 92 48")
+EVEN_JOBS = [
+    Job("coding of blocks of ten", TEN, RAMP, RAMP_STREAM),
+    Job("decoding of blocks of ten", ["-d", "--count", "10", *TEN], RAMP_STREAM, RAMP),
+    Job("an edit of blocks of ten", ["--edit", "script", "--count", "10", *TEN], RAMP_STREAM, RAMP_STREAM + b"\0\x40", b"append 0 0 0\n"),
+]
+
 # One interval of zeros, as long as can be: 64 segments of 64 blocks of 64 samples. Each segment is a run to its end, the
 # identifier and the number 4, and the first has the reference sample.
 LONGEST = ["-j", "64", "-r", "4096"]

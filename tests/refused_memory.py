@@ -21,7 +21,7 @@ from concurrent.futures import ProcessPoolExecutor
 from functools import partial
 from typing import NamedTuple, Optional
 
-from jobs import CHANGED_STREAM, EDIT_LINES, JOBS, LARGE_JOBS, LONGEST, ZEROS, ZEROS_STREAM, Job
+from jobs import EDIT_LINES, EVEN_JOBS, JOBS, LARGE_JOBS, LONGEST, ZEROS, ZEROS_STREAM, Job
 from program import Program, Tally
 from refusing import MOST_GROWTHS, NO_COMPILER, Growths, build, has_compiler, ways
 from spelling import bytes_of_bits
@@ -48,7 +48,7 @@ def succeeding(job):
 
 
 RUNS = [
-    *map(succeeding, JOBS),
+    *map(succeeding, JOBS + EVEN_JOBS),
     succeeding(Job("coding of many zeros", LONGEST, ZEROS, ZEROS_STREAM)),
     *map(succeeding, LARGE_JOBS[1:]),
     Run("help", ["--help"], b"", b"", 0, None, None),

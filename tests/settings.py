@@ -3,6 +3,9 @@
 import struct
 from typing import NamedTuple
 
+STANDARD_BLOCK_SIZES = [8, 16, 32, 64]
+EVEN_BLOCK_SIZES = range(8, 65, 2)
+
 
 class Settings(NamedTuple):
     """How samples are coded and stored. What isn't given is as the program has it where no option is given."""
@@ -16,14 +19,16 @@ class Settings(NamedTuple):
     three_byte: bool = False
     pad: bool = False
     restricted: bool = False
+    even_blocks: bool = False
 
     @classmethod
     def by_chance(cls, chance, widths, block_sizes, intervals, restricted):
-        """Some settings, with width, J and r from lists, and so often restricted, where the width is at most 4."""
-        is_restricted = chance.random() < restricted
+        """Some settings, with width, J and r from lists, and so often restricted, where the width is at most 4. Each third has
+        the flag for even block sizes, and any of them."""
+        is_restricted, is_even = chance.random() < restricted, chance.random() < 1 / 3
         return cls(
             bits=chance.choice([1, 2, 3, 4] if is_restricted else widths),
-            block_size=chance.choice(block_sizes),
+            block_size=chance.choice(EVEN_BLOCK_SIZES if is_even else block_sizes),
             interval=chance.choice(intervals),
             signed=chance.random() < 0.5,
             preprocess=chance.random() < 0.7,
@@ -31,7 +36,13 @@ class Settings(NamedTuple):
             three_byte=chance.random() < 0.5,
             pad=chance.random() < 0.3,
             restricted=is_restricted,
+            even_blocks=is_even,
         )
+
+    @classmethod
+    def of_blocks(cls, block_size=8, **more):
+        """Settings with that J, and with the flag where it needs it."""
+        return cls(block_size=block_size, even_blocks=block_size not in STANDARD_BLOCK_SIZES, **more)
 
     def options(self):
         """The words that a program takes for them."""
@@ -42,9 +53,10 @@ class Settings(NamedTuple):
             "-3": self.three_byte,
             "-p": self.pad,
             "-t": self.restricted,
+            "--even-blocks": self.even_blocks,
         }
         numbers = ["-n", str(self.bits), "-j", str(self.block_size), "-r", str(self.interval)]
-        return numbers + [letter for letter, is_set in flags.items() if is_set]
+        return numbers + [flag for flag, is_set in flags.items() if is_set]
 
     def least(self):
         return -(1 << (self.bits - 1)) if self.signed else 0

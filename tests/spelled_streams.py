@@ -51,6 +51,21 @@ n1 r1 | bits 0001 0 000001 1 1 1 | 8 | value too large at bit 0
  | 00 78 8F | 9 | 7*8 8
 """
 
+# Blocks that aren't whole eights.
+EVEN = """\
+J10 r1 unmapped | bits 011 1 01 001 0001 01 001 0001 1 1 01  00 01 10 11 00 01 10 11 01 10 | 10 | 0 5 10 15 4 9 14 3 1 6
+J10 r1 unmapped | bits 0001 1 01 001 0001 00001 | 10 | 0 0 1 0 0 1 2 0 1 1
+J12 r1 | bits 0001 00000111 1 01 001 00001 1 000001 | 12 | 7 7 6 6 6 5 4 3 3 3 3 4
+n12 J14 r1 signed unmapped | bits 1111 100000000000 011111111111*12 111111111111 | 14 | -2048 2047*12 -1
+n1 J14 r1 unmapped | bits 110 1*14 00001*14 | 14 | 1*14
+n1 J14 r1 unmapped | bits 110 1*14 00001*13 00010 | 14 | value too large at bit 0
+n1 J10 r1 unmapped | bits 001 1*9 001 | 10 | value too large at bit 0
+n2 J30 r1 restricted unmapped | bits 1 00011011*7 0010 | 30 | 0 1 2 3 0 1 2 3 0 1 2 3 0 1 2 3 0 1 2 3 0 1 2 3 0 1 2 3 0 2
+J62 r2 | bits 0000 00000101 1  001 1*60 01 001 | 124 | 5*122 4 5
+J10 r130 unmapped | bits 0000 00001 | - | 0*640
+J10 r1 padded | bits 0000 00000111 1 111  001 00000001 1*8 01 | 20 | 7*10 1*9 0
+"""
+
 # Runs of zero blocks, where segments and intervals end, and intervals that are padded.
 RUNS = """\
 n1 r130 unmapped | bits 0000 0*62 1  111 10000000  0000 1  0000 00001  111 00000001  0000 00001  0000 1 | 1048 | 0*496 \
@@ -83,7 +98,7 @@ SWITCHES = {
 
 def settings_of(cell):
     asked = dict(SWITCHES[word] if word in SWITCHES else (NUMBERS[word[0]], int(word[1:])) for word in cell.split())
-    return Settings(**asked)
+    return Settings.of_blocks(**asked)
 
 
 def repeated(cell):
@@ -108,4 +123,4 @@ def worked(row):
     )
 
 
-SPELLED = [worked(row) for row in (WIDTHS + OPTIONS + RUNS).splitlines()]
+SPELLED = [worked(row) for row in (WIDTHS + OPTIONS + EVEN + RUNS).splitlines()]

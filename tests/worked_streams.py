@@ -23,6 +23,7 @@ def of_hex(text):
 ZEROS = of_hex("00 04 00 10 00 40")  # 48 zeros
 DEFAULT, PADDED, PLAIN = Settings(), Settings(pad=True), Settings(preprocess=False)
 LONG = Settings(interval=64)
+TEN = Settings.of_blocks(10, interval=1)
 ONE_BIT = Settings(bits=1, preprocess=False)
 EXTREMES = [-(2**31), 2**31 - 1] * 4
 
@@ -30,6 +31,7 @@ EXTREMES = [-(2**31), 2**31 - 1] * 4
 EXAMPLES = [
     Worked(of_hex("00 08"), DEFAULT, 8, [0] * 8),
     Worked(of_hex("20 09 24 92"), DEFAULT, 8, list(range(8))),
+    Worked(of_hex("20 09 24 92 48"), TEN, 10, list(range(10))),
     Worked(of_hex("00 78"), DEFAULT, 5, [7] * 5),
     Worked(of_hex("00 04 00 20"), DEFAULT, 17, [0] * 17),
     Worked(of_hex("00 04 00 08"), PADDED, 17, [0] * 17),
@@ -63,6 +65,7 @@ READINGS = [
     Worked(of_hex("27 F8"), ONE_BIT, 8, None, "value too large at bit 0"),
     Worked(of_hex("E0 00"), PLAIN, None, None, cut(0)),
     Worked(of_hex("40 15 55 80"), DEFAULT, None, list(range(8))),
+    Worked(of_hex("40 15 55 58 00"), TEN, None, list(range(10))),
     Worked(of_hex("10 07 80"), DEFAULT, None, [0] * 8),
     Worked(of_hex("E0 00 20 40 60 80 A0 C0 E0"), PLAIN, None, list(range(8))),
     # each front of a stream of three intervals

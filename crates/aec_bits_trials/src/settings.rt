@@ -27,6 +27,14 @@ pub(crate) const fn three_byte(bits: u32, signed: bool) -> Settings {
     }
 }
 
+/// With the flag for even block sizes.
+pub(crate) const fn even_blocks(settings: Settings) -> Settings {
+    Settings {
+        even_blocks: true,
+        ..settings
+    }
+}
+
 /// The most significant byte first.
 pub(crate) const fn msb_first(settings: Settings) -> Settings {
     Settings {

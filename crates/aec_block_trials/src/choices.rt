@@ -66,25 +66,45 @@ fn maps_by_the_table(rt: HostRuntime) -> Result<(), Fail> {
     Ok(())
 }
 
+/// The choice for the block of these values behind the reference sample 0, and what is written by it.
+fn expect_written(
+    rt: &impl Abort,
+    alloc: Global,
+    settings: Settings,
+    values: &[u32],
+    wanted: Choice,
+    bytes: &[u8],
+) -> Result<(), Fail> {
+    let params = Params::new(settings)?;
+    let block = block_of(alloc, Some(0), values);
+    holds(rt, is_full(&params, &block));
+    let choice = choose(&params, &block);
+    same(rt, choice, wanted);
+    let mut out = BitBuf::new(alloc);
+    write_block(&params, &block, choice, &mut out)?;
+    expect_bits(rt, &out, wanted.bits, bytes);
+    Ok(())
+}
+
+// k = 0 and k = 1 have equal lengths.
 #[test]
 fn chooses_and_writes_the_shortest(rt: HostRuntime) -> Result<(), Fail> {
-    let params = Params::new(Settings::USUAL)?;
-    // k = 0 and k = 1 have equal lengths.
-    let block = block_of(rt.alloc(), Some(0), &[1, 2, 2, 2, 2, 2, 2]);
-    holds(&rt, is_full(&params, &block));
-    let choice = choose(&params, &block);
-    same(
-        &rt,
-        choice,
-        Choice {
-            coding: Coding::Split(0),
-            bits: 31,
-        },
-    );
-    let mut out = BitBuf::new(rt.alloc());
-    write_block(&params, &block, choice, &mut out)?;
-    expect_bits(&rt, &out, 31, &[0x20, 0x09, 0x24, 0x92]);
-    Ok(())
+    let split = Choice {
+        coding: Coding::Split(0),
+        bits: 31,
+    };
+    let eight = [1, 2, 2, 2, 2, 2, 2];
+    let bytes = [0x20, 0x09, 0x24, 0x92];
+    expect_written(&rt, rt.alloc(), Settings::USUAL, &eight, split, &bytes)?;
+    let settings = Settings {
+        block_size: 10,
+        even_blocks: true,
+        ..Settings::USUAL
+    };
+    let split = Choice { bits: 37, ..split };
+    let ten = [1, 2, 2, 2, 2, 2, 2, 2, 2];
+    let bytes = [0x20, 0x09, 0x24, 0x92, 0x48];
+    expect_written(&rt, rt.alloc(), settings, &ten, split, &bytes)
 }
 
 #[test]
@@ -170,7 +190,7 @@ fn fixed_value(case: u32, place: u32, most: u32) -> u32 {
         0 => 0,
         1 => 1,
         2 => place,
-        3 if place == case / 6 % 8 => most,
+        3 if place == case / 6 % 64 => most,
         3 => 0,
         4 => most,
         _ => (noise ^ (noise >> 12)).wrapping_shr(case / 6),
@@ -294,11 +314,13 @@ fn compare_choices(
 
 #[test]
 fn chooses_as_plain_lengths_say(rt: HostRuntime) -> Result<(), Fail> {
-    for block_size in [8, 16, 32, 64] {
+    for block_size in [8, 10, 12, 14, 16, 32, 62, 64] {
+        let even_blocks = ![8, 16, 32, 64].contains(&block_size);
         for bits in [1, 2, 3, 4, 5, 8, 9, 16, 17, 24, 32] {
             let params = Params::new(Settings {
                 bits,
                 block_size,
+                even_blocks,
                 ..Settings::USUAL
             })?;
             let cases = if [1, 8, 16, 32].contains(&bits) {
@@ -312,6 +334,7 @@ fn chooses_as_plain_lengths_say(rt: HostRuntime) -> Result<(), Fail> {
                     bits,
                     block_size,
                     restricted: true,
+                    even_blocks,
                     ..Settings::USUAL
                 })?;
                 compare_choices(&rt, rt.alloc(), &params, 200)?;

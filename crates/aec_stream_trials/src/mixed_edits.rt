@@ -26,7 +26,7 @@ const SHORT: Row = Row {
     limit: 100,
 };
 
-const ROWS: [Row; 10] = [
+const ROWS: [Row; 11] = [
     SHORT,
     Row {
         settings: Settings {
@@ -146,6 +146,19 @@ const ROWS: [Row; 10] = [
         most: 8,
         start: 0,
         limit: 100,
+    },
+    Row {
+        settings: Settings {
+            bits: 12,
+            block_size: 14,
+            even_blocks: true,
+            ..Settings::USUAL
+        },
+        low: 0,
+        high: 4095,
+        most: 28,
+        start: 30,
+        limit: 200,
     },
 ];
 

@@ -27,6 +27,15 @@ pub(crate) const fn unprocessed(interval: u32) -> Settings {
     }
 }
 
+/// Blocks of an even number of samples, and intervals of so many blocks.
+pub(crate) const fn even_blocks(block_size: u32, interval: u32) -> Settings {
+    Settings {
+        block_size,
+        even_blocks: true,
+        ..with_interval(interval)
+    }
+}
+
 /// With padding.
 pub(crate) const fn padded() -> Settings {
     Settings {

@@ -69,3 +69,38 @@ FF FF 01 00*3 01 00*2 03 00*2 02 00*2 FE FF 01 FF FF 01 FF FF 01 00*3 \
 fn each_option_changes_a_run(rt: HostRuntime) -> Result<(), Fail> {
     runs_end_so(&rt, rt.alloc(), OPTIONS)
 }
+
+// Blocks that aren't whole eights, in both directions, one in an interval: a ramp by splitting with k = 0, and read with k = 1; numbers
+// from 128 on by no compression, of 12 bits too; from 8 on by splitting with k = 3; by the second extension, of a reference block and
+// restricted; padded zero blocks. Then two in an interval, the first one zeros, and a run to the end of a segment. Last a block of eight.
+const EVEN_BLOCKS: &str = "\
+       --even-blocks -j 10 -r 1 ten got | 00 01 02 03 04 05 06 07 08 09 | 0 | 20 09 24 92 48
+    --even-blocks -j 10 -r 1 -d ten got | 20 09 24 92 48 | 0 | 00 01 02 03 04 05 06 07 08 09
+    --even-blocks -j 10 -r 1 -d ten got | 40 15 55 58 00 | 0 | 00 01 02 03 04 05 06 07 08 09
+    --even-blocks -j 12 -r 1 -N ten got | 80 81 82 83 84 85 86 87 88 89 8A 8B | 0 | F0 10 30 50 70 90 B0 D0 F1 11 31 51 60
+ --even-blocks -j 12 -r 1 -N -d ten got | F0 10 30 50 70 90 B0 D0 F1 11 31 51 60 | 0 | 80 81 82 83 84 85 86 87 88 89 8A 8B
+    --even-blocks -j 14 -r 1 -N -n 12 -s ten got | 00 F8 FF 07 FF 07 FF 07 FF 07 FF 07 FF 07 FF 07 FF 07 FF 07 FF 07 FF 07 FF 07 FF FF | 0 | \
+F8 00 7F F7 FF 7F F7 FF 7F F7 FF 7F F7 FF 7F F7 FF 7F F7 FF FF F0
+ --even-blocks -j 14 -r 1 -N -n 12 -s -d ten got | F8 00 7F F7 FF 7F F7 FF 7F F7 FF 7F F7 FF 7F F7 FF 7F F7 FF FF F0 | 0 | \
+00 F8 FF 07 FF 07 FF 07 FF 07 FF 07 FF 07 FF 07 FF 07 FF 07 FF 07 FF 07 FF 07 FF FF
+    --even-blocks -j 14 -r 1 -N ten got | 08 09 0A 0B 0C 0D 0E 0F 10 11 12 13 14 15 | 0 | 8A AA A4 92 48 29 CB B8 29 CA
+ --even-blocks -j 14 -r 1 -N -d ten got | 8A AA A4 92 48 29 CB B8 29 CA | 0 | 08 09 0A 0B 0C 0D 0E 0F 10 11 12 13 14 15
+    --even-blocks -j 10 -r 1 -N ten got | 00*8 01 00 | 0 | 1F 40
+ --even-blocks -j 10 -r 1 -N -d ten got | 1F 40 | 0 | 00*8 01 00
+       --even-blocks -j 14 -r 1 ten got | 00*13 01 | 0 | 10 0F C8
+    --even-blocks -j 14 -r 1 -d ten got | 10 0F C8 | 0 | 00*13 01
+ --even-blocks -j 10 -r 1 -n 2 -t ten got | 00*9 03 | 0 | 4F 00 40
+--even-blocks -j10 -r1 -n2 -t -d  ten got | 4F 00 40 | 0 | 00*9 03
+    --even-blocks -j 10 -r 1 -p ten got | 00*11 | 0 | 00 08 00 08
+ --even-blocks -j 10 -r 1 -p -d ten got | 00 08 00 08 | 0 | 00*20
+            --even-blocks -j 62 ten got | 05*122 04 05 | 0 | 00 58 FF FF FF FE 01
+         --even-blocks -j 62 -d ten got | 00 58 FF FF FF FE 01 | 0 | 05*122 04 05
+      --even-blocks -j 10 -r 64 ten got | 00*640 | 0 | 00 00 80
+   --even-blocks -j 10 -r 64 -d ten got | 00 00 80 | 0 | 00*640
+                  --even-blocks ten got | 00 01 02 03 04 05 06 07 | 0 | 20 09 24 92
+               --even-blocks -d ten got | 20 09 24 92 | 0 | 00 01 02 03 04 05 06 07";
+
+#[test]
+fn blocks_of_an_even_size_are_coded_and_decoded(rt: HostRuntime) -> Result<(), Fail> {
+    runs_end_so(&rt, rt.alloc(), EVEN_BLOCKS)
+}

@@ -133,3 +133,21 @@ const ZERO_BLOCKS: &str = "\
 fn cuts_before_zero_bits_are_seen_by_a_count(rt: HostRuntime) -> Result<(), Fail> {
     engines_answer_so(&rt, rt.alloc(), ZERO_BLOCKS)
 }
+
+// Blocks of ten and fourteen: cut in the last values; more values than may be, or than are asked for; the last value or the last
+// member of a pair too large, by splitting with k = 0 and k = 5 and by the second extension.
+const EVEN_BLOCKS: &str = "\
+-d --even-blocks -j 10 -r 1 | 10 9 | 20 09 24 92 | coded data is cut short at bit 0
+-d --even-blocks -j 10 -r 1 | 9 9 | 20 09 24 92 48 | more than 9 samples
+-d --even-blocks -j 10 -r 1 --count 9 | 9 9 | 20 09 24 92 48 | 00 01 02 03 04 05 06 07 08
+-d --even-blocks -j 10 -r 1 --count 11 | 20 9 | 20 09 24 92 48 | coded data is cut short at bit 37
+--range 8:2 --even-blocks -j 10 -r 1 | 10 9 | 20 09 24 92 48 | 08 09
+-d -N -n 1 --even-blocks -j 10 -r 1 | 10 9 | 3F F2 | value too large at bit 0
+-d -N -n 1 --even-blocks -j 10 -r 1 | 10 9 | 1F 04 | value too large at bit 0
+-d -N -n 1 --even-blocks -j 14 -r 1 | 14 20 | DF FF 84 21 08 42 10 84 21 08 42 | 01*14
+-d -N -n 1 --even-blocks -j 14 -r 1 | 14 20 | DF FF 84 21 08 42 10 84 21 08 44 | value too large at bit 0";
+
+#[test]
+fn blocks_of_an_even_size_are_judged_to_their_end(rt: HostRuntime) -> Result<(), Fail> {
+    engines_answer_so(&rt, rt.alloc(), EVEN_BLOCKS)
+}

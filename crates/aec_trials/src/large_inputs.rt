@@ -37,7 +37,7 @@ fn written<R: Abort + Files + Alloc<A = Global>>(
 }
 
 // The words; how long the code is: of each block an identifier of 3 bits and its samples; how long what is decoded.
-const ROUND_TRIPS: [(&str, &str, usize, usize); 2] = [
+const ROUND_TRIPS: [(&str, &str, usize, usize); 3] = [
     (
         "-N much.raw much.aec",
         "-d -N much.aec much.back",
@@ -49,6 +49,12 @@ const ROUND_TRIPS: [(&str, &str, usize, usize); 2] = [
         "-d -N -j 64 -r 4096 much.aec much.back",
         1_054_785,
         1_048_640,
+    ),
+    (
+        "-N --even-blocks -j 62 -r 4096 much.raw much.aec",
+        "-d -N --even-blocks -j 62 -r 4096 much.aec much.back",
+        1_054_949,
+        1_048_606,
     ),
 ];
 

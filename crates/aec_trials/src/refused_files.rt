@@ -29,6 +29,13 @@ const WRONG_WORDS: &str = "\
            -n 40 word same | 00 | 2 | aec: bits per sample must be 1 to 32
      -n 33 -j 10 word same | 00 | 2 | aec: bits per sample must be 1 to 32
       -j 10 -r 0 word same | 00 | 2 | aec: block size must be 8, 16, 32 or 64
+           -j 10 word same | 00 | 2 | aec: block size must be 8, 16, 32 or 64
+ --even-blocks -j 9 word same | 00 | 2 | aec: block size must be even, 8 to 64
+ --even-blocks -j 6 word same | 00 | 2 | aec: block size must be even, 8 to 64
+--even-blocks -j 66 word same | 00 | 2 | aec: block size must be even, 8 to 64
+ --even-blocks -j 9 -r 0 word same | 00 | 2 | aec: block size must be even, 8 to 64
+ --even-blocks -j 9 -n 0 word same | 00 | 2 | aec: bits per sample must be 1 to 32
+ --even-blocks -j 10 -r 0 word same | 00 | 2 | aec: reference sample interval must be 1 to 4096
             -r 0 word same | 00 | 2 | aec: reference sample interval must be 1 to 4096
    -t -r 4097 -s word same | 00 | 2 | aec: reference sample interval must be 1 to 4096
       -t -n 5 -d word same | 00 | 2 | aec: restricted codes need 4 bits per sample or fewer
@@ -53,6 +60,8 @@ const WRONG_WORDS: &str = "\
    -d --count 1 --count 1 word same | 00 | 2 | error:
     --range -1:2 word same | 00 | 2 | error:
    --range 0:1 --range 0:1 word same | 00 | 2 | error:
+   --even-blocks --even-blocks word same | 00 | 2 | error:
+   --even-blocks=10 word same | 00 | 2 | error:
               -x word same | 00 | 2 | error:";
 
 #[test]

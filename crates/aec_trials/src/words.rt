@@ -9,7 +9,7 @@ use std::io::Write;
 use std::test::Fail;
 
 // Words, and the settings that they ask for.
-const OPTIONS: [(&str, Settings); 13] = [
+const OPTIONS: [(&str, Settings); 14] = [
     ("in out", DEFAULTS),
     (
         "-n 20 in out",
@@ -72,6 +72,14 @@ const OPTIONS: [(&str, Settings); 13] = [
         Settings {
             bits: 4,
             restricted: true,
+            ..DEFAULTS
+        },
+    ),
+    (
+        "--even-blocks -j 10 in out",
+        Settings {
+            block_size: 10,
+            even_blocks: true,
             ..DEFAULTS
         },
     ),
@@ -188,6 +196,11 @@ fn failures_have_their_texts(rt: HostRuntime) -> Result<(), Fail> {
             2,
         ),
         (
+            Failure::Usage(Usage::Setting(Fault::EvenBlockSize)),
+            "block size must be even, 8 to 64",
+            2,
+        ),
+        (
             Failure::Usage(Usage::Jobs),
             "only one of -d, --range and --edit may be given",
             2,
@@ -239,7 +252,13 @@ fn help_goes_to_standard_output(rt: HostRuntime) -> Result<(), Fail> {
         &rt,
         text.contains("the rule is this project's own and violates the\n"),
     );
-    for option in ["--range <FIRST:LEN>", "--count <N>", "--version", "--help"] {
+    for option in [
+        "--range <FIRST:LEN>",
+        "--count <N>",
+        "--even-blocks",
+        "--version",
+        "--help",
+    ] {
         holds_at(&rt, text.contains(option), &option);
     }
     for line in text.lines() {

@@ -20,6 +20,7 @@ fn faults_have_texts(rt: HostRuntime) -> Result<(), Fail> {
     let cases = [
         (Fault::BitsPerSample, "bits per sample must be 1 to 32"),
         (Fault::BlockSize, "block size must be 8, 16, 32 or 64"),
+        (Fault::EvenBlockSize, "block size must be even, 8 to 64"),
         (
             Fault::Interval,
             "reference sample interval must be 1 to 4096",

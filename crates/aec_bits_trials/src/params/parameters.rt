@@ -1,5 +1,5 @@
 use crate::asserts::{holds, same, same_at};
-use crate::settings::{restricted, width};
+use crate::settings::{even_blocks, restricted, width};
 use aec_params::{Fault, Params, Settings};
 use std::test::Fail;
 
@@ -27,6 +27,25 @@ fn judges_the_rules_in_order(rt: HostRuntime) {
         (shape(32, 64, 4096), None),
     ];
     for (settings, wanted) in cases {
+        same_at(&rt, Params::new(settings).err(), wanted, &settings);
+    }
+}
+
+#[test]
+fn judges_even_block_sizes(rt: HostRuntime) {
+    let cases = [
+        (shape(8, 10, 2), None),
+        (shape(8, 8, 2), None),
+        (shape(32, 62, 4096), None),
+        (shape(8, 9, 2), Some(Fault::EvenBlockSize)),
+        (shape(8, 6, 2), Some(Fault::EvenBlockSize)),
+        (shape(8, 66, 2), Some(Fault::EvenBlockSize)),
+        (shape(8, 9, 0), Some(Fault::EvenBlockSize)),
+        (shape(33, 9, 2), Some(Fault::BitsPerSample)),
+        (shape(8, 10, 0), Some(Fault::Interval)),
+    ];
+    for (settings, wanted) in cases {
+        let settings = even_blocks(settings);
         same_at(&rt, Params::new(settings).err(), wanted, &settings);
     }
 }

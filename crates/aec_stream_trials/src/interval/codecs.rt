@@ -6,7 +6,7 @@ ghost use Rattle.std.specs.List.{list_all};
 ghost use Rattle.aec_bits.specs.Codec.{IsInterval};
 
 use crate::asserts::{holds, same};
-use crate::settings::padded;
+use crate::settings::{even_blocks, padded, with_interval};
 use crate::shared::expect_bits;
 use aec_bits::{BitBuf, Codec};
 use aec_interval::AecCodec;
@@ -101,27 +101,41 @@ fn codes_intervals_behind_other_bits(rt: HostRuntime) -> Result<(), Fail> {
     expect_interval(&rt, rt.alloc(), Settings::USUAL, &[7; 5], 16, &[0xA0, 0x0F])
 }
 
-// As many samples as an interval can have, from 128 to 254. Without preprocessing each block of 64 is coded by no
-// compression, in 3 bits and 8 a sample: splitting at the greatest k, 5, takes at least 10 bits a sample.
+// So many samples from 128 to 254 in intervals of 4096 blocks. Without preprocessing each block is coded by no compression, in
+// 3 bits and 8 a sample: splitting at the greatest k, 5, takes at least 10 bits a sample.
+fn expect_uncompressed(
+    rt: &impl Abort,
+    alloc: Global,
+    settings: Settings,
+    count: i64,
+    len: u64,
+) -> Result<(), Fail> {
+    let plain = Settings {
+        preprocess: false,
+        ..settings
+    };
+    let mut codec = AecCodec::new(alloc, Params::new(plain)?);
+    let mut samples = Vec::new(alloc);
+    for index in 0..count {
+        samples.push(128 + index % 127)?;
+    }
+    let mut buf = BitBuf::new(alloc);
+    let mut out = Vec::new(alloc);
+    coded_and_back(rt, &mut codec, &samples, &mut buf, &mut out)?;
+    same(rt, buf.len(), len);
+    holds(rt, out == samples);
+    Ok(())
+}
+
+// As many samples as an interval can have, and as many as one of blocks of 62.
 #[test]
 fn codes_the_longest_interval(rt: HostRuntime) -> Result<(), Fail> {
     let longest = Settings {
         block_size: 64,
-        interval: 4096,
-        preprocess: false,
-        ..Settings::USUAL
+        ..with_interval(4096)
     };
-    let mut codec = AecCodec::new(rt.alloc(), Params::new(longest)?);
-    let mut samples = Vec::new(rt.alloc());
-    for index in 0..262_144i64 {
-        samples.push(128 + index % 127)?;
-    }
-    let mut buf = BitBuf::new(rt.alloc());
-    let mut out = Vec::new(rt.alloc());
-    coded_and_back(&rt, &mut codec, &samples, &mut buf, &mut out)?;
-    same(&rt, buf.len(), 2_109_440);
-    holds(&rt, out == samples);
-    Ok(())
+    expect_uncompressed(&rt, rt.alloc(), longest, 262_144, 2_109_440)?;
+    expect_uncompressed(&rt, rt.alloc(), even_blocks(62, 4096), 253_952, 2_043_904)
 }
 
 // Intervals of 16, of eight and of two samples.

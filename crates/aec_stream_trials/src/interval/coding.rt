@@ -2,6 +2,7 @@
 
 use super::streams::expect_code;
 use crate::asserts::{fails, same};
+use crate::settings::even_blocks;
 use aec_interval::encode_all;
 use aec_params::{Fault, Params, Settings};
 use std::alloc::Global;
@@ -91,6 +92,13 @@ fn codes_other_widths(rt: HostRuntime) -> Result<(), Fail> {
     bytes[4] = 0x07;
     bytes[32] = 0xF8;
     expect_code(&rt, rt.alloc(), wide, &extremes, 261, &bytes)
+}
+
+#[test]
+fn codes_blocks_of_ten(rt: HostRuntime) -> Result<(), Fail> {
+    let ramp = [0, 1, 2, 3, 4, 5, 6, 7, 8, 9];
+    let bytes = [0x20, 0x09, 0x24, 0x92, 0x48];
+    expect_code(&rt, rt.alloc(), even_blocks(10, 1), &ramp, 37, &bytes)
 }
 
 /// Compares the code of so many zero blocks in an interval of 4096 blocks; of other blocks behind them there is one, of

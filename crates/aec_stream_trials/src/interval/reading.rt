@@ -1,7 +1,7 @@
 //! Bytes read as samples.
 
 use super::streams::{expect_read, expect_zeros};
-use crate::settings::{padded, unprocessed, with_interval};
+use crate::settings::{even_blocks, padded, unprocessed, with_interval};
 use aec_params::Settings;
 use std::test::Fail;
 
@@ -59,6 +59,9 @@ fn reads_other_spellings(rt: HostRuntime) -> Result<(), Fail> {
         None,
         &ramp,
     )?;
+    let ten = [0, 1, 2, 3, 4, 5, 6, 7, 8, 9];
+    let bytes = [0x40, 0x15, 0x55, 0x58, 0x00];
+    expect_read(&rt, rt.alloc(), even_blocks(10, 1), &bytes, None, &ten)?;
     let plain = unprocessed(2);
     let uncompressed = [0xE0, 0x00, 0x20, 0x40, 0x60, 0x80, 0xA0, 0xC0, 0xE0];
     expect_read(&rt, rt.alloc(), plain, &uncompressed, None, &ramp)?;
