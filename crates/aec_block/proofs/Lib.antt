@@ -25,3 +25,4 @@ pub mod StandingLemmas
 pub mod SkippingLemmas
 pub mod ShortestLemmas
 pub mod ThreeSumsLemmas
+pub mod WorkedEvenBlocks

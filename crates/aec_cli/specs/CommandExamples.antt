@@ -4,7 +4,7 @@ use Rattle.clap.proofs.OnLiterals.{clap_on_literals}
 use Rattle.clap.specs.Faults.{fault_of}
 use Rattle.clap.specs.Simple.{matches_of}
 use Rattle.clap.specs.Walk.{Text, first_of, one_of}
-use Rattle.clap.specs.declared.error.kind.ErrorKind.TheVariants.{ArgumentConflict, DisplayVersion, MissingRequiredArgument, ValueValidation}
+use Rattle.clap.specs.declared.error.kind.ErrorKind.TheVariants.{ArgumentConflict, DisplayVersion, MissingRequiredArgument, TooManyValues, ValueValidation}
 use Rattle.aec_cli.specs.Commands.{aec_app, coding_rules, file_rules, number_rules, storage_rules, work_rules}
 
 -- `aec -d -n 20 -3 in out`
@@ -77,3 +77,19 @@ count_too_large = refl
 version_asked : fault_of aec_app (codes "aec" ∷ codes "--version" ∷ []) ≡ DisplayVersion ∷ []
 unfolding aec_app number_rules coding_rules storage_rules work_rules file_rules clap_on_literals
 version_asked = refl
+
+-- `aec --even-blocks -j 10 -r 1 -d in out`
+abbrev even_decoding : List Text
+even_decoding = codes "aec" ∷ codes "--even-blocks" ∷ codes "-j" ∷ codes "10" ∷ codes "-r" ∷ codes "1" ∷ codes "-d" ∷ codes "in" ∷ codes "out" ∷ []
+
+even_blocks_given : first_of (codes "even-blocks") (matches_of aec_app even_decoding) ≡ Some (codes "true")
+unfolding aec_app number_rules coding_rules storage_rules work_rules file_rules clap_on_literals
+even_blocks_given = refl
+
+even_blocks_left_out : first_of (codes "even-blocks") (matches_of aec_app decoding) ≡ Some (codes "false")
+unfolding aec_app number_rules coding_rules storage_rules work_rules file_rules clap_on_literals
+even_blocks_left_out = refl
+
+even_blocks_take_no_value : fault_of aec_app (codes "aec" ∷ codes "--even-blocks=1" ∷ codes "a" ∷ codes "b" ∷ []) ≡ TooManyValues ∷ []
+unfolding aec_app number_rules coding_rules storage_rules work_rules file_rules clap_on_literals
+even_blocks_take_no_value = refl

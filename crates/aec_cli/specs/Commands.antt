@@ -14,6 +14,10 @@ letter text = slice_index text 0
 abbrev pub flag_rule : Text → ℕ → Rule
 flag_rule id key = record (new_rule id) { short = Some key; action = Some SetTrue }
 
+-- an option with a long name that takes no value
+abbrev pub long_flag_rule : Text → Rule
+long_flag_rule id = record (new_rule id) { long = Some id; action = Some SetTrue }
+
 -- an option of one letter that takes one value, which the parser judges
 abbrev pub number_rule : ValueParser → Text → ℕ → Rule
 number_rule judge id key = record (new_rule id) {
@@ -58,8 +62,8 @@ number_rules = number_rule word_parser (codes "bits") (letter (codes "n"))
 
 -- how samples are coded
 unfoldable pub coding_rules : List Rule
-coding_rules = flag_rule (codes "no-preprocessing") (letter (codes "N")) ∷ flag_rule (codes "pad") (letter (codes "p"))
-    ∷ flag_rule (codes "restricted") (letter (codes "t")) ∷ []
+coding_rules = flag_rule (codes "no-preprocessing") (letter (codes "N")) ∷ long_flag_rule (codes "even-blocks")
+    ∷ flag_rule (codes "pad") (letter (codes "p")) ∷ flag_rule (codes "restricted") (letter (codes "t")) ∷ []
 
 -- how samples are stored
 unfoldable pub storage_rules : List Rule

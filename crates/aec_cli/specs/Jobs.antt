@@ -67,6 +67,7 @@ settings_of f = record {
   preprocess = not (is_given (codes "no-preprocessing") f);
   pad = is_given (codes "pad") f;
   restricted = is_given (codes "restricted") f;
+  even_blocks = is_given (codes "even-blocks") f;
 }
 
 -- ---- what is done

@@ -98,6 +98,7 @@ fn asked_settings(matches: &ArgMatches<'_>) -> Settings
         preprocess: !has_flag(matches, "no-preprocessing"),
         pad: has_flag(matches, "pad"),
         restricted: has_flag(matches, "restricted"),
+        even_blocks: has_flag(matches, "even-blocks"),
     }
 }
 

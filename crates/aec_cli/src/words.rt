@@ -7,7 +7,7 @@ ghost use Rattle.clap.specs.Kinds.{FailsBy};
 ghost use Rattle.clap.specs.Matches.{found_of};
 ghost use Rattle.clap.specs.Simple.{app_of, matches_of};
 ghost use Rattle.clap.specs.Walk.{rows_of, rule_of};
-ghost use Rattle.aec_cli.specs.Commands.{aec_app, with_rules, flag_rule, number_rule, long_number_rule, long_text_rule, file_rule};
+ghost use Rattle.aec_cli.specs.Commands.{aec_app, with_rules, flag_rule, long_flag_rule, number_rule, long_number_rule, long_text_rule, file_rule};
 ghost use Rattle.aec_cli.specs.Commands.{number_rules, coding_rules, storage_rules, work_rules, file_rules};
 
 use crate::usage::Usage;
@@ -84,6 +84,11 @@ fn with_coding<'a>(alloc: Global, command: Command<'a>) -> Result<Command<'a>, A
         'N',
         "no preprocessing: samples are coded as they are",
     );
+    let even_blocks = long_flag(
+        alloc,
+        "even-blocks",
+        "-j may be every even number from 8 to 64; only{n}8, 16, 32 and 64 are the standard's",
+    );
     let pad = flag(
         alloc,
         "pad",
@@ -98,7 +103,11 @@ fn with_coding<'a>(alloc: Global, command: Command<'a>) -> Result<Command<'a>, A
         't',
         "restricted set of code options, for 4 bits per{n}sample or fewer",
     );
-    command.arg(no_preprocessing)?.arg(pad)?.arg(restricted)
+    command
+        .arg(no_preprocessing)?
+        .arg(even_blocks)?
+        .arg(pad)?
+        .arg(restricted)
 }
 
 // How samples are stored.
@@ -176,6 +185,17 @@ fn flag<'a>(alloc: Global, id: &'a str, letter: char, help: &'a str) -> Arg<'a>
 {
     Arg::new(alloc, id)
         .short(letter)
+        .action(ArgAction::SetTrue)
+        .help(help)
+}
+
+// An option with a long name that takes no value.
+fn long_flag<'a>(alloc: Global, name: &'a str, help: &'a str) -> Arg<'a>
+    ensures rule { rule_of result ≡ long_flag_rule name.entry.now }
+    ensures local { result.global ≡ false }
+{
+    Arg::new(alloc, name)
+        .long(name)
         .action(ArgAction::SetTrue)
         .help(help)
 }
