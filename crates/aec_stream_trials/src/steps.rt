@@ -195,10 +195,14 @@ fn edits_of(alloc: Global, table: &str) -> Result<(Vec<Edit>, String), Fail> {
     Ok((edits, answers))
 }
 
+// The stream after the step of a row.
+fn stream_after(row: &str) -> &str {
+    cell(cell(cell(row).1).1).0
+}
+
 // The stream after the last step of a table.
 fn last_stream(table: &str) -> &str {
-    let row = table.lines().last().unwrap_or("");
-    cell(cell(cell(row).1).1).0
+    stream_after(table.lines().last().unwrap_or(""))
 }
 
 // The lines of what became of the edits of a run, which stand behind an outcome that was there.
@@ -265,18 +269,16 @@ fn first_refusal(alloc: Global, answers: &str) -> Result<String, Fail> {
     Ok(String::from_str(alloc, "made")?)
 }
 
+// Whether a row is a range, or an edit that is made.
+fn is_made(row: &str) -> bool {
+    let (step, rest) = cell(row);
+    step.starts_with("range ") || cell(rest).0.trim().parse::<u64>().is_ok()
+}
+
 // The stream before the first edit of a table that is refused.
 fn stream_before_refusal(table: &str) -> &str {
-    let mut bytes = "";
-    for row in table.lines() {
-        let (step, rest) = cell(row);
-        let (answer, rest) = cell(rest);
-        if !step.starts_with("range ") && answer.trim().parse::<u64>().is_err() {
-            return bytes;
-        }
-        bytes = cell(rest).0;
-    }
-    bytes
+    let mut rows = table.lines().take_while(|row| is_made(row));
+    stream_after(rows.last().unwrap_or(""))
 }
 
 /// The edits of a table, up to the first that is refused.
