@@ -19,7 +19,7 @@ use Rattle.aec_engine.specs.declared.scripts.EditFault.{EditFault}
 use Rattle.aec_engine.specs.declared.scripts.EditFault.TheVariants.{Line}
 use Rattle.aec_engine.specs.Editing.{left_of, edits_left, LacksMemoryOn}
 use Rattle.aec_engine.specs.EditingSteps as steps
-use Rattle.aec_engine.specs.EditingSteps.{StopsEditing, misfit}
+use Rattle.aec_engine.specs.EditingSteps.{StopsEditing, misfit, CarriesOut, named_by}
 
 -- an edit that is made
 edits_left-made : (f : Format) (limit calls : ℕ) (s : List ℤ) (e : Edit) (n : ℕ) (edits : List Edit) (lines : List ℕ)
@@ -124,3 +124,13 @@ carried-stops f limit calls reads after reads_after s left given edits lines r s
 
     inside : length before < length lines
     inside = omega (arith, ap length split, ap length same, length-append before (e ∷ behind), enough)
+
+pub carries : (f : Format) (limit calls reads after reads_after : ℕ) (s left : List ℤ) (given edits : List Edit) (lines : List ℕ)
+    (end : Result (Unit {0}) Stop) (result : Result (Unit {0}) EditFault) → given ≡ edits
+    → StopsAtRefusal f limit s calls reads given end left after reads_after → result ≡ named_by lines end
+    → CarriesOut f limit s calls reads edits lines result left after reads_after
+carries f limit calls reads after reads_after s left given edits lines end result same run named = record {
+  end = end;
+  run = subst (λ es. StopsAtRefusal f limit s calls reads es end left after reads_after) same run;
+  named = named;
+}

@@ -1,5 +1,5 @@
 -- What the private functions of the engine that carries out scripts give.
-use Rattle.std.specs.Prelude.{◌≡◌, ℕ, Some, None, Result, Ok, Err, ℤ, List}
+use Rattle.std.specs.Prelude.{◌≡◌, ℕ, Some, None, Result, Ok, Err, ℤ, List, slice_index}
 use Rattle.std.specs.Io.KnownBytes.{Appends}
 use Rattle.aec_params.specs.declared.fault.Fault.{Fault}
 use Rattle.aec_params.specs.declared.fault.Fault.TheVariants.{Memory, Write}
@@ -7,6 +7,8 @@ use Rattle.aec_params.specs.declared.edit.Edit.{Edit}
 use Rattle.aec_params.specs.Codewords.{bytes_of}
 use Rattle.aec_bits.specs.Codec.{Format, code_of}
 use Rattle.aec_bits.specs.Devices.{AppendsFront}
+use Rattle.aec_edit.specs.declared.stopping.Stop.{Stop}
+use Rattle.aec_edit.specs.Stops.{StopsAtRefusal}
 use Rattle.aec_engine.specs.declared.scripts.EditFault.{EditFault}
 use Rattle.aec_engine.specs.declared.scripts.EditFault.TheVariants.{Plain, Line}
 use Rattle.aec_engine.specs.Scripts.{listing_of}
@@ -30,6 +32,18 @@ pub data RefusesScript (from : Taking) (limit : ℕ) : Fault → Type 0 where
 pub data StopsEditing (f : Format) (limit calls : ℕ) (s : List ℤ) (edits : List Edit) (lines : List ℕ) : EditFault → Type 0 where
   misfit : (fault : EditFault) → edits_left f limit calls s edits lines ≡ Err fault → StopsEditing f limit calls s edits lines fault
   lacks_memory : (line : ℕ) → LacksMemoryOn f limit calls s edits lines line → StopsEditing f limit calls s edits lines (Line line Memory)
+
+-- how edits that were made up to the first that is refused end where each has a line: without a refusal, or with that of the line
+abbrev pub named_by : List ℕ → Result (Unit {0}) Stop → Result (Unit {0}) EditFault
+named_by lines (Ok made) = Ok made
+named_by lines (Err stop) = Err (Line (slice_index lines stop.place) stop.fault)
+
+-- what carrying out edits on a workspace has done: those before the first that is refused were made, and it is named by its line
+pub record CarriesOut (f : Format) (limit : ℕ) (s : List ℤ) (calls reads : ℕ) (edits : List Edit) (lines : List ℕ)
+    (result : Result (Unit {0}) EditFault) (left : List ℤ) (calls_after reads_after : ℕ) : Type 0 where
+  pub end : Result (Unit {0}) Stop
+  pub run : StopsAtRefusal f limit s calls reads edits end left calls_after reads_after
+  pub named : result ≡ named_by lines end
 
 -- what a workspace with these samples gives, whose codec was called so often
 abbrev pub recoded_of : Format → List ℤ → ℕ → Recoded

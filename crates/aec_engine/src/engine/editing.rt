@@ -1,16 +1,16 @@
 //! Coded data edited by a script.
 
-ghost use Rattle.std.specs.Prelude.{◌≡◌, ℕ, ◌^◌, ◌<◌, ◌≤◌, length, slice_index, Result, Ok, Err, IfOk, IfErr, OnOk, OnErr};
+ghost use Rattle.std.specs.Prelude.{◌≡◌, ℕ, ◌<◌, ◌≤◌, length, slice_index, Result, Ok, Err, IfOk, IfErr, OnOk, OnErr};
 ghost use Rattle.std.specs.Io.KnownBytes.{Appends, Keeps};
-ghost use Rattle.aec_params.specs.declared.fault.Fault.TheVariants.{Memory, Write as WriteFault};
+ghost use Rattle.aec_params.specs.declared.fault.Fault.TheVariants.{Write as WriteFault};
 ghost use Rattle.aec_params.specs.Codewords.{bytes_of};
-ghost use Rattle.aec_bits.specs.Codec.{AreHeld, code_of};
+ghost use Rattle.aec_bits.specs.Codec.{code_of};
 ghost use Rattle.aec_bits.specs.Devices.{counted, AppendsFront};
 ghost use Rattle.aec_interval.specs.IntervalFormat.{interval_format};
 ghost use Rattle.aec_engine.specs.Transfers.{are_past, Taking, taking_of, Putting, putting_of, answer_of, GivesAnswer};
 ghost use Rattle.aec_engine.specs.Output.{GaveSamples, IsDecoded};
 ghost use Rattle.aec_engine.specs.Editing.{edits_left, left_of, first_calls, GivesEdited, LeavesRecoded, LeavesEdited};
-ghost use Rattle.aec_engine.specs.EditingSteps.{GaveScript, RefusesScript, StopsEditing, SettlesRecoded, recoded_of};
+ghost use Rattle.aec_engine.specs.EditingSteps.{GaveScript, RefusesScript, StopsEditing, CarriesOut, SettlesRecoded, recoded_of};
 
 use crate::engine::bit_intake::read_bits;
 use crate::engine::intake::read_whole;
@@ -20,7 +20,7 @@ use crate::scripts::{EditFault, Script};
 use aec_bits::{Codec, Sink, Source};
 use aec_edit::Workspace;
 use aec_interval::AecCodec;
-use aec_params::{Edit, Fault, Limits, Params, Samples};
+use aec_params::{Fault, Limits, Params};
 use std::alloc::Global;
 
 /// The script that a source gives.
@@ -75,6 +75,10 @@ pub fn carry_out<C: Codec>(workspace: &mut Workspace<C>, script: &Script) -> Res
         script.now.edits.items script.now.lines.items ≡ Ok (left_of workspace.new.samples (C.called workspace.new.codec))) }
     ensures refuses { IfErr result (λ fault. StopsEditing (C.format workspace.old.codec) workspace.old.limit (C.called workspace.old.codec)
         workspace.old.samples script.now.edits.items script.now.lines.items fault) }
+    ensures carries { CarriesOut (C.format workspace.old.codec) workspace.old.limit workspace.old.samples (C.called workspace.old.codec)
+        (C.read workspace.old.codec) script.now.edits.items script.now.lines.items result workspace.new.samples
+        (C.called workspace.new.codec) (C.read workspace.new.codec) }
+    ensures limit { workspace.new.limit ≡ workspace.old.limit }
     ensures format { C.format workspace.new.codec ≡ C.format workspace.old.codec }
 {
     match workspace.run_until_refused(script.edits.as_slice()) {
