@@ -194,10 +194,8 @@ fn long_flag<'a>(alloc: Global, name: &'a str, help: &'a str) -> Arg<'a>
     ensures rule { rule_of result ≡ long_flag_rule name.entry.now }
     ensures local { result.global ≡ false }
 {
-    Arg::new(alloc, name)
-        .long(name)
-        .action(ArgAction::SetTrue)
-        .help(help)
+    let switch = Arg::new(alloc, name).action(ArgAction::SetTrue);
+    switch.long(name).help(help)
 }
 
 // An option of one letter that takes a number, which the parser judges.
