@@ -1,5 +1,5 @@
 -- Ten values as the loops over eights, fours and pairs see them: groups, and a rest of two. Each value is worked out by hand.
-use Rattle.std.proofs.Common.{◌≡◌, ℕ, Bool, List, [], ◌∷◌, ◌++◌, true, false, ℤ, pos, length, take, drop, map, replicate, refl, rules}
+use Rattle.std.proofs.Common.{◌≡◌, ℕ, List, [], ◌∷◌, ◌++◌, true, pos, take, drop, map, replicate, refl, rules}
 use Rattle.aec_params.specs.Codewords.{binary}
 use Rattle.aec_params.specs.CodedDataSets.{pair_bits}
 use Rattle.aec_params.proofs.WorkedSettings.{tens}

@@ -129,9 +129,11 @@ pub uncompressed-parts : (s : Settings) (b : Block) (width n : ℕ) (reference :
     → reference ≡ b.reference → values ≡ written_values b
     → (binary width (1 * 2 ^ width % 2 ^ 32 - 1) ++ reference_bits s reference) ++ low_parts n values ≡ cds_bits s (uncompressed b)
 uncompressed-parts s b width n reference values full is_width is_n is_reference is_values =
+    let low = low_parts s.bits (written_values b) in
+    let ones = one_shl (id_len s) 32 (few_id_bits s) in
     rw (is_width, is_n, is_reference, is_values) (
-    append_assoc (binary (id_len s) (1 * 2 ^ id_len s % 2 ^ 32 - 1)) (reference_bits s b.reference) (low_parts s.bits (written_values b))
-    ∙ (ap (λ (ones : ℕ). binary (id_len s) (ones - 1) ++ (reference_bits s b.reference ++ low_parts s.bits (written_values b))) (one_shl (id_len s) 32 (few_id_bits s))
+    append_assoc (binary (id_len s) (1 * 2 ^ id_len s % 2 ^ 32 - 1)) (reference_bits s b.reference) low
+    ∙ (ap (λ (power : ℕ). binary (id_len s) (power - 1) ++ (reference_bits s b.reference ++ low)) ones
     ∙ ap (λ (bits : List Bool). binary (id_len s) (2 ^ id_len s - 1) ++ (reference_bits s b.reference ++ bits)) (low_parts-written s b full))
     )
 
