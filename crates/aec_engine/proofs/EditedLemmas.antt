@@ -1,35 +1,17 @@
 -- What the parts of the engine that carries out scripts answer.
-use Rattle.std.proofs.Common.{◌≡◌, ℕ, ◌+◌, ◌-◌, ◌*◌, ◌^◌, ◌<◌, ◌≤◌, ◌⊎◌, ⊎_elim, Bool, true, false, if◌then◌else◌, nat_lt, IsTrue, Option, Some, None, Result, Err, IfOk, IfErr, ℤ, List, [], ◌∷◌, length, refl, sym, ap, ◌∙◌, subst, arith}
-use Rattle.std.specs.Prelude.{MatchOption, option_map, ◌&&◌}
-use Rattle.std.specs.List.{AllByRecursion, list_all}
+use Rattle.std.proofs.Common.{◌≡◌, ℕ, ◌<◌, ◌≤◌, ◌⊎◌, ⊎_elim, false, Option, Some, None, Result, Err, IfOk, IfErr, List, length, sym, ap, ◌∙◌, subst, arith}
+use Rattle.std.specs.Prelude.{option_map}
 use Rattle.std.specs.Option.{option_or}
-use Rattle.std.proofs.lemmas.Bool.{le-ltb, ltb-false, leb-true}
 use Rattle.std.proofs.lemmas.Result.{IfOk-weaker, IfErr-weaker}
-use Rattle.aec_params.specs.declared.settings.Settings.{Settings}
 use Rattle.aec_params.specs.declared.fault.Fault.{Fault}
-use Rattle.aec_params.specs.declared.fault.Fault.TheVariants.{Memory, Spent, Script, SampleRange, TooManySamples}
+use Rattle.aec_params.specs.declared.fault.Fault.TheVariants.{Memory, Script}
 use Rattle.aec_params.specs.declared.edit.Edit.{Edit}
-use Rattle.aec_params.specs.declared.edit.Edit.TheVariants.{Append}
-use Rattle.aec_params.specs.Limits.{Caps}
-use Rattle.aec_params.specs.Params.{IsHeld, is_held, IsAllowed}
-use Rattle.aec_params.specs.Edits.{needed_calls}
-use Rattle.aec_params.specs.CodedDataSets.{CodedDataSet}
-use Rattle.aec_params.specs.Codewords.{bits_of_bytes}
-use Rattle.aec_params.specs.Reading.{LeadsTo, next_block, next_begin, IsReading}
-use Rattle.aec_interval.specs.Reached.{count_refusal}
-use Rattle.aec_interval.proofs.ReadingLemmas.{length-stream_blocks, readings_are_samples}
-use Rattle.aec_bits.specs.Codec.{Format, AreHeld}
-use Rattle.aec_bits.specs.Refusals.{first_unheld, values_refusal, refusal_of}
-use Rattle.aec_edit.specs.Calls.{want_of_calls}
-use Rattle.aec_edit.specs.Steps.{LacksMemory, IsAccepted, IsRefused}
-use Rattle.aec_interval.specs.IntervalFormat.{interval_format}
 use Rattle.aec_engine.specs.Scripts.{listing_of}
-use Rattle.aec_engine.specs.Transfers.{input_of, Taking, IsTakenWhole, RefusesIntake}
-use Rattle.aec_engine.specs.Output.{GaveSamples}
-use Rattle.aec_engine.specs.Editing.{script_refusal, first_calls}
+use Rattle.aec_engine.specs.Transfers.{input_of, IsTakenWhole, RefusesIntake}
+use Rattle.aec_engine.specs.Editing.{script_refusal}
 use Rattle.aec_engine.specs.EditingSteps.{GaveScript, RefusesScript, no_memory, no_edits}
 use Rattle.aec_engine.proofs.OutputLemmas.{taking, gave_whole, none_refused, intake_given}
-use Rattle.aec_engine.proofs.CallLemmas.{append_calls-le, script-lines}
+use Rattle.aec_engine.proofs.CallLemmas.{script-lines}
 
 -- ---- the script
 

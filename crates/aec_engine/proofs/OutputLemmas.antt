@@ -1,18 +1,16 @@
 -- Answers of the engines from what their parts answer.
-use Rattle.std.proofs.Common.{◌≡◌, ◌⊎◌, inl, inr, ⊎_elim, ℕ, zero, suc, ◌≤◌, Bool, true, false, if◌then◌else◌, Option, Some, None, Result, Ok, Err, IfOk, IfErr, ℤ, List, [], ◌∷◌, length, take, refl, sym, ap, ◌∙◌, subst, arith}
+use Rattle.std.proofs.Common.{◌≡◌, ◌⊎◌, inl, inr, ⊎_elim, ℕ, ◌≤◌, Bool, true, false, if◌then◌else◌, Option, Some, None, Result, Ok, Err, IfOk, IfErr, ℤ, List, length, refl, sym, ap, ◌∙◌, subst, arith}
 use Rattle.std.proofs.lemmas.Bool.{lt-ltb, le-ltb, ltb-false}
 use Rattle.std.proofs.lemmas.Result.{IfOk-weaker, IfErr-weaker}
 use Rattle.std.specs.Io.KnownBytes.{Keeps, Appends}
 use Rattle.std.proofs.Common.{OnOk, OnErr}
 use Rattle.aec_bits.specs.Devices.{AppendsFront}
-use Rattle.std.specs.List.{AllByRecursion}
 use Rattle.aec_params.specs.declared.settings.Settings.{Settings}
 use Rattle.aec_params.specs.declared.fault.Fault.{Fault}
 use Rattle.aec_params.specs.declared.fault.Fault.TheVariants.{Memory, Read, Write, StreamTooLong}
 use Rattle.aec_params.specs.Limits.{Caps}
-use Rattle.aec_params.specs.Params.{IsHeld}
 use Rattle.aec_params.specs.Codewords.{bits_of_bytes}
-use Rattle.aec_params.specs.Reading.{counted_samples, IsReading}
+use Rattle.aec_params.specs.Reading.{IsReading}
 use Rattle.aec_interval.specs.Reached.{count_refusal, no_memory, faulty, RefusesDecoding, above_limit, unread}
 use Rattle.aec_engine.specs.Transfers as transfers
 use Rattle.aec_engine.specs.Transfers.{Input, Taking, are_past, Gave, IsTakenWhole, RefusesIntake, source_failed, too_many_bytes, GivesAnswer, given, lacks_memory, Leaves, written, refused, no_answer, not_written}
