@@ -3,7 +3,7 @@
 ghost use Rattle.std.specs.Prelude.{◌<◌, ◌^◌};
 ghost use Rattle.std.specs.Bool.{OnTrue};
 ghost use Rattle.std.specs.List.{AllByRecursion};
-ghost use Rattle.aec_block.specs.Choices.{IsFull};
+ghost use Rattle.aec_block.specs.Choices.{FitsReference, IsFull};
 
 use crate::trial::{Trial, print_bits, try_calls};
 use aec_bits::BitBuf;
@@ -24,17 +24,27 @@ fn all_below(values: &[u32], limit: u64) -> bool
     values.iter().all(|v| u64::from(*v) < limit)
 }
 
-// Whether the settings have a block with a reference sample.
+// Whether a number stands as a reference sample.
+fn fits_reference(params: &Params, reference: Option<u32>) -> bool
+    ensures { OnTrue result (FitsReference params.now reference) }
+{
+    match reference {
+        None => true,
+        Some(r) => u64::from(r) < 1 << params.bits(),
+    }
+}
+
+// Whether the settings have a block.
 fn is_full(params: &Params, block: &Block) -> bool
     ensures { OnTrue result (IsFull params.now block.now) }
 {
-    let limit = 1 << params.bits();
-    match block.reference() {
-        Some(r) if u64::from(r) < limit => {
-            block.len() == params.block_size() as usize && all_below(block.values(), limit)
-        }
-        _ => false,
+    if block.len() != params.block_size() as usize {
+        return false;
     }
+    if !fits_reference(params, block.reference()) {
+        return false;
+    }
+    all_below(block.values(), 1 << params.bits())
 }
 
 impl Trial for Written {
