@@ -29,6 +29,14 @@ pub at_view : {C : Type 0} (format : C → Format) {codec : C} {count limit : �
     → IsKept (format seen.codec) count bits starts seen.samples
 at_view format {count = count} {bits = bits} {starts = starts} kept seen e = subst (λ w. IsKept (format w.codec) count bits starts w.samples) e (stands kept)
 
+-- callers see the same where the fields hold them still
+pub seen_again : {C : Type 0} (format : C → Format) {codec : C} {count limit : ℕ} {bits : List Bool} {starts : List ℕ} (kept again : KeptSamples
+    (format codec) count bits starts)
+    (seen : Contents C) → IsLawful (format codec) → record { samples = kept_samples kept; limit = limit; codec = codec } ≡ seen
+    → record { samples = kept_samples again; limit = limit; codec = codec } ≡ seen
+seen_again format {codec} {limit = limit} kept again seen lawful e =
+    ap (λ s. record { samples = s; limit = limit; codec = codec }) (no_other again lawful (stands kept)) ∙ e
+
 -- under a format that is the same, for a list that is
 pub kept_again : {f g : Format} {count : ℕ} {bits : List Bool} {starts : List ℕ} {s : List ℤ} (kept : KeptSamples f count bits starts)
     → g ≡ f → kept_samples kept ≡ s → IsKept g count bits starts s

@@ -19,4 +19,5 @@ pub mod MoveLemmas
 pub mod InsertLemmas
 pub mod RemoveLemmas
 pub mod RangeLemmas
+pub mod EarlyLemmas
 pub mod OneReadingLemmas

@@ -1,7 +1,7 @@
 -- The bytes of a stream have one reading with the number of its samples.
-use Rattle.std.proofs.Common.{◌≡◌, ℕ, Bool, false, ℤ, List, ◌++◌, length, replicate, sym, ap, ◌∙◌, subst}
+use Rattle.std.proofs.Common.{◌≡◌, Bool, false, ℤ, List, length, replicate, sym, ◌∙◌, subst}
 use Rattle.aec_params.specs.Cutting.{up_to_multiple}
-use Rattle.aec_params.specs.Codewords.{bytes_of, bits_of_bytes}
+use Rattle.aec_params.specs.Codewords.{bytes_of}
 use Rattle.aec_params.proofs.ByteLaws.{bits_of_bytes-bytes_of}
 use Rattle.aec_bits.specs.Codec.{Format, IsLawful, AreHeld, code_of}
 use Rattle.aec_bits.proofs.CodeLaws.{same_samples_follow}

@@ -37,6 +37,21 @@ impl Coded {
         }
     }
 
+    /// The code of no samples, in the same room; where this is the code of more than `most` samples, its room is let go.
+    pub fn emptied(mut self, alloc: Global, most: u64) -> Coded
+        ensures bits { result.bits.list ≡ [] }
+        ensures starts { result.starts.items ≡ [] }
+        ensures count { result.count ≡ 0 }
+    {
+        if self.count > most {
+            return Coded::new(alloc);
+        }
+        self.bits.truncate(0);
+        self.starts.clear();
+        self.count = 0;
+        self
+    }
+
     /// Replaces the intervals between two cuts by those of other code, moves the starts after them, and notes the new number of
     /// samples. All memory is taken first, so that nothing has changed where it is refused.
     pub fn replace(&mut self, from: Cut, to: Cut, with: &Coded, count: u64) -> Result<(), Fault>

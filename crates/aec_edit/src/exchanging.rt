@@ -4,10 +4,9 @@ use crate::fresh::Fresh;
 use crate::workspace::Workspace;
 use aec_bits::Codec;
 use aec_params::Fault;
-use std::alloc::Global;
 
 impl<C: Codec> Workspace<C> {
-    ghost use Rattle.std.specs.Prelude.{◌≡◌, ◌<◌, ◌≤◌, ◌++◌, true, length, IfOk, OnOk, OnErr, IfErr, MatchResult};
+    ghost use Rattle.std.specs.Prelude.{◌≡◌, ◌<◌, ◌≤◌, ◌++◌, true, [], length, IfOk, OnOk, OnErr, IfErr, MatchResult};
     ghost use Rattle.std.specs.Int.{div_ceil};
     ghost use Rattle.aec_params.specs.declared.fault.Fault.TheVariants.{Memory};
     ghost use Rattle.aec_edit.specs.Calls.{RisesAtMost};
@@ -67,6 +66,7 @@ impl<C: Codec> Workspace<C> {
         let mut fresh = self.fresh(first, stop, to, values)?;
         let coded = self.code_fresh(&mut fresh, total)?;
         self.put(first / most, to, &coded)?;
+        self.keep_lists(fresh, coded);
         Ok(needed)
     }
 
@@ -97,8 +97,9 @@ impl<C: Codec> Workspace<C> {
         let next = stop.div_ceil(most);
         let head = (first % most) as usize;
         let tail = (self.count().min(next * most) - stop) as usize;
-        let ends = self.end_intervals(first, stop)?;
-        let (front, back) = head_and_tail(self.alloc(), ends, head, tail)?;
+        let (mut front, mut back) = self.take_lists();
+        self.open_ends(first, stop, &mut front, &mut back)?;
+        head_and_tail(&mut front, &mut back, head, tail)?;
         Ok(Fresh {
             front,
             values,
@@ -108,11 +109,21 @@ impl<C: Codec> Workspace<C> {
         })
     }
 
-    /// The first and the last interval that an exchange touches, where they keep a sample.
-    fn end_intervals(&mut self, first: u64, stop: u64) -> Result<Vec<i64>, Fault>
+    /// Puts the first and the last interval that an exchange touches into `ends`, where they keep a sample; the last one by way of
+    /// `spare`.
+    fn open_ends(
+        &mut self,
+        first: u64,
+        stop: u64,
+        ends: &mut Vec<i64>,
+        spare: &mut Vec<i64>,
+    ) -> Result<(), Fault>
         requires order { first ≤ stop }
         requires within { stop ≤ length self.old.samples }
-        ensures ok { IfOk result (λ ends. ends.items ≡ end_samples (C.format self.old.codec).most first stop self.old.samples) }
+        requires ends { ends.old.items ≡ [] }
+        requires spare { spare.old.items ≡ [] }
+        ensures ok { OnOk result (ends.new.items ≡ end_samples (C.format self.old.codec).most first stop self.old.samples) }
+        ensures spare { OnOk result (spare.new.items ≡ []) }
         ensures fault { IfErr result (λ e. (e ≡ Memory)
             × (0 < opened_ends (C.format self.old.codec).most (length self.old.samples) first stop)) }
         ensures samples { self.new.samples ≡ self.old.samples }
@@ -122,10 +133,11 @@ impl<C: Codec> Workspace<C> {
             (C.read self.old.codec) (C.read self.new.codec) }
         ensures format { C.format self.new.codec ≡ C.format self.old.codec }
     {
-        let mut ends = Vec::new(self.alloc());
-        self.open_first(first, stop, &mut ends)?;
-        self.open_last(first, stop, &mut ends)?;
-        Ok(ends)
+        self.open_first(first, stop, ends)?;
+        self.open_last(first, stop, spare)?;
+        ends.extend_from_slice(spare)?;
+        spare.clear();
+        Ok(())
     }
 
     /// Decodes the first touched interval where it keeps a sample in front of the places, or is the last one too and keeps one
@@ -177,23 +189,23 @@ impl<C: Codec> Workspace<C> {
     }
 }
 
-ghost use Rattle.std.specs.Prelude.{◌≡◌, ◌-◌, ◌<◌, ◌≤◌, length, take, drop, IfOk, IfErr};
+ghost use Rattle.std.specs.Prelude.{◌≡◌, ◌-◌, ◌<◌, ◌≤◌, [], length, take, drop, OnOk, IfErr};
 ghost use Rattle.aec_params.specs.declared.fault.Fault.TheVariants.{Memory};
 
-/// The first `head` items, and the last `tail`. `Memory` where a growth was refused.
+/// Keeps the first `head` items, and puts the last `tail` into another list. `Memory` where a growth was refused.
 fn head_and_tail(
-    alloc: Global,
-    mut items: Vec<i64>,
+    items: &mut Vec<i64>,
+    last: &mut Vec<i64>,
     head: usize,
     tail: usize,
-) -> Result<(Vec<i64>, Vec<i64>), Fault>
-    requires { tail ≤ length items.items }
-    ensures head { IfOk result (λ ends. ends.0.items ≡ take head items.items) }
-    ensures tail { IfOk result (λ ends. ends.1.items ≡ drop (length items.items - tail) items.items) }
+) -> Result<(), Fault>
+    requires tail { tail ≤ length items.old.items }
+    requires empty { last.old.items ≡ [] }
+    ensures head { OnOk result (items.new.items ≡ take head items.old.items) }
+    ensures tail { OnOk result (last.new.items ≡ drop (length items.old.items - tail) items.old.items) }
     ensures fault { IfErr result (λ e. (e ≡ Memory) × (0 < tail)) }
 {
-    let mut last = Vec::new(alloc);
     last.extend_from_slice(&items[items.len() - tail..])?;
     items.truncate(head);
-    Ok((items, last))
+    Ok(())
 }

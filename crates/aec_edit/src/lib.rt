@@ -12,6 +12,7 @@ pub mod laws;
 mod outcome;
 mod ranging;
 mod running;
+mod scratch;
 mod stopping;
 mod workspace;
 

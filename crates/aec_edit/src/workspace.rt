@@ -3,22 +3,26 @@
 mod fresh_coding;
 mod intervals;
 mod recoding;
+mod scratch_lists;
 
 ghost use Rattle.aec_edit.specs.Index.{KeptSamples, one_list};
 
 use crate::coded::Coded;
+use crate::scratch::Scratch;
 use aec_bits::{Codec, Sink};
 use aec_params::Fault;
 use std::alloc::Global;
 use std::marker::Model;
 
-/// Samples, kept as their code and the places where its intervals begin. The samples themselves aren't kept.
+/// Samples, kept as their code and the places where its intervals begin. The samples themselves aren't kept: between edits the scratch
+/// is empty, and keeps its room alone.
 #[derive(Debug, Drop)]
 pub struct Workspace<C: Codec> {
     coded: Coded,
     limit: u64,
     codec: C,
     alloc: Global,
+    scratch: Scratch,
     ghost written: { KeptSamples (C.format codec) coded.count coded.bits.list coded.starts.items } by { one_list (C.format codec) coded.count coded.bits.list coded.starts.items (C.lawful codec) },
 }
 
@@ -56,6 +60,7 @@ impl<C: Codec> Workspace<C> {
             limit,
             codec,
             alloc,
+            scratch: Scratch::new(alloc),
         }
     }
 

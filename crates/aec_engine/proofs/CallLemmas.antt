@@ -24,7 +24,7 @@ div-add-le n a k some =
     let crossed : ((a + k) / n < q + k + 1) ↔ (a + k < (q + k + 1) * n) = div-lt_iff_lt-mul some in
     omega (arith, crossed.1 below)
 
-touched-le : (n first len : ℕ) → 0 < n → length (touched_intervals n first len) ≤ len
+pub touched-le : (n first len : ℕ) → 0 < n → length (touched_intervals n first len) ≤ len
 touched-le n first zero some = omega arith
 touched-le n first (suc len) some =
     let e : first + suc len - 1 ≡ first + len = omega arith in

@@ -1,24 +1,28 @@
 -- Answers of the engine that carries out scripts from what its parts answer.
-use Rattle.std.proofs.Common.{◌≡◌, ℕ, Option, Result, Ok, Err, ℤ, List, refl, sym, ap, ◌∙◌, subst}
+use Rattle.std.proofs.Common.{◌≡◌, ℕ, Option, Result, Ok, Err, ℤ, Bool, List, refl, sym, ap, ◌∙◌, subst}
 use Rattle.std.specs.Io.KnownBytes.{Keeps, Appends}
 use Rattle.aec_params.specs.declared.settings.Settings.{Settings}
 use Rattle.aec_params.specs.declared.fault.Fault.{Fault}
 use Rattle.aec_params.specs.declared.fault.Fault.TheVariants.{Memory, Write}
 use Rattle.aec_params.specs.declared.edit.Edit.{Edit}
 use Rattle.aec_params.specs.Limits.{Caps}
+use Rattle.aec_params.specs.Codewords.{bits_of_bytes}
 use Rattle.aec_bits.specs.Codec.{Format}
 use Rattle.aec_bits.specs.Devices.{AppendsFront}
 use Rattle.aec_interval.specs.IntervalFormat.{interval_format}
 use Rattle.aec_engine.specs.declared.scripts.EditFault.{EditFault}
 use Rattle.aec_engine.specs.declared.scripts.EditFault.TheVariants.{Plain}
 use Rattle.aec_engine.specs.Transfers as transfers
-use Rattle.aec_engine.specs.Transfers.{Input, Taking, are_past, Putting, IsBegunFirst, answer_of, GivesAnswer, given}
+use Rattle.aec_engine.specs.Transfers.{Input, Taking, are_past, IsTakenWhole, RefusesIntake, Putting, IsBegunFirst, answer_of, GivesAnswer, given}
 use Rattle.aec_engine.specs.Output.{IsDecoded, GaveSamples}
 use Rattle.aec_engine.specs.Scripts.{listing_of}
-use Rattle.aec_engine.specs.Editing.{Left, left_of, edits_left, first_calls, Recoded, not_decoded, not_edited, edited, GaveBoth, GivesEdited, script_refused, answered, lacks_memory, lacks_memory_on, LeavesRecoded, written, refused, not_written}
+use Rattle.aec_engine.specs.Editing.{Left, edits_left, first_calls, Recoded, not_decoded, not_edited, edited, GaveBoth, GivesEdited, script_refused, answered, lacks_memory, lacks_memory_on, LeavesRecoded, written, refused, not_written}
 use Rattle.aec_engine.specs.EditingSteps as steps
 use Rattle.aec_engine.specs.EditingSteps.{GaveScript, RefusesScript, no_memory, no_edits, StopsEditing, misfit, recoded_of, SettlesRecoded, settled, not_begun, stopped}
-use Rattle.aec_engine.proofs.OutputLemmas.{taking, Keeps-same}
+use Rattle.aec_engine.specs.ReadingTwice.{GaveWhole}
+use Rattle.aec_engine.specs.EarlyEdits as early
+use Rattle.aec_engine.specs.EarlyEdits.{EditsBits, not_read, lacks_room}
+use Rattle.aec_engine.proofs.OutputLemmas.{taking, Keeps-same, refused_intake, refused_decoding, read_samples}
 
 -- the answer of a result that is a refusal
 gives_err : {X : Type 0} (view : X → Recoded) (r : Result X EditFault) (e fault : EditFault) (s : Settings) (caps : Caps) (count : Option ℕ)
@@ -52,7 +56,7 @@ no_source_answer s caps count from source edits lines answer fault is script (gi
 no_source_answer s caps count from source edits lines answer fault is script transfers.lacks_memory =
     let memory : Memory ≡ fault = cc in subst (λ fault. GivesEdited s caps count from source (Err (Plain fault))) memory lacks_memory
 
-pub gives_no_source : {X : Type 0} (view : X → Recoded) (r : Result X EditFault) (e : EditFault) (f : Fault) (s : Settings) (caps : Caps)
+gives_no_source : {X : Type 0} (view : X → Recoded) (r : Result X EditFault) (e : EditFault) (f : Fault) (s : Settings) (caps : Caps)
     (count : Option ℕ) (from source : Taking)
     (edits : List Edit) (lines : List ℕ) → r ≡ Err e → e ≡ Plain f → GaveScript from caps.bytes edits lines
     → GivesAnswer (IsDecoded s caps count) source (are_past caps.bytes) (Err f) → GivesEdited s caps count from source (answer_of view r)
@@ -80,17 +84,6 @@ stopped_answer s caps count from source edits lines samples fault script gave st
     by_why why (misfit f is) = answered script.script gave.input (Err f) both (not_edited samples f script.sound gave.read is)
     by_why why (steps.lacks_memory line lacks) = lacks_memory_on script.script gave.input samples line both gave.read lacks
 
-pub gives_stopped : {X : Type 0} (view : X → Recoded) (r : Result X EditFault) (e fault : EditFault) (s : Settings) (caps : Caps) (count : Option ℕ)
-    (from source : Taking) (edits : List Edit) (lines : List ℕ) (samples : List ℤ) (f : Format) (limit calls : ℕ)
-    → r ≡ Err e → e ≡ fault → f ≡ interval_format s → limit ≡ caps.samples → calls ≡ first_calls (interval_format s) samples
-    → GaveScript from caps.bytes edits lines → GaveSamples s caps count source samples → StopsEditing f limit calls samples edits lines fault
-    → GivesEdited s caps count from source (answer_of view r)
-gives_stopped view r e fault s caps count from source edits lines samples f limit calls is same format limited counted script gave stops =
-    gives_err view r e fault s caps count from source is same (stopped_answer s caps count from source edits lines samples fault script gave
-    (subst (λ calls. StopsEditing (interval_format s) caps.samples calls samples edits lines fault) counted
-    (subst (λ limit. StopsEditing (interval_format s) limit calls samples edits lines fault) limited
-    (subst (λ f. StopsEditing f limit calls samples edits lines fault) format stops))))
-
 edited_answer : (s : Settings) (caps : Caps) (count : Option ℕ) (from source : Taking) (edits : List Edit) (lines : List ℕ) (samples : List ℤ)
     (left : Left) → GaveScript from caps.bytes edits lines → GaveSamples s caps count source samples
     → edits_left (interval_format s) caps.samples (first_calls (interval_format s) samples) samples edits lines ≡ Ok left
@@ -108,17 +101,39 @@ edited_answer s caps count from source edits lines samples left script gave is =
     first : ℕ
     first = first_calls f samples
 
-pub gives_edited : (s : Settings) (caps : Caps) (count : Option ℕ) (from source : Taking) (edits : List Edit) (lines : List ℕ) (samples left : List ℤ)
-    (f after : Format) (limit calls last : ℕ) → f ≡ interval_format s → after ≡ f → limit ≡ caps.samples
-    → calls ≡ first_calls (interval_format s) samples → GaveScript from caps.bytes edits lines → GaveSamples s caps count source samples
-    → edits_left f limit calls samples edits lines ≡ Ok (left_of left last)
-    → GivesEdited s caps count from source (Ok (recoded_of after left last))
-gives_edited s caps count from source edits lines samples left f after limit calls last format still limited counted script gave is =
-    subst (λ f. GivesEdited s caps count from source (Ok (recoded_of f left last))) (sym (still ∙ format))
-    (edited_answer s caps count from source edits lines samples (left_of left last) script gave
-    (subst (λ calls. edits_left (interval_format s) caps.samples calls samples edits lines ≡ Ok (left_of left last)) counted
-    (subst (λ limit. edits_left (interval_format s) limit calls samples edits lines ≡ Ok (left_of left last)) limited
-    (subst (λ f. edits_left f limit calls samples edits lines ≡ Ok (left_of left last)) format is))))
+-- ---- bits
+
+gives_taken : (s : Settings) (caps : Caps) (count : Option ℕ) (from : Taking) (before after : Option (List ℕ)) (failures : ℕ) (bytes : List ℕ)
+    (edits : List Edit) (lines : List ℕ) (answer : Result Recoded EditFault) → GaveScript from caps.bytes edits lines
+    → IsTakenWhole before after failures caps.bytes bytes → EditsBits s caps count (bits_of_bytes bytes) edits lines answer
+    → GivesEdited s caps count from (taking before after failures) answer
+gives_taken s caps count from before after failures bytes edits lines answer script taken (not_read fault refuses) =
+    no_source_answer s caps count from (taking before after failures) edits lines (Err fault) fault refl script
+    (refused_decoding s caps count before after failures bytes fault taken refuses)
+gives_taken s caps count from before after failures bytes edits lines answer script taken lacks_room = lacks_memory
+gives_taken s caps count from before after failures bytes edits lines answer script taken (early.stopped samples fault none reading stops) =
+    stopped_answer s caps count from (taking before after failures) edits lines samples fault script
+    (read_samples s caps count before after failures bytes samples taken none reading) stops
+gives_taken s caps count from before after failures bytes edits lines answer script taken (early.made samples left none reading is) =
+    edited_answer s caps count from (taking before after failures) edits lines samples left script
+    (read_samples s caps count before after failures bytes samples taken none reading) is
+
+pub gives_bits : (s : Settings) (caps : Caps) (count : Option ℕ) (from : Taking) (before after : Option (List ℕ)) (failures limit : ℕ) (bits : List Bool)
+    (edits : List Edit) (lines : List ℕ) (answer : Result Recoded EditFault) → limit ≡ caps.bytes → GaveScript from caps.bytes edits lines
+    → GaveWhole before after failures limit bits → EditsBits s caps count bits edits lines answer
+    → GivesEdited s caps count from (taking before after failures) answer
+gives_bits s caps count from before after failures limit bits edits lines answer limited script gave answers =
+    gives_taken s caps count from before after failures gave.bytes edits lines answer script
+    (subst (λ limit. IsTakenWhole before after failures limit gave.bytes) limited gave.taken)
+    (subst (λ bits. EditsBits s caps count bits edits lines answer) gave.spelled answers)
+
+pub gives_no_bits : {X : Type 0} (view : X → Recoded) (r : Result X EditFault) (e : EditFault) (f : Fault) (s : Settings) (caps : Caps)
+    (count : Option ℕ) (from : Taking) (before after : Option (List ℕ)) (failures limit : ℕ) (edits : List Edit) (lines : List ℕ)
+    → r ≡ Err e → e ≡ Plain f → limit ≡ caps.bytes → GaveScript from caps.bytes edits lines → RefusesIntake before after failures limit f
+    → GivesEdited s caps count from (taking before after failures) (answer_of view r)
+gives_no_bits view r e f s caps count from before after failures limit edits lines is same limited script refuses =
+    gives_no_source view r e f s caps count from (taking before after failures) edits lines is same script
+    (refused_intake s caps count before after failures f (subst (λ limit. RefusesIntake before after failures limit f) limited refuses))
 
 -- ---- what is left in the sink
 

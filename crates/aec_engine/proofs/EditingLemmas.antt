@@ -1,8 +1,8 @@
 -- Edits of a script that were made one after the other, up to the first that is refused.
-use Rattle.std.proofs.Common.{◌≡◌, ℕ, ◌+◌, ◌<◌, ◌≤◌, inl, inr, Option, Some, None, Result, Ok, Err, ℤ, List, [], ◌∷◌, ◌++◌, length, slice_index, refl, sym, ap, ◌∙◌, subst, arith}
+use Rattle.std.proofs.Common.{◌≡◌, ℕ, ◌+◌, ◌-◌, ◌<◌, ◌≤◌, inl, inr, Option, Some, None, Result, Ok, Err, ℤ, List, [], ◌∷◌, ◌++◌, length, take, drop, slice_index, refl, sym, ap, ◌∙◌, subst, arith}
 use Rattle.std.specs.Prelude.{MatchOption}
 use Rattle.std.specs.Option.{option_map_or}
-use Rattle.std.proofs.lemmas.List.{length-append}
+use Rattle.std.proofs.lemmas.List.{length-append, length-drop, take_all}
 use Rattle.aec_params.specs.declared.fault.Fault.{Fault}
 use Rattle.aec_params.specs.declared.edit.Edit.{Edit}
 use Rattle.aec_params.specs.Edits.{samples_after, needed_calls}
@@ -21,7 +21,7 @@ use Rattle.aec_engine.specs.EditingSteps as steps
 use Rattle.aec_engine.specs.EditingSteps.{StopsEditing, misfit, CarriesOut, named_by}
 
 -- an edit that is made
-edits_left-made : (f : Format) (limit calls : ℕ) (s : List ℤ) (e : Edit) (n : ℕ) (edits : List Edit) (lines : List ℕ)
+pub edits_left-made : (f : Format) (limit calls : ℕ) (s : List ℤ) (e : Edit) (n : ℕ) (edits : List Edit) (lines : List ℕ)
     → due_refusal f limit s calls e ≡ None
     → edits_left f limit calls s (e ∷ edits) (n ∷ lines)
     ≡ edits_left f limit (calls + needed_calls f.most (length s) e) (samples_after s e) edits lines
@@ -55,7 +55,7 @@ stops-behind f limit calls between s e n edits lines why fits then (steps.lacks_
     steps.lacks_memory line (fits, inr (subst (λ k. LacksMemoryOn f limit k (samples_after s e) edits lines line) then lacks))
 
 -- an edit that is refused
-next_stops : (f : Format) (limit calls after : ℕ) (s : List ℤ) (e : Edit) (n : ℕ) (fault : Fault) (edits : List Edit) (lines : List ℕ)
+pub next_stops : (f : Format) (limit calls after : ℕ) (s : List ℤ) (e : Edit) (n : ℕ) (fault : Fault) (edits : List Edit) (lines : List ℕ)
     → IsRefused f limit s calls e fault after → StopsEditing f limit calls s (e ∷ edits) (n ∷ lines) (Line n fault)
 next_stops f limit calls after s e n fault edits lines refused = by_refusal (due_refusal f limit s calls e) refl refused
   where
@@ -123,6 +123,20 @@ carried-stops f limit calls reads after reads_after s left given edits lines r s
 
     inside : length before < length lines
     inside = omega (arith, ap length split, ap length same, length-append before (e ∷ behind), enough)
+
+-- what is behind a place
+pub rest_is : {X : Type 0} (place : ℕ) (given items : List X) → given ≡ items → take (length given - place) (drop place given) ≡ drop place items
+rest_is place given items same = take_all (length given - place) (drop place given) (omega (arith, length-drop place given)) ∙ ap (drop place) same
+
+-- the edit that is refused stands among those that were given
+pub stop-within : (f : Format) (limit calls reads after reads_after : ℕ) (s left : List ℤ) (given : List Edit) (r : Result (Unit {0}) Stop) (stop : Stop)
+    → r ≡ Err stop → StopsAtRefusal f limit s calls reads given r left after reads_after → stop.place < length given
+stop-within f limit calls reads after reads_after s left given r stop is (all_made done l last reads_last made run) = absurd (cc)
+stop-within f limit calls reads after reads_after s left given r stop is (stopped before e behind done fault l last reads_last split made run) =
+    omega (arith, place, ap length split, length-append before (e ∷ behind))
+  where
+    place : length before ≡ stop.place
+    place = cc
 
 pub carries : (f : Format) (limit calls reads after reads_after : ℕ) (s left : List ℤ) (given edits : List Edit) (lines : List ℕ)
     (end : Result (Unit {0}) Stop) (result : Result (Unit {0}) EditFault) → given ≡ edits

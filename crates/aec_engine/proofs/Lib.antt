@@ -17,8 +17,9 @@ pub mod ScriptNumberLemmas
 pub mod ScriptLineLemmas
 pub mod InMemoryLemmas
 pub mod CallLemmas
-pub mod LoadingLemmas
 pub mod EditingLemmas
+pub mod EarlyEditLemmas
+pub mod LoadingLemmas
 pub mod EditedLemmas
 pub mod EditAnswerLemmas
 pub mod OneEditLemmas

@@ -1,15 +1,17 @@
--- Samples of coded bits that are appended to a workspace interval by interval.
-use Rattle.std.proofs.Common.{◌≡◌, ℕ, ◌+◌, ◌-◌, ◌*◌, ◌/◌, ◌%◌, ◌^◌, ◌<◌, ◌≤◌, Bool, true, false, if◌then◌else◌, IsTrue, Option, Some, None, Result, Err, IfErr, ℤ, List, [], ◌∷◌, ◌++◌, length, refl, sym, ap, ap₂, ◌∙◌, subst, arith}
+-- Samples of coded bits that are appended to a workspace interval by interval, with edits made meanwhile.
+use Rattle.std.proofs.Common.{◌≡◌, ◌⊎◌, inl, inr, ℕ, ◌+◌, ◌-◌, ◌*◌, ◌/◌, ◌%◌, ◌^◌, ◌<◌, ◌≤◌, Bool, true, false, if◌then◌else◌, IsTrue, Option, Some, None, Result, Ok, Err, IfErr, ℤ, List, [], ◌∷◌, ◌++◌, length, drop, refl, sym, ap, ap₂, ◌∙◌, subst, arith, append_assoc}
 use Rattle.std.specs.Prelude.{MatchOption, nat_lt, ◌&&◌}
 use Rattle.std.specs.List.{AllByRecursion, list_all}
 use Rattle.std.specs.Option.{option_or}
 use Rattle.std.proofs.lemmas.Bool.{le-ltb, ltb-false, leb-true}
-use Rattle.std.proofs.lemmas.List.{length-append}
-use Rattle.std.proofs.Math.Nat.{mul-mod_left}
+use Rattle.std.proofs.lemmas.List.{length-append, append-nil}
+use Rattle.std.proofs.Math.Nat.{mul-mod_left, zero-mod}
 use Rattle.aec_params.specs.declared.settings.Settings.{Settings}
 use Rattle.aec_params.specs.declared.fault.Fault.{Fault}
 use Rattle.aec_params.specs.declared.fault.Fault.TheVariants.{Memory, Spent, TooManySamples}
+use Rattle.aec_params.specs.declared.edit.Edit.{Edit}
 use Rattle.aec_params.specs.declared.edit.Edit.TheVariants.{Append}
+use Rattle.aec_params.specs.Limits.{Caps}
 use Rattle.aec_params.specs.Params.{IsAllowed, IsHeld, is_held, interval_len}
 use Rattle.aec_params.specs.Edits.{needed_calls}
 use Rattle.aec_params.specs.CodedDataSets.{CodedDataSet}
@@ -19,13 +21,20 @@ use Rattle.aec_bits.proofs.RefusalLaws.{append_fits}
 use Rattle.aec_edit.specs.Calls.{due_refusal, want_of_calls}
 use Rattle.aec_edit.specs.Steps.{LacksMemory, IsAccepted, IsRefused}
 use Rattle.aec_interval.specs.IntervalFormat.{interval_format}
-use Rattle.aec_interval.specs.Reached.{count_refusal}
+use Rattle.aec_interval.specs.Reached.{count_refusal, RefusesDecoding}
 use Rattle.aec_interval.specs.Pieces.{Place, is_wanted_at, HasRead, ReadsInterval, RefusesAt}
-use Rattle.aec_interval.proofs.ReadingLemmas.{length-stream_blocks, readings_are_samples}
+use Rattle.aec_interval.proofs.ReadingLemmas.{length-stream_blocks, readings_are_samples, bits_are_read_in_one_way}
 use Rattle.aec_interval.proofs.PieceReadingLemmas.{has_read_nothing, has_read_more, has_read_all, has_read_front, has_read_whole, lacks_memory_only, piece_is_held}
-use Rattle.aec_engine.specs.Editing.{first_calls}
+use Rattle.aec_engine.specs.declared.scripts.EditFault.{EditFault}
+use Rattle.aec_engine.specs.declared.scripts.EditFault.TheVariants.{Plain}
+use Rattle.aec_engine.specs.Transfers.{answer_of}
+use Rattle.aec_engine.specs.Editing.{left_of, edits_left, first_calls, Recoded}
+use Rattle.aec_engine.specs.EditingSteps.{StopsEditing, recoded_of}
+use Rattle.aec_engine.specs.EarlyEdits as early
+use Rattle.aec_engine.specs.EarlyEdits.{LeadsToEdits, CarriesEarly, StopsEarly, LoadsAll, StopsLoading, EditsSamples, no_room, makes, EditsBits, not_read, lacks_room, stopped}
 use Rattle.aec_engine.specs.ReadingTwice.{AreSamplesOf}
 use Rattle.aec_engine.proofs.CallLemmas.{append_calls-le, append_calls-joined}
+use Rattle.aec_engine.proofs.EarlyEditLemmas.{leads-nowhere, leads-on, leads-stop}
 use Rattle.aec_engine.proofs.ReadTwiceLemmas.{place_from, settings-same, same_next}
 
 -- samples that are held are so for the codec too
@@ -61,20 +70,39 @@ read-within s limit bits None samples allowed within reading =
 
 -- ---- from interval to interval
 
--- the samples up to a place were appended, and the coder was called as often as for an append of all of them
-pub record LoadsSoFar (start p : Place) (f : Format) (w : List ℤ) (called : ℕ) : Type 0 where
-  pub read : HasRead p w
+same_reading : (start p : Place) (xs : List ℤ) → p ≡ place_from start p.block p.bit → AreSamplesOf start xs → IsReading p.settings p.count p.limit p.bits xs
+same_reading start p xs same given = subst (λ (p : Place). IsReading p.settings p.count p.limit p.bits xs) (sym same) given.reading
+
+-- The samples up to a place were appended, and edits made meanwhile: the front is what was read, and `made` is how often these edits
+-- called the coder.
+pub record LoadsSoFar (start p : Place) (f : Format) (limit : ℕ) (edits : List Edit) (lines : List ℕ) (next : ℕ) (w : List ℤ) (called : ℕ)
+    : Type 0 where
+  pub front : List ℤ
+  pub made : ℕ
+  pub read : HasRead p front
   pub same : p ≡ place_from start p.block p.bit
   pub few : p.block < 2 ^ 34
-  pub counted : called ≡ first_calls f w
+  pub begins : is_wanted_at p ≡ true → p.block % p.settings.interval ≡ 0
+  pub len : length w ≡ length front
+  pub counted : called ≡ first_calls f front + made
+  pub spare : made ≤ 2 ^ 62 + 2 ^ 32
+  pub leads : (xs rest : List ℤ) → xs ≡ front ++ rest → first_calls f xs ≤ 2 ^ 32
+      → LeadsToEdits f limit (left_of xs (first_calls f xs)) edits lines (left_of (w ++ rest) (first_calls f xs + made)) (drop next edits) (drop next lines)
 
-pub loads_none : (start : Place) (f : Format) (w : List ℤ) (called : ℕ) → w ≡ [] → called ≡ 0 → start.block ≡ 0 → start.bit ≡ 0
-    → LoadsSoFar start start f w called
-loads_none start f w called none uncalled block bit = record {
-  read = subst (HasRead start) (sym none) (subst (λ p. HasRead p []) (sym at_start) (has_read_nothing start.settings start.count start.limit start.bits));
+pub loads_none : (start : Place) (f : Format) (limit : ℕ) (edits : List Edit) (lines : List ℕ) (w : List ℤ) (called : ℕ) → w ≡ [] → called ≡ 0
+    → start.block ≡ 0 → start.bit ≡ 0 → LoadsSoFar start start f limit edits lines 0 w called
+loads_none start f limit edits lines w called none uncalled block bit = record {
+  front = [];
+  made = 0;
+  read = subst (λ p. HasRead p []) (sym at_start) (has_read_nothing start.settings start.count start.limit start.bits);
   same = refl;
   few = omega (arith, block);
-  counted = uncalled ∙ ap (first_calls f) (sym none);
+  begins = λ _. ap (λ i. i % start.settings.interval) block ∙ zero-mod start.settings.interval;
+  len = ap length none;
+  counted = uncalled;
+  spare = omega arith;
+  leads = λ xs rest is low. subst (λ to. LeadsToEdits f limit (left_of xs (first_calls f xs)) edits lines to edits lines)
+      (ap₂ left_of (is ∙ ap (λ w. w ++ rest) (sym none)) (omega arith)) (leads-nowhere f limit (left_of xs (first_calls f xs)) edits lines);
 }
   where
     at_start : start ≡ place_from start 0 0
@@ -87,25 +115,33 @@ whole n k len is = ap (λ m. m % n) zero_more ∙ mul-mod_left k n
     zero_more : 0 + len ≡ k * n
     zero_more = omega (arith, is)
 
-pub loads_more : (start p q : Place) (f g : Format) (limit : ℕ) (w ys zs mid : List ℤ) (called coded after : ℕ) → IsAllowed start.settings
-    → g ≡ f → f ≡ interval_format start.settings → LoadsSoFar start p f w called → ReadsInterval p ys q → q.block < 2 ^ 34 → 0 < g.most
-    → zs ≡ ys → mid ≡ w ++ zs → IsAccepted g limit w called (Append zs) coded after → LoadsSoFar start q f mid after
-loads_more start p q f g limit w ys zs mid called coded after a format is so_far step few some same appended made = record {
-  read = subst (HasRead q) (sym all) (has_read_more p q w ys allowed so_far.read step);
-  same = same_next start p q so_far.same step.piece.same;
-  few = few;
-  counted = omega (
-    arith,
-    made.calls_are,
-    made.coded_is,
-    so_far.counted,
-    ap (λ g. needed_calls g.most (length w) (Append zs)) format,
-    ap (λ zs. needed_calls f.most (length w) (Append zs)) same,
-    ap (first_calls f) all,
-    append_calls-joined f.most 0 w ys (subst (λ g. 0 < g.most) format some) aligned,
-    ap (λ n. needed_calls f.most n (Append ys)) zero_more,
-  );
-}
+-- the samples of one more interval, and more edits
+pub loads_more : (start p q : Place) (f g h : Format) (limit most more : ℕ) (edits : List Edit) (lines : List ℕ) (next last : ℕ)
+    (w ys zs mid left : List ℤ) (called coded between after : ℕ) → IsAllowed start.settings → g ≡ f → h ≡ f → more ≡ limit
+    → f ≡ interval_format start.settings → LoadsSoFar start p f limit edits lines next w called → ReadsInterval p ys q → q.block < 2 ^ 34
+    → (is_wanted_at q ≡ true → q.block % q.settings.interval ≡ 0) → 0 < g.most → zs ≡ ys → mid ≡ w ++ zs
+    → IsAccepted g most w called (Append zs) coded between → CarriesEarly h more edits lines next mid between last left after
+    → LoadsSoFar start q f limit edits lines last left after
+loads_more start p q f g h limit most more edits lines next last w ys zs mid left called coded between after a format still limited is so_far step few begins some same appended accepted carries =
+    record {
+      front = so_far.front ++ ys;
+      made = so_far.made + carried.made;
+      read = has_read_more p q so_far.front ys allowed so_far.read step;
+      same = same_next start p q so_far.same step.piece.same;
+      few = few;
+      begins = begins;
+      len = carried.len ∙ ap length all ∙ length-append w ys ∙ ap (λ n. n + length ys) so_far.len ∙ sym (length-append so_far.front ys);
+      counted = omega (arith, carried.counted, taken);
+      spare = spare carried.few;
+      leads = λ xs rest split low.
+          leads-on f limit (left_of xs (first_calls f xs)) (left_of (mid ++ rest) (first_calls f xs + so_far.made)) _ edits (drop next edits) (drop last edits)
+          lines (drop next lines) (drop last lines) (subst (λ s. LeadsToEdits f limit (left_of xs (first_calls f xs)) edits lines
+          (left_of s (first_calls f xs + so_far.made)) (drop next edits) (drop next lines)) (behind rest)
+          (so_far.leads xs (ys ++ rest) (split ∙ append_assoc so_far.front ys rest) low))
+          (subst (λ k. LeadsToEdits f limit (left_of (mid ++ rest) (first_calls f xs + so_far.made)) (drop next edits) (drop next lines)
+          (left_of (left ++ rest) k) (drop last edits) (drop last lines)) (omega arith)
+          (carried.leads rest (first_calls f xs + so_far.made) (omega (arith, low, so_far.spare))));
+    }
   where
     settings : p.settings ≡ start.settings
     settings = settings-same start p so_far.same
@@ -113,35 +149,101 @@ loads_more start p q f g limit w ys zs mid called coded after a format is so_far
     allowed : IsAllowed p.settings
     allowed = subst IsAllowed (sym settings) a
 
+    carried : CarriesEarly f limit edits lines next mid between last left after
+    carried = subst (λ h. CarriesEarly h limit edits lines next mid between last left after) still
+        (subst (λ limit. CarriesEarly h limit edits lines next mid between last left after) limited carries)
+
     all : mid ≡ w ++ ys
     all = appended ∙ ap (λ zs. w ++ zs) same
 
-    zero_more : 0 + length w ≡ length w
-    zero_more = omega arith
+    behind : (rest : List ℤ) → w ++ (ys ++ rest) ≡ mid ++ rest
+    behind rest = sym (append_assoc w ys rest) ∙ ap (λ l. l ++ rest) (sym all)
 
-    aligned : (0 + length w) % f.most ≡ 0
-    aligned = whole f.most (p.block / p.settings.interval) (length w) (has_read_whole p w allowed so_far.read step.wanted step.begins
+    zero_more : 0 + length so_far.front ≡ length w
+    zero_more = omega (arith, so_far.len)
+
+    aligned : (0 + length so_far.front) % f.most ≡ 0
+    aligned = whole f.most (p.block / p.settings.interval) (length so_far.front) (has_read_whole p so_far.front allowed so_far.read step.wanted step.begins
         ∙ ap (λ n. p.block / p.settings.interval * n) (ap interval_len settings ∙ ap (λ (f : Format). f.most) (sym is)))
 
-pub loads_all : (start p : Place) (f : Format) (w : List ℤ) (called : ℕ) → IsAllowed start.settings → LoadsSoFar start p f w called → is_wanted_at p ≡ false
-    → start.block ≡ 0 → start.bit ≡ 0 → AreSamplesOf start w
-loads_all start p f w called a so_far done block bit = record {
-  reading = subst (λ (p : Place). IsReading p.settings p.count p.limit p.bits w) so_far.same
-      (has_read_all p w (subst IsAllowed (sym (settings-same start p so_far.same)) a) so_far.read done);
-  first_block = block;
-  first_bit = bit;
-}
+    taken : between ≡ first_calls f (so_far.front ++ ys) + so_far.made
+    taken = omega (
+      arith,
+      accepted.calls_are,
+      accepted.coded_is,
+      so_far.counted,
+      ap (λ g. needed_calls g.most (length w) (Append zs)) format,
+      ap (λ zs. needed_calls f.most (length w) (Append zs)) same,
+      append_calls-joined f.most 0 so_far.front ys (subst (λ g. 0 < g.most) format some) aligned,
+      ap (λ n. needed_calls f.most n (Append ys)) zero_more,
+    )
+
+    spare : (carried.made ≡ 0) ⊎ (after ≤ 2 ^ 62 + 2 ^ 32) → so_far.made + carried.made ≤ 2 ^ 62 + 2 ^ 32
+    spare (inl none) = omega (arith, none, so_far.spare)
+    spare (inr far) = omega (arith, far, carried.counted, taken)
+
+-- all samples were appended
+pub loads_all : (start p : Place) (f : Format) (limit : ℕ) (edits : List Edit) (lines : List ℕ) (next : ℕ) (w : List ℤ) (called : ℕ)
+    → IsAllowed start.settings → 0 < f.most → count_refusal start.limit start.count ≡ None → start.limit ≤ 2 ^ 32
+    → LoadsSoFar start p f limit edits lines next w called → is_wanted_at p ≡ false → LoadsAll f limit edits lines start next w called
+loads_all start p f limit edits lines next w called a some counted low so_far done xs given =
+    subst (λ to. LeadsToEdits f limit (left_of xs (first_calls f xs)) edits lines to (drop next edits) (drop next lines))
+    (ap₂ left_of (append-nil w) (ap (λ xs. first_calls f xs + so_far.made) is ∙ sym so_far.counted))
+    (so_far.leads xs [] (is ∙ sym (append-nil so_far.front)) (omega (arith, append_calls-le f.most 0 xs some, few, low)))
+  where
+    allowed : IsAllowed p.settings
+    allowed = subst IsAllowed (sym (settings-same start p so_far.same)) a
+
+    is : xs ≡ so_far.front
+    is = (bits_are_read_in_one_way p.settings p.count p.limit p.bits allowed).one_reading xs so_far.front (same_reading start p xs so_far.same given)
+        (has_read_all p so_far.front allowed so_far.read done)
+
+    few : length xs ≤ start.limit
+    few = read-within start.settings start.limit start.bits start.count xs a counted given.reading
+
+-- an edit was refused before all samples were there
+pub loads_stops : (start p q : Place) (f g h : Format) (limit more : ℕ) (edits : List Edit) (lines : List ℕ) (next : ℕ) (w ys zs mid xs : List ℤ)
+    (called : ℕ) (fault : EditFault) → IsAllowed start.settings → g ≡ f → h ≡ f → more ≡ limit → 0 < f.most
+    → count_refusal start.limit start.count ≡ None → start.limit ≤ 2 ^ 32
+    → LoadsSoFar start p f limit edits lines next w called → ReadsInterval p ys q → (is_wanted_at q ≡ true → q.block % q.settings.interval ≡ 0)
+    → zs ≡ ys → mid ≡ w ++ zs → StopsEarly h more edits lines next mid fault → AreSamplesOf start xs
+    → StopsEditing f limit (first_calls f xs) xs edits lines fault
+loads_stops start p q f g h limit more edits lines next w ys zs mid xs called fault a format still limited some counted low so_far step begins same appended stops given =
+    leads-stop f limit (left_of xs (first_calls f xs)) (left_of (w ++ (ys ++ rest.0)) (first_calls f xs + so_far.made)) edits (drop next edits)
+    lines (drop next lines) fault (so_far.leads xs (ys ++ rest.0) (rest.1 ∙ append_assoc so_far.front ys rest.0) few)
+    (subst (λ s. StopsEditing f limit (first_calls f xs + so_far.made) s (drop next edits) (drop next lines) fault) (sym behind)
+    (refused rest.0 (first_calls f xs + so_far.made) (omega (arith, few, so_far.spare))))
+  where
+    later : q ≡ place_from start q.block q.bit
+    later = same_next start p q so_far.same step.piece.same
+
+    rest : (rest : List ℤ) × (xs ≡ so_far.front ++ ys ++ rest)
+    rest = has_read_front q (so_far.front ++ ys) xs (subst IsAllowed (sym (settings-same start q later)) a)
+        (has_read_more p q so_far.front ys (subst IsAllowed (sym (settings-same start p so_far.same)) a) so_far.read step) begins
+        (same_reading start q xs later given)
+
+    behind : w ++ (ys ++ rest.0) ≡ mid ++ rest.0
+    behind = sym (append_assoc w ys rest.0) ∙ ap (λ l. l ++ rest.0) (sym (appended ∙ ap (λ zs. w ++ zs) same))
+
+    few : first_calls f xs ≤ 2 ^ 32
+    few = omega (
+      arith,
+      append_calls-le f.most 0 xs some,
+      read-within start.settings start.limit start.bits start.count xs a counted given.reading,
+      low,
+    )
+
+    refused : StopsEarly f limit edits lines next mid fault
+    refused = subst (λ h. StopsEarly h limit edits lines next mid fault) still (subst (λ limit. StopsEarly h limit edits lines next mid fault) limited stops)
 
 -- ---- refusals
 
-same_reading : (start p : Place) (xs : List ℤ) → p ≡ place_from start p.block p.bit → AreSamplesOf start xs → IsReading p.settings p.count p.limit p.bits xs
-same_reading start p xs same given = subst (λ (p : Place). IsReading p.settings p.count p.limit p.bits xs) (sym same) given.reading
-
 -- a second reading can only lack memory
-pub loads_memory : (start p : Place) (f : Format) (w xs : List ℤ) (called : ℕ) (fault : Fault) → IsAllowed start.settings → LoadsSoFar start p f w called
-    → AreSamplesOf start xs → RefusesAt p fault → fault ≡ Memory
-loads_memory start p f w xs called fault a so_far given refuses =
-    lacks_memory_only p w xs fault (subst IsAllowed (sym (settings-same start p so_far.same)) a) so_far.read (same_reading start p xs so_far.same given) refuses
+pub loads_memory : (start p : Place) (f : Format) (limit : ℕ) (edits : List Edit) (lines : List ℕ) (next : ℕ) (w xs : List ℤ) (called : ℕ) (fault : Fault)
+    → IsAllowed start.settings → LoadsSoFar start p f limit edits lines next w called → AreSamplesOf start xs → RefusesAt p fault → fault ≡ Memory
+loads_memory start p f limit edits lines next w xs called fault a so_far given refuses =
+    lacks_memory_only p so_far.front xs fault (subst IsAllowed (sym (settings-same start p so_far.same)) a) so_far.read
+    (same_reading start p xs so_far.same given) refuses
 
 -- and so can an append of held samples within the limit
 append_memory : (f : Format) (limit : ℕ) (s ys : List ℤ) (calls after : ℕ) (fault : Fault) → 0 < f.most → AreHeld f ys → length s + length ys ≤ limit
@@ -161,13 +263,15 @@ append_memory f limit s ys calls after fault some held few room refused =
     due : due_refusal f limit s calls (Append ys) ≡ None
     due = ap₂ option_or (append_fits f limit s ys held few) enough
 
-pub append_lacks : (start p q : Place) (f g : Format) (limit : ℕ) (w ys zs xs : List ℤ) (called after : ℕ) (fault : Fault) → IsAllowed start.settings
-    → g ≡ f → f ≡ interval_format start.settings → limit ≡ start.limit → limit ≤ 2 ^ 32 → count_refusal start.limit start.count ≡ None
-    → LoadsSoFar start p f w called → ReadsInterval p ys q → (is_wanted_at q ≡ true → q.block % q.settings.interval ≡ 0) → AreSamplesOf start xs
-    → zs ≡ ys → 0 < g.most → IsRefused g limit w called (Append zs) fault after → fault ≡ Memory
-append_lacks start p q f g limit w ys zs xs called after fault a format is limited low counted so_far step begins given same some refused =
-    append_memory g limit w zs called after fault some held
-    (omega (arith, within, ap length same, limited, few)) (omega (arith, within, ap length same, so_far.counted, calls, few, low, limited)) refused
+pub append_lacks : (start p q : Place) (f g : Format) (limit most : ℕ) (edits : List Edit) (lines : List ℕ) (next : ℕ) (w ys zs xs : List ℤ)
+    (called after : ℕ) (fault : Fault) → IsAllowed start.settings
+    → g ≡ f → f ≡ interval_format start.settings → most ≡ start.limit → most ≤ 2 ^ 32 → count_refusal start.limit start.count ≡ None
+    → LoadsSoFar start p f limit edits lines next w called → ReadsInterval p ys q → (is_wanted_at q ≡ true → q.block % q.settings.interval ≡ 0)
+    → AreSamplesOf start xs → zs ≡ ys → 0 < g.most → IsRefused g most w called (Append zs) fault after → fault ≡ Memory
+append_lacks start p q f g limit most edits lines next w ys zs xs called after fault a format is limited low counted so_far step begins given same some refused =
+    append_memory g most w zs called after fault some held
+    (omega (arith, within, ap length same, limited, few))
+    (omega (arith, within, ap length same, so_far.counted, so_far.spare, so_far.len, calls, few, low, limited)) refused
   where
     settings : p.settings ≡ start.settings
     settings = settings-same start p so_far.same
@@ -180,17 +284,88 @@ append_lacks start p q f g limit w ys zs xs called after fault a format is limit
 
     within : length w + length ys ≤ length xs
     within =
-        let rest = has_read_front q (w ++ ys) xs (subst IsAllowed (sym (settings-same start q later)) a)
-        (has_read_more p q w ys (subst IsAllowed (sym settings) a) so_far.read step) begins (same_reading start q xs later given) in
-        omega (arith, ap length rest.1, length-append (w ++ ys) rest.0, length-append w ys)
+        let rest = has_read_front q (so_far.front ++ ys) xs (subst IsAllowed (sym (settings-same start q later)) a)
+        (has_read_more p q so_far.front ys (subst IsAllowed (sym settings) a) so_far.read step) begins (same_reading start q xs later given) in
+        omega (arith, ap length rest.1, length-append (so_far.front ++ ys) rest.0, length-append so_far.front ys, so_far.len)
 
-    calls : first_calls f w ≤ length w
-    calls = append_calls-le f.most 0 w (subst (λ g. 0 < g.most) format some)
+    calls : first_calls f so_far.front ≤ length so_far.front
+    calls = append_calls-le f.most 0 so_far.front (subst (λ g. 0 < g.most) format some)
 
     held : AreHeld g zs
     held = subst (λ zs. AreHeld g zs) (sym same) (subst (λ f. AreHeld f ys) (sym (format ∙ is)) (held-format start.settings ys
         (subst (λ s. AllByRecursion (IsHeld s) ys) settings (piece_is_held p q ys step.piece))))
 
--- in the form in which the code has the facts
+-- ---- in the form in which the code has the facts
+
+pub stops_err : {X : Type 0} (r : Result X EditFault) (e : EditFault) (f : Format) (limit : ℕ) (edits : List Edit) (lines : List ℕ) (start : Place)
+    → r ≡ Err e → StopsLoading f limit edits lines start e → IfErr r (λ fault. StopsLoading f limit edits lines start fault)
+stops_err r e f limit edits lines start is stops = subst (λ r. IfErr r (λ fault. StopsLoading f limit edits lines start fault)) (sym is) stops
+
 pub refuses_err : {X : Type 0} (r : Result X Fault) (fault : Fault) (P : Fault → Type 0) → r ≡ Err fault → P fault → IfErr r P
 refuses_err r fault P is holds = subst (λ r. IfErr r P) (sym is) holds
+
+-- ---- what comes of edits on samples
+
+pub no_room_err : {X : Type 0} (view : X → Recoded) (r : Result X EditFault) (e : EditFault) (f : Fault) (s : Settings) (limit : ℕ) (start : Place)
+    (edits : List Edit) (lines : List ℕ) → r ≡ Err e → e ≡ Plain f → f ≡ Memory → EditsSamples s limit start edits lines (answer_of view r)
+no_room_err view r e f s limit start edits lines is same memory =
+    subst (λ r. EditsSamples s limit start edits lines (answer_of view r)) (sym (is ∙ ap Err (same ∙ ap Plain memory))) no_room
+
+-- an edit was refused while samples were taken over
+pub loading_err : {X : Type 0} (view : X → Recoded) (r : Result X EditFault) (e fault : EditFault) (s : Settings) (f : Format) (limit most : ℕ) (start : Place)
+    (edits : List Edit) (lines : List ℕ) → r ≡ Err e → e ≡ fault → f ≡ interval_format s → most ≡ limit → StopsLoading f most edits lines start fault
+    → EditsSamples s limit start edits lines (answer_of view r)
+loading_err view r e fault s f limit most start edits lines is same format limited stops =
+    subst (λ r. EditsSamples s limit start edits lines (answer_of view r)) (sym (is ∙ ap Err same)) (by_why
+    (subst (λ limit. StopsLoading (interval_format s) limit edits lines start fault) limited
+    (subst (λ f. StopsLoading f most edits lines start fault) format stops)))
+  where
+    by_why : StopsLoading (interval_format s) limit edits lines start fault → EditsSamples s limit start edits lines (Err fault)
+    by_why (inl memory) = subst (λ fault. EditsSamples s limit start edits lines (Err fault)) (sym memory) no_room
+    by_why (inr refused) = early.stops fault refused
+
+-- all were taken over
+same_loads : (s : Settings) (f : Format) (limit most : ℕ) (start : Place) (edits : List Edit) (lines : List ℕ) (j : ℕ) (left : List ℤ) (calls : ℕ)
+    → f ≡ interval_format s → most ≡ limit → LoadsAll f most edits lines start j left calls → LoadsAll (interval_format s) limit edits lines start j left calls
+same_loads s f limit most start edits lines j left calls format limited loads =
+    subst (λ limit. LoadsAll (interval_format s) limit edits lines start j left calls) limited
+    (subst (λ f. LoadsAll f most edits lines start j left calls) format loads)
+
+-- and then an edit was refused
+pub rest_err : {X : Type 0} (view : X → Recoded) (r : Result X EditFault) (e fault : EditFault) (s : Settings) (f g : Format) (limit most more : ℕ)
+    (start : Place) (edits : List Edit) (lines : List ℕ) (j : ℕ) (left : List ℤ) (calls : ℕ) → r ≡ Err e → e ≡ fault → f ≡ interval_format s → g ≡ f
+    → most ≡ limit → more ≡ most → LoadsAll f most edits lines start j left calls → StopsEditing g more calls left (drop j edits) (drop j lines) fault
+    → EditsSamples s limit start edits lines (answer_of view r)
+rest_err view r e fault s f g limit most more start edits lines j left calls is same format still limited kept loads refused =
+    subst (λ r. EditsSamples s limit start edits lines (answer_of view r)) (sym (is ∙ ap Err same)) (early.stops fault (λ xs given.
+    leads-stop (interval_format s) limit (left_of xs (first_calls (interval_format s) xs)) (left_of left calls) edits (drop j edits) lines (drop j lines) fault
+    (same_loads s f limit most start edits lines j left calls format limited loads xs given)
+    (subst (λ limit. StopsEditing (interval_format s) limit calls left (drop j edits) (drop j lines) fault) (kept ∙ limited)
+    (subst (λ f. StopsEditing f more calls left (drop j edits) (drop j lines) fault) (still ∙ format) refused))))
+
+-- or all edits were made
+pub rest_made : (s : Settings) (f g h : Format) (limit most more : ℕ) (start : Place) (edits : List Edit) (lines : List ℕ) (j : ℕ) (left last : List ℤ)
+    (calls after : ℕ) → f ≡ interval_format s → g ≡ f → h ≡ g → most ≡ limit → more ≡ most → LoadsAll f most edits lines start j left calls
+    → edits_left g more calls left (drop j edits) (drop j lines) ≡ Ok (left_of last after)
+    → EditsSamples s limit start edits lines (Ok (recoded_of h last after))
+rest_made s f g h limit most more start edits lines j left last calls after format still again limited kept loads is =
+    subst (λ h. EditsSamples s limit start edits lines (Ok (recoded_of h last after))) (sym (again ∙ still ∙ format))
+    (makes (left_of last after) (λ xs given. (same_loads s f limit most start edits lines j left calls format limited loads xs given).same
+    ∙ subst (λ limit. edits_left (interval_format s) limit calls left (drop j edits) (drop j lines) ≡ Ok (left_of last after)) (kept ∙ limited)
+    (subst (λ f. edits_left f more calls left (drop j edits) (drop j lines) ≡ Ok (left_of last after)) (still ∙ format) is)))
+
+-- ---- what comes of edits on bits
+
+pub unread_err : {X : Type 0} (view : X → Recoded) (r : Result X EditFault) (e : EditFault) (f : Fault) (s : Settings) (caps : Caps) (count : Option ℕ)
+    (bits : List Bool) (edits : List Edit) (lines : List ℕ) → r ≡ Err e → e ≡ Plain f → RefusesDecoding s count caps.samples bits f
+    → EditsBits s caps count bits edits lines (answer_of view r)
+unread_err view r e f s caps count bits edits lines is same refuses =
+    subst (λ r. EditsBits s caps count bits edits lines (answer_of view r)) (sym (is ∙ ap Err same)) (not_read f refuses)
+
+pub edits_bits : (s : Settings) (caps : Caps) (count : Option ℕ) (bits : List Bool) (start : Place) (edits : List Edit) (lines : List ℕ)
+    (answer : Result Recoded EditFault) → (xs : List ℤ) → AreSamplesOf start xs
+    → ((xs : List ℤ) → AreSamplesOf start xs → IsReading s count caps.samples bits xs) → count_refusal caps.samples count ≡ None
+    → EditsSamples s caps.samples start edits lines answer → EditsBits s caps count bits edits lines answer
+edits_bits s caps count bits start edits lines answer xs given reading none no_room = lacks_room
+edits_bits s caps count bits start edits lines answer xs given reading none (early.stops fault refused) = stopped xs fault none (reading xs given) (refused xs given)
+edits_bits s caps count bits start edits lines answer xs given reading none (makes left is) = early.made xs left none (reading xs given) (is xs given)

@@ -4,7 +4,6 @@ use Rattle.std.specs.Io.KnownBytes.{Appends, Keeps}
 use Rattle.std.proofs.KnownBytes.{Appends-nil, Appends-trans}
 use Rattle.std.proofs.lemmas.Bool.{cases_lt}
 use Rattle.std.proofs.lemmas.List.{length-append, length-take, length-drop, take_all, take-append-drop, nil_from_length}
-use Rattle.std.proofs.Math.Nat.{zero-mod}
 use Rattle.std.specs.List.{AllByRecursion}
 use Rattle.std.proofs.lemmas.List.Concat.{flat_map-append}
 use Rattle.aec_params.specs.declared.settings.Settings.{Settings}
@@ -16,10 +15,10 @@ use Rattle.aec_params.specs.Reading.{IsReading}
 use Rattle.aec_bits.specs.Devices.{AppendsFront}
 use Rattle.aec_interval.specs.Pieces.{Place, is_wanted_at, ReadsPiece, ReadsInterval, HasRead, RefusesAt}
 use Rattle.aec_interval.proofs.ReadingLemmas.{bits_are_read_in_one_way}
-use Rattle.aec_interval.proofs.PieceReadingLemmas.{has_read_more, has_read_all, has_read_front, lacks_memory_only, has_read_nothing, piece_is_held}
+use Rattle.aec_interval.proofs.PieceReadingLemmas.{has_read_more, has_read_all, has_read_front, lacks_memory_only, piece_is_held}
 use Rattle.aec_interval.proofs.BlockLemmas.{all_left, all_right}
 use Rattle.aec_engine.specs.Output.{all_stored, samples_from}
-use Rattle.aec_engine.specs.ReadingTwice.{AreSamplesOf, PutsPart, PutsAllOrFront}
+use Rattle.aec_engine.specs.ReadingTwice.{AreSamplesOf, IsBegun, PutsPart, PutsAllOrFront}
 use Rattle.aec_engine.proofs.ReadTwiceLemmas.{place_from, settings-same, same_next}
 
 -- ---- parts of lists
@@ -81,29 +80,30 @@ pub begun_puts : {X : Type 0} (r : Result X Fault) (before mid after : Option (L
 begun_puts (Ok x) before mid after bytes kept puts = begun_then before mid after bytes kept puts
 begun_puts (Err e) before mid after bytes kept puts = (puts.0, begun_then before mid after (take puts.0 bytes) kept puts.1)
 
-pub puts_none : (start : Place) (s : Settings) (first len : ℕ) (before after : Option (List ℕ)) (waiting : List ℕ) → Keeps before after → waiting ≡ []
-    → (samples : List ℤ) × AreSamplesOf start samples → PutsSoFar start start s first len first len before after waiting
-puts_none start s first len before after waiting kept none given = record {
-  samples = [];
-  read = subst (λ p. HasRead p []) (sym at_start) (has_read_nothing start.settings start.count start.limit start.bits);
+-- of samples up to a place where the range has not begun
+samples_from-before : (first len : ℕ) (xs : List ℤ) → length xs ≤ first → samples_from first len xs ≡ []
+samples_from-before first len xs few = nil_from_length (samples_from first len xs) (omega (arith, few, samples_from-most first len xs))
+
+-- a sink that refuses to begin has a front of nothing
+pub front_none : (before after : Option (List ℕ)) (bytes : List ℕ) → Keeps before after → AppendsFront before after bytes
+front_none before after bytes kept =
+    let none : take 0 bytes ≡ [] = nil_from_length (take 0 bytes) (length-take 0 bytes ∙ omega arith) in
+    (0, subst (Appends before after) (sym none) (begun_then before after after [] kept (Appends-nil after)))
+
+pub puts_none : (start : Place) (s : Settings) (before_start first len skip : ℕ) (before after : Option (List ℕ)) (waiting : List ℕ) → Keeps before after
+    → waiting ≡ [] → skip ≡ first - before_start → IsBegun start before_start first → PutsSoFar start start s first len skip len before after waiting
+puts_none start s before_start first len skip before after waiting kept none skips begun = record {
+  samples = begun.samples;
+  read = begun.read;
   same = refl;
-  few = omega (arith, given.1.first_block);
-  begins = λ _. ap (λ i. i % start.settings.interval) given.1.first_block ∙ zero-mod start.settings.interval;
+  few = begun.few;
+  begins = begun.begins;
   put = [];
   appended = begun_then before after after [] kept (Appends-nil after);
-  all = none ∙ sym (ap (all_stored s) (nothing first len));
-  skip_is = omega arith;
-  left_is = omega arith;
+  all = none ∙ sym (ap (all_stored s) (samples_from-before first len begun.samples (omega (arith, begun.counted, begun.at_most))));
+  skip_is = omega (arith, skips, begun.counted);
+  left_is = omega (arith, begun.counted, begun.at_most);
 }
-  where
-    at_start : start ≡ place_from start 0 0
-    at_start = ap (λ i. place_from start i start.bit) given.1.first_block ∙ ap (λ b. place_from start 0 b) given.1.first_bit
-
-    nothing : (first len : ℕ) → samples_from first len [] ≡ []
-    nothing zero zero = refl
-    nothing zero (suc len) = refl
-    nothing (suc first) zero = refl
-    nothing (suc first) (suc len) = refl
 
 -- the bytes of a step's part behind those so far
 behind : (s : Settings) (put waiting put_then waiting_then : List ℕ) (first len : ℕ) (xs ys part : List ℤ)

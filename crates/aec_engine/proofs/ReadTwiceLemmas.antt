@@ -1,16 +1,18 @@
 -- Bits read once to count their samples, and again to put the bytes of some of them.
-use Rattle.std.proofs.Common.{◌≡◌, ℕ, ◌+◌, ◌*◌, ◌<◌, ◌≤◌, ◌^◌, false, Option, Some, IfSome, Result, Err, IfErr, ℤ, List, [], ◌++◌, length, refl, sym, ap, ◌∙◌, subst, arith}
-use Rattle.std.proofs.Math.Nat.{mul-le-mul_right}
+use Rattle.std.proofs.Common.{◌≡◌, ℕ, ◌+◌, ◌*◌, ◌<◌, ◌≤◌, ◌^◌, Bool, false, Option, Some, IfSome, Result, Err, IfErr, ℤ, List, [], ◌++◌, length, refl, sym, ap, ◌∙◌, subst, arith, ⊎_elim}
+use Rattle.std.proofs.Math.Nat.{mul-le-mul_right, zero-mod}
+use Rattle.std.proofs.lemmas.Bool.{cases_lt}
 use Rattle.std.proofs.lemmas.List.{length-append}
+use Rattle.aec_params.specs.declared.settings.Settings.{Settings}
 use Rattle.aec_params.specs.declared.fault.Fault.{Fault}
 use Rattle.aec_params.specs.Params.{IsAllowed}
 use Rattle.aec_params.specs.Reading.{IsReading}
 use Rattle.aec_params.proofs.SettingLaws.{block_size-most}
 use Rattle.aec_interval.specs.Reached.{RefusesReading, wrong_before}
-use Rattle.aec_interval.specs.Pieces.{Place, place_at, is_wanted_at, ReadsInterval, HasRead, RefusesAt}
+use Rattle.aec_interval.specs.Pieces.{Place, place_at, is_wanted_at, IsPlace, ReadsInterval, HasRead, RefusesAt}
 use Rattle.aec_interval.specs.Skipping.{HasInterval, IsFaultAt}
 use Rattle.aec_interval.proofs.PieceReadingLemmas.{has_read_nothing, has_read_more, has_read_all, has_read_refused, has_read_few}
-use Rattle.aec_engine.specs.ReadingTwice.{HaveSamples}
+use Rattle.aec_engine.specs.ReadingTwice.{HaveSamples, IsBegun}
 
 -- a place that was come to from another one
 abbrev pub place_from : Place → ℕ → ℕ → Place
@@ -105,3 +107,50 @@ pub counts_wrong : {X : Type 0} (r : Result X Fault) (fault other : Fault) (star
     → CountsSoFar start p total → IsFaultAt p other → IfErr r (λ fault. RefusesReading start.settings start.count start.limit start.bits 0 0 fault)
 counts_wrong r fault other start p total a is same so_far wrong =
     counts_refused r fault other start p total a is same so_far (wrong_before other wrong.wrong wrong.before)
+
+-- ---- a place that is noted
+
+-- before the first bit there are no samples
+pub begun_nothing : (s : Settings) (count : Option ℕ) (limit : ℕ) (bits : List Bool) (p : Place) → p ≡ place_at s count limit bits 0 0 → IsBegun p 0 0
+begun_nothing s count limit bits p is = subst (λ p. IsBegun p 0 0) (sym is) (record {
+  samples = [];
+  read = has_read_nothing s count limit bits;
+  counted = refl;
+  at_most = omega arith;
+  few = omega arith;
+  begins = λ _. zero-mod s.interval;
+})
+
+-- a place was reached, and no more than `first` samples lie before it
+pub record IsNoted (start : Place) (block bit before first : ℕ) : Type 0 where
+  pub place : IsPlace (place_from start block bit)
+  pub begun : IsBegun (place_from start block bit) before first
+
+pub noted_here : (start p : Place) (block bit before first : ℕ) → CountsSoFar start p before → IsPlace p → block ≡ p.block → bit ≡ p.bit → before ≤ first
+    → IsNoted start block bit before first
+noted_here start p block bit before first so_far is same_block same_bit at_most = record {
+  place = subst IsPlace (sym here) is;
+  begun = subst (λ p. IsBegun p before first) (sym here) (record {
+    samples = so_far.samples;
+    read = so_far.read;
+    counted = so_far.counted;
+    at_most = at_most;
+    few = is.few;
+    begins = is.begins;
+  });
+}
+  where
+    here : place_from start block bit ≡ p
+    here = ap (λ i. place_from start i bit) same_block ∙ (ap (λ b. place_from start p.block b) same_bit ∙ sym so_far.same)
+
+-- of two places one is kept
+pub noted_later : {X : Type 0} (P : X → Type 0) (noted here kept : X) (before first : ℕ) → (before ≤ first → kept ≡ here) → (first < before → kept ≡ noted)
+    → P noted → (before ≤ first → P here) → P kept
+noted_later P noted here kept before first later earlier old new =
+    ⊎_elim (λ h. subst P (sym (earlier h)) old) (λ h. subst P (sym (later h)) (new h)) (cases_lt first before)
+
+-- it is one for a reader that has come further on
+pub noted_place : (start p q : Place) (block bit before first : ℕ) → p ≡ place_from start p.block p.bit → q ≡ p → IsNoted start block bit before first
+    → IsPlace (place_from q block bit)
+noted_place start p q block bit before first same is noted =
+    subst IsPlace (sym (ap (λ (p : Place). place_from p block bit) (is ∙ same))) noted.place

@@ -16,6 +16,7 @@ use Rattle.aec_engine.specs.Transfers.{Input, Taking, are_past, Putting, IsBegun
 use Rattle.aec_engine.specs.ReadingTwice as twice
 use Rattle.aec_engine.specs.Transfers as transfers
 use Rattle.aec_engine.specs.ReadingTwice.{GaveWhole, AreSamplesOf, HaveSamples, StoresPart, DecodesBits, CutsBits, SettlesOne, PutsAllOrFront}
+use Rattle.aec_engine.proofs.ReadTwiceLemmas.{place_from}
 use Rattle.aec_engine.proofs.RangingLemmas.{refused_as_decoding}
 use Rattle.aec_engine.proofs.OutputLemmas.{Keeps-same, settles_delivered, leaves_settled, refused_intake, refused_decoding, read_samples}
 
@@ -52,11 +53,13 @@ settles_map answers others sink r weaker one = record { answer = one.answer; ans
 
 -- ---- bits
 
--- at the first bit
-abbrev pub samples_at_start : (s : Settings) (count : Option ℕ) (limit : ℕ) (bits : List Bool) (p : Place) (total : ℕ) → p ≡ place_at s count limit bits 0 0
-    → HaveSamples p total → (xs : List ℤ) × AreSamplesOf p xs
-samples_at_start s count limit bits p total is have =
-    (have.samples, record { reading = have.reading; first_block = ap (λ (p : Place). p.block) is; first_bit = ap (λ (p : Place). p.bit) is })
+abbrev pub samples_told : (p : Place) (total : ℕ) → HaveSamples p total → (xs : List ℤ) × AreSamplesOf p xs
+samples_told p total have = (have.samples, record { reading = have.reading })
+
+-- a reader under the same terms has the same samples
+pub samples_there : (start p : Place) (total : ℕ) → p ≡ place_from start p.block p.bit → HaveSamples start total → HaveSamples p total
+samples_there start p total same have =
+    subst (λ (p : Place). HaveSamples p total) (sym same) (record { samples = have.samples; reading = have.reading; counted = have.counted })
 
 reading_at : (s : Settings) (count : Option ℕ) (limit : ℕ) (bits : List Bool) (p : Place) (xs : List ℤ) → p ≡ place_at s count limit bits 0 0
     → IsReading p.settings p.count p.limit p.bits xs → IsReading s count limit bits xs
@@ -78,7 +81,7 @@ pub decodes_all : (s : Settings) (count : Option ℕ) (limit most : ℕ) (bits :
     → limit ≡ most → p ≡ place_at s count limit bits 0 0 → None ≡ count_refusal limit count → (have : HaveSamples p total)
     → ((xs : List ℤ) → AreSamplesOf p xs → SettlesOne (StoresPart s 0 total xs) sink r) → SettlesOne (DecodesBits s count most bits) sink r
 decodes_all s count limit most bits p total sink r same is none have settles =
-    let start = samples_at_start s count limit bits p total is have in
+    let start = samples_told p total have in
     subst (λ limit. SettlesOne (DecodesBits s count limit bits) sink r) same
     (settles_map (StoresPart s 0 total start.0) (DecodesBits s count limit bits) sink r answer (settles start.0 start.1))
   where
@@ -87,16 +90,20 @@ decodes_all s count limit most bits p total sink r same is none have settles =
         (twice.read have.samples (sym none) (reading_at s count limit bits p have.samples is have.reading))
     answer a twice.no_room = twice.no_memory
 
-pub cuts_part : (s : Settings) (count : Option ℕ) (limit most first len : ℕ) (bits : List Bool) (p : Place) (total : ℕ) (sink : Putting) (r : Result (Unit {0}) Fault)
-    → limit ≡ most → p ≡ place_at s count limit bits 0 0 → None ≡ count_refusal limit count → (have : HaveSamples p total) → first + len ≤ total
+pub cuts_part : (s : Settings) (count : Option ℕ) (limit most first len : ℕ) (bits : List Bool) (start p : Place) (total : ℕ) (sink : Putting)
+    (r : Result (Unit {0}) Fault) → limit ≡ most → start ≡ place_at s count limit bits 0 0 → None ≡ count_refusal limit count
+    → (have : HaveSamples start total) → p ≡ place_from start p.block p.bit → first + len ≤ total
     → ((xs : List ℤ) → AreSamplesOf p xs → SettlesOne (StoresPart s first len xs) sink r) → SettlesOne (CutsBits s count most first len bits) sink r
-cuts_part s count limit most first len bits p total sink r same is none have within settles =
-    let start = samples_at_start s count limit bits p total is have in
+cuts_part s count limit most first len bits start p total sink r same is none have there within settles =
     subst (λ limit. SettlesOne (CutsBits s count limit first len bits) sink r) same
-    (settles_map (StoresPart s first len start.0) (CutsBits s count limit first len bits) sink r answer (settles start.0 start.1))
+    (settles_map (StoresPart s first len have.samples) (CutsBits s count limit first len bits) sink r answer (settles have.samples read))
   where
+    read : AreSamplesOf p have.samples
+    read = record { reading = subst (λ (p : Place). IsReading p.settings p.count p.limit p.bits have.samples) (sym there) have.reading }
+
     answer : (a : Result (List ℕ) Fault) → StoresPart s first len have.samples a → CutsBits s count limit first len bits a
-    answer a twice.stored = twice.cut have.samples (sym none) (reading_at s count limit bits p have.samples is have.reading) (omega (arith, within, have.counted))
+    answer a twice.stored =
+        twice.cut have.samples (sym none) (reading_at s count limit bits start have.samples is have.reading) (omega (arith, within, have.counted))
     answer a twice.no_room = twice.lacks_memory
 
 pub cuts_past : (s : Settings) (count : Option ℕ) (limit first len : ℕ) (bits : List Bool) (p : Place) (total : ℕ) (fault : Fault)

@@ -10,6 +10,7 @@ pub mod CodingSteps
 pub mod ReadingTwice
 pub mod Editing
 pub mod EditingSteps
+pub mod EarlyEdits
 pub mod InMemory
 pub mod Laws
 pub mod EditedStreams

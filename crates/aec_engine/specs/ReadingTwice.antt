@@ -1,5 +1,5 @@
 -- What the parts of decoding give: the bits of a source, and what their two readings answer.
-use Rattle.std.specs.Prelude.{◌≡◌, ℕ, ◌+◌, ◌<◌, ◌≤◌, Bool, true, Option, None, Result, Ok, Err, MatchResult, ℤ, List, ◌++◌, length}
+use Rattle.std.specs.Prelude.{◌≡◌, ℕ, ◌+◌, ◌%◌, ◌^◌, ◌<◌, ◌≤◌, Bool, true, Option, None, Result, Ok, Err, MatchResult, ℤ, List, ◌++◌, length}
 use Rattle.std.specs.Io.KnownBytes.{Appends}
 use Rattle.aec_params.specs.declared.settings.Settings.{Settings}
 use Rattle.aec_params.specs.declared.fault.Fault.{Fault}
@@ -8,7 +8,7 @@ use Rattle.aec_params.specs.Codewords.{bits_of_bytes}
 use Rattle.aec_params.specs.Reading.{IsReading}
 use Rattle.aec_bits.specs.Devices.{AppendsFront}
 use Rattle.aec_interval.specs.Reached.{count_refusal, RefusesDecoding}
-use Rattle.aec_interval.specs.Pieces.{Place}
+use Rattle.aec_interval.specs.Pieces.{Place, is_wanted_at, HasRead}
 use Rattle.aec_engine.specs.Transfers.{input_of, Taking, are_past, Gave, IsTakenWhole, Putting, Settles}
 use Rattle.aec_engine.specs.Output.{all_stored, samples_from}
 
@@ -25,11 +25,18 @@ pub record GaveWhole (before after : Option (List ℕ)) (failures limit : ℕ) (
   pub taken : IsTakenWhole before after failures limit bytes
   pub spelled : bits ≡ bits_of_bytes bytes
 
--- bits are read as these samples, and the place is their start
+-- bits are read as these samples
 pub record AreSamplesOf (p : Place) (samples : List ℤ) : Type 0 where
   pub reading : IsReading p.settings p.count p.limit p.bits samples
-  pub first_block : p.block ≡ 0
-  pub first_bit : p.bit ≡ 0
+
+-- so many samples were read up to a place where an interval begins, and no more than `first`
+pub record IsBegun (p : Place) (before first : ℕ) : Type 0 where
+  pub samples : List ℤ
+  pub read : HasRead p samples
+  pub counted : length samples ≡ before
+  pub at_most : before ≤ first
+  pub few : p.block < 2 ^ 34
+  pub begins : is_wanted_at p ≡ true → p.block % p.settings.interval ≡ 0
 
 -- bits are read as so many samples
 pub record HaveSamples (p : Place) (total : ℕ) : Type 0 where

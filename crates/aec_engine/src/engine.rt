@@ -1,6 +1,7 @@
 //! The engines: what is written is a stated function of the inputs.
 
 mod bit_intake;
+mod carrying;
 mod coding;
 mod decoding;
 mod editing;
@@ -10,7 +11,8 @@ mod outlet;
 mod ranging;
 mod two_readings;
 
+pub use carrying::carry_out;
 pub use coding::encode;
 pub use decoding::decode;
-pub use editing::{carry_out, edit, edit_over};
+pub use editing::{edit, edit_over};
 pub use ranging::range;

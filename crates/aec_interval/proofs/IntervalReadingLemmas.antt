@@ -1,8 +1,7 @@
 -- An interval whose code stands somewhere in bits is read there, and nothing else is.
-use Rattle.std.proofs.Common.{◌≡◌, ℕ, ◌+◌, ◌*◌, Bool, Some, List, ◌++◌, length, take, refl, sym, ap, ap₂, ◌∙◌, subst, arith, Result, Err, OnOk, IfErr}
+use Rattle.std.proofs.Common.{◌≡◌, ℕ, ◌+◌, ◌*◌, Bool, Some, List, ◌++◌, length, take, refl, sym, ap, ap₂, ◌∙◌, subst, arith}
 use Rattle.std.specs.Prelude.{ℤ}
 use Rattle.std.specs.Int.{div_ceil}
-use Rattle.std.proofs.lemmas.Result.{on_ok_weaker}
 use Rattle.std.proofs.lemmas.List.{length-take, take-append-drop, take_at}
 use Rattle.std.proofs.lemmas.Bool.{le-ltb}
 use Rattle.aec_params.specs.declared.settings.Settings.{Settings}
@@ -69,18 +68,3 @@ pub memory-alone : (s : Settings) (limit : ℕ) (bits : List Bool) (start count 
 memory-alone s limit bits start count v fault a (no_memory behind) begins = refl
 memory-alone s limit bits start count v fault a (faulty f wrong) begins =
     absurd (no_reading_and_fault s a (Some count) limit bits 0 start (all_blocks_of s v) f (IsBlockReading-interval s limit bits start count v a begins) wrong)
-
-pub memory-refuses : {X : Type 0} (s : Settings) (limit : ℕ) (bits : List Bool) (start count : ℕ) (r : Result X Fault) (fault other : Fault) → IsAllowed s
-    → r ≡ Err fault → fault ≡ other → RefusesReading s (Some count) limit bits 0 start other
-    → (v : List ℤ) × BeginsAt (interval_format s) bits start count v → IfErr r (λ e. e ≡ Memory)
-memory-refuses {X} s limit bits start count r fault other a is same refuses begins =
-    let P : Result X Fault → Type 0 = λ r. IfErr r (λ e. e ≡ Memory) in
-    subst P (sym is) (same ∙ memory-alone s limit bits start count begins.0 other a refuses begins.1)
-
--- what is appended is what was read
-pub read-more : {X : Type 0} (s : Settings) (limit : ℕ) (bits : List Bool) (start count : ℕ) (front new samples taken : List ℤ) (r : Result X Fault)
-    → IsAllowed s → OnOk r (new ≡ front ++ taken) → taken ≡ samples → IsReadFrom s (Some count) limit bits start samples
-    → (v : List ℤ) → BeginsAt (interval_format s) bits start count v → OnOk r (new ≡ front ++ v)
-read-more s limit bits start count front new samples taken r a appended same read v begins =
-    let all = ap (◌++◌ front) (same ∙ read-interval s limit bits start count samples v a read begins) in
-    on_ok_weaker r (λ is. is ∙ all) appended

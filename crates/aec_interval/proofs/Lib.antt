@@ -35,6 +35,7 @@ pub mod RefusalLemmas
 pub mod WantedSetLemmas
 pub mod ReadNextLemmas
 pub mod ReadIntervalLemmas
+pub mod ReachedPlaceLemmas
 pub mod PieceReadingLemmas
 pub mod SkippingLemmas
 pub mod IntervalFormatLemmas

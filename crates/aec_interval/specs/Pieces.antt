@@ -55,9 +55,11 @@ HasRead p samples = ReadsPiece (place_at p.settings p.count p.limit p.bits 0 0) 
 abbrev pub RefusesAt : Place → Fault → Type 0
 RefusesAt p fault = RefusesUpTo p.settings p.count p.limit p.bits p.block p.bit (p.block + p.settings.interval) fault
 
--- a place that a reader comes to
+-- a place that a reader comes to: coded data sets lead there from the first bit on
 pub record IsPlace (p : Place) : Type 0 where
   pub few : p.block < 2 ^ 34
   pub limit : p.limit ≤ 2 ^ 32
   pub counted : IfSome p.count (λ count. count ≤ 2 ^ 32)
   pub begins : is_wanted_at p ≡ true → p.block % p.settings.interval ≡ 0
+  pub sets : List CodedDataSet
+  pub leads : LeadsTo p.settings p.count p.limit p.bits 0 0 sets p.block p.bit

@@ -1,6 +1,6 @@
 //! The codec of reference sample intervals.
 
-ghost use Rattle.std.specs.Prelude.{◌≡◌, ◌+◌, ◌-◌, ◌^◌, ◌↔◌, ◌++◌, ℤ, List, None, IfSome, OnOk, OnErr, IfErr};
+ghost use Rattle.std.specs.Prelude.{◌≡◌, ◌+◌, ◌-◌, ◌^◌, ◌↔◌, ◌++◌, [], ℤ, List, None, IfSome, OnOk, OnErr, IfErr};
 ghost use Rattle.std.proofs.Props.{props};
 ghost use Rattle.aec_params.specs.declared.fault.Fault.TheVariants.{Memory};
 ghost use Rattle.aec_params.specs.Params.{IsAllowed};
@@ -9,7 +9,7 @@ ghost use Rattle.aec_bits.specs.Codec.{IsLawful, BeginsAt};
 ghost use Rattle.aec_interval.specs.IntervalFormat.{interval_format};
 
 use crate::interval::append_interval;
-use crate::reading::{Wanted, decode_from};
+use crate::reading::{Wanted, decode_into};
 use aec_bits::{BitBuf, Codec};
 use aec_params::{Fault, Params};
 use std::alloc::Global;
@@ -168,14 +168,43 @@ fn append_decoded(
     ensures fault { IfErr result (λ e. e ≡ Memory) }
     ensures err { OnErr result (out.new.items ≡ out.old.items) }
 {
+    if out.is_empty() {
+        return fill_empty(alloc, params, stream, pos, count, out);
+    }
+    let mut samples = Vec::new(alloc);
+    fill_empty(alloc, params, stream, pos, count, &mut samples)?;
+    append_list(&samples, out)
+}
+
+/// Puts the samples of such an interval into an empty list. `Memory` where a growth was refused; the list is then empty.
+fn fill_empty(
+    alloc: Global,
+    params: &Params,
+    stream: &BitBuf,
+    pos: u64,
+    count: u64,
+    out: &mut Vec<i64>,
+) -> Result<(), Fault>
+    requires allowed { IsAllowed params.now }
+    requires begins { (s : List ℤ) × BeginsAt (interval_format params.now) stream.now.list pos count s }
+    requires empty { out.old.items ≡ [] }
+    ensures ok { (s : List ℤ) → BeginsAt (interval_format params.now) stream.now.list pos count s → OnOk result (out.new.items ≡ s) }
+    ensures fault { IfErr result (λ e. e ≡ Memory) }
+    ensures err { OnErr result (out.new.items ≡ []) }
+{
     let wanted = Wanted {
         first: 0,
         start: pos,
         count: Some(count),
         limit: count,
     };
-    let samples = decode_from(alloc, params, stream, wanted)?;
-    append_list(&samples, out)
+    match decode_into(alloc, params, stream, wanted, out) {
+        Ok(()) => Ok(()),
+        Err(fault) => {
+            out.clear();
+            Err(fault)
+        }
+    }
 }
 
 /// Appends samples. `Memory` where a growth was refused.

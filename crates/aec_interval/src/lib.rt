@@ -7,6 +7,7 @@ mod filling;
 mod interval;
 mod joining;
 pub mod laws;
+mod reached_place;
 mod reading;
 mod reading_runs;
 mod rest;
@@ -18,6 +19,7 @@ mod whole_reading;
 mod writing_runs;
 
 pub use codec::AecCodec;
+pub use reached_place::ReachedPlace;
 pub use stream_coder::StreamCoder;
 pub use stream_reader::StreamReader;
 pub use whole::encode_all;

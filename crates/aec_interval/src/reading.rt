@@ -285,6 +285,43 @@ pub(crate) fn cut_to_count(params: &Params, wanted: Wanted, samples: &mut Vec<i6
     }
 }
 
+/// Puts the samples that the bits from `wanted.start` on stand for into an empty list: with a count the first `count`, and without one
+/// all samples of all blocks.
+pub(crate) fn decode_into(
+    alloc: Global,
+    params: &Params,
+    bits: &BitBuf,
+    wanted: Wanted,
+    samples: &mut Vec<i64>,
+) -> Result<(), Fault>
+    requires within { wanted.start ≤ length bits.now.list }
+    requires limit { wanted.limit ≤ 2 ^ 32 }
+    requires counted { IfSome wanted.count (λ count. count ≤ 2 ^ 32) }
+    requires first { wanted.first ≡ 0 }
+    requires empty { samples.old.items ≡ [] }
+    ensures ok { OnOk result (IsReadFrom params.now wanted.count wanted.limit bits.now.list wanted.start samples.new.items) }
+    ensures refuses { IfErr result (λ fault. RefusesReading params.now wanted.count wanted.limit bits.now.list 0 wanted.start fault) }
+{
+    let mut reader = BitReader::new(bits);
+    reader.seek(wanted.start);
+    let mut values = Block::new(alloc, None);
+    let mut block = wanted.first;
+    while wants_more(params, wanted, &reader, block) {
+        let place = block % u64::from(params.interval());
+        block = read_next(
+            params,
+            wanted,
+            &mut reader,
+            block,
+            place,
+            &mut values,
+            samples,
+        )?;
+    }
+    cut_to_count(params, wanted, samples);
+    Ok(())
+}
+
 /// The samples that the bits from `wanted.start` on stand for: with a count the first `count`, and without one all
 /// samples of all blocks.
 pub(crate) fn decode_from(
@@ -300,23 +337,7 @@ pub(crate) fn decode_from(
     ensures ok { IfOk result (λ samples. IsReadFrom params.now wanted.count wanted.limit bits.now.list wanted.start samples.items) }
     ensures refuses { IfErr result (λ fault. RefusesReading params.now wanted.count wanted.limit bits.now.list 0 wanted.start fault) }
 {
-    let mut reader = BitReader::new(bits);
-    reader.seek(wanted.start);
-    let mut values = Block::new(alloc, None);
     let mut samples = Vec::new(alloc);
-    let mut block = wanted.first;
-    while wants_more(params, wanted, &reader, block) {
-        let place = block % u64::from(params.interval());
-        block = read_next(
-            params,
-            wanted,
-            &mut reader,
-            block,
-            place,
-            &mut values,
-            &mut samples,
-        )?;
-    }
-    cut_to_count(params, wanted, &mut samples);
+    decode_into(alloc, params, bits, wanted, &mut samples)?;
     Ok(samples)
 }

@@ -1,5 +1,6 @@
 //! A reader of samples, interval by interval.
 
+use crate::reached_place::ReachedPlace;
 use crate::reading::{Wanted, cut_to_count, read_interval, wants_more};
 use crate::skipping::{count_asked, skip_interval};
 use crate::whole_reading::judge_count;
@@ -38,7 +39,7 @@ impl<'a> StreamReader<'a> {
     ghost use Rattle.aec_params.specs.declared.fault.Fault.TheVariants.{Memory};
     ghost use Rattle.aec_params.specs.Params.{interval_len};
     ghost use Rattle.aec_interval.specs.Reached.{count_refusal};
-    ghost use Rattle.aec_interval.specs.Pieces.{place_at, is_wanted_at, ReadsInterval, RefusesAt};
+    ghost use Rattle.aec_interval.specs.Pieces.{place_at, is_wanted_at, IsPlace, ReadsInterval, RefusesAt};
     ghost use Rattle.aec_interval.specs.Skipping.{HasInterval, IsFaultAt};
 
     /// A reader at the first bit, which asks for the first `count` samples, or without a count for all of them.
@@ -73,6 +74,31 @@ impl<'a> StreamReader<'a> {
         let _len = self.params.interval_len();
         self.reader.seek(0);
         self.block = 0;
+    }
+
+    /// Where the reader is, to come back to by `go_back`.
+    pub fn place(&self) -> ReachedPlace
+        ensures block { result.block ≡ self.now.block }
+        ensures bit { result.bit ≡ self.now.bit }
+        ensures reached { IsPlace self.now }
+    {
+        ReachedPlace {
+            block: self.block,
+            bit: self.reader.pos(),
+        }
+    }
+
+    /// Goes back, or forth, to a place that a reader of these bits under these terms has reached.
+    pub fn go_back(&mut self, place: ReachedPlace)
+        requires reached { let old = self.old in
+            IsPlace (place_at old.settings old.count old.limit old.bits place.block place.bit) }
+        ensures { let old = self.old in
+            self.new ≡ place_at old.settings old.count old.limit old.bits place.block place.bit }
+    {
+        // What the parameters promise is told by their calls.
+        let _len = self.params.interval_len();
+        self.reader.seek(place.bit);
+        self.block = place.block;
     }
 
     /// Puts the samples of the next interval in the place of those that were handed in, at most as many as an interval has;

@@ -3,6 +3,7 @@
 mod codecs;
 mod coding;
 mod feeding;
+mod places;
 mod reading;
 mod refusals;
 mod skipping;

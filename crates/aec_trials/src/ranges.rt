@@ -31,6 +31,25 @@ const PARTS: &str = "\
     --range 6:2 --count 8 part cut | 20 09 24 92 FF FF | 0 | 06 07
              -d --count 0 part cut | FF                | 0 |";
 
+// The samples of three intervals, of which place 20 alone holds a 1: at the edges of each interval, and over them.
+const EDGES: &str = "\
+              --range 0:20 part cut | 00 04 40 30 C2 00 08 | 0 | 00*20
+             --range 15:6 part cut | 00 04 40 30 C2 00 08 | 0 | 00*5 01
+             --range 16:5 part cut | 00 04 40 30 C2 00 08 | 0 | 00*4 01
+             --range 17:4 part cut | 00 04 40 30 C2 00 08 | 0 | 00*3 01
+             --range 20:1 part cut | 00 04 40 30 C2 00 08 | 0 | 01
+            --range 20:28 part cut | 00 04 40 30 C2 00 08 | 0 | 01 00*27
+            --range 31:17 part cut | 00 04 40 30 C2 00 08 | 0 | 00*17
+            --range 32:16 part cut | 00 04 40 30 C2 00 08 | 0 | 00*16
+             --range 47:1 part cut | 00 04 40 30 C2 00 08 | 0 | 00
+             --range 48:0 part cut | 00 04 40 30 C2 00 08 | 0 |
+ --range 20:1 --count 32 part cut | 00 04 40 30 C2 00    | 0 | 01";
+
+#[test]
+fn ranges_begin_in_each_interval(rt: HostRuntime) -> Result<(), Fail> {
+    runs_end_so(&rt, rt.alloc(), EDGES)
+}
+
 #[test]
 fn ranges_and_counts_are_cut_out(rt: HostRuntime) -> Result<(), Fail> {
     runs_end_so(&rt, rt.alloc(), PARTS)
@@ -46,6 +65,8 @@ const REFUSED: &str = "\
         --range 6:3 -r 2 none left | 00 78 | 1 | aec: position outside the 8 samples
     --range 3:3 --count 5 none left | 00 78 | 1 | aec: position outside the 5 samples
               --range 0:1 none left |  | 1 | aec: position outside the 0 samples
+  --range 20:1 --count 48 none left | 00 04 40 30 C2 00 | 1 | aec: coded data is cut short at bit 39
+             --range 32:17 none left | 00 04 40 30 C2 00 08 | 1 | aec: position outside the 48 samples
            -N --range 0:3 none left | E0 00 20 40 60 80 A0 C0 FF FF FB F7 F3 EF EB E7 | 1 | aec: coded data is cut short at bit 67
               --range 0:1 none left | 20 09 24 92 FF FF | 1 | aec: coded data is cut short at bit 31
              -d -n 8 -r 2 none left | 20 09 24 92 FF FF | 1 | aec: coded data is cut short at bit 31

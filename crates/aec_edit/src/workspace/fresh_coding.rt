@@ -114,7 +114,7 @@ impl<C: Codec> Workspace<C> {
         ensures limit { self.new.limit ≡ self.old.limit }
         ensures format { C.format self.new.codec ≡ C.format self.old.codec }
     {
-        let mut coded = Coded::new(self.alloc());
+        let mut coded = self.take_coded();
         if count == 0 {
             return Ok(coded);
         }

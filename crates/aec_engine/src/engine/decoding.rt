@@ -30,7 +30,7 @@ fn decode_bits<W: Sink>(
 {
     let mut reader = StreamReader::new(alloc, *params, bits, count, limits.samples())?;
     let total = count_samples(params, &mut reader)?;
-    write_range(alloc, params, &mut reader, 0, total, sink)
+    write_range(alloc, params, &mut reader, 0, 0, total, sink)
 }
 
 /// Reads the source whole, and writes the bytes of the samples that it codes: with a count the first `count`, without one

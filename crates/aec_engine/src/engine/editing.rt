@@ -1,20 +1,19 @@
 //! Coded data edited by a script.
 
-ghost use Rattle.std.specs.Prelude.{◌≡◌, ℕ, ◌<◌, ◌≤◌, length, slice_index, Result, Ok, Err, IfOk, IfErr, OnOk, OnErr};
+ghost use Rattle.std.specs.Prelude.{◌≡◌, ◌<◌, ◌≤◌, length, Result, Ok, Err, IfOk, IfErr, OnOk, OnErr};
 ghost use Rattle.std.specs.Io.KnownBytes.{Appends, Keeps};
 ghost use Rattle.aec_params.specs.declared.fault.Fault.TheVariants.{Write as WriteFault};
 ghost use Rattle.aec_params.specs.Codewords.{bytes_of};
 ghost use Rattle.aec_bits.specs.Codec.{code_of};
 ghost use Rattle.aec_bits.specs.Devices.{counted, AppendsFront};
 ghost use Rattle.aec_interval.specs.IntervalFormat.{interval_format};
-ghost use Rattle.aec_engine.specs.Transfers.{are_past, Taking, taking_of, Putting, putting_of, answer_of, GivesAnswer};
-ghost use Rattle.aec_engine.specs.Output.{GaveSamples, IsDecoded};
-ghost use Rattle.aec_engine.specs.Editing.{edits_left, left_of, first_calls, GivesEdited, LeavesRecoded, LeavesEdited};
-ghost use Rattle.aec_engine.specs.EditingSteps.{GaveScript, RefusesScript, StopsEditing, CarriesOut, SettlesRecoded, recoded_of};
+ghost use Rattle.aec_engine.specs.Transfers.{Taking, taking_of, Putting, putting_of, answer_of};
+ghost use Rattle.aec_engine.specs.Editing.{GivesEdited, LeavesRecoded, LeavesEdited};
+ghost use Rattle.aec_engine.specs.EditingSteps.{GaveScript, RefusesScript, SettlesRecoded, recoded_of};
 
 use crate::engine::bit_intake::read_bits;
 use crate::engine::intake::read_whole;
-use crate::engine::loading::load;
+use crate::engine::loading::edit_bits;
 use crate::script_reading::script;
 use crate::scripts::{EditFault, Script};
 use aec_bits::{Codec, Sink, Source};
@@ -33,61 +32,6 @@ fn read_script<Q: Source>(alloc: Global, limits: Limits, from: &mut Q) -> Result
 {
     let text = read_whole(alloc, from, limits.bytes())?;
     script(alloc, &text)
-}
-
-/// A workspace with the samples that a source is read as, over a codec that has coded nothing.
-fn workspace_of<C: Codec + Drop, R: Source>(
-    alloc: Global,
-    codec: C,
-    params: &Params,
-    limits: Limits,
-    count: Option<u64>,
-    source: &mut R,
-) -> Result<Workspace<C>, Fault>
-    requires format { C.format codec ≡ interval_format params.now }
-    requires fresh { C.called codec ≡ 0 }
-    ensures ok { let took : Taking = taking_of R.left R.failed source.old source.new in
-        IfOk result (λ w. GaveSamples params.now limits count took w.samples) }
-    ensures limit { IfOk result (λ w. w.limit ≡ limits.samples) }
-    ensures format { IfOk result (λ w. C.format w.codec ≡ interval_format params.now) }
-    ensures calls { IfOk result (λ w. C.called w.codec ≡ first_calls (interval_format params.now) w.samples) }
-    ensures refuses { let took : Taking = taking_of R.left R.failed source.old source.new in
-        IfErr result (λ fault. GivesAnswer (IsDecoded params.now limits count) took (are_past limits.bytes) (Err fault)) }
-{
-    // What the parameters promise is told by their calls.
-    let _len = params.interval_len();
-    let bits = read_bits(alloc, source, limits.bytes())?;
-    load(alloc, codec, params, limits, count, &bits)
-}
-
-/// The line of the edit at a place of a script.
-fn line_of(script: &Script, place: usize) -> u64
-    requires { place < length script.now.lines.items }
-    ensures { result ≡ slice_index script.now.lines.items place }
-{
-    script.lines[place]
-}
-
-/// Makes the edits of a script, up to the first that is refused: those before it are made, and it is named by its line.
-pub fn carry_out<C: Codec>(workspace: &mut Workspace<C>, script: &Script) -> Result<(), EditFault>
-    requires lines { length script.now.edits.items ≤ length script.now.lines.items }
-    ensures ok { OnOk result (edits_left (C.format workspace.old.codec) workspace.old.limit (C.called workspace.old.codec) workspace.old.samples
-        script.now.edits.items script.now.lines.items ≡ Ok (left_of workspace.new.samples (C.called workspace.new.codec))) }
-    ensures refuses { IfErr result (λ fault. StopsEditing (C.format workspace.old.codec) workspace.old.limit (C.called workspace.old.codec)
-        workspace.old.samples script.now.edits.items script.now.lines.items fault) }
-    ensures carries { CarriesOut (C.format workspace.old.codec) workspace.old.limit workspace.old.samples (C.called workspace.old.codec)
-        (C.read workspace.old.codec) script.now.edits.items script.now.lines.items result workspace.new.samples
-        (C.called workspace.new.codec) (C.read workspace.new.codec) }
-    ensures limit { workspace.new.limit ≡ workspace.old.limit }
-    ensures format { C.format workspace.new.codec ≡ C.format workspace.old.codec }
-{
-    match workspace.run_until_refused(script.edits.as_slice()) {
-        Ok(()) => Ok(()),
-        Err(stop) => Err(EditFault::Line {
-            line: line_of(script, stop.place as usize),
-            fault: stop.fault,
-        }),
-    }
 }
 
 /// What carrying out a script answers: a workspace with the samples that its edits leave.
@@ -109,9 +53,8 @@ fn edit_source<C: Codec + Drop, Q: Source, R: Source>(
     ensures format { IfOk result (λ w. C.format w.codec ≡ interval_format params.now) }
 {
     let script = read_script(alloc, limits, from)?;
-    let mut workspace = workspace_of(alloc, codec, params, limits, count, source)?;
-    carry_out(&mut workspace, &script)?;
-    Ok(workspace)
+    let bits = read_bits(alloc, source, limits.bytes())?;
+    edit_bits(alloc, codec, params, limits, count, &bits, &script)
 }
 
 /// Begins, and writes the bytes of the code of a workspace's samples. `Write` where the sink fails.

@@ -1,29 +1,37 @@
-//! The samples of coded bits in a workspace, taken over interval by interval.
+//! The samples of coded bits taken over interval by interval into a workspace, and the edits of a script made on them: those that only
+//! overwrite samples which are there already are made meanwhile, while little of the stream stands behind them.
 
-ghost use Rattle.std.specs.Prelude.{◌≡◌, ◌≤◌, ◌^◌, ◌⊎◌, [], None, List, ℤ, IfOk, IfErr, OnOk};
+ghost use Rattle.std.specs.Prelude.{◌≡◌, ◌≤◌, ◌^◌, [], None, List, ℤ, length, IfOk, IfErr, Ok};
 ghost use Rattle.aec_params.specs.declared.fault.Fault.TheVariants.{Memory};
 ghost use Rattle.aec_params.specs.Reading.{IsReading};
 ghost use Rattle.aec_interval.specs.IntervalFormat.{interval_format};
 ghost use Rattle.aec_interval.specs.Reached.{count_refusal, RefusesDecoding};
-ghost use Rattle.aec_engine.specs.Editing.{first_calls};
+ghost use Rattle.aec_engine.specs.Transfers.{answer_of};
+ghost use Rattle.aec_engine.specs.EditingSteps.{recoded_of};
 ghost use Rattle.aec_engine.specs.ReadingTwice.{AreSamplesOf};
+ghost use Rattle.aec_engine.specs.EarlyEdits.{LoadsAll, StopsLoading, EditsBits, EditsSamples};
 
+use crate::engine::carrying::{carry_early, carry_rest};
 use crate::engine::two_readings::count_samples;
+use crate::scripts::{EditFault, Script};
 use aec_bits::{BitBuf, Codec};
 use aec_edit::Workspace;
 use aec_interval::StreamReader;
 use aec_params::{Fault, Limits, Params};
 use std::alloc::Global;
 
-/// Appends the samples that coded bits stand for to an empty workspace over a codec that has coded nothing. `Memory` where a growth was
-/// refused.
+/// Appends the samples that coded bits stand for to an empty workspace over a codec that has coded nothing, and makes edits of a script
+/// meanwhile. The place of the first that is left.
 fn append_all<C: Codec>(
     params: &Params,
     reader: &mut StreamReader,
     samples: &mut Vec<i64>,
     workspace: &mut Workspace<C>,
-) -> Result<(), Fault>
+    script: &Script,
+) -> Result<usize, EditFault>
     requires settings { reader.old.settings ≡ params.now }
+    requires block { reader.old.block ≡ 0 }
+    requires bit { reader.old.bit ≡ 0 }
     requires read { (xs : List ℤ) × AreSamplesOf reader.old xs }
     requires format { C.format workspace.old.codec ≡ interval_format params.now }
     requires limit { workspace.old.limit ≡ reader.old.limit }
@@ -31,44 +39,105 @@ fn append_all<C: Codec>(
     requires within { count_refusal reader.old.limit reader.old.count ≡ None }
     requires empty { workspace.old.samples ≡ [] }
     requires fresh { C.called workspace.old.codec ≡ 0 }
-    ensures ok { OnOk result (AreSamplesOf reader.old workspace.new.samples) }
+    requires lines { length script.now.edits.items ≤ length script.now.lines.items }
+    ensures ok { IfOk result (λ next. LoadsAll (C.format workspace.old.codec) workspace.old.limit
+        script.now.edits.items script.now.lines.items reader.old next workspace.new.samples (C.called workspace.new.codec)) }
+    ensures place { IfOk result (λ next. next ≤ length script.now.edits.items) }
+    ensures refuses { IfErr result (λ fault. StopsLoading (C.format workspace.old.codec) workspace.old.limit
+        script.now.edits.items script.now.lines.items reader.old fault) }
     ensures limit { workspace.new.limit ≡ workspace.old.limit }
     ensures format { C.format workspace.new.codec ≡ C.format workspace.old.codec }
-    ensures calls { OnOk result (C.called workspace.new.codec ≡ first_calls (C.format workspace.old.codec) workspace.new.samples) }
-    ensures fault { IfErr result (λ e. e ≡ Memory) }
 {
     // What the parameters promise is told by their calls.
     let _len = params.interval_len();
+    let mut next = 0;
     while reader.next(samples)? {
         workspace.append(samples)?;
+        next = carry_early(workspace, script, next)?;
     }
-    Ok(())
+    Ok(next)
 }
 
-/// A workspace with the samples that bits are read as, over a codec that has coded nothing. The bits are judged whole before memory is
-/// taken for samples. The refusals are those of `decode_all`, and `Memory`.
-pub(crate) fn load<C: Codec + Drop>(
+/// A reader of bits that have been judged whole: it is at the first bit, and the samples can be read. Takes no memory. The refusals are
+/// those of `decode_all`, but for want of memory.
+fn judged_reader<'a>(
+    alloc: Global,
+    params: &Params,
+    limits: Limits,
+    count: Option<u64>,
+    bits: &'a BitBuf,
+) -> Result<StreamReader<'a>, Fault>
+    ensures settings { IfOk result (λ reader. reader.settings ≡ params.now) }
+    ensures limit { IfOk result (λ reader. reader.limit ≡ limits.samples) }
+    ensures count { IfOk result (λ reader. reader.count ≡ count) }
+    ensures block { IfOk result (λ reader. reader.block ≡ 0) }
+    ensures bit { IfOk result (λ reader. reader.bit ≡ 0) }
+    ensures within { IfOk result (λ _. count_refusal limits.samples count ≡ None) }
+    ensures read { IfOk result (λ reader. (xs : List ℤ) × AreSamplesOf reader xs) }
+    ensures samples { IfOk result (λ reader. (xs : List ℤ) → AreSamplesOf reader xs
+        → IsReading params.now count limits.samples bits.now.list xs) }
+    ensures refuses { IfErr result (λ fault. RefusesDecoding params.now count limits.samples bits.now.list fault) }
+{
+    let mut reader = StreamReader::new(alloc, *params, bits, count, limits.samples())?;
+    count_samples(params, &mut reader)?;
+    Ok(reader)
+}
+
+/// Room for the samples of an interval.
+fn interval_room(alloc: Global, params: &Params) -> Result<Vec<i64>, Fault>
+    ensures fault { IfErr result (λ e. e ≡ Memory) }
+{
+    let samples = Vec::with_capacity(alloc, params.interval_len() as usize)?;
+    Ok(samples)
+}
+
+/// A workspace with the samples that edits of a script leave of those that a reader gives, over a codec that has coded nothing.
+fn edit_samples<C: Codec + Drop>(
+    alloc: Global,
+    codec: C,
+    params: &Params,
+    limits: Limits,
+    reader: &mut StreamReader,
+    script: &Script,
+) -> Result<Workspace<C>, EditFault>
+    requires settings { reader.old.settings ≡ params.now }
+    requires limit { reader.old.limit ≡ limits.samples }
+    requires block { reader.old.block ≡ 0 }
+    requires bit { reader.old.bit ≡ 0 }
+    requires within { count_refusal reader.old.limit reader.old.count ≡ None }
+    requires read { (xs : List ℤ) × AreSamplesOf reader.old xs }
+    requires format { C.format codec ≡ interval_format params.now }
+    requires fresh { C.called codec ≡ 0 }
+    requires lines { length script.now.edits.items ≤ length script.now.lines.items }
+    ensures edits { EditsSamples params.now limits.samples reader.old script.now.edits.items script.now.lines.items
+        (answer_of (λ w. recoded_of (C.format w.codec) w.samples (C.called w.codec)) result) }
+    ensures format { IfOk result (λ w. C.format w.codec ≡ interval_format params.now) }
+{
+    let mut samples = interval_room(alloc, params)?;
+    let mut workspace = Workspace::new(alloc, codec, limits.samples());
+    let next = append_all(params, reader, &mut samples, &mut workspace, script)?;
+    carry_rest(&mut workspace, script, next)?;
+    Ok(workspace)
+}
+
+/// A workspace with the samples that edits of a script leave of those that bits are read as, over a codec that has coded nothing. The
+/// bits are judged whole before memory is taken for samples, and before an edit is made.
+pub(crate) fn edit_bits<C: Codec + Drop>(
     alloc: Global,
     codec: C,
     params: &Params,
     limits: Limits,
     count: Option<u64>,
     bits: &BitBuf,
-) -> Result<Workspace<C>, Fault>
+    script: &Script,
+) -> Result<Workspace<C>, EditFault>
     requires format { C.format codec ≡ interval_format params.now }
     requires fresh { C.called codec ≡ 0 }
-    ensures ok { IfOk result (λ w. (count_refusal limits.samples count ≡ None)
-        × IsReading params.now count limits.samples bits.now.list w.samples) }
-    ensures limit { IfOk result (λ w. w.limit ≡ limits.samples) }
+    requires lines { length script.now.edits.items ≤ length script.now.lines.items }
+    ensures edits { EditsBits params.now limits count bits.now.list script.now.edits.items script.now.lines.items
+        (answer_of (λ w. recoded_of (C.format w.codec) w.samples (C.called w.codec)) result) }
     ensures format { IfOk result (λ w. C.format w.codec ≡ interval_format params.now) }
-    ensures calls { IfOk result (λ w. C.called w.codec ≡ first_calls (interval_format params.now) w.samples) }
-    ensures refuses { IfErr result (λ fault. (fault ≡ Memory)
-        ⊎ RefusesDecoding params.now count limits.samples bits.now.list fault) }
 {
-    let mut reader = StreamReader::new(alloc, *params, bits, count, limits.samples())?;
-    count_samples(params, &mut reader)?;
-    let mut samples = Vec::with_capacity(alloc, params.interval_len() as usize)?;
-    let mut workspace = Workspace::new(alloc, codec, limits.samples());
-    append_all(params, &mut reader, &mut samples, &mut workspace)?;
-    Ok(workspace)
+    let mut reader = judged_reader(alloc, params, limits, count, bits)?;
+    edit_samples(alloc, codec, params, limits, &mut reader, script)
 }

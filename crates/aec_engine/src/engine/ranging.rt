@@ -7,7 +7,7 @@ ghost use Rattle.aec_engine.specs.Output.{IsRanged};
 ghost use Rattle.aec_engine.specs.ReadingTwice.{CutsBits, SettlesOne};
 
 use crate::engine::bit_intake::read_bits;
-use crate::engine::two_readings::{count_samples, write_range};
+use crate::engine::two_readings::{judge_samples, write_range};
 use aec_bits::{BitBuf, Sink, Source};
 use aec_interval::StreamReader;
 use aec_params::{Fault, Limits, Params};
@@ -24,8 +24,9 @@ fn judge_range(first: u64, len: u64, total: u64) -> Result<(), Fault>
     }
 }
 
-/// Reads coded bits twice: judges them and the range first, then begins and writes the bytes of its samples. The refusals
-/// are those of `decode_all`, `OutOfRange`, and `Memory`; nothing was begun then.
+/// Reads coded bits twice: judges them and the range first, then begins and writes the bytes of its
+/// samples, read from the last interval on that begins at or before it. The refusals are those of
+/// `decode_all`, `OutOfRange`, and `Memory`; nothing was begun then.
 fn range_bits<W: Sink>(
     alloc: Global,
     params: &Params,
@@ -40,16 +41,17 @@ fn range_bits<W: Sink>(
         SettlesOne (CutsBits params.now count limits.samples first len bits.now.list) put result }
 {
     let mut reader = StreamReader::new(alloc, *params, bits, count, limits.samples())?;
-    let total = count_samples(params, &mut reader)?;
-    judge_range(first, len, total)?;
-    write_range(alloc, params, &mut reader, first, len, sink)
+    let judged = judge_samples(params, &mut reader, first)?;
+    judge_range(first, len, judged.total)?;
+    write_range(alloc, params, &mut reader, judged.before, first, len, sink)
 }
 
 /// Reads the source whole, and writes the bytes of `len` of the samples that it codes, from place `first` on. The refusals
 /// in their order: those of `decode`, so that coded data after the range are judged too; then `OutOfRange` where the
 /// range passes the samples, which are `count` where a count is given; then `Memory`, though that it comes last is no part of
 /// the contract. Nothing has been written then and `begin` was not called. After `begin` only `Write` can come, and a front of
-/// the answer has been written. The coded bits are read twice and the samples are not kept, as in `decode`.
+/// the answer has been written. The coded bits are judged
+/// whole and the samples are not kept, as in `decode`; only the intervals that the range lies in are read again.
 pub fn range<R: Source, W: Sink>(
     alloc: Global,
     params: &Params,

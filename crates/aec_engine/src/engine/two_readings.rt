@@ -7,17 +7,80 @@ ghost use Rattle.aec_params.specs.declared.fault.Fault.TheVariants.{Memory, Writ
 ghost use Rattle.aec_params.specs.Params.{IsAllowed, IsHeld, interval_len};
 ghost use Rattle.aec_bits.specs.Devices.{counted, AppendsFront};
 ghost use Rattle.aec_interval.specs.Reached.{RefusesReading};
+ghost use Rattle.aec_interval.specs.Pieces.{place_at};
 ghost use Rattle.aec_engine.specs.Output.{all_stored, samples_from};
 ghost use Rattle.aec_engine.specs.Transfers.{Putting, putting_of};
-ghost use Rattle.aec_engine.specs.ReadingTwice.{AreSamplesOf, HaveSamples, PutsPart, PutsAllOrFront, SettlesOne, StoresPart};
+ghost use Rattle.aec_engine.specs.ReadingTwice.{AreSamplesOf, HaveSamples, IsBegun, PutsPart, PutsAllOrFront, SettlesOne, StoresPart};
 
 use crate::engine::intake::PIECE;
 use aec_bits::{Sink, put_all};
-use aec_interval::StreamReader;
+use aec_interval::{ReachedPlace, StreamReader};
 use aec_params::{Fault, Params, put_samples};
 use std::alloc::Global;
 
-/// Goes over all samples from the first bit on. How many there are. Takes no memory.
+/// A place where an interval begins or where all is read, and how many samples lie before it.
+#[derive(Clone, Copy)]
+struct Begin {
+    place: ReachedPlace,
+    before: u64,
+}
+
+/// Of two places the one from which a range is read: the later one, unless the range begins before it.
+fn last_begin(noted: Begin, here: Begin, first: u64) -> Begin
+    ensures here { here.before ≤ first → result ≡ here }
+    ensures noted { first < here.before → result ≡ noted }
+{
+    if here.before <= first { here } else { noted }
+}
+
+/// What judging tells: how many samples there are, and how many of them lie before the place that was
+/// gone back to.
+#[derive(Clone, Copy)]
+pub(crate) struct Judged {
+    pub(crate) total: u64,
+    pub(crate) before: u64,
+}
+
+/// Goes over all samples from the first bit on, and back to the last interval that begins at or before
+/// sample `first`. Takes no memory.
+pub(crate) fn judge_samples(
+    params: &Params,
+    reader: &mut StreamReader,
+    first: u64,
+) -> Result<Judged, Fault>
+    requires settings { reader.old.settings ≡ params.now }
+    requires block { reader.old.block ≡ 0 }
+    requires bit { reader.old.bit ≡ 0 }
+    ensures ok { IfOk result (λ judged. HaveSamples reader.old judged.total) }
+    ensures begun { IfOk result (λ judged. IsBegun reader.new judged.before first) }
+    ensures same { OnOk result (let old = reader.old in
+        reader.new ≡ place_at old.settings old.count old.limit old.bits reader.new.block reader.new.bit) }
+    ensures refuses { IfErr result (λ fault. let old = reader.old in
+        RefusesReading old.settings old.count old.limit old.bits 0 0 fault) }
+{
+    // What the parameters promise is told by their calls.
+    let _len = params.interval_len();
+    let mut total = 0;
+    let mut begin = Begin {
+        place: reader.place(),
+        before: 0,
+    };
+    while let Some(len) = reader.skip()? {
+        total += len;
+        let here = Begin {
+            place: reader.place(),
+            before: total,
+        };
+        begin = last_begin(begin, here, first);
+    }
+    reader.go_back(begin.place);
+    Ok(Judged {
+        total,
+        before: begin.before,
+    })
+}
+
+/// Goes over all samples from the first bit on, and back to it. How many there are. Takes no memory.
 pub(crate) fn count_samples(params: &Params, reader: &mut StreamReader) -> Result<u64, Fault>
     requires settings { reader.old.settings ≡ params.now }
     requires block { reader.old.block ≡ 0 }
@@ -26,14 +89,9 @@ pub(crate) fn count_samples(params: &Params, reader: &mut StreamReader) -> Resul
     ensures refuses { IfErr result (λ fault. RefusesReading reader.old.settings reader.old.count reader.old.limit reader.old.bits 0 0 fault) }
     ensures same { OnOk result (reader.new ≡ reader.old) }
 {
-    // What the parameters promise is told by their calls.
-    let _len = params.interval_len();
-    let mut total = 0;
-    while let Some(len) = reader.skip()? {
-        total += len;
-    }
+    let judged = judge_samples(params, reader, 0)?;
     reader.restart();
-    Ok(total)
+    Ok(judged.total)
 }
 
 /// Of samples those behind the first `skip`, at most `left` of them.
@@ -100,11 +158,12 @@ fn put_part<W: Sink>(
     Ok(())
 }
 
-/// Reads the samples again, up to the last that is asked for, and puts the bytes of `len` of them from place `first` on. Takes
-/// no memory.
+/// Reads the samples from where the reader is, with `before` of them behind it, up to the last that is
+/// asked for, and puts the bytes of `len` of them from place `first` on. Takes no memory.
 fn put_range<W: Sink>(
     params: &Params,
     reader: &mut StreamReader,
+    before: u64,
     first: u64,
     len: u64,
     samples: &mut Vec<i64>,
@@ -113,6 +172,7 @@ fn put_range<W: Sink>(
 ) -> Result<(), Fault>
     requires settings { reader.old.settings ≡ params.now }
     requires read { (xs : List ℤ) × AreSamplesOf reader.old xs }
+    requires begun { IsBegun reader.old before first }
     requires room { interval_len params.now ≤ vec_capacity samples.old }
     requires empty { vec_len bytes.old ≡ 0 }
     requires buffer { 65536 + 4 * interval_len params.now ≤ vec_capacity bytes.old }
@@ -126,7 +186,7 @@ fn put_range<W: Sink>(
 {
     // What the parameters promise is told by their calls.
     let _len = params.interval_len();
-    let mut skip = first;
+    let mut skip = first - before;
     let mut left = len;
     while left > 0 && reader.next(samples)? {
         let part = part_of(samples, skip, left);
@@ -138,10 +198,11 @@ fn put_range<W: Sink>(
 }
 
 /// Begins, and then puts a range of the samples, read again. `Write` where the sink fails.
-#[tactic(auto, using(crate::proofs::PutRangeLemmas::begun_puts))]
+#[tactic(auto, using(crate::proofs::PutRangeLemmas::begun_puts, crate::proofs::PutRangeLemmas::front_none))]
 fn deliver_range<W: Sink>(
     params: &Params,
     reader: &mut StreamReader,
+    before: u64,
     first: u64,
     len: u64,
     samples: &mut Vec<i64>,
@@ -150,6 +211,7 @@ fn deliver_range<W: Sink>(
 ) -> Result<(), Fault>
     requires settings { reader.old.settings ≡ params.now }
     requires read { (xs : List ℤ) × AreSamplesOf reader.old xs }
+    requires begun { IsBegun reader.old before first }
     requires room { interval_len params.now ≤ vec_capacity samples.old }
     requires empty { vec_len bytes.old ≡ 0 }
     requires buffer { 65536 + 4 * interval_len params.now ≤ vec_capacity bytes.old }
@@ -162,7 +224,7 @@ fn deliver_range<W: Sink>(
     ensures sound { OnOk result (W.failed sink.new ≡ 0) }
 {
     sink.begin()?;
-    put_range(params, reader, first, len, samples, bytes, sink)
+    put_range(params, reader, before, first, len, samples, bytes, sink)
 }
 
 /// Room for the samples of an interval, and for their bytes behind a piece.
@@ -178,21 +240,32 @@ fn buffers(alloc: Global, params: &Params) -> Result<(Vec<i64>, Vec<u8>), Fault>
     Ok((samples, bytes))
 }
 
-/// Makes room, begins, and writes the bytes of `len` samples from place `first` on. `Memory` where the room is refused;
-/// nothing was begun then.
+/// Makes room, begins, and writes the bytes of `len` samples from place `first` on; `before` samples are
+/// behind the reader. `Memory` where the room is refused; nothing was begun then.
 pub(crate) fn write_range<W: Sink>(
     alloc: Global,
     params: &Params,
     reader: &mut StreamReader,
+    before: u64,
     first: u64,
     len: u64,
     sink: &mut W,
 ) -> Result<(), Fault>
     requires settings { reader.old.settings ≡ params.now }
     requires read { (xs : List ℤ) × AreSamplesOf reader.old xs }
+    requires begun { IsBegun reader.old before first }
     ensures { let put : Putting = putting_of W.taken W.begun W.mark W.failed sink.old sink.new in
         (xs : List ℤ) → AreSamplesOf reader.old xs → SettlesOne (StoresPart params.now first len xs) put result }
 {
     let (mut samples, mut bytes) = buffers(alloc, params)?;
-    deliver_range(params, reader, first, len, &mut samples, &mut bytes, sink)
+    deliver_range(
+        params,
+        reader,
+        before,
+        first,
+        len,
+        &mut samples,
+        &mut bytes,
+        sink,
+    )
 }

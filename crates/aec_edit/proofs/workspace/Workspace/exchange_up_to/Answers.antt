@@ -95,7 +95,8 @@ returns-clause-ok g c =
     let lawful = g.C.Codec.lawful seen.codec in
     let held = c.interval_len-most.ensures.held in
     let from_is = ap (λ n. c.args.first / n) c.interval_len-most.ensures.value in
-    c.in_ok-put.ensures.ok (fresh_of f.most seen.samples c.args.first c.args.stop c.args.to c.args.values.now)
+    ap (λ w. w.samples) c.keep_lists.ensures.same
+    ∙ c.in_ok-put.ensures.ok (fresh_of f.most seen.samples c.args.first c.args.stop c.args.to c.args.values.now)
     (code_came f seen.limit c.args.first c.args.stop c.args.to seen.samples c.args.values.now lawful held c.requires _ _ _ _ _ _ _ _ _ _ _ _ _ _
     got.format coded.format (coded.limit ∙ got.limit) got.samples coded.samples got.front got.values got.back got.next got.end from_is
     coded.bits coded.starts (coded.count ∙ total_is _ f.most _ (length seen.samples) c.args.first c.args.stop c.args.to (length c.args.values.now) _

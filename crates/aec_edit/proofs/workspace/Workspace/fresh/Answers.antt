@@ -6,37 +6,40 @@ use Rattle.aec_edit.proofs.OpenLemmas.{ends_head, ends_tail, opened_some, touche
 use Rattle.aec_edit.proofs.UpToLemmas.{some_calls, kept_more}
 use Rattle.aec_edit.proofs.workspace.Workspace.fresh.Goals as goal
 
-pub returns-in_err-ends-clause-fault : goal.returns-in_err-ends-clause-fault
-returns-in_err-ends-clause-fault g c =
+pub returns-in_err-open_ends-clause-fault : goal.returns-in_err-open_ends-clause-fault
+returns-in_err-open_ends-clause-fault g c =
     let p = err_from_is_err_and c.from_residual.result c.from_residual.ensures.1 in
     let seen = c.args.self.now in
     let f : Format = g.C.Codec.format seen.codec in
     let lawful = g.C.Codec.lawful seen.codec in
-    let opened = opened_some f.most c.args.first c.args.stop seen.samples lawful.some c.requires.order c.requires.within c.in_err-ends.ensures.fault.1 in
+    let some = rw c.take_lists-front.ensures.same at c.in_err-open_ends.ensures.fault.1 in
+    let opened = opened_some f.most c.args.first c.args.stop seen.samples lawful.some c.requires.order c.requires.within some in
     let more = kept_more f seen.limit c.args.first c.args.stop c.args.to seen.samples c.args.values.now lawful c.count.ensures.held c.requires in
     let codes = some_calls f seen.limit c.args.first c.args.stop c.args.to seen.samples c.args.values.now lawful c.count.ensures.held c.requires
     (omega (arith, opened, more)) in
-    rw (p.1, p.2) (c.in_err-ends.ensures.fault.0, codes)
+    rw (p.1, p.2) (c.in_err-open_ends.ensures.fault.0, codes)
 
-pub head_and_tail-requires : goal.head_and_tail-requires
-head_and_tail-requires g c =
+pub head_and_tail-requires-clause-tail : goal.head_and_tail-requires-clause-tail
+head_and_tail-requires-clause-tail g c =
     let f : Format = g.C.Codec.format c.args.self.now.codec in
     let end = touched_end _ _ _ f.most _ c.args.stop _ c.count.ensures.value c.interval_len-most.ensures.value c.div_ceil-next.ensures c.min.ensures in
     let there = ends_tail f.most c.args.first c.args.stop c.args.self.now.samples
     (g.C.Codec.lawful c.args.self.now.codec).some c.requires.order c.requires.within in
-    omega (arith, end, there.0, ap length c.in_ok-ends.ensures.ok)
+    let ends : c.open_ends.new.ends.items ≡ end_samples f.most c.args.first c.args.stop c.args.self.now.samples =
+    rw c.take_lists-front.ensures.same at c.in_ok-open_ends.ensures.ok in
+    omega (arith, end, there.0, ap length ends)
 
-pub returns-in_err-front-clause-fault : goal.returns-in_err-front-clause-fault
-returns-in_err-front-clause-fault g c =
-    let p = err_from_is_err_and c.from_residual-in_err-front.result c.from_residual-in_err-front.ensures.1 in
+pub returns-in_err-head_and_tail-clause-fault : goal.returns-in_err-head_and_tail-clause-fault
+returns-in_err-head_and_tail-clause-fault g c =
+    let p = err_from_is_err_and c.from_residual-in_err-head_and_tail.result c.from_residual-in_err-head_and_tail.ensures.1 in
     let seen = c.args.self.now in
     let f : Format = g.C.Codec.format seen.codec in
     let lawful = g.C.Codec.lawful seen.codec in
     let end = touched_end _ _ _ f.most _ c.args.stop _ c.count.ensures.value c.interval_len-most.ensures.value c.div_ceil-next.ensures c.min.ensures in
     let more = kept_more f seen.limit c.args.first c.args.stop c.args.to seen.samples c.args.values.now lawful c.count.ensures.held c.requires in
     let codes = some_calls f seen.limit c.args.first c.args.stop c.args.to seen.samples c.args.values.now lawful c.count.ensures.held c.requires
-    (omega (arith, c.in_err-front.ensures.fault.1, end, more)) in
-    rw (p.1, p.2) (c.in_err-front.ensures.fault.0, codes)
+    (omega (arith, c.in_err-head_and_tail.ensures.fault.1, end, more)) in
+    rw (p.1, p.2) (c.in_err-head_and_tail.ensures.fault.0, codes)
 
 pub returns-clause-front : goal.returns-clause-front
 returns-clause-front g c =
@@ -44,7 +47,9 @@ returns-clause-front g c =
     let head : c.args.first % c.interval_len-most.result ≡ c.args.first % f.most = ap (λ n. c.args.first % n) c.interval_len-most.ensures.value in
     let there = ends_head f.most c.args.first c.args.stop c.args.self.now.samples
     (g.C.Codec.lawful c.args.self.now.codec).some c.requires.order c.requires.within in
-    c.in_ok-front.ensures.head ∙ ap (λ l. take (c.args.first % c.interval_len-most.result) l) c.in_ok-ends.ensures.ok
+    let ends : c.open_ends.new.ends.items ≡ end_samples f.most c.args.first c.args.stop c.args.self.now.samples =
+    rw c.take_lists-front.ensures.same at c.in_ok-open_ends.ensures.ok in
+    c.in_ok-head_and_tail.ensures.head ∙ ap (λ l. take (c.args.first % c.interval_len-most.result) l) ends
     ∙ ap (λ m. take m (end_samples f.most c.args.first c.args.stop c.args.self.now.samples)) head ∙ there.1
 
 pub returns-clause-back : goal.returns-clause-back
@@ -53,8 +58,10 @@ returns-clause-back g c =
     let end = touched_end _ _ _ f.most _ c.args.stop _ c.count.ensures.value c.interval_len-most.ensures.value c.div_ceil-next.ensures c.min.ensures in
     let there = ends_tail f.most c.args.first c.args.stop c.args.self.now.samples
     (g.C.Codec.lawful c.args.self.now.codec).some c.requires.order c.requires.within in
-    c.in_ok-front.ensures.tail
-    ∙ ap (λ l. drop (length l - (c.min.result - c.args.stop)) l) c.in_ok-ends.ensures.ok
+    let ends : c.open_ends.new.ends.items ≡ end_samples f.most c.args.first c.args.stop c.args.self.now.samples =
+    rw c.take_lists-front.ensures.same at c.in_ok-open_ends.ensures.ok in
+    c.in_ok-head_and_tail.ensures.tail
+    ∙ ap (λ l. drop (length l - (c.min.result - c.args.stop)) l) ends
     ∙ ap (λ m. drop (length (end_samples f.most c.args.first c.args.stop c.args.self.now.samples) - m)
     (end_samples f.most c.args.first c.args.stop c.args.self.now.samples)) (ap (λ m. m - c.args.stop) end)
     ∙ there.1

@@ -1,6 +1,7 @@
 use Rattle.std.proofs.Common.{Some, Err, ◌∙◌, ap, refl, sym, subst}
 use Rattle.std.proofs.lemmas.Result.{err_from_is_err_and}
 use Rattle.aec_engine.specs.ReadingTwice.{HaveSamples, DecodesBits, unread}
+use Rattle.aec_engine.proofs.ReadTwiceLemmas.{begun_nothing}
 use Rattle.aec_engine.proofs.SettlingLemmas.{settles_refusal, refuses_count, refuses_reading, decodes_all}
 use Rattle.aec_engine.proofs.engine.decoding.decode_bits.Goals as goal
 
@@ -21,6 +22,9 @@ returns-in_err-total g c =
     (subst (λ limit. DecodesBits c.args.params.now c.args.count limit c.args.bits.now.list (Err c.in_err-total.field-0.0)) c.samples.ensures.value
     (unread c.in_err-total.field-0.0 (refuses_reading _ _ _ _ c.in_ok-reader.reader c.in_err-total.field-0.0 c.in_ok-reader.ensures.ok
     c.in_ok-reader.ensures.refuses c.in_err-total.ensures.refuses)))
+
+pub write_range-requires-clause-begun : goal.write_range-requires-clause-begun
+write_range-requires-clause-begun g c = begun_nothing _ _ _ _ c.count_samples.new.reader (c.in_ok-total.ensures.same ∙ c.in_ok-reader.ensures.ok)
 
 pub returns : goal.returns
 returns g c =

@@ -11,9 +11,9 @@ use Rattle.aec_engine.proofs.engine.two_readings.put_range.Goals.{then-loop-left
 
 pub loop-left-init : goal.loop-left-init
 loop-left-init g c = record {
-  puts = puts_none c.args.reader.now c.args.params.now c.args.first c.args.len (g.W.Sink.taken c.args.sink.now) (g.W.Sink.taken c.args.sink.now)
+  puts = puts_none c.args.reader.now c.args.params.now c.args.before c.args.first c.args.len _ (g.W.Sink.taken c.args.sink.now) (g.W.Sink.taken c.args.sink.now)
       c.args.bytes.now.items (Keeps-same _)
-      (nil_from_length c.args.bytes.now.items (omega (arith, c.args.bytes.now.ok, c.requires.empty))) c.requires.read;
+      (nil_from_length c.args.bytes.now.items (omega (arith, c.args.bytes.now.ok, c.requires.empty))) refl c.requires.begun;
   begun = refl;
   order = refl;
   failures = refl;

@@ -1,6 +1,12 @@
 use Rattle.std.proofs.Common.{◌∙◌, sym}
+use Rattle.aec_interval.proofs.ReachedPlaceLemmas.{place-further}
 use Rattle.aec_interval.proofs.SkippingLemmas.{place-skipped}
 use Rattle.aec_interval.proofs.stream_reader.StreamReader.skip.Goals as goal
+
+pub invariant_of-self : goal.invariant_of-self
+invariant_of-self c =
+    place-further _ _ _ _ _ _ _ _ _ _ c.in-Ok.ensures.ok.sets c.self.invariant c.pos.ensures.value c.in-Ok.ensures.list c.in-Ok.ensures.ok.leads
+    c.in-Ok.ensures.over.few c.in-Ok.ensures.over.ends
 
 pub returns-in-Ok-clause-skipped : goal.returns-in-Ok-clause-skipped
 returns-in-Ok-clause-skipped c =

@@ -1,0 +1,12 @@
+-- Overwrites that can be made before the samples behind them are there.
+use Rattle.std.specs.Prelude.{ℕ, ◌+◌, ◌≤◌, length}
+use Rattle.aec_params.specs.declared.edit.Edit.{Edit}
+use Rattle.aec_params.specs.declared.edit.Edit.TheVariants.{Overwrite, Append, Truncate, Insert, Remove}
+
+-- an edit that only overwrites places among the first `count`
+abbrev pub IsInside : ℕ → Edit → Type 0
+IsInside count (Overwrite first values) = first + length values ≤ count
+IsInside count (Append values) = ⊥
+IsInside count (Truncate kept) = ⊥
+IsInside count (Insert first values) = ⊥
+IsInside count (Remove first len) = ⊥

@@ -1,0 +1,54 @@
+-- Places that a reader comes to: where coded data sets lead from the first bit on.
+use Rattle.std.proofs.Common.{◌≡◌, ℕ, ◌+◌, ◌%◌, ◌<◌, ◌≤◌, ◌^◌, min, Bool, true, false, ◌&&◌, ◌==◌, if◌then◌else◌, Option, List, [], ◌∷◌, ◌++◌, length, drop, sym, ap, subst, arith}
+use Rattle.std.proofs.lemmas.List.{length-append, length-drop}
+use Rattle.std.specs.Int.{next_multiple_of}
+use Rattle.aec_params.specs.declared.settings.Settings.{Settings}
+use Rattle.aec_params.specs.CodedDataSets.{CodedDataSet, cds_bits}
+use Rattle.aec_params.specs.Reading.{is_wanted, StandsAt, LeadsTo, begin_of, next_block, next_begin}
+use Rattle.aec_interval.specs.Pieces.{place_at, IsPlace}
+use Rattle.aec_interval.proofs.PlaceLemmas.{LeadsTo-append}
+
+-- ---- within the bits
+
+StandsAt-within : (s : Settings) (bits : List Bool) (b : ℕ) (c : CodedDataSet) → b ≤ length bits → StandsAt s bits b c → b + length (cds_bits s c) ≤ length bits
+StandsAt-within s bits b c within stands = omega (
+  arith,
+  within,
+  ap length stands,
+  length-drop b bits,
+  length-append (cds_bits s c) (drop (b + length (cds_bits s c)) bits),
+  length-drop (b + length (cds_bits s c)) bits,
+)
+
+begin_of-within : (s : Settings) (bits : List Bool) (i b : ℕ) → b ≤ length bits → begin_of s bits i b ≤ length bits
+begin_of-within s bits i b within = by_test (s.pad && (i % s.interval == 0))
+  where
+    by_test : (t : Bool) → (if t then min (next_multiple_of b 8) (length bits) else b) ≤ length bits
+    by_test true = omega arith
+    by_test false = within
+
+LeadsTo-within : (s : Settings) (count : Option ℕ) (limit : ℕ) (bits : List Bool) (i b : ℕ) (sets : List CodedDataSet) (j e : ℕ) → b ≤ length bits
+    → LeadsTo s count limit bits i b sets j e → e ≤ length bits
+LeadsTo-within s count limit bits i b [] j e within leads = omega (arith, within, leads.1)
+LeadsTo-within s count limit bits i b (c ∷ sets) j e within leads =
+    LeadsTo-within s count limit bits (next_block s i c) (next_begin s bits i b c) sets j e
+    (begin_of-within s bits (next_block s i c) (b + length (cds_bits s c)) (StandsAt-within s bits b c within leads.1)) leads.4
+
+pub place-within : (s : Settings) (count : Option ℕ) (limit : ℕ) (bits : List Bool) (i b : ℕ) → IsPlace (place_at s count limit bits i b) → b ≤ length bits
+place-within s count limit bits i b is = LeadsTo-within s count limit bits 0 0 is.sets i b (omega arith) is.leads
+
+-- ---- a step further
+
+pub place-further : (s : Settings) (count : Option ℕ) (limit : ℕ) (list bits : List Bool) (first bit start i b : ℕ) (sets : List CodedDataSet)
+    → IsPlace (place_at s count limit list first bit) → start ≡ bit → bits ≡ list → LeadsTo s count limit bits first start sets i b
+    → i < 2 ^ 34 → (is_wanted s count bits i b ≡ true → i % s.interval ≡ 0) → IsPlace (place_at s count limit bits i b)
+place-further s count limit list bits first bit start i b sets is begins same leads few ends = record {
+  few = few;
+  limit = is.limit;
+  counted = is.counted;
+  begins = ends;
+  sets = is.sets ++ sets;
+  leads = LeadsTo-append s count limit bits 0 0 is.sets first start sets i b
+      (subst (λ bits. LeadsTo s count limit bits 0 0 is.sets first start) (sym same)
+      (subst (LeadsTo s count limit list 0 0 is.sets first) (sym begins) is.leads)) leads;
+}

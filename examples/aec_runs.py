@@ -1,0 +1,115 @@
+"""What the scripts of this folder share: runs of aec, files that are written whole, and refusals of one line."""
+
+import functools
+import inspect
+import os
+import subprocess
+import sys
+import tempfile
+
+
+class Refused(Exception):
+    """What a script doesn't take or can't do. Its text is the line that the user reads."""
+
+
+def read_file(path):
+    """The bytes of a file."""
+    with open(path, "rb") as file:
+        return file.read()
+
+
+def write_whole(path, data, *inputs):
+    """Writes a file under another name beside it, and renames that: a failure leaves what stood there. Refuses to write over one
+    of the inputs."""
+    path = os.path.realpath(path)
+    for name in inputs:
+        if os.path.exists(path) and os.path.exists(name) and os.path.samefile(path, name):
+            raise Refused(f"{name} is read, so it can't be written too")
+    if os.path.exists(path) and not os.path.isfile(path):  # a pipe or a device
+        with open(path, "wb") as file:
+            file.write(data)
+        return
+    new = f"{path}.new-{os.getpid()}"
+    try:
+        with open(new, "xb") as file:
+            file.write(data)
+            file.flush()
+            os.fsync(file.fileno())
+        os.replace(new, path)
+    finally:
+        if os.path.exists(new):
+            os.remove(new)
+
+
+def said_by(words):
+    """The status of a program, and what it printed on both streams."""
+    try:
+        ended = subprocess.run(words, capture_output=True, stdin=subprocess.DEVNULL, check=False)
+    except OSError as fault:
+        raise Refused(f"{words[0]}: {fault.strerror}") from fault
+    return ended.returncode, (ended.stdout + ended.stderr).decode(errors="replace")
+
+
+@functools.cache
+def require_aec(aec):
+    """Refuses a program that isn't this project's: libaec's client has the same name."""
+    status, text = said_by([aec, "--version"])
+    if status != 0 or len(text.splitlines()) != 1:
+        raise Refused(f"{aec} isn't this project's aec: its --version prints something else")
+
+
+def run_aec(aec, words, source, script=None):
+    """The bytes of DEST of a run with these words on the bytes of SOURCE; with a script, of a run with --edit."""
+    require_aec(aec)
+    with tempfile.TemporaryDirectory() as folder:
+        given, made, lines = (os.path.join(folder, name) for name in ("source", "dest", "script"))
+        write_whole(given, source)
+        if script is not None:
+            write_whole(lines, script)
+            words = ["--edit", lines, *words]
+        status, text = said_by([aec, *words, given, made])
+        if status != 0:
+            raise Refused(text.strip().split("\n")[0] or f"{aec} ended with status {status}")
+        return read_file(made)
+
+
+def samples_of(data, words):
+    """The samples of decoded bytes, which these words for aec have decoded."""
+    bits = int(words[words.index("-n") + 1]) if "-n" in words else 8
+    size = 1 if bits <= 8 else 2 if bits <= 16 else 3 if bits <= 24 and "-3" in words else 4
+    order, is_signed = "big" if "-m" in words else "little", "-s" in words
+    return [int.from_bytes(data[i : i + size], order, signed=is_signed) for i in range(0, len(data), size)]
+
+
+def perform(doc, **actions):
+    """Calls the function that the first word names with the words behind it, and ends with the status that it answers. What it
+    refuses, and files that fail, are one line on standard error and status 1; words that it doesn't take are status 2."""
+    first = sys.argv[1] if len(sys.argv) > 1 else "--help"
+    if first not in actions and first not in ("-h", "--help"):
+        sys.exit(complain(f"the first word must be one of {', '.join(actions)}; --help tells more", 2))
+    call(doc, actions.get(first), first, sys.argv[2:])
+
+
+def call(doc, action, name, words):
+    """Does what `perform` says, for one function."""
+    if name in ("-h", "--help") or words[:1] in (["-h"], ["--help"]):
+        print(doc.strip())
+        sys.exit(0)
+    wanted = inspect.signature(action)
+    try:
+        wanted.bind(*words)
+    except TypeError:
+        needed = " ".join(map(str, wanted.parameters.values())).upper()
+        sys.exit(complain(f"{name} takes the words {needed}; --help tells more", 2))
+    try:
+        sys.exit(action(*words))
+    except Refused as refusal:
+        sys.exit(complain(refusal, 1))
+    except OSError as fault:
+        sys.exit(complain(f"{fault.filename}: {fault.strerror}" if fault.filename else fault, 1))
+
+
+def complain(text, status):
+    """Prints a line of a script on standard error. Its status."""
+    print(f"{os.path.basename(sys.argv[0])}: {text}", file=sys.stderr)
+    return status

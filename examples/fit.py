@@ -1,0 +1,109 @@
+#!/usr/bin/env python3
+"""Which options of aec suit a file, and which fit a stream whose options nobody knows:
+
+    fit.py sizes AEC FILE OPTIONS..           OPTIONS say how samples are stored: -n, and -m or -3
+    fit.py streams AEC STREAM COUNT OPTIONS.. OPTIONS are what is known, as -n 16
+
+`sizes` codes FILE with each block size, several intervals, with and without -s and -N, and prints the shortest streams first.
+`streams` prints the options that read COUNT samples without a fault, likely ones first: those that need the
+stream's last byte (whole), then by the sum of the differences between neighbours, which is small for samples that belong together. It is a hint:
+nothing in a stream tells. Progress goes to standard error.
+"""
+
+import itertools
+import os
+import sys
+import tempfile
+
+from aec_runs import Refused, perform, read_file, require_aec, said_by, samples_of, write_whole
+
+BLOCKS = ("8", "16", "32", "64")
+INTERVALS = ("1", "2", "4", "8", "16", "32", "64", "128", "256", "512", "1024", "2048", "4096")
+FEWER_INTERVALS = ("1", "2", "8", "32", "128", "512", "4096")
+FRONT = 1 << 14  # samples that are tried first, and whose differences are added up
+SHOWN = 20
+
+
+def candidates(fixed, **values):
+    """Lists of words: those that are fixed, and each choice of what they leave open."""
+    choices = []
+    for letter, tried in values.items():
+        if f"-{letter}" not in fixed:
+            choices.append([["-" + letter, value] for value in tried] if isinstance(tried, tuple) else [[], ["-" + letter]])
+    return [[*fixed, *itertools.chain(*chosen)] for chosen in itertools.product(*choices)]
+
+
+def with_progress(listed):
+    """Each of a list, and on a terminal how far it has come."""
+    for i, it in enumerate(listed):
+        if i % 50 == 0:
+            print(f"\r{i} of {len(listed)}", end="", file=sys.stderr, flush=True)
+        yield it
+    print(f"\r{len(listed)} of {len(listed)}", file=sys.stderr)
+
+
+def sizes(aec, file, *options):
+    """Prints the lengths of a file's streams."""
+    if "-n" not in options:
+        raise Refused("give -n: nothing in a file tells")
+    require_aec(aec)
+    ranked, refused = [], ""
+    with tempfile.TemporaryDirectory() as folder:
+        dest = os.path.join(folder, "dest")
+        for words in with_progress(candidates(options, j=BLOCKS, r=FEWER_INTERVALS, s=None, N=None)):
+            status, text = said_by([aec, *words, file, dest])
+            if status == 0:
+                ranked.append((os.path.getsize(dest), " ".join(words)))
+            else:
+                refused = text.strip().split("\n")[0]
+    if not ranked:
+        raise Refused(refused)
+    print(f"{'bytes':>12}  options, for {os.path.getsize(file)} bytes of samples")
+    for size, words in sorted(ranked, key=lambda it: it[0])[:SHOWN]:
+        print(f"{size:12}  {words}")
+
+
+def reads(aec, stream, dest, words, count):
+    """Whether a run reads so many samples without a fault."""
+    return said_by([aec, "-d", "--count", str(count), *words, stream, dest])[0] == 0
+
+
+def looked_at(aec, stream, folder, words, count):
+    """Whether the last byte isn't needed, the sum of differences in the front, and the words, for those that read the stream."""
+    cut, dest = os.path.join(folder, "cut"), os.path.join(folder, "dest")
+    if not reads(aec, stream, "/dev/null", words, count):
+        return []
+    write_whole(cut, read_file(stream)[:-1])
+    is_spare = reads(aec, cut, "/dev/null", words, count)
+    looked = []
+    for signed in ([], ["-s"]):
+        if reads(aec, stream, dest, [*words, *signed], min(count, FRONT)):
+            samples = samples_of(read_file(dest), [*words, *signed])
+            differences = sum(abs(a - b) for a, b in zip(samples, samples[1:]))
+            looked.append((is_spare, differences, " ".join([*words, *signed])))
+    return looked
+
+
+def streams(aec, stream, count, *options):
+    """Prints the options that read a stream."""
+    if not count.isdecimal() or count == "0":
+        raise Refused(f"{count} is no number of samples")
+    if {"-m", "-3", "-s"} & set(options):
+        raise Refused("-m and -3 change nothing in a stream, and -s is tried by itself")
+    require_aec(aec)
+    read_file(stream)
+    widths = tuple(map(str, range(1, 33)))
+    found = []
+    with tempfile.TemporaryDirectory() as folder:
+        for words in with_progress(candidates(options, n=widths, j=BLOCKS, r=INTERVALS, N=None)):
+            if reads(aec, stream, "/dev/null", words, min(int(count), FRONT)):
+                found += looked_at(aec, stream, folder, words, int(count))
+    if not found:
+        raise Refused(f"no options of those tried read {count} samples: try --even-blocks with -j, or -t, or -p")
+    print(f"{'ends':10}{'differences':>16}  options: {len(found)} read {count} samples")
+    for is_spare, differences, words in sorted(found)[:SHOWN]:
+        print(f"{'too early' if is_spare else 'whole':10}{differences:16}  {words}")
+
+
+if __name__ == "__main__":
+    perform(__doc__, sizes=sizes, streams=streams)

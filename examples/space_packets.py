@@ -1,0 +1,92 @@
+#!/usr/bin/env python3
+"""The coded streams in a file of space packets, each data field its own stream:
+
+    space_packets.py read AEC FILE FOLDER SECONDARY OPTIONS..
+
+SECONDARY is the length of the secondary header in bytes, for packets that say that they have one. OPTIONS are those of aec, with
+--count. Writes the samples of each packet into FOLDER, a new one, as APID_PACKET.raw; packets are counted from 0 in FILE.
+Sequence counts that skip are named. What can't be decoded is named and left, and the rest goes on: the status is then 1.
+Idle packets are passed over. The standard's compression identification packet isn't read.
+"""
+
+import os
+from typing import NamedTuple
+
+from aec_runs import Refused, perform, read_file, require_aec, run_aec, write_whole
+
+PRIMARY = 6
+IDLE = 0x7FF
+COUNTS = 1 << 14  # the sequence count begins anew
+
+
+class Packet(NamedTuple):
+    """A packet, and its number in the file."""
+
+    number: int
+    apid: int
+    has_secondary: bool
+    sequence: int
+    field: bytes  # all behind the primary header
+
+    def stream(self, secondary):
+        """The data field without a secondary header of that length."""
+        return self.field[secondary:] if self.has_secondary else self.field
+
+    def name(self):
+        """How the packet is called in what is printed."""
+        return f"packet {self.number} (APID {self.apid}, sequence count {self.sequence})"
+
+
+def packets_of(data):
+    """The packets of a file. Behind one that is cut, or that isn't a packet, no other can be found: it is refused."""
+    first, number = 0, 0
+    while first < len(data):
+        identity, sequence, length = (int.from_bytes(data[first + i : first + i + 2], "big") for i in (0, 2, 4))
+        end = first + PRIMARY + length + 1
+        if identity >> 13 != 0:
+            raise Refused(f"packet {number}: at byte {first} no space packet begins; the rest of the file isn't read")
+        if first + PRIMARY > len(data) or end > len(data):
+            raise Refused(f"packet {number}: it is cut, at byte {first} of the file")
+        has_secondary = identity >> 11 & 1 == 1
+        yield Packet(number, identity & IDLE, has_secondary, sequence % COUNTS, data[first + PRIMARY : end])
+        first, number = end, number + 1
+
+
+def skipped(packet, expected):
+    """A text for a sequence count that isn't the expected one, None where it is."""
+    missing = (packet.sequence - expected.get(packet.apid, packet.sequence)) % COUNTS
+    expected[packet.apid] = (packet.sequence + 1) % COUNTS
+    return f"{packet.name()}: {missing} before it are missing" if missing else None
+
+
+def read(aec, file, folder, secondary, *options):
+    """Decodes each packet of a file. The status."""
+    if not secondary.isdecimal():
+        raise Refused(f"{secondary} is no length of a secondary header")
+    require_aec(aec)
+    data = read_file(file)
+    os.mkdir(folder)
+    decoded, failed, expected = 0, 0, {}
+    try:
+        for packet in packets_of(data):
+            if packet.apid == IDLE:
+                continue
+            if text := skipped(packet, expected):
+                print(text)
+            try:
+                samples = run_aec(aec, ["-d", *options], packet.stream(int(secondary)))
+            except Refused as refusal:
+                print(f"{packet.name()}: {refusal}")
+                failed += 1
+                continue
+            write_whole(os.path.join(folder, f"{packet.apid:04}_{packet.number:06}.raw"), samples)
+            decoded += 1
+    except Refused as refusal:
+        print(refusal)
+        failed += 1
+    print(f"{decoded} packets decoded, {failed} not")
+    return 1 if failed else 0
+
+
+if __name__ == "__main__":
+    perform(__doc__, read=read)
