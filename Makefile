@@ -1,7 +1,7 @@
 # What a user and a developer run. The toolchain's command `rt` has to be on the path.
 PREFIX ?= /usr/local
 
-.PHONY: all example sizes test wrong-bodies install bench clean
+.PHONY: all try example sizes test wrong-bodies install bench pictures clean
 
 # Proves the program and everything that it stands on, builds it, and leaves it in bin/aec.
 all: bin/aec
@@ -10,6 +10,10 @@ bin/aec: FORCE
 	@sh build.sh
 
 FORCE:
+
+# Four small jobs by the program as it is written, before anything is proved.
+try:
+	@sh try.sh
 
 # The main job on the files of examples/.
 example: bin/aec
@@ -35,10 +39,26 @@ bench: bin/aec
 	python3 bench/instructions.py bin/aec
 	python3 bench/edits.py bin/aec
 
-install: bin/aec
-	install -d $(DESTDIR)$(PREFIX)/bin $(DESTDIR)$(PREFIX)/share/man/man1
-	install -m 755 bin/aec $(DESTDIR)$(PREFIX)/bin/aec
-	install -m 644 man/aec.1 $(DESTDIR)$(PREFIX)/share/man/man1/aec.1
+# The pictures of docs/, from the tables of bench/ and docs/.
+pictures:
+	python3 bench/pictures.py
+
+# Installs what `make` has built, and needs no rt. PROGRAM is another name for the program, where libaec's client is to stay `aec`.
+PROGRAM ?= aec
+BUILT ?= bin/aec
+share = $(DESTDIR)$(PREFIX)/share
+install:
+	@test -x $(BUILT) || { echo "there is no $(BUILT): run make first, which proves the program and builds it" >&2; exit 1; }
+	install -d $(DESTDIR)$(PREFIX)/bin $(share)/man/man1 $(share)/bash-completion/completions $(share)/zsh/site-functions
+	install -d $(share)/doc/$(PROGRAM)/docs/pictures $(share)/doc/$(PROGRAM)/examples
+	install -m 755 $(BUILT) $(DESTDIR)$(PREFIX)/bin/$(PROGRAM)
+	install -m 644 man/aec.1 $(share)/man/man1/$(PROGRAM).1
+	sed '/^complete /s/ aec$$/ $(PROGRAM)/' completions/aec.bash > $(share)/bash-completion/completions/$(PROGRAM)
+	sed '/^#compdef /s/ aec$$/ $(PROGRAM)/' completions/_aec > $(share)/zsh/site-functions/_$(PROGRAM)
+	install -m 644 README.md CHANGELOG.md LICENSE $(share)/doc/$(PROGRAM)
+	install -m 644 docs/*.md $(share)/doc/$(PROGRAM)/docs
+	install -m 644 docs/pictures/*.svg $(share)/doc/$(PROGRAM)/docs/pictures
+	for file in examples/*; do test ! -f $$file || install -m 644 $$file $(share)/doc/$(PROGRAM)/examples; done
 
 clean:
 	rm -rf bin crates/*/out

@@ -1,0 +1,155 @@
+#!/usr/bin/env python3
+"""Draws the pictures of docs/pictures/ as SVG: pictures.py
+
+Times libaec's speed for each input and J, both ways, from the table in bench/tables.md; how the instructions for a sample fell, from the
+table in docs/SPEED.md; and the two pictures of docs/FORMAT.md, a coded data set bit by bit and the parts of an interval.
+"""
+
+import os
+import re
+from html import escape
+
+TOP = os.path.join(os.path.dirname(os.path.abspath(__file__)), "..")
+OUT = os.path.join(TOP, "docs", "pictures")
+CODING, DECODING = "#1f6f8b", "#d9822b"
+WIDTH = 900
+
+
+def rows_below(file, heading):
+    """The rows of the first table below a heading of a page, each as its cells."""
+    with open(os.path.join(TOP, file), encoding="utf-8") as page:
+        text = page.read().split(f"\n## {heading}\n", 1)[1].split("\n## ")[0]
+    table = re.search(r"(?m)(^\|.*\n)+", text).group().splitlines()
+    return [[cell.strip() for cell in row.strip("|").split("|")] for row in table[2:]]
+
+
+def text(x, y, said, anchor="start", size=14, fill="#222", more=""):
+    return f'<text x="{x:g}" y="{y:g}" text-anchor="{anchor}" font-size="{size}" fill="{fill}"{more}>{escape(said)}</text>'
+
+
+def box(x, y, width, height, fill, stroke="none"):
+    return f'<rect x="{x:g}" y="{y:g}" width="{width:g}" height="{height:g}" fill="{fill}" stroke="{stroke}"/>'
+
+
+def line(x1, y1, x2, y2, stroke="#999", more=""):
+    return f'<line x1="{x1:g}" y1="{y1:g}" x2="{x2:g}" y2="{y2:g}" stroke="{stroke}"{more}/>'
+
+
+def write(name, height, what, parts):
+    """Writes a picture, with what it shows as its title."""
+    head = f'<svg xmlns="http://www.w3.org/2000/svg" width="{WIDTH}" height="{height}" viewBox="0 0 {WIDTH} {height}" '
+    head += 'font-family="sans-serif" role="img">'
+    lines = [head, f"<title>{escape(what)}</title>", box(0, 0, WIDTH, height, "#fff"), *parts, "</svg>"]
+    os.makedirs(OUT, exist_ok=True)
+    with open(os.path.join(OUT, name + ".svg"), "w", encoding="utf-8") as file:
+        file.write("\n".join(lines) + "\n")
+
+
+def legend(y):
+    both = ((640, CODING, "coding"), (740, DECODING, "decoding"))
+    return [part for x, fill, said in both for part in (box(x, y - 11, 12, 12, fill), text(x + 18, y, said))]
+
+
+def draw_speeds():
+    """Bars: times libaec's speed, for r 128."""
+    rows = [row for row in rows_below("bench/tables.md", "Times libaec's speed") if row[2] == "128"]
+    left, scale, y = 230, 165, 70
+    parts = [text(20, 30, "Times libaec's speed, r 128 (longer is faster)", size=18), *legend(30)]
+    for number, row in enumerate(rows):
+        if number and rows[number - 1][0] != row[0]:
+            y += 10
+        if not number or rows[number - 1][0] != row[0]:
+            parts.append(text(20, y + 17, row[0]))
+        parts.append(text(left - 8, y + 17, f"J {row[1]}", "end"))
+        for place, (fill, speed) in enumerate(((CODING, row[3]), (DECODING, row[4]))):
+            width = float(speed) * scale
+            parts.append(box(left, y + 11 * place, width, 10, fill))
+            parts.append(text(left + width + 4, y + 9 + 11 * place, speed, size=10, fill="#555"))
+        y += 27
+    for times in range(5):
+        x = left + times * scale
+        parts.append(line(x, 55, x, y, "#222" if times == 1 else "#ddd"))
+        parts.append(text(x, y + 16, f"{times}", "middle", 12))
+    parts.append(text(left + scale, 50, "libaec", "middle", 12))
+    write("speed", y + 30, "times libaec's speed for each input and J, coding and decoding", parts)
+
+
+def draw_instructions():
+    """Steps: instructions for each sample, state after state."""
+    rows = rows_below("docs/SPEED.md", "How the time fell")
+    states, other = rows[:-1], rows[-1]
+    left, top, bottom = 60, 60, 340
+    step = (WIDTH - left - 120) / (len(states) - 1)
+    most = 450
+
+    def place(number, count):
+        return left + number * step, bottom - count * (bottom - top) / most
+
+    parts = [text(20, 30, "Instructions for each sample, state after state", size=18), *legend(30)]
+    for count in range(0, most, 100):
+        y = place(0, count)[1]
+        parts += [line(left, y, WIDTH - 120, y, "#ddd"), text(left - 8, y + 5, str(count), "end", 12)]
+    for column, fill in ((1, CODING), (2, DECODING)):
+        points = [place(number, int(row[column])) for number, row in enumerate(states) if row[column]]
+        path = " ".join(f"{x:g},{y:g}" for x, y in points)
+        parts.append(f'<polyline points="{path}" fill="none" stroke="{fill}" stroke-width="2"/>')
+        parts += [f'<circle cx="{x:g}" cy="{y:g}" r="3.5" fill="{fill}"/>' for x, y in points]
+    last = [row for row in states if row[1]][-1][1], [row for row in states if row[2]][-1][2]
+    says = f"now {last[0]} and {last[1]}; libaec {other[1]} and {other[2]}"
+    parts.append(text(WIDTH - 20, bottom - 65, says, "end", 13))
+    for number in range(len(states)):
+        parts.append(text(place(number, 0)[0], bottom + 18, str(number + 1), "middle", 12))
+    parts.append(text(left, bottom + 40, "states in the order of the table in SPEED.md", size=12))
+    write("instructions", bottom + 55, "how the instructions for each sample fell, coding and decoding", parts)
+
+
+def draw_coded_data_set():
+    """The bits of one coded data set by sample splitting with k = 1."""
+    strip = [("010", "identifier: sample splitting with k = 1", "#cfe8ef"), ("00000000", "reference sample 0, in n = 8 bits", "#f6e3c5")]
+    strip.append(("1010101010101", "fs(v / 2) of each of seven values: fs(0), then six times fs(1)", "#d8ecd0"))
+    strip += [("1000000", "the low bit of each of the values 1 2 2 2 2 2 2", "#ead7ee"), ("0", "a zero that fills the last byte", "#eee")]
+    side, x, y, bit = 26, 30, 80, 0
+    parts = [text(20, 30, "One coded data set: the bytes 40 15 55 80", size=18)]
+    for number, (bits, said, fill) in enumerate(strip):
+        below = y + 60 + 28 * (len(strip) - 1 - number)
+        parts += [text(x + 4, y - 8, str(bit), "middle", 11, "#555"), line(x + 6, y + side, x + 6, below - 5)]
+        for one in bits:
+            parts += [box(x, y, side, side, fill, "#666"), text(x + side / 2, y + 18, one, "middle")]
+            x, bit = x + side, bit + 1
+        turned = x > 700
+        at = x - side * len(bits) + 6
+        parts.append(text(at - 4 if turned else at + 4, below, said, "end" if turned else "start", 13))
+    write("coded_data_set", y + 60 + 28 * len(strip), "a coded data set bit by bit", parts)
+
+
+def draw_interval():
+    """An interval of 130 blocks, its segments and blocks."""
+    left, right = 120, 700
+    parts = [text(20, 30, "An interval of 130 blocks, in segments of at most 64", size=18)]
+    bands = [(70, "intervals", ((left, right, "interval of 130 blocks: S = 130 J samples", "#cfe8ef"), (right, 880, "next interval ..", "#eee")))]
+    wide = (left, 370, 620, right)
+    segments = [(wide[i], wide[i + 1], said, "#f6e3c5") for i, said in enumerate(("64 blocks", "64 blocks", "2 blocks"))]
+    bands.append((120, "segments", (*segments, (right, 880, "64 blocks ..", "#eee"))))
+    blocks = []
+    for begin, said in ((left, ("0", "1", "..", "63")), (370, ("64", "65", "..", "127")), (620, ("128", "129")), (right, ("0", "1", ".."))):
+        width = (wide[wide.index(begin) + 1] - begin if begin != right else 180) / len(said)
+        blocks += [(begin + i * width, begin + (i + 1) * width, it, "#d8ecd0" if it == "0" else "#fff") for i, it in enumerate(said)]
+    bands.append((170, "blocks", blocks))
+    for y, name, boxes in bands:
+        parts.append(text(20, y + 23, name))
+        for begin, end, said, fill in boxes:
+            parts += [box(begin, y, end - begin, 36, fill, "#666"), text((begin + end) / 2, y + 23, said, "middle", 13)]
+    parts.append(text(left, 235, "Blocks 0 (green) are reference blocks: the reference sample, then J - 1 values.", size=13))
+    parts.append(text(left, 257, "A run of zero blocks ends with its segment, and begins anew at blocks 64 and 128.", size=13))
+    write("interval", 275, "an interval, its segments and its blocks", parts)
+
+
+def main():
+    draw_speeds()
+    draw_instructions()
+    draw_coded_data_set()
+    draw_interval()
+
+
+if __name__ == "__main__":
+    main()
