@@ -50,15 +50,12 @@ share = $(DESTDIR)$(PREFIX)/share
 install:
 	@test -x $(BUILT) || { echo "there is no $(BUILT): run make first, which proves the program and builds it" >&2; exit 1; }
 	install -d $(DESTDIR)$(PREFIX)/bin $(share)/man/man1 $(share)/bash-completion/completions $(share)/zsh/site-functions
-	install -d $(share)/doc/$(PROGRAM)/docs/pictures $(share)/doc/$(PROGRAM)/examples
 	install -m 755 $(BUILT) $(DESTDIR)$(PREFIX)/bin/$(PROGRAM)
 	install -m 644 man/aec.1 $(share)/man/man1/$(PROGRAM).1
 	sed '/^complete /s/ aec$$/ $(PROGRAM)/' completions/aec.bash > $(share)/bash-completion/completions/$(PROGRAM)
 	sed '/^#compdef /s/ aec$$/ $(PROGRAM)/' completions/_aec > $(share)/zsh/site-functions/_$(PROGRAM)
-	install -m 644 README.md CHANGELOG.md LICENSE $(share)/doc/$(PROGRAM)
-	install -m 644 docs/*.md $(share)/doc/$(PROGRAM)/docs
-	install -m 644 docs/pictures/*.svg $(share)/doc/$(PROGRAM)/docs/pictures
-	for file in examples/*; do test ! -f $$file || install -m 644 $$file $(share)/doc/$(PROGRAM)/examples; done
+	for file in README.md CHANGELOG.md LICENSE docs/*.md docs/*/* examples/*; do \
+	    test ! -f $$file || install -D -m 644 $$file $(share)/doc/$(PROGRAM)/$$file || exit 1; done
 
 clean:
 	rm -rf bin crates/*/out

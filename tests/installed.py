@@ -46,7 +46,7 @@ def try_install(program, name, tally):
         tally.check(f"install as {name}", install(folder, *words), (0, ""))
         wanted = ["bin/" + name, f"share/man/man1/{name}.1", f"share/bash-completion/completions/{name}"]
         wanted += [f"share/zsh/site-functions/_{name}", f"share/doc/{name}/README.md", f"share/doc/{name}/docs/COMMAND.md"]
-        wanted += [f"share/doc/{name}/examples/ramp.aec", f"share/doc/{name}/LICENSE"]
+        wanted += [f"share/doc/{name}/examples/ramp.aec", f"share/doc/{name}/LICENSE", f"share/doc/{name}/docs/pictures/speed.svg"]
         for file in wanted:
             tally.check(f"{name}: {file} is there", os.path.isfile(os.path.join(folder, "usr", file)), True)
         ran = subprocess.run([os.path.join(folder, "usr", "bin", name), "--version"], capture_output=True, text=True)
