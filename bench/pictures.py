@@ -96,7 +96,7 @@ def draw_instructions():
         parts += [f'<circle cx="{x:g}" cy="{y:g}" r="3.5" fill="{fill}"/>' for x, y in points]
     last = [row for row in states if row[1]][-1][1], [row for row in states if row[2]][-1][2]
     says = f"now {last[0]} and {last[1]}; libaec {other[1]} and {other[2]}"
-    parts.append(text(WIDTH - 20, bottom - 65, says, "end", 13))
+    parts.append(text(WIDTH - 120, bottom - 105, says, "end", 13))
     for number in range(len(states)):
         parts.append(text(place(number, 0)[0], bottom + 18, str(number + 1), "middle", 12))
     parts.append(text(left, bottom + 40, "states in the order of the table in SPEED.md", size=12))
@@ -107,7 +107,7 @@ def draw_coded_data_set():
     """The bits of one coded data set by sample splitting with k = 1."""
     strip = [("010", "identifier: sample splitting with k = 1", "#cfe8ef"), ("00000000", "reference sample 0, in n = 8 bits", "#f6e3c5")]
     strip.append(("1010101010101", "fs(v / 2) of each of seven values: fs(0), then six times fs(1)", "#d8ecd0"))
-    strip += [("1000000", "the low bit of each of the values 1 2 2 2 2 2 2", "#ead7ee"), ("0", "a zero that fills the last byte", "#eee")]
+    strip += [("1000000", "the low bit of each of the values 1 2 2 2 2 2 2", "#ead7ee"), ("0", "fills the last byte", "#eee")]
     side, x, y, bit = 26, 30, 80, 0
     parts = [text(20, 30, "One coded data set: the bytes 40 15 55 80", size=18)]
     for number, (bits, said, fill) in enumerate(strip):
@@ -122,25 +122,30 @@ def draw_coded_data_set():
     write("coded_data_set", y + 60 + 28 * len(strip), "a coded data set bit by bit", parts)
 
 
+def cells(begin, end, words, fill):
+    """Boxes of one width from one place to another, a word in each; a reference block has a colour of its own."""
+    width = (end - begin) / len(words)
+    return [(begin + i * width, width, word, "#d8ecd0" if word == "0" else fill) for i, word in enumerate(words)]
+
+
 def draw_interval():
     """An interval of 130 blocks, its segments and blocks."""
-    left, right = 120, 700
+    borders = (120, 370, 620, 700, 880)
     parts = [text(20, 30, "An interval of 130 blocks, in segments of at most 64", size=18)]
-    bands = [(70, "intervals", ((left, right, "interval of 130 blocks: S = 130 J samples", "#cfe8ef"), (right, 880, "next interval ..", "#eee")))]
-    wide = (left, 370, 620, right)
-    segments = [(wide[i], wide[i + 1], said, "#f6e3c5") for i, said in enumerate(("64 blocks", "64 blocks", "2 blocks"))]
-    bands.append((120, "segments", (*segments, (right, 880, "64 blocks ..", "#eee"))))
-    blocks = []
-    for begin, said in ((left, ("0", "1", "..", "63")), (370, ("64", "65", "..", "127")), (620, ("128", "129")), (right, ("0", "1", ".."))):
-        width = (wide[wide.index(begin) + 1] - begin if begin != right else 180) / len(said)
-        blocks += [(begin + i * width, begin + (i + 1) * width, it, "#d8ecd0" if it == "0" else "#fff") for i, it in enumerate(said)]
-    bands.append((170, "blocks", blocks))
-    for y, name, boxes in bands:
+    intervals = cells(120, 700, ["interval of 130 blocks: S = 130 J samples"], "#cfe8ef") + cells(700, 880, ["next interval .."], "#eee")
+    segments, blocks = [], []
+    counts = ("64 blocks", "64 blocks", "2 blocks", "64 blocks ..")
+    numbers = ("0 1 .. 63", "64 65 .. 127", "128 129", "0 1 ..")
+    for i in range(4):
+        begin, end = borders[i], borders[i + 1]
+        segments += cells(begin, end, [counts[i]], "#f6e3c5" if i < 3 else "#eee")
+        blocks += cells(begin, end, numbers[i].split(), "#fff")
+    for y, name, boxes in ((70, "intervals", intervals), (120, "segments", segments), (170, "blocks", blocks)):
         parts.append(text(20, y + 23, name))
-        for begin, end, said, fill in boxes:
-            parts += [box(begin, y, end - begin, 36, fill, "#666"), text((begin + end) / 2, y + 23, said, "middle", 13)]
-    parts.append(text(left, 235, "Blocks 0 (green) are reference blocks: the reference sample, then J - 1 values.", size=13))
-    parts.append(text(left, 257, "A run of zero blocks ends with its segment, and begins anew at blocks 64 and 128.", size=13))
+        for begin, width, said, fill in boxes:
+            parts += [box(begin, y, width, 36, fill, "#666"), text(begin + width / 2, y + 23, said, "middle", 13)]
+    parts.append(text(120, 235, "Blocks 0 (green) are reference blocks: the reference sample, then J - 1 values.", size=13))
+    parts.append(text(120, 257, "A run of zero blocks ends with its segment, and begins anew at blocks 64 and 128.", size=13))
     write("interval", 275, "an interval, its segments and its blocks", parts)
 
 
