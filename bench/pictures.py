@@ -1,12 +1,14 @@
 #!/usr/bin/env python3
-"""Draws the pictures of docs/pictures/ as SVG: pictures.py
+"""Draws the pictures of docs/pictures/ as SVG: pictures.py [--check]
 
 Times libaec's speed for each input and J, both ways, from the table in bench/tables.md; how the instructions for a sample fell, from the
 table in docs/SPEED.md; and the two pictures of docs/FORMAT.md, a coded data set bit by bit and the parts of an interval.
+With --check nothing is written, and a picture that isn't the one that would be drawn fails.
 """
 
 import os
 import re
+import sys
 from html import escape
 
 TOP = os.path.join(os.path.dirname(os.path.abspath(__file__)), "..")
@@ -35,14 +37,12 @@ def line(x1, y1, x2, y2, stroke="#999", more=""):
     return f'<line x1="{x1:g}" y1="{y1:g}" x2="{x2:g}" y2="{y2:g}" stroke="{stroke}"{more}/>'
 
 
-def write(name, height, what, parts):
-    """Writes a picture, with what it shows as its title."""
+def picture(height, what, parts):
+    """A picture, with what it shows as its title."""
     head = f'<svg xmlns="http://www.w3.org/2000/svg" width="{WIDTH}" height="{height}" viewBox="0 0 {WIDTH} {height}" '
     head += 'font-family="sans-serif" role="img">'
     lines = [head, f"<title>{escape(what)}</title>", box(0, 0, WIDTH, height, "#fff"), *parts, "</svg>"]
-    os.makedirs(OUT, exist_ok=True)
-    with open(os.path.join(OUT, name + ".svg"), "w", encoding="utf-8") as file:
-        file.write("\n".join(lines) + "\n")
+    return "\n".join(lines) + "\n"
 
 
 def legend(y):
@@ -50,7 +50,7 @@ def legend(y):
     return [part for x, fill, said in both for part in (box(x, y - 11, 12, 12, fill), text(x + 18, y, said))]
 
 
-def draw_speeds():
+def speed():
     """Bars: times libaec's speed, for r 128."""
     rows = [row for row in rows_below("bench/tables.md", "Times libaec's speed") if row[2] == "128"]
     left, scale, y = 230, 165, 70
@@ -71,10 +71,10 @@ def draw_speeds():
         parts.append(line(x, 55, x, y, "#222" if times == 1 else "#ddd"))
         parts.append(text(x, y + 16, f"{times}", "middle", 12))
     parts.append(text(left + scale, 50, "libaec", "middle", 12))
-    write("speed", y + 30, "times libaec's speed for each input and J, coding and decoding", parts)
+    return picture(y + 30, "times libaec's speed for each input and J, coding and decoding", parts)
 
 
-def draw_instructions():
+def instructions():
     """Steps: instructions for each sample, state after state."""
     rows = rows_below("docs/SPEED.md", "How the time fell")
     states, other = rows[:-1], rows[-1]
@@ -100,10 +100,10 @@ def draw_instructions():
     for number in range(len(states)):
         parts.append(text(place(number, 0)[0], bottom + 18, str(number + 1), "middle", 12))
     parts.append(text(left, bottom + 40, "states in the order of the table in SPEED.md", size=12))
-    write("instructions", bottom + 55, "how the instructions for each sample fell, coding and decoding", parts)
+    return picture(bottom + 55, "how the instructions for each sample fell, coding and decoding", parts)
 
 
-def draw_coded_data_set():
+def coded_data_set():
     """The bits of one coded data set by sample splitting with k = 1."""
     strip = [("010", "identifier: sample splitting with k = 1", "#cfe8ef"), ("00000000", "reference sample 0, in n = 8 bits", "#f6e3c5")]
     strip.append(("1010101010101", "fs(v / 2) of each of seven values: fs(0), then six times fs(1)", "#d8ecd0"))
@@ -119,7 +119,7 @@ def draw_coded_data_set():
         turned = x > 700
         at = x - side * len(bits) + 6
         parts.append(text(at - 4 if turned else at + 4, below, said, "end" if turned else "start", 13))
-    write("coded_data_set", y + 60 + 28 * len(strip), "a coded data set bit by bit", parts)
+    return picture(y + 60 + 28 * len(strip), "a coded data set bit by bit", parts)
 
 
 def cells(begin, end, words, fill):
@@ -128,7 +128,7 @@ def cells(begin, end, words, fill):
     return [(begin + i * width, width, word, "#d8ecd0" if word == "0" else fill) for i, word in enumerate(words)]
 
 
-def draw_interval():
+def interval():
     """An interval of 130 blocks, its segments and blocks."""
     borders = (120, 370, 620, 700, 880)
     parts = [text(20, 30, "An interval of 130 blocks, in segments of at most 64", size=18)]
@@ -146,15 +146,23 @@ def draw_interval():
             parts += [box(begin, y, width, 36, fill, "#666"), text(begin + width / 2, y + 23, said, "middle", 13)]
     parts.append(text(120, 235, "Blocks 0 (green) are reference blocks: the reference sample, then J - 1 values.", size=13))
     parts.append(text(120, 257, "A run of zero blocks ends with its segment, and begins anew at blocks 64 and 128.", size=13))
-    write("interval", 275, "an interval, its segments and its blocks", parts)
+    return picture(275, "an interval, its segments and its blocks", parts)
 
 
 def main():
-    draw_speeds()
-    draw_instructions()
-    draw_coded_data_set()
-    draw_interval()
+    stale = 0
+    for draw in (speed, instructions, coded_data_set, interval):
+        path, drawn = os.path.join(OUT, draw.__name__ + ".svg"), draw()
+        if sys.argv[1:] != ["--check"]:
+            with open(path, "w", encoding="utf-8") as file:
+                file.write(drawn)
+        else:
+            with open(path, encoding="utf-8") as file:
+                stale += file.read() != drawn
+    if sys.argv[1:] == ["--check"]:
+        print(f"pictures: {4 - stale} passed, {stale} failed" + (": run make pictures" if stale else ""))
+    return 1 if stale else 0
 
 
 if __name__ == "__main__":
-    main()
+    sys.exit(main())
