@@ -1,8 +1,8 @@
 #!/bin/sh
 # Every test: the gate, and then with the programs that it has built coded samples, coded data that is cut, damaged streams,
 # refused memory in whole runs and in calls of the libraries, files that fail, the round trips with the client of libaec, and
-# edits by generated scripts, the scripts of examples/ with the page about them, the installation, and that the pictures
-# are those of the tables. Fails if one fails. At the end it says how long each part took. The last line counts what passed
+# edits by generated scripts, the scripts of examples/ with the page about them, the installation, and the worked rows,
+# commands and pictures of the pages. Fails if one fails. At the end it says how long each part took. The last line counts what passed
 # and failed: the gate's where all have passed, else that of the first part that failed, and before it the lines that say why.
 # Run from the top of the repository by `make test`.
 export PYTHONDONTWRITEBYTECODE=1
@@ -63,10 +63,12 @@ echo "== recipes"
 part recipes on_program tests/recipes.py
 echo "== installation and completion"
 part installed on_program tests/installed.py
+echo "== worked rows and commands of the pages, and their pictures"
+part worked on_program tests/worked_pages.py
 part pictures python3 bench/pictures.py --check
 
 last=gate
-for name in gate coded cuts damaged memory calls files trips scripts recipes installed pictures; do
+for name in gate coded cuts damaged memory calls files trips scripts recipes installed worked pictures; do
     if ! has_passed "$name"; then
         last=$name
         break

@@ -1,0 +1,77 @@
+#!/usr/bin/env python3
+"""The worked rows and commands of README.md and docs/COMMAND.md: worked_pages.py PATH_OF_AEC
+
+Runs each row of README that has a command, the bytes of SOURCE and those of DEST; the commands of README's part 'Use it', of which the
+sizes that it names are looked at; and those of COMMAND's part 'Edits', whose bytes stand behind them. A page without rows or
+commands fails.
+"""
+
+import os
+import re
+import subprocess
+import sys
+import tempfile
+
+sys.path.insert(0, os.path.dirname(os.path.abspath(__file__)))
+
+from program import Program, Tally
+
+TOP = os.path.join(os.path.dirname(os.path.abspath(__file__)), "..")
+ROW = re.compile(r"\| `aec ([^`]*)SOURCE DEST`(?:, SCRIPT `([^`]*)`)? \| `([0-9A-F ]+)` \| `([0-9A-F ]+)`")
+
+
+def part_of(page, heading):
+    """What stands below a heading of a page."""
+    with open(os.path.join(TOP, page), encoding="utf-8") as file:
+        return file.read().split(f"\n## {heading}\n", 1)[1].split("\n## ", 1)[0]
+
+
+def commands_of(text):
+    """The first commands of a part."""
+    return re.search(r"```sh\n(.*?)```", text, re.S).group(1)
+
+
+def try_rows(program, tally):
+    """Each row: the bytes that DEST gets."""
+    rows = ROW.findall(part_of("README.md", "Use it"))
+    tally.check("rows of README", len(rows) >= 4, True)
+    for words, script, source, dest in rows:
+        program.write("SCRIPT", script.encode() + b"\n")
+        tally.check(f"aec {words}on {source}", program.answer(words.split(), bytes.fromhex(source)), bytes.fromhex(dest))
+
+
+def run_commands(program, commands):
+    """The status of commands run as they stand, and what they print."""
+    os.makedirs(program.file("bin"), exist_ok=True)
+    if not os.path.exists(program.file("bin/aec")):
+        os.symlink(program.path, program.file("bin/aec"))
+        os.symlink(os.path.join(TOP, "examples"), program.file("examples"))
+    path = program.file("bin") + os.pathsep + os.environ["PATH"]
+    ran = subprocess.run(["sh", "-e", "-c", commands], cwd=program.folder, capture_output=True, text=True, env={"PATH": path})
+    return ran.returncode, ran.stdout + ran.stderr
+
+
+def try_commands(program, tally):
+    """The commands of both pages, with the sizes and bytes beside them."""
+    commands = commands_of(part_of("README.md", "Use it"))
+    tally.check("commands of README", run_commands(program, commands), (0, ""))
+    coded = int(re.search(r"bytes become ([\d,]+)", commands).group(1).replace(",", ""))
+    tally.check("bytes that README names", len(program.read("d.aec") or b""), coded)
+    commands = commands_of(part_of("docs/COMMAND.md", "Edits"))
+    wanted = re.search(r"# ([0-9a-f ]+)$", commands, re.M).group(1)
+    status, said = run_commands(program, commands)
+    tally.check("commands of COMMAND, Edits", (status, said.strip()), (0, wanted))
+
+
+def main():
+    tally = Tally()
+    with tempfile.TemporaryDirectory() as folder:
+        program = Program(sys.argv[1], folder)
+        try_rows(program, tally)
+        try_commands(program, tally)
+    tally.print()
+    return 1 if tally.failed else 0
+
+
+if __name__ == "__main__":
+    sys.exit(main())
