@@ -1,9 +1,9 @@
 #!/bin/sh
-# Every test: the gate, and then with the programs that it has built coded samples, coded data that is cut, damaged streams,
-# refused memory in whole runs and in calls of the libraries, files that fail, the round trips with the client of libaec, and
-# edits by generated scripts, and the scripts of examples/ with the page about them. Fails if one fails. At the end it says how long each part took. The last line counts what passed
-# and failed: the gate's where all have passed, else that of the first part that failed, and before it the lines that say why.
-# Run from the top of the repository by `make test`.
+# Every test: that the pages which are written by scripts are current, the gate, and then with the programs that it has built coded
+# samples, coded data that is cut, damaged streams, refused memory in whole runs and in calls of the libraries, files that fail, the
+# round trips with the client of libaec, edits by generated scripts, and the scripts of examples/ with the page about them. Fails if one
+# fails. At the end it says how long each part took. The last line counts what passed and failed: the gate's where all have passed,
+# else that of the first part that failed, and before it the lines that say why. Run from the top of the repository by `make test`.
 export PYTHONDONTWRITEBYTECODE=1
 kept=$(mktemp -d)
 trap 'rm -rf "$kept"' EXIT
@@ -41,6 +41,8 @@ explain() {
     grep -E 'MemTotal|MemAvailable' /proc/meminfo
 }
 
+part pages python3 tools/pages.py --check
+part theorems python3 tools/theorem.py --check
 part gate rt ci
 echo "== coded samples"
 part coded on_program tests/coded.py
@@ -62,7 +64,7 @@ echo "== recipes"
 part recipes on_program tests/recipes.py
 
 last=gate
-for name in gate coded cuts damaged memory calls files trips scripts recipes; do
+for name in pages theorems gate coded cuts damaged memory calls files trips scripts recipes; do
     if ! has_passed "$name"; then
         last=$name
         break

@@ -204,12 +204,20 @@ def read_claims(path, crate, names):
     return parts
 
 
+def counts_of(crate, parts):
+    claims = sum(isinstance(part, Claim) for part in parts)
+    public = sum(one.is_public for one in crate.functions)
+    gate, more = (len(files_below(f"crates/{crate.name}/{folder}", ".edit")) for folder in ("must-fail", "more-must-fail"))
+    return f"{claims} claims, {public} public functions, {gate + more} must-fail edits, of which the gate tries {gate}."
+
+
 def written_page(names):
     frame, pages = read_claims(FRAME, None, names), []
     for crate in names.crates.values():
         path = f"crates/{crate.name}/claims.txt"
         if os.path.exists(os.path.join(TOP, path)):
-            pages.append(f"## {crate.name}\n\n{page_of(read_claims(path, crate, names))}")
+            parts = read_claims(path, crate, names)
+            pages.append(f"## {crate.name}\n\n{counts_of(crate, parts)}\n\n{page_of(parts)}")
     return NOTE + page_of(frame, "## ").replace("@crates", "\n\n".join(pages)) + "\n"
 
 
@@ -224,7 +232,7 @@ def main():
     else:
         with open(os.path.join(TOP, PAGE), "w", encoding="utf-8") as file:
             file.write(page)
-    print("".join(f"FAILED: {wrong}\n" for wrong in names.wrongs) + f"pages: {'0 passed' if names.wrongs else '1 passed'}, {len(names.wrongs)} failed")
+    print("".join(f"FAILED: {wrong}\n" for wrong in names.wrongs) + f"{len(names.named)} passed, {len(names.wrongs)} failed")
     return 1 if names.wrongs else 0
 
 
