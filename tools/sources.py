@@ -1,4 +1,4 @@
-"""What the sources of the crates have: their functions, with the names of their clauses, and what is public."""
+"""What the sources of the crates have: functions, the names of their clauses, must-fail edits."""
 
 import os
 import re
@@ -43,11 +43,12 @@ def text_of(path):
 
 
 def files_below(folder, *endings):
-    """The files of a folder of the repository, by their path in it, in one order on each machine."""
+    """The files of a folder of the repository, by their path in it, in one order."""
     found = []
     for at, folders, names in os.walk(os.path.join(TOP, folder)):
         folders[:] = sorted(name for name in folders if name != "out")
-        found += [os.path.relpath(os.path.join(at, name), TOP) for name in sorted(names) if name.endswith(endings)]
+        paths = [os.path.join(at, name) for name in sorted(names) if name.endswith(endings)]
+        found += [os.path.relpath(path, TOP) for path in paths]
     return found
 
 
@@ -66,7 +67,7 @@ def exports_of(crate):
 
 
 def functions_in(path, crate, found):
-    """Adds the functions of a file, and the ghost items and impls of its types, to what was found in the crate."""
+    """Adds the functions of a file to what was found, its ghost items and impls to the crate."""
     names, opened = exports_of(crate.name)
     module, owner, is_trait, is_test, clauses = module_of(path), "", False, False, {}
     for line in text_of(path).splitlines():
@@ -79,7 +80,8 @@ def functions_in(path, crate, found):
             clauses = {"ensures": set(), "requires": set()}
             is_open = module in opened or (owner or at[3]) in names
             is_public = is_open and (is_trait or at[2] == "pub ")
-            found.append(Function(crate.name, module, owner, at[3], *clauses.values(), is_public, is_test))
+            path = (crate.name, module, owner, at[3])
+            found.append(Function(*path, *clauses.values(), is_public, is_test))
             is_test = False
         elif at := CLAUSE.match(line):
             clauses[at[1]].add(at[2] or "")
@@ -105,5 +107,6 @@ def all_crates():
 
 def edits_of(crate):
     """The names of the must-fail edits of a crate."""
-    paths = [path for folder in ("must-fail", "more-must-fail") for path in files_below(f"crates/{crate}/{folder}", ".edit")]
+    folders = [f"crates/{crate}/{folder}" for folder in ("must-fail", "more-must-fail")]
+    paths = [path for folder in folders for path in files_below(folder, ".edit")]
     return [os.path.basename(path).removesuffix(".edit") for path in paths]

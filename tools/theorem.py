@@ -1,12 +1,14 @@
 #!/usr/bin/env python3
 """All that a reader of a theorem has to believe: theorem.py [--check | CRATE::FUNCTION [CLAUSE..]]
 
-Prints the contract of a function, or some of its clauses, and each definition that it cites, down to the words of the standard
-library: each once, with its sentence, what is cited before what cites it. Names are resolved as the checker does, by the `use` lines
-of the file that they stand in. A type is cited with what contracts see of it (its Model), a trait with its whole contract.
+Prints the contract of a function, or some of its clauses, and each definition that it cites, down
+to the words of the standard library: each once, with its sentence, what is cited before what cites
+it. Names are resolved as the checker does, by the `use` lines of the file that they stand in. A
+type is cited with what contracts see of it (its Model), a trait with its whole contract.
 
-With no function: writes the pages of docs/theorems/, and prints how many lines each has. With --check it writes none, and fails
-where one isn't what would be written. It also fails where a cited definition has no sentence.
+With no function: writes the pages of docs/theorems/, and prints how many lines each has. With
+--check it writes none, and fails where one isn't what would be written. It also fails where a cited
+definition has no sentence.
 """
 
 import os
@@ -14,20 +16,26 @@ import re
 import sys
 from typing import NamedTuple
 
-from sources import TOP, exports_of, files_below, text_of
+from sources import OWNER, TOP, files_below, text_of
 
 FOLDER = "docs/theorems"
 NOTE = "<!-- Written by `make theorem`. -->\n\n"
+# For each page the crate, the function, its clauses where not all are meant, and what it says.
 PAGES = {
-    "write_edited": ("aec_edit", "write_edited", [], "The headline: what any list of edits leaves, over any lawful codec"),
-    "decode_edited": ("aec_engine", "decode_edited", [], "The headline over the coder of intervals, with the stream decoded"),
-    "shortest": ("aec_interval", "encode_all", ["shortest"], "No coded data sets for the same samples are shorter than ours"),
-    "decode_all": ("aec_interval", "decode_all", [], "What coded bits are decoded to, or why they are refused"),
+    "write_edited": ("aec_edit", "write_edited", [], "The headline, over any lawful codec"),
+    "decode_edited": ("aec_engine", "decode_edited", [], "The headline, over our own coder"),
+    "shortest": ("aec_interval", "encode_all", ["shortest"], "No coded data sets are shorter"),
+    "decode_all": ("aec_interval", "decode_all", [], "What coded bits are decoded to"),
 }
 USE = re.compile(r"^\s*(?:pub )?(?:ghost )?use ([\w.]+)\.\{(.*)\};?$", re.M)
 RUST_USE = re.compile(r"^use (crate|aec_\w+)::(?:[\w:]+::)?(?:\{([^}]*)\}|(\w+));", re.M)
 DEFINITION = re.compile(r"(?:abbrev |pub |data |record |def )+(\S+)")
+MAKER = re.compile(r"  (\w+) :")
 DECLARED = re.compile(r"pub (?:struct|enum|trait) (\w+)")
+CLAUSE = re.compile(r" *(ensures|requires) ?(\w*)")
+# A name or a sign; what stands behind a point is the field of something.
+TOKEN = re.compile(r"(?<![.\w])[^\W\d]\w*|[^\s\w(){},;.\[\]]+ℤ?")
+FENCE = "\n```"
 
 
 class Item(NamedTuple):
@@ -63,7 +71,8 @@ def words_above(lines, start, mark):
 
 
 def without_attributes(lines):
-    return [line for line in lines if not line.strip().startswith(("#[", "ghost use ")) and line.strip()]
+    left = [line for line in lines if line.strip()]
+    return [line for line in left if not line.strip().startswith(("#[", "ghost use "))]
 
 
 class File:
@@ -91,16 +100,16 @@ class File:
         if named and not line.startswith("pub mod"):
             end = next(i for i in range(at, len(lines)) if not lines[i].strip())
             item = Item(self.path, named[1], words_above(lines, at, "-- "), lines[at:end])
-            self.items[named[1]] = item
-            if "data " in line:
-                self.items.update({made: item for made in re.findall(r"^  (\w+) :", "\n".join(item.lines), re.M)})
+            made = [it[1] for it in map(MAKER.match, item.lines) if it] if "data " in line else []
+            self.items |= dict.fromkeys([named[1], *made], item)
 
     def declare(self, lines, at, line):
         named = DECLARED.match(line)
         if named:
             text = without_attributes(block_from(lines, at))
-            model = next((i for i, it in enumerate(lines) if re.match(rf"impl.* Model for {named[1]}\b", it)), None)
-            text += without_attributes(block_from(lines, model)) if model is not None else []
+            model = re.compile(rf"impl.* Model for {named[1]}\b")
+            for start in [i for i, it in enumerate(lines) if model.match(it)]:
+                text += without_attributes(block_from(lines, start))
             self.items[named[1]] = Item(self.path, named[1], words_above(lines, at, "///"), text)
 
 
@@ -123,7 +132,7 @@ class Library:
         return None
 
     def meaning(self, file, name):
-        """What a name in a file means: an item, a word of the standard library, or nothing of both."""
+        """What a name in a file means, if anything: an item, or a word of the standard library."""
         if name in file.items:
             return file.items[name]
         if name not in file.scope:
@@ -133,109 +142,128 @@ class Library:
             return self.declared(file.path.split("/")[1], true)
         if re.fullmatch(r"aec_\w+", module):
             return self.declared(module, true)
-        parts = module.split(".")
-        if not parts[1].startswith("aec_"):
+        _, crate, *parts = module.split(".")
+        if not crate.startswith("aec_"):
             return Word(module, true)
-        if parts[3] == "declared":
-            return self.declared(parts[1], parts[-2] if parts[-1] == "TheVariants" else true)
-        return self.file(f"crates/{parts[1]}/specs/{'/'.join(parts[3:])}.antt").items[true]
+        if parts[1] == "declared":
+            return self.declared(crate, parts[-2] if parts[-1] == "TheVariants" else true)
+        return self.file(f"crates/{crate}/specs/{'/'.join(parts[1:])}.antt").items[true]
 
     def cited(self, file, lines):
         """What lines of a file cite, in their order."""
-        text = "\n".join(re.sub(r"^\s*(--|///).*", "", line) for line in lines)
-        tokens = [token.split(".")[0] for token in re.split(r"[\s(){},;<>&\[\]]+|:(?=\s|:)", text) if token]
-        signs = {part: name for name in file.scope if "◌" in name for part in name.split("◌") if part}
-        for token in re.split(r"[\s(){},;\[\]]+", text) + tokens:
-            meaning = self.meaning(file, signs.get(token, token.split(".")[0]))
+        text = "\n".join(line for line in lines if not line.strip().startswith(("--", "///")))
+        signs = {part: name for name in file.scope for part in name.split("◌") if "◌" in name}
+        for token in TOKEN.findall(text):
+            meaning = self.meaning(file, signs.get(token, token))
             if meaning:
                 yield meaning
 
 
-def contract_of(library, crate, name, clauses):
-    """The contract of a function at the root of a crate, or the clauses that are named with what it requires."""
+def contract_of(crate, name, clauses):
+    """The contract of a public function, or what it requires and the clauses that are named."""
+    owner, _, function = name.rpartition("::")
     for path in files_below(f"crates/{crate}/src", ".rt"):
-        lines = text_of(path).split("\n")
-        start = next((i for i, line in enumerate(lines) if re.match(rf"pub fn {name}\b", line)), None)
-        if start is not None and (name in exports_of(crate)[0] or "laws" in path):
-            break
-    else:
-        sys.exit(f"no public function {crate}::{name} outside of a type")
-    end = next(i for i in range(start, len(lines)) if lines[i] in ("{", "{}"))
+        lines, at = text_of(path).split("\n"), ""
+        for start, line in enumerate(lines):
+            opened = OWNER.match(line)
+            at = opened[2] or opened[3] if opened else "" if line.startswith("}") else at
+            if at == owner and re.match(rf" *pub fn {function}\b", line):
+                kept = kept_clauses(lines[start:], clauses)
+                return Item(path, name, words_above(lines, start, "///"), kept)
+    return sys.exit(f"no public function {crate}::{name}")
+
+
+def kept_clauses(lines, clauses):
     kept, is_kept = [], True
-    for line in lines[start:end]:
-        clause = re.match(r"    (ensures|requires) ?(\w*)", line)
-        is_kept = not clauses or clause[1] == "requires" or clause[2] in clauses if clause else is_kept
+    for line in lines[: next(i for i, it in enumerate(lines) if it.strip() in ("{", "{}"))]:
+        clause = CLAUSE.match(line)
+        if clause:
+            is_kept = not clauses or clause[1] == "requires" or clause[2] in clauses
         kept += [line] if is_kept else []
-    return Item(path, name, words_above(lines, start, "///"), kept)
+    return kept
 
 
-def gather(library, item, found, words, open_items):
-    """Adds what an item cites, and then it, to what was found."""
+def gather(library, item, found, words, above):
+    """Adds what an item cites, and then it, to what was found; above are those that led to it."""
     for meaning in library.cited(library.file(item.path), item.lines):
         if isinstance(meaning, Word):
-            words.setdefault(meaning.module, {})[meaning.name] = None
-        elif meaning not in found and meaning not in open_items:
-            gather(library, meaning, found, words, open_items + [meaning])
+            words.setdefault(meaning.module.removeprefix("Rattle."), {})[meaning.name] = None
+        elif meaning not in found and meaning not in above:
+            gather(library, meaning, found, words, above + [meaning])
     found.append(item)
 
 
 def sections_of(items):
-    """Items, of one file after the other, as texts with the file over them."""
+    """Items as texts, of one file after the other with the file over them."""
     sections, last = [], None
     for item in items:
         text = "\n".join(item.words + item.lines)
         if item.path == last:
-            sections[-1] = sections[-1].removesuffix("\n```") + "\n\n" + text + "\n```"
+            sections[-1] = f"{sections[-1].removesuffix(FENCE)}\n\n{text}{FENCE}"
         else:
-            sections.append(f"[{item.path}](../../{item.path}):\n\n```text\n{text}\n```")
+            sections.append(f"[{item.path}](../../{item.path}):\n\n```text\n{text}{FENCE}")
         last = item.path
     return sections
 
 
-def page_of(crate, name, clauses, title):
-    """The page of a theorem, how many lines it has, and which of its definitions have no sentence."""
-    library, found, words = Library(), [], {}
-    contract = contract_of(library, crate, name, clauses)
-    gather(library, contract, found, words, [contract])
-    cited = found[:-1]
+def listed(names):
+    return ", ".join(f"`{name}`" for name in names)
+
+
+def counts_of(contract, cited):
     lines = [line for item in cited for line in item.words + item.lines]
     sentences = sum(line.strip().startswith(("--", "///")) for line in lines)
-    known = [f"- `{module.removeprefix('Rattle.')}`: " + ", ".join(f"`{word}`" for word in names) for module, names in sorted(words.items())]
-    told = f"{len(contract.lines)} lines of contract, {len(cited)} definitions in {len(lines) - sentences} lines with {sentences} lines of sentences"
+    statements = f"{len(contract.lines)} lines of contract; {len(cited)} definitions"
+    return f"{statements} of {len(lines) - sentences} lines, with {sentences} lines of sentences"
+
+
+def page_of(crate, name, clauses, title):
+    """The page of a theorem, how many lines it has, and which definitions have no sentence."""
+    found, words = [], {}
+    contract = contract_of(crate, name, clauses)
+    gather(Library(), contract, found, words, [contract])
+    cited = found[:-1]
+    counts = counts_of(contract, cited)
+    what = listed([f"{crate}::{name}", *clauses])
     page = [
         f"# {title}",
-        f"`{crate}::{name}`{', clause ' + ' '.join(f'`{it}`' for it in clauses) if clauses else ''}: all that a reader has to believe, beside the words "
-        f"of the standard library. {told}; what is cited stands before what cites it.",
+        f"{what}. This is all that a reader has to believe: {counts}.",
         "## The contract",
         *sections_of([contract]),
-        "## What it cites",
+        "## What it cites\n\nWhat is cited stands before what cites it.",
         *sections_of(cited),
-        "## Words of the standard library",
-        "`rt lemma WORD` prints what each is.",
-        "\n".join(known),
+        "## Words of the standard library\n\n`rt lemma WORD` prints what each is.",
+        "\n".join(f"- `{it}`: {listed(words[it])}" for it in sorted(words)),
     ]
-    return NOTE + "\n\n".join(page) + "\n", told, [item.name for item in found if not item.words]
+    return NOTE + "\n\n".join(page) + "\n", counts, [it.name for it in found if not it.words]
 
 
-def main():
-    if sys.argv[1:] and sys.argv[1] != "--check":
-        crate, _, name = sys.argv[1].partition("::")
-        print(page_of(crate, name, sys.argv[2:], f"{crate}::{name}")[0], end="")
-        return 0
+def write_pages(is_check):
+    """What is wrong with the pages, which are written where they are not only checked."""
     wrongs = []
     os.makedirs(os.path.join(TOP, FOLDER), exist_ok=True)
     for file, theorem in PAGES.items():
         path = f"{FOLDER}/{file}.md"
-        page, told, silent = page_of(*theorem)
+        page, counts, silent = page_of(*theorem)
         wrongs += [f"{path}: {name} has no sentence" for name in silent]
-        if not sys.argv[1:]:
+        if not is_check:
+            print(f"{path}: {counts}")
             with open(os.path.join(TOP, path), "w", encoding="utf-8") as out:
                 out.write(page)
-            print(f"{path}: {told}")
         elif not os.path.exists(os.path.join(TOP, path)) or text_of(path) != page:
             wrongs.append(f"{path} isn't what `make theorem` writes")
-    passed = len(PAGES) - len({wrong.split(":")[0].split(" ")[0] for wrong in wrongs})
-    print("".join(f"FAILED: {wrong}\n" for wrong in wrongs) + f"{passed} passed, {len(wrongs)} failed")
+    return wrongs
+
+
+def main():
+    asked = [word for word in sys.argv[1:] if word != "--check"]
+    if asked:
+        crate, _, name = asked[0].partition("::")
+        print(page_of(crate, name, asked[1:], asked[0])[0], end="")
+        return 0
+    wrongs = write_pages("--check" in sys.argv)
+    print("".join(f"FAILED: {wrong}\n" for wrong in wrongs), end="")
+    print(f"{max(len(PAGES) - len(wrongs), 0)} passed, {len(wrongs)} failed")
     return 1 if wrongs else 0
 
 
