@@ -27,9 +27,9 @@ PAGES = {
     "shortest": ("aec_interval", "encode_all", ["shortest"], "No coded data sets are shorter"),
     "decode_all": ("aec_interval", "decode_all", [], "What coded bits are decoded to"),
 }
-USE = re.compile(r"^\s*(?:pub )?(?:ghost )?use ([\w.]+)\.\{(.*)\};?$", re.M)
+USE = re.compile(r"^\s*(?:pub )?(?:ghost )?use ([\w.]+)\.\{([^}]*)\}", re.M)
 RUST_USE = re.compile(r"^use (crate|aec_\w+)::(?:[\w:]+::)?(?:\{([^}]*)\}|(\w+));", re.M)
-DEFINITION = re.compile(r"(?:abbrev |pub |data |record |def )+(\S+)")
+DEFINITION = re.compile(r"(?:(?:abbrev|unfoldable|pub|data|record|def) )+(\S+)")
 MAKER = re.compile(r"  (\w+) :")
 DECLARED = re.compile(r"pub (?:struct|enum|trait) (\w+)")
 CLAUSE = re.compile(r" *(ensures|requires) ?(\w*)")
@@ -64,8 +64,8 @@ def block_from(lines, start):
 def words_above(lines, start, mark):
     """The comment that stands right above a line, attributes aside."""
     words, at = [], start - 1
-    while at >= 0 and lines[at].startswith((mark, "#[")):
-        words += [lines[at]] if lines[at].startswith(mark) else []
+    while at >= 0 and lines[at].strip().startswith((mark, "#[")):
+        words += [lines[at]] if lines[at].strip().startswith(mark) else []
         at -= 1
     return words[::-1]
 
@@ -88,7 +88,7 @@ class File:
             else:
                 self.declare(lines, at, line)
         for module, names in USE.findall(self.text):
-            for name in names.split(", "):
+            for name in re.split(r",\s*", names.strip(", \n")):
                 true, _, alias = name.partition(" as ")
                 self.scope[alias or true] = (module, true)
         for crate, many, one in RUST_USE.findall(self.text):
@@ -147,7 +147,7 @@ class Library:
             return Word(module, true)
         if parts[1] == "declared":
             return self.declared(crate, parts[-2] if parts[-1] == "TheVariants" else true)
-        return self.file(f"crates/{crate}/specs/{'/'.join(parts[1:])}.antt").items[true]
+        return self.file(f"crates/{crate}/{'/'.join(parts)}.antt").items[true]
 
     def cited(self, file, lines):
         """What lines of a file cite, in their order."""
