@@ -40,10 +40,15 @@ FENCE = "\n```"
 
 class Item(NamedTuple):
     path: str
+    # The line where it stands.
+    at: int
     name: str
     # Its sentence, and the lines of its text.
     words: list
     lines: list
+
+    def key(self):
+        return self.path, self.at
 
 
 class Word(NamedTuple):
@@ -99,7 +104,7 @@ class File:
         named = DEFINITION.match(line)
         if named and not line.startswith("pub mod"):
             end = next(i for i in range(at, len(lines)) if not lines[i].strip())
-            item = Item(self.path, named[1], words_above(lines, at, "-- "), lines[at:end])
+            item = Item(self.path, at, named[1], words_above(lines, at, "-- "), lines[at:end])
             made = [it[1] for it in map(MAKER.match, item.lines) if it] if "data " in line else []
             self.items |= dict.fromkeys([named[1], *made], item)
 
@@ -110,7 +115,8 @@ class File:
             model = re.compile(rf"impl.* Model for {named[1]}\b")
             for start in [i for i, it in enumerate(lines) if model.match(it)]:
                 text += without_attributes(block_from(lines, start))
-            self.items[named[1]] = Item(self.path, named[1], words_above(lines, at, "///"), text)
+            words = words_above(lines, at, "///")
+            self.items[named[1]] = Item(self.path, at, named[1], words, text)
 
 
 class Library:
@@ -169,7 +175,7 @@ def contract_of(crate, name, clauses):
             at = opened[2] or opened[3] if opened else "" if line.startswith("}") else at
             if at == owner and re.match(rf" *pub fn {function}\b", line):
                 kept = kept_clauses(lines[start:], clauses)
-                return Item(path, name, words_above(lines, start, "///"), kept)
+                return Item(path, start, name, words_above(lines, start, "///"), kept)
     return sys.exit(f"no public function {crate}::{name}")
 
 
@@ -183,14 +189,36 @@ def kept_clauses(lines, clauses):
     return kept
 
 
-def gather(library, item, found, words, above):
-    """Adds what an item cites, and then it, to what was found; above are those that led to it."""
+def gather(library, item, found, words):
+    """Adds an item to what was found, with the keys of what it cites, and all that this cites."""
+    below = found.setdefault(item.key(), (item, set()))[1]
     for meaning in library.cited(library.file(item.path), item.lines):
         if isinstance(meaning, Word):
             words.setdefault(meaning.module.removeprefix("Rattle."), {})[meaning.name] = None
-        elif meaning not in found and meaning not in above:
-            gather(library, meaning, found, words, above + [meaning])
-    found.append(item)
+        elif meaning.key() != item.key():
+            below.add(meaning.key())
+            if meaning.key() not in found:
+                gather(library, meaning, found, words)
+
+
+def run_in(path, left, found):
+    """The keys of a file that can come now, each after what it cites, and how many of it wait."""
+    run = []
+    for key in [key for key in left if key[0] == path] * 2:
+        if key not in run and found[key][1].isdisjoint(set(left) - set(run)):
+            run.append(key)
+    return sum(key[0] == path for key in left) - len(run), run
+
+
+def in_order(found):
+    """The items, what is cited before what cites it; those of one file together where they can."""
+    order, left = [], sorted(found)
+    while left:
+        runs = [run_in(path, left, found) for path in sorted({key[0] for key in left})]
+        _, run = min((run for run in runs if run[1]), default=(0, left))
+        order += run
+        left = [key for key in left if key not in run]
+    return [found[key][0] for key in order]
 
 
 def sections_of(items):
@@ -219,10 +247,10 @@ def counts_of(contract, cited):
 
 def page_of(crate, name, clauses, title):
     """The page of a theorem, how many lines it has, and which definitions have no sentence."""
-    found, words = [], {}
+    found, words = {}, {}
     contract = contract_of(crate, name, clauses)
-    gather(Library(), contract, found, words, [contract])
-    cited = found[:-1]
+    gather(Library(), contract, found, words)
+    cited = in_order(found)[:-1]
     counts = counts_of(contract, cited)
     what = listed([f"{crate}::{name}", *clauses])
     page = [
@@ -235,7 +263,8 @@ def page_of(crate, name, clauses, title):
         "## Words of the standard library\n\n`rt lemma WORD` prints what each is.",
         "\n".join(f"- `{it}`: {listed(words[it])}" for it in sorted(words)),
     ]
-    return NOTE + "\n\n".join(page) + "\n", counts, [it.name for it in found if not it.words]
+    silent = [item.name for item in [contract, *cited] if not item.words]
+    return NOTE + "\n\n".join(page) + "\n", counts, silent
 
 
 def write_pages(is_check):
