@@ -36,7 +36,7 @@ on_program() {
 # Shows once more, behind all else, the lines of a part that say why it failed, and what the machine has left.
 explain() {
     echo "== why $1 failed"
-    grep -E 'NOT PROVED|NOT REFUSED|BAD EDIT|FAILED|error|killed|: not proved|no verdict' "$kept/$1.log" | cut -c 1-300 | tail -n 30
+    grep -E 'NOT PROVED|NOT REFUSED|BAD EDIT|FAILED|rt fmt|error|killed|: not proved|no verdict' "$kept/$1.log" | cut -c 1-300 | tail -n 30
     df -h . /tmp
     grep -E 'MemTotal|MemAvailable' /proc/meminfo
 }

@@ -39,11 +39,11 @@ pub seen_still : {C : Type 0} (format : C → Format) {codec : C} {count count_t
 seen_still format {codec} {limit = limit} kept again seen lawful same_count same_bits same_starts e =
     let stood = stands kept in
     ap (λ s. record { samples = s; limit = limit; codec = codec }) (no_other again lawful record {
-        held = stood.held;
-        count_is = stood.count_is ∙ sym same_count;
-        bits_are = same_bits ∙ stood.bits_are;
-        starts_are = same_starts ∙ stood.starts_are;
-      }) ∙ e
+      held = stood.held;
+      count_is = stood.count_is ∙ sym same_count;
+      bits_are = same_bits ∙ stood.bits_are;
+      starts_are = same_starts ∙ stood.starts_are;
+    }) ∙ e
 
 -- and where the fields hold them still
 pub seen_again : {C : Type 0} (format : C → Format) {codec : C} {count limit : ℕ} {bits : List Bool} {starts : List ℕ} (kept again : KeptSamples
