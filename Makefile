@@ -1,7 +1,7 @@
 # What a user and a developer run. The toolchain's command `rt` has to be on the path.
 PREFIX ?= /usr/local
 
-.PHONY: all try example sizes test wrong-bodies install bench pictures clean
+.PHONY: all try example sizes test pages theorem wrong-bodies install bench pictures clean
 
 # Proves the program and everything that it stands on, builds it, and leaves it in bin/aec.
 all: bin/aec
@@ -25,9 +25,17 @@ OPTIONS ?= -n 16
 sizes: bin/aec
 	@sh examples/sizes.sh bin/aec $(FILE) $(OPTIONS)
 
-# The gate, then the tests of the program that it has built.
+# What is generated of the pages, the gate, then the tests of the program that it has built.
 test:
 	sh tests/run.sh
+
+# Writes docs/PROOFS.md from the claims of the crates, each of whose names is checked.
+pages:
+	@python3 tools/pages.py
+
+# Writes docs/theorems/: all that a reader of a theorem has to believe. Of another one: make theorem OF="aec_edit::write_edited samples"
+theorem:
+	@python3 tools/theorem.py $(OF)
 
 # The wrong bodies that the gate leaves out: each must be refused.
 wrong-bodies: bin/aec

@@ -1,10 +1,10 @@
 #!/bin/sh
-# Every test: the gate, and then with the programs that it has built coded samples, coded data that is cut, damaged streams,
-# refused memory in whole runs and in calls of the libraries, files that fail, the round trips with the client of libaec, and
-# edits by generated scripts, the scripts of examples/ with the page about them, the installation, and the worked rows,
-# commands and pictures of the pages. Fails if one fails. At the end it says how long each part took. The last line counts what passed
-# and failed: the gate's where all have passed, else that of the first part that failed, and before it the lines that say why.
-# Run from the top of the repository by `make test`.
+# Every test: that the pages which are written by scripts are current, the gate, and then with the programs that it has built coded
+# samples, coded data that is cut, damaged streams, refused memory in whole runs and in calls of the libraries, files that fail, the
+# round trips with the client of libaec, edits by generated scripts, the scripts of examples/ with the page about them, the installation,
+# and the worked rows, commands and pictures of the pages. Fails if one fails. At the end it says how long each part took. The last line
+# counts what passed and failed: the gate's where all have passed, else that of the first part that failed, and before it the lines that
+# say why. Run from the top of the repository by `make test`.
 export PYTHONDONTWRITEBYTECODE=1
 kept=$(mktemp -d)
 trap 'rm -rf "$kept"' EXIT
@@ -37,11 +37,13 @@ on_program() {
 # Shows once more, behind all else, the lines of a part that say why it failed, and what the machine has left.
 explain() {
     echo "== why $1 failed"
-    grep -E 'NOT PROVED|NOT REFUSED|BAD EDIT|FAILED|error|killed|: not proved|no verdict' "$kept/$1.log" | cut -c 1-300 | tail -n 30
+    grep -E 'NOT PROVED|NOT REFUSED|BAD EDIT|FAILED|rt fmt|error|killed|: not proved|no verdict' "$kept/$1.log" | cut -c 1-300 | tail -n 30
     df -h . /tmp
     grep -E 'MemTotal|MemAvailable' /proc/meminfo
 }
 
+part pages python3 tools/pages.py --check
+part theorems python3 tools/theorem.py --check
 part gate rt ci
 echo "== coded samples"
 part coded on_program tests/coded.py
@@ -68,7 +70,7 @@ part worked on_program tests/worked_pages.py
 part pictures python3 bench/pictures.py --check
 
 last=gate
-for name in gate coded cuts damaged memory calls files trips scripts recipes installed worked pictures; do
+for name in pages theorems gate coded cuts damaged memory calls files trips scripts recipes installed worked pictures; do
     if ! has_passed "$name"; then
         last=$name
         break

@@ -6,6 +6,7 @@ ghost use Rattle.aec_params.specs.declared.fault.Fault.TheVariants.{Write as Wri
 ghost use Rattle.aec_bits.specs.Devices.{FailsOnce};
 ghost use Rattle.aec_cli.specs.Openings.{is_open, IsTried};
 
+use crate::again::Again;
 use aec_bits::{ReadSource, Sink, Source, WriteSink};
 use aec_params::Fault;
 use std::fs;
@@ -22,30 +23,30 @@ enum Opening<T: Drop> {
 }
 
 // What a file that is opened has become: it is open and has not failed, or it can't be opened.
-fn opened<F: Files>(rt: &F, path: &str) -> Opening<ReadSource<F::File>>
-    ensures { IsTried ⟦<ReadSource<F::File> as Source>⟧.failed result }
+fn opened<F: Files>(rt: &F, path: &str) -> Opening<ReadSource<Again<F::File>>>
+    ensures { IsTried ⟦<ReadSource<Again<F::File>> as Source>⟧.failed result }
 {
     match fs::open(rt, path) {
-        Ok(file) => Opening::Open(ReadSource::new(file)),
+        Ok(file) => Opening::Open(ReadSource::new(Again::new(file))),
         Err(_) => Opening::Failed,
     }
 }
 
 // The same of a file that is created, or emptied where it is there.
-fn created<F: Files>(rt: &F, path: &str) -> Opening<WriteSink<F::File>>
-    ensures { IsTried ⟦<WriteSink<F::File> as Sink>⟧.failed result }
+fn created<F: Files>(rt: &F, path: &str) -> Opening<WriteSink<Again<F::File>>>
+    ensures { IsTried ⟦<WriteSink<Again<F::File>> as Sink>⟧.failed result }
 {
     match fs::create(rt, path) {
-        Ok(file) => Opening::Open(WriteSink::new(file)),
+        Ok(file) => Opening::Open(WriteSink::new(Again::new(file))),
         Err(_) => Opening::Failed,
     }
 }
 
 // What an open file was given reaches the device below it, where it has one.
-fn synced<T: OpenFile>(file: &T) -> Result<(), Fault>
+fn synced<T: OpenFile>(file: &Again<T>) -> Result<(), Fault>
     ensures { IfErr result (λ e. e ≡ WriteFault) }
 {
-    match file.sync_all() {
+    match file.sync() {
         Ok(()) => Ok(()),
         Err(error) => match error.kind() {
             ErrorKind::InvalidInput | ErrorKind::Unsupported => Ok(()),
@@ -54,13 +55,13 @@ fn synced<T: OpenFile>(file: &T) -> Result<(), Fault>
     }
 }
 
-/// The bytes of a file. The first `take` opens it. A file that can't be opened, and any error of a read, is a failure.
-/// Contracts see how often the source has failed, 0 or 1.
+/// The bytes of a file. The first `take` opens it. A file that can't be opened, and any error of a read, is a failure; a read
+/// that a signal interrupts is made again. Contracts see how often the source has failed, 0 or 1.
 #[derive(Drop)]
 pub struct FileSource<'a, F: Files> {
     rt: &'a F,
     path: String,
-    file: Opening<ReadSource<F::File>>,
+    file: Opening<ReadSource<Again<F::File>>>,
 }
 
 impl<'a, F: Files> FileSource<'a, F> {
@@ -79,9 +80,9 @@ impl<'a, F: Files> FileSource<'a, F> {
 impl<'a, F: Files> Source for FileSource<'a, F> {
     ghost use Rattle.aec_cli.specs.Openings.{bytes_known, failures_of};
 
-    ghost left = { λ s. bytes_known ⟦<ReadSource<F::File> as Source>⟧.left s.file };
+    ghost left = { λ s. bytes_known ⟦<ReadSource<Again<F::File>> as Source>⟧.left s.file };
 
-    ghost failed = { λ s. failures_of ⟦<ReadSource<F::File> as Source>⟧.failed s.file };
+    ghost failed = { λ s. failures_of ⟦<ReadSource<Again<F::File>> as Source>⟧.failed s.file };
 
     fn take(&mut self, buf: &mut [u8]) -> Result<usize, Fault> {
         if let Opening::Unopened = &self.file {
@@ -103,13 +104,13 @@ impl<'a, F: Files> Source for FileSource<'a, F> {
 }
 
 /// A file that is written. `begin` creates it, or empties it where it is there; a `put` before that is a failure, and
-/// so is any error, and a write that takes nothing of a piece. Contracts see how often the sink has failed, 0 or 1, and
-/// how often it was begun.
+/// so is any error, and a write that takes nothing of a piece. A write that a signal interrupts is made again, and so is the
+/// sync at the end. Contracts see how often the sink has failed, 0 or 1, and how often it was begun.
 #[derive(Drop)]
 pub struct DestSink<'a, F: Files> {
     rt: &'a F,
     path: String,
-    file: Opening<WriteSink<F::File>>,
+    file: Opening<WriteSink<Again<F::File>>>,
     begins: u64,
     ghost sound: { begins ≡ 0 → is_open file ≡ false },
 }
@@ -149,9 +150,9 @@ impl<'a, F: Files> DestSink<'a, F> {
 impl<'a, F: Files> Sink for DestSink<'a, F> {
     ghost use Rattle.aec_cli.specs.Openings.{bytes_known, failures_of};
 
-    ghost taken = { λ s. bytes_known ⟦<WriteSink<F::File> as Sink>⟧.taken s.file };
+    ghost taken = { λ s. bytes_known ⟦<WriteSink<Again<F::File>> as Sink>⟧.taken s.file };
 
-    ghost failed = { λ s. failures_of ⟦<WriteSink<F::File> as Sink>⟧.failed s.file };
+    ghost failed = { λ s. failures_of ⟦<WriteSink<Again<F::File>> as Sink>⟧.failed s.file };
 
     ghost begun = { λ s. s.begins };
 

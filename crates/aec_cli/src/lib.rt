@@ -1,6 +1,7 @@
 //! The command `aec`: its process, its words, its job, the files that it reads and writes, and one whole run.
 #![tactic(auto)]
 
+mod again;
 mod failure;
 mod files;
 mod job;

@@ -29,13 +29,28 @@ pub at_view : {C : Type 0} (format : C → Format) {codec : C} {count limit : �
     → IsKept (format seen.codec) count bits starts seen.samples
 at_view format {count = count} {bits = bits} {starts = starts} kept seen e = subst (λ w. IsKept (format w.codec) count bits starts w.samples) e (stands kept)
 
--- callers see the same where the fields hold them still
+-- callers see the same where fields hold the same, as in other room
+pub seen_still : {C : Type 0} (format : C → Format) {codec : C} {count count_then limit : ℕ} {bits bits_then : List Bool}
+    {starts starts_then : List ℕ} (kept : KeptSamples (format codec) count bits starts)
+    (again : KeptSamples (format codec) count_then bits_then starts_then)
+    (seen : Contents C) → IsLawful (format codec) → count_then ≡ count → bits_then ≡ bits → starts_then ≡ starts
+    → record { samples = kept_samples kept; limit = limit; codec = codec } ≡ seen
+    → record { samples = kept_samples again; limit = limit; codec = codec } ≡ seen
+seen_still format {codec} {limit = limit} kept again seen lawful same_count same_bits same_starts e =
+    let stood = stands kept in
+    ap (λ s. record { samples = s; limit = limit; codec = codec }) (no_other again lawful record {
+      held = stood.held;
+      count_is = stood.count_is ∙ sym same_count;
+      bits_are = same_bits ∙ stood.bits_are;
+      starts_are = same_starts ∙ stood.starts_are;
+    }) ∙ e
+
+-- and where the fields hold them still
 pub seen_again : {C : Type 0} (format : C → Format) {codec : C} {count limit : ℕ} {bits : List Bool} {starts : List ℕ} (kept again : KeptSamples
     (format codec) count bits starts)
     (seen : Contents C) → IsLawful (format codec) → record { samples = kept_samples kept; limit = limit; codec = codec } ≡ seen
     → record { samples = kept_samples again; limit = limit; codec = codec } ≡ seen
-seen_again format {codec} {limit = limit} kept again seen lawful e =
-    ap (λ s. record { samples = s; limit = limit; codec = codec }) (no_other again lawful (stands kept)) ∙ e
+seen_again format kept again seen lawful e = seen_still format kept again seen lawful refl refl refl e
 
 -- under a format that is the same, for a list that is
 pub kept_again : {f g : Format} {count : ℕ} {bits : List Bool} {starts : List ℕ} {s : List ℤ} (kept : KeptSamples f count bits starts)

@@ -37,6 +37,19 @@ impl Coded {
         }
     }
 
+    /// Takes room for so many more bits, and for the starts of so many more intervals.
+    pub fn reserve(&mut self, bits: u64, intervals: u64) -> Result<(), Fault>
+        ensures bits { self.new.bits.list ≡ self.old.bits.list }
+        ensures starts { self.new.starts.items ≡ self.old.starts.items }
+        ensures count { self.new.count ≡ self.old.count }
+        ensures fault { IfErr result (λ e. e ≡ Memory) }
+    {
+        self.bits.reserve(bits)?;
+        let intervals = usize::try_from(intervals).map_err(|_| Fault::Memory)?;
+        self.starts.reserve(intervals)?;
+        Ok(())
+    }
+
     /// The code of no samples, in the same room; where this is the code of more than `most` samples, its room is let go.
     pub fn emptied(mut self, alloc: Global, most: u64) -> Coded
         ensures bits { result.bits.list ≡ [] }

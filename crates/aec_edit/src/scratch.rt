@@ -29,13 +29,7 @@ impl Scratch {
     }
 
     /// These lists, emptied. Those that are longer than edits of two intervals of `most` samples need are let go.
-    pub fn of(
-        alloc: Global,
-        front: Vec<i64>,
-        back: Vec<i64>,
-        coded: Coded,
-        most: usize,
-    ) -> Scratch
+    pub fn of(alloc: Global, front: Vec<i64>, back: Vec<i64>, coded: Coded, most: usize) -> Scratch
         requires { most ≤ 262144 }
         ensures front { vec_capacity result.front ≤ 2 * most }
         ensures back { vec_capacity result.back ≤ most }

@@ -41,7 +41,7 @@ impl<C: Codec> Model for Workspace<C> {
 impl<C: Codec> Workspace<C> {
     ghost use Rattle.std.specs.Prelude.{◌≡◌, ◌<◌, ◌≤◌, ◌^◌, [], length, MatchOption, OnOk, OnErr, IfErr};
     ghost use Rattle.std.specs.Io.KnownBytes.{Appends};
-    ghost use Rattle.aec_params.specs.declared.fault.Fault.TheVariants.{Write as WriteFault};
+    ghost use Rattle.aec_params.specs.declared.fault.Fault.TheVariants.{Memory, Write as WriteFault};
     ghost use Rattle.aec_params.specs.Codewords.{bytes_of};
     ghost use Rattle.aec_bits.specs.Codec.{AreHeld, code_of};
     ghost use Rattle.aec_bits.specs.Devices.{AppendsFront};
@@ -62,6 +62,15 @@ impl<C: Codec> Workspace<C> {
             alloc,
             scratch: Scratch::new(alloc),
         }
+    }
+
+    /// Takes room for `bits` bits of code and for the starts of so many intervals: up to there edits that put little at a time don't
+    /// ask for memory for the code as a whole. `Memory` where the room is refused. Nothing that is kept changes.
+    pub fn reserve(&mut self, bits: u64, intervals: u64) -> Result<(), Fault>
+        ensures same { self.new ≡ self.old }
+        ensures fault { IfErr result (λ e. e ≡ Memory) }
+    {
+        self.coded.reserve(bits, intervals)
     }
 
     /// The number of samples.

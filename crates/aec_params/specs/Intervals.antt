@@ -13,6 +13,7 @@ abbrev pub group_set : Settings → Group → Bool → CodedDataSet
 group_set s (zero_run reference z) is_last = record { reference = reference; body = zero_blocks (run_code z is_last) }
 group_set s (single_block b) is_last = shortest_spelling s b
 
+-- whether no group is left
 abbrev pub is_empty : List Group → Bool
 is_empty [] = true
 is_empty (g ∷ groups) = false
@@ -26,9 +27,10 @@ group_sets s (g ∷ groups) = group_set s g (is_empty groups) ∷ group_sets s g
 abbrev pub block_sets : Settings → List Block → List CodedDataSet
 block_sets s blocks = flat_map (λ segment. group_sets s (groups_of segment)) (segments_of blocks)
 
--- the code of an interval's samples, without padding and with it
+-- the code of an interval's samples, without padding
 abbrev pub unpadded_bits : Settings → List ℤ → List Bool
 unpadded_bits s v = flat_map (cds_bits s) (block_sets s (blocks_of s v))
 
+-- the same with padding, where the settings ask for it
 abbrev pub interval_bits : Settings → List ℤ → List Bool
 interval_bits s v = if s.pad then padded_to_byte (unpadded_bits s v) else unpadded_bits s v

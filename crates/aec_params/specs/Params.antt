@@ -68,10 +68,11 @@ split_count s = 2 ^ id_len s - 2
 abbrev pub k_max : Settings → Option ℕ
 k_max s = if id_len s == 1 then None else Some (2 ^ id_len s - 3)
 
--- the least and the greatest sample
+-- the least sample
 abbrev pub x_min : Settings → ℤ
 x_min s = if s.signed then neg_ℤ (pos (2 ^ (s.bits - 1))) else pos 0
 
+-- the greatest sample
 abbrev pub x_max : Settings → ℤ
 x_max s = if s.signed then pos (2 ^ (s.bits - 1) - 1) else pos (2 ^ s.bits - 1)
 
@@ -79,6 +80,7 @@ x_max s = if s.signed then pos (2 ^ (s.bits - 1) - 1) else pos (2 ^ s.bits - 1)
 abbrev pub is_held : Settings → ℤ → Bool
 is_held s x = int_le (x_min s) x && int_le x (x_max s)
 
+-- the same as a fact
 abbrev pub IsHeld : Settings → ℤ → Type 0
 IsHeld s x = IsTrue (is_held s x)
 

@@ -25,6 +25,7 @@ body_blocks s p (value_pairs values) = 1
 body_blocks s p (split_values k values) = 1
 body_blocks s p (zero_blocks m) = run_len s p m
 
+-- the same of a coded data set
 abbrev pub block_count : Settings → ℕ → CodedDataSet → ℕ
 block_count s p c = body_blocks s p c.body
 
@@ -51,10 +52,11 @@ placed_values (Some r) values = 0 ∷ values
 abbrev pub placed_members : Option ℕ → List ℕ → List ℕ
 placed_members reference members = placed_values reference (after_reference reference members)
 
--- the block of values that are written one by one, and that of the members of pairs
+-- the block of values that are written one by one
 abbrev pub block_of_values : Option ℕ → List ℕ → Block
 block_of_values reference values = record { reference = reference; values = placed_values reference values }
 
+-- the block of the members of pairs
 abbrev pub block_of_members : Option ℕ → List ℕ → Block
 block_of_members reference members = record { reference = reference; values = placed_members reference members }
 
@@ -69,5 +71,6 @@ blocks_in s p reference (value_pairs members) = block_of_members reference membe
 blocks_in s p reference (split_values k values) = block_of_values reference values ∷ []
 blocks_in s p reference (zero_blocks m) = zero_block s reference ∷ replicate (run_len s p m - 1) (zero_block s None)
 
+-- the same of a coded data set
 abbrev pub cds_blocks : Settings → ℕ → CodedDataSet → List Block
 cds_blocks s p c = blocks_in s p c.reference c.body

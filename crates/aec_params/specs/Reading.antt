@@ -38,9 +38,11 @@ StandsAt s bits b c = drop b bits ≡ cds_bits s c ++ drop (b + length (cds_bits
 abbrev pub begin_of : Settings → List Bool → ℕ → ℕ → ℕ
 begin_of s bits i b = if s.pad && (i % s.interval == 0) then min (next_multiple_of b 8) (length bits) else b
 
+-- the block behind a coded data set of block i
 abbrev pub next_block : Settings → ℕ → CodedDataSet → ℕ
 next_block s i c = i + block_count s (i % s.interval) c
 
+-- where the coded data set of that block begins
 abbrev pub next_begin : Settings → List Bool → ℕ → ℕ → CodedDataSet → ℕ
 next_begin s bits i b c = begin_of s bits (next_block s i c) (b + length (cds_bits s c))
 

@@ -11,16 +11,19 @@ abbrev pub after_reference : Option ℕ → List ℕ → List ℕ
 after_reference None values = values
 after_reference (Some r) values = drop 1 values
 
+-- the same of a block
 abbrev pub written_values : Block → List ℕ
 written_values b = after_reference b.reference b.values
 
--- the block by each option: no compression; second extension, whose pairs have the reference place too; splitting with k
+-- the block by no compression
 abbrev pub uncompressed : Block → CodedDataSet
 uncompressed b = record { reference = b.reference; body = uncompressed_values (written_values b) }
 
+-- the block by the second extension, whose pairs have the reference place too
 abbrev pub paired : Block → CodedDataSet
 paired b = record { reference = b.reference; body = value_pairs b.values }
 
+-- the block by splitting with k
 abbrev pub split : Block → ℕ → CodedDataSet
 split b k = record { reference = b.reference; body = split_values k (written_values b) }
 

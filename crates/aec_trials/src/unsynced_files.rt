@@ -1,35 +1,62 @@
-//! A DEST that takes all bytes and then can't be synced.
+//! Files that take all bytes and then can't be synced, and files whose calls are interrupted.
 
 use crate::asserts::{same, same_at};
 use crate::shared::run_of;
 use std::alloc::{Alloc, Allocator, Global};
+use std::cell::Cell;
 use std::fs::{Files, Metadata, OpenFile, OpenOptions};
 use std::io::{ErrorKind, Read, Seek, SeekFrom, Write};
 use std::process::Abort;
 use std::test::Fail;
 use std::{fs, io};
 
-// The files of another runtime, whose syncs all fail so.
+// The files of another runtime. Their syncs all fail so, if at all. Where they are interrupted, of the reads, writes and
+// syncs of a file the first is, the third, and so on.
 #[derive(Drop)]
 struct Unsynced<'a, F: Files> {
     rt: &'a F,
-    kind: ErrorKind,
+    kind: Option<ErrorKind>,
+    interrupted: bool,
 }
 
 #[derive(Drop)]
 struct UnsyncedFile<T: Drop> {
     file: T,
-    kind: ErrorKind,
+    kind: Option<ErrorKind>,
+    interrupted: bool,
+    // Whether the next call is interrupted.
+    next: Cell<bool>,
+}
+
+impl<T: Drop> UnsyncedFile<T> {
+    fn signal(&self) -> io::Result<()> {
+        let now = self.next.get();
+        self.next.set(self.interrupted && !now);
+        if now {
+            return Err(io::Error::from(ErrorKind::Interrupted));
+        }
+        Ok(())
+    }
+
+    fn sync(&self) -> io::Result<()> {
+        self.signal()?;
+        match self.kind {
+            Some(kind) => Err(io::Error::from(kind)),
+            None => Ok(()),
+        }
+    }
 }
 
 impl<T: Read + Drop> Read for UnsyncedFile<T> {
     fn read(&mut self, buf: &mut [u8]) -> io::Result<usize> {
+        self.signal()?;
         self.file.read(buf)
     }
 }
 
 impl<T: Write + Drop> Write for UnsyncedFile<T> {
     fn write(&mut self, buf: &[u8]) -> io::Result<usize> {
+        self.signal()?;
         self.file.write(buf)
     }
 
@@ -54,11 +81,11 @@ impl<T: OpenFile + Drop> OpenFile for UnsyncedFile<T> {
     }
 
     fn sync_all(&self) -> io::Result<()> {
-        Err(io::Error::from(self.kind))
+        self.sync()
     }
 
     fn sync_data(&self) -> io::Result<()> {
-        Err(io::Error::from(self.kind))
+        self.sync()
     }
 }
 
@@ -72,6 +99,8 @@ impl<'a, F: Files> Files for Unsynced<'a, F> {
         Ok(UnsyncedFile {
             file,
             kind: self.kind,
+            interrupted: self.interrupted,
+            next: Cell::new(self.interrupted),
         })
     }
 
@@ -112,14 +141,19 @@ impl<'a, F: Files> Files for Unsynced<'a, F> {
     }
 }
 
-// A run whose syncs fail so has this status and this text, and DEST holds the coded ramp.
+// A run whose syncs end so has this status and this text, and DEST holds the coded ramp.
 fn ends_so<R: Abort + Files + Alloc<A = Global>>(
     rt: &R,
-    kind: ErrorKind,
+    kind: Option<ErrorKind>,
+    interrupted: bool,
     expected: u8,
     text: &str,
 ) -> Result<(), Fail> {
-    let unsynced = Unsynced { rt, kind };
+    let unsynced = Unsynced {
+        rt,
+        kind,
+        interrupted,
+    };
     let words = "unsynced.in unsynced.out";
     let (status, _out, err) = run_of(&unsynced, rt.alloc(), words)?;
     same_at(rt, status, expected, &kind);
@@ -130,21 +164,34 @@ fn ends_so<R: Abort + Files + Alloc<A = Global>>(
     Ok(())
 }
 
+// How a run ends whose syncs end so.
+const ENDS: [(Option<ErrorKind>, u8, &str); 6] = [
+    (None, 0, ""),
+    // The errors of a full disk, of a quota and of a broken one.
+    (Some(ErrorKind::StorageFull), 1, "aec: write failed\n"),
+    (Some(ErrorKind::QuotaExceeded), 1, "aec: write failed\n"),
+    (Some(ErrorKind::Other), 1, "aec: write failed\n"),
+    // Those of files that have nothing to sync.
+    (Some(ErrorKind::InvalidInput), 0, ""),
+    (Some(ErrorKind::Unsupported), 0, ""),
+];
+
+fn all_end_so<R: Abort + Files + Alloc<A = Global>>(rt: &R, interrupted: bool) -> Result<(), Fail> {
+    let ramp = b"\x00\x01\x02\x03\x04\x05\x06\x07";
+    fs::write(rt, "unsynced.in", ramp.as_slice())?;
+    for (kind, expected, text) in ENDS {
+        ends_so(rt, kind, interrupted, expected, text)?;
+    }
+    fs::remove_file(rt, "unsynced.in")?;
+    Ok(())
+}
+
 #[test]
 fn a_dest_that_is_not_synced_is_a_failure(rt: HostRuntime) -> Result<(), Fail> {
-    // The errors of a full disk, of a quota and of a broken one; the last two are of files that have nothing to sync.
-    let cases = [
-        (ErrorKind::StorageFull, 1, "aec: write failed\n"),
-        (ErrorKind::QuotaExceeded, 1, "aec: write failed\n"),
-        (ErrorKind::Other, 1, "aec: write failed\n"),
-        (ErrorKind::InvalidInput, 0, ""),
-        (ErrorKind::Unsupported, 0, ""),
-    ];
-    let ramp = b"\x00\x01\x02\x03\x04\x05\x06\x07";
-    fs::write(&rt, "unsynced.in", ramp.as_slice())?;
-    for (kind, expected, text) in cases {
-        ends_so(&rt, kind, expected, text)?;
-    }
-    fs::remove_file(&rt, "unsynced.in")?;
-    Ok(())
+    all_end_so(&rt, false)
+}
+
+#[test]
+fn interrupted_calls_are_made_again(rt: HostRuntime) -> Result<(), Fail> {
+    all_end_so(&rt, true)
 }

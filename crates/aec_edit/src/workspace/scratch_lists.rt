@@ -17,7 +17,12 @@ impl<C: Codec> Workspace<C> {
         ensures same { self.new ≡ self.old }
     {
         let alloc = self.alloc;
-        let Scratch { front, back, coded, .. } = mem::replace(&mut self.scratch, Scratch::new(alloc));
+        let Scratch {
+            front,
+            back,
+            coded,
+            ..
+        } = mem::replace(&mut self.scratch, Scratch::new(alloc));
         self.scratch.coded = coded;
         (front, back)
     }

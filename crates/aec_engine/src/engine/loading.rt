@@ -58,29 +58,29 @@ fn append_all<C: Codec>(
     Ok(next)
 }
 
-/// A reader of bits that have been judged whole: it is at the first bit, and the samples can be read. Takes no memory. The refusals are
-/// those of `decode_all`, but for want of memory.
+/// A reader of bits that have been judged whole: it is at the first bit, and the samples can be read; beside it how many these are. Takes
+/// no memory. The refusals are those of `decode_all`, but for want of memory.
 fn judged_reader<'a>(
     alloc: Global,
     params: &Params,
     limits: Limits,
     count: Option<u64>,
     bits: &'a BitBuf,
-) -> Result<StreamReader<'a>, Fault>
-    ensures settings { IfOk result (λ reader. reader.settings ≡ params.now) }
-    ensures limit { IfOk result (λ reader. reader.limit ≡ limits.samples) }
-    ensures count { IfOk result (λ reader. reader.count ≡ count) }
-    ensures block { IfOk result (λ reader. reader.block ≡ 0) }
-    ensures bit { IfOk result (λ reader. reader.bit ≡ 0) }
+) -> Result<(StreamReader<'a>, u64), Fault>
+    ensures settings { IfOk result (λ judged. judged.0.settings ≡ params.now) }
+    ensures limit { IfOk result (λ judged. judged.0.limit ≡ limits.samples) }
+    ensures count { IfOk result (λ judged. judged.0.count ≡ count) }
+    ensures block { IfOk result (λ judged. judged.0.block ≡ 0) }
+    ensures bit { IfOk result (λ judged. judged.0.bit ≡ 0) }
     ensures within { IfOk result (λ _. count_refusal limits.samples count ≡ None) }
-    ensures read { IfOk result (λ reader. (xs : List ℤ) × AreSamplesOf reader xs) }
-    ensures samples { IfOk result (λ reader. (xs : List ℤ) → AreSamplesOf reader xs
+    ensures read { IfOk result (λ judged. (xs : List ℤ) × AreSamplesOf judged.0 xs) }
+    ensures samples { IfOk result (λ judged. (xs : List ℤ) → AreSamplesOf judged.0 xs
         → IsReading params.now count limits.samples bits.now.list xs) }
     ensures refuses { IfErr result (λ fault. RefusesDecoding params.now count limits.samples bits.now.list fault) }
 {
     let mut reader = StreamReader::new(alloc, *params, bits, count, limits.samples())?;
-    count_samples(params, &mut reader)?;
-    Ok(reader)
+    let total = count_samples(params, &mut reader)?;
+    Ok((reader, total))
 }
 
 /// Room for the samples of an interval.
@@ -91,12 +91,47 @@ fn interval_room(alloc: Global, params: &Params) -> Result<Vec<i64>, Fault>
     Ok(samples)
 }
 
+/// What the code of samples is expected to take.
+#[derive(Clone, Copy)]
+struct Room {
+    bits: u64,
+    intervals: u64,
+}
+
+impl Room {
+    /// Room for so many samples whose code has so many bits, and a sixteenth more bits for what edits put.
+    fn of(params: &Params, samples: u64, bits: u64) -> Room {
+        Room {
+            bits: bits.saturating_add(bits / 16),
+            intervals: samples.div_ceil(params.interval_len()),
+        }
+    }
+}
+
+/// An empty workspace with room.
+fn roomy_workspace<C: Codec + Drop>(
+    alloc: Global,
+    codec: C,
+    limits: Limits,
+    room: Room,
+) -> Result<Workspace<C>, Fault>
+    ensures samples { IfOk result (λ w. w.samples ≡ []) }
+    ensures limit { IfOk result (λ w. w.limit ≡ limits.samples) }
+    ensures codec { IfOk result (λ w. w.codec ≡ codec) }
+    ensures fault { IfErr result (λ e. e ≡ Memory) }
+{
+    let mut workspace = Workspace::new(alloc, codec, limits.samples());
+    workspace.reserve(room.bits, room.intervals)?;
+    Ok(workspace)
+}
+
 /// A workspace with the samples that edits of a script leave of those that a reader gives, over a codec that has coded nothing.
 fn edit_samples<C: Codec + Drop>(
     alloc: Global,
     codec: C,
     params: &Params,
     limits: Limits,
+    room: Room,
     reader: &mut StreamReader,
     script: &Script,
 ) -> Result<Workspace<C>, EditFault>
@@ -114,7 +149,7 @@ fn edit_samples<C: Codec + Drop>(
     ensures format { IfOk result (λ w. C.format w.codec ≡ interval_format params.now) }
 {
     let mut samples = interval_room(alloc, params)?;
-    let mut workspace = Workspace::new(alloc, codec, limits.samples());
+    let mut workspace = roomy_workspace(alloc, codec, limits, room)?;
     let next = append_all(params, reader, &mut samples, &mut workspace, script)?;
     carry_rest(&mut workspace, script, next)?;
     Ok(workspace)
@@ -138,6 +173,7 @@ pub(crate) fn edit_bits<C: Codec + Drop>(
         (answer_of (λ w. recoded_of (C.format w.codec) w.samples (C.called w.codec)) result) }
     ensures format { IfOk result (λ w. C.format w.codec ≡ interval_format params.now) }
 {
-    let mut reader = judged_reader(alloc, params, limits, count, bits)?;
-    edit_samples(alloc, codec, params, limits, &mut reader, script)
+    let (mut reader, total) = judged_reader(alloc, params, limits, count, bits)?;
+    let room = Room::of(params, total, bits.len());
+    edit_samples(alloc, codec, params, limits, room, &mut reader, script)
 }

@@ -1,0 +1,135 @@
+//! Calls of a file that are made again where a signal interrupts them.
+
+ghost use Rattle.std.specs.Prelude.{◌≡◌, ◌≢◌, ◌↔◌, IfErr, IsTrue};
+ghost use Rattle.std.specs.Io.{ReadsAtMost, WritesAtMost};
+ghost use Rattle.std.specs.Io.KnownBytes.{Keeps, ReadConsumes, WriteAppends};
+ghost use Rattle.std.specs.IoError.{error_kind};
+
+use std::fs::OpenFile;
+use std::io;
+use std::io::{Error, ErrorKind, Read, Write};
+
+// Whether a call failed because a signal interrupted it.
+fn is_interrupted(error: &Error) -> bool
+    ensures { IsTrue result ↔ (error_kind error.now ≡ ErrorKind.Interrupted) }
+{
+    error.kind() == ErrorKind::Interrupted
+}
+
+// What is answered where a call was interrupted `u64::MAX` times.
+fn too_many_tries() -> Error
+    ensures { error_kind result ≡ ErrorKind.TimedOut }
+{
+    Error::from(ErrorKind::TimedOut)
+}
+
+/// A file, each call of which is made again as long as a signal interrupts it. What it answers is what the last call did.
+#[derive(Drop)]
+pub(crate) struct Again<T> {
+    file: T,
+}
+
+impl<T> Again<T> {
+    ghost use Rattle.std.specs.Prelude.{◌≡◌};
+
+    pub(crate) fn new(file: T) -> Again<T>
+        ensures { result.file ≡ file }
+    {
+        Again { file }
+    }
+}
+
+impl<T: OpenFile> Again<T> {
+    /// Has the system write out what the file was given.
+    pub(crate) fn sync(&self) -> io::Result<()>
+        ensures again { IfErr result (λ e. error_kind e ≢ ErrorKind.Interrupted) }
+    {
+        for _ in 0..u64::MAX {
+            match self.file.sync_all() {
+                Ok(()) => return Ok(()),
+                Err(error) => {
+                    if !is_interrupted(&error) {
+                        return Err(error);
+                    }
+                }
+            }
+        }
+        Err(too_many_tries())
+    }
+}
+
+impl<T: Read> Read for Again<T> {
+    ghost remaining = { λ s. T.remaining s.file };
+
+    fn read(&mut self, buf: &mut [u8]) -> io::Result<usize> {
+        read_again(&mut self.file, buf)
+    }
+}
+
+impl<T: Write> Write for Again<T> {
+    ghost contents = { λ s. T.contents s.file };
+
+    fn write(&mut self, buf: &[u8]) -> io::Result<usize> {
+        write_again(&mut self.file, buf)
+    }
+
+    fn flush(&mut self) -> io::Result<()> {
+        flush_again(&mut self.file)
+    }
+}
+
+// One read that no signal interrupts.
+fn read_again<R: Read>(reader: &mut R, buf: &mut [u8]) -> io::Result<usize>
+    ensures bound { ReadsAtMost result buf.new }
+    ensures bytes { ReadConsumes (R.remaining reader.old) (R.remaining reader.new) result buf.new }
+    ensures again { IfErr result (λ e. error_kind e ≢ ErrorKind.Interrupted) }
+{
+    for _ in 0..u64::MAX {
+        match reader.read(buf) {
+            Ok(count) => return Ok(count),
+            Err(error) => {
+                if !is_interrupted(&error) {
+                    return Err(error);
+                }
+            }
+        }
+    }
+    Err(too_many_tries())
+}
+
+// One write that no signal interrupts.
+fn write_again<W: Write>(writer: &mut W, buf: &[u8]) -> io::Result<usize>
+    ensures bound { WritesAtMost result buf.now }
+    ensures bytes { WriteAppends (W.contents writer.old) (W.contents writer.new) result buf.now }
+    ensures again { IfErr result (λ e. error_kind e ≢ ErrorKind.Interrupted) }
+{
+    for _ in 0..u64::MAX {
+        match writer.write(buf) {
+            Ok(count) => return Ok(count),
+            Err(error) => {
+                if !is_interrupted(&error) {
+                    return Err(error);
+                }
+            }
+        }
+    }
+    Err(too_many_tries())
+}
+
+// One flush that no signal interrupts.
+fn flush_again<W: Write>(writer: &mut W) -> io::Result<()>
+    ensures bytes { Keeps (W.contents writer.old) (W.contents writer.new) }
+    ensures again { IfErr result (λ e. error_kind e ≢ ErrorKind.Interrupted) }
+{
+    for _ in 0..u64::MAX {
+        match writer.flush() {
+            Ok(()) => return Ok(()),
+            Err(error) => {
+                if !is_interrupted(&error) {
+                    return Err(error);
+                }
+            }
+        }
+    }
+    Err(too_many_tries())
+}

@@ -1,0 +1,268 @@
+#!/usr/bin/env python3
+"""Writes docs/PROOFS.md: pages.py [--check]
+
+The claims of a crate stand in its claims.txt, in parts with an empty line between. A part is a
+heading (`== NAME`), text that goes into the page as it is, or a claim: its sentences, and below
+them, indented by four, what it has of these lines, each of which may go on below its text:
+
+    given  the premise, in words
+    by     what carries it: functions and their clauses, as `Params::new: ok refuses; first_bad`.
+           No clauses: the one without a name. A path has as many modules as tell it apart.
+           `a, b: ok` are two functions; `Octets meets Codec` is an impl, whose clauses are those
+           of the trait; `Fault: from_gives` is a ghost item of a type
+    wrong  must-fail edits of the crate
+    test   tests of the trial crates, as `builds_and_edits` or `skipping::*`, or scripts of tests/
+
+docs/claims.txt has what stands around the claims; its line `@crates` gives way to them.
+
+Fails where a name is none; where an ensures clause of a public function, its premise, a must-fail
+edit, a test or a script of tests/run.sh stands in no claim; where the README.md of a crate has no
+line on a module; and with --check, which writes nothing, where the page isn't what is written.
+"""
+
+import os
+import re
+import sys
+from typing import NamedTuple
+
+from sources import TOP, all_crates, edits_of, files_below, text_of
+
+PAGE = "docs/PROOFS.md"
+FRAME = "docs/claims.txt"
+HEADS = {"given": "Premise", "by": "Carried by", "wrong": "Must-fail edits", "test": "Tests"}
+LINE = rf"^    ({'|'.join(HEADS)}) +(.*)"
+NAMELESS = "without a name"
+NOTE = "<!-- Written by `make pages` from docs/claims.txt and crates/*/claims.txt. -->\n\n"
+
+
+class Claim(NamedTuple):
+    words: str
+    # What the claim has of each kind of line.
+    lines: dict
+
+
+def claim_of(part, wrongs):
+    """The claim that a part is. A part that has no line of one stays as it is."""
+    if not re.search(LINE, part, re.M):
+        return part
+    words, lines, kind = [], {}, None
+    for line in part.split("\n"):
+        named = re.match(LINE, line)
+        if named and named[1] not in lines:
+            kind = named[1]
+            lines[kind] = named[2]
+        elif kind and line.startswith(" " * 11):
+            lines[kind] += " " + line.strip()
+        elif not kind and not line.startswith(" "):
+            words.append(line)
+        else:
+            wrongs.append(f"no line of a claim: {line}")
+    return Claim(" ".join(words), lines)
+
+
+def parts_of(path, wrongs):
+    parts = [part.strip("\n") for part in re.split(r"\n\s*\n", text_of(path))]
+    return [claim_of(part, wrongs) for part in parts if part]
+
+
+class Names:
+    """What there is to be named, and what has been."""
+
+    def __init__(self):
+        self.crates = all_crates()
+        self.functions = [one for crate in self.crates.values() for one in crate.functions]
+        self.tests = [one for one in self.functions if one.is_test]
+        self.scripts = set(re.findall(r"tests/\w+\.py", text_of("tests/run.sh")))
+        self.edits = {name: edits_of(name) for name in self.crates}
+        self.words = set(re.findall(r"\w+", self.all_text()))
+        self.named, self.wrongs = set(), []
+
+    def all_text(self):
+        """Everything that has a name which text may speak of."""
+        specs = [text_of(path) for path in files_below("crates", ".antt") if "/specs/" in path]
+        paths = [" ".join([one.path(), *one.clauses]) for one in self.functions]
+        edits = [name for names in self.edits.values() for name in names]
+        return " ".join([*specs, *paths, *edits])
+
+    def found(self, path, among):
+        """The functions that a path may mean."""
+        ends = [one for one in among if ("::" + one.path()).endswith("::" + path)]
+        return [one for one in ends if one.path() == f"{one.crate}::{path}"] or ends
+
+    def judge_carrier(self, crate, name, clauses, is_given):
+        meets = re.fullmatch(r"(\w+) meets (\w+)", name)
+        if meets:
+            if (meets[2], meets[1]) not in crate.impls:
+                self.wrongs.append(f"{crate.name}: no impl: {name}")
+            return
+        if clauses and set(clauses) <= crate.ghosts.get(name, set()):
+            return
+        ones = self.found(name, crate.functions)
+        if len(ones) != 1:
+            self.wrongs.append(f"{crate.name}: {many(ones)} function {name}")
+            return
+        for clause in clauses or [""]:
+            if clause not in (ones[0].clauses or {""}):
+                self.wrongs.append(f"{crate.name}: {name} has no clause {clause or NAMELESS}")
+            self.named.add((ones[0].path(), clause))
+        if is_given:
+            self.named.add((ones[0].path(), "given"))
+
+    def judge_edits(self, crate, names):
+        for name in names:
+            if name not in self.edits[crate.name]:
+                self.wrongs.append(f"{crate.name}: no must-fail edit {name}")
+            self.named.add((crate.name, name))
+
+    def judge_tests(self, names):
+        for name in names:
+            ones = self.tests_named(name)
+            if not ones or (len(ones) > 1 and not name.endswith("::*")):
+                self.wrongs.append(f"{many(ones)} test {name}")
+            self.named.update(ones)
+
+    def tests_named(self, name):
+        if name.startswith("tests/"):
+            return self.scripts & {name}
+        if name.endswith("::*"):
+            end = "::" + name[:-1]
+            return [one.path() for one in self.tests if f"::{one.module}::".endswith(end)]
+        return [one.path() for one in self.found(name, self.tests)]
+
+    def judge_text(self, where, text):
+        """Names in text: of what they are isn't asked."""
+        for word in re.findall(r"`([^`]+)`", text):
+            parts = set(word.split("::"))
+            if re.fullmatch(r"(tests|docs|bench|examples|tools)/[\w./]+", word):
+                if not os.path.exists(os.path.join(TOP, word)):
+                    self.wrongs.append(f"{where}: no file {word}")
+            elif re.fullmatch(r"\w+(::\w+)*", word) and "_" in word and not parts <= self.words:
+                self.wrongs.append(f"{where}: nothing is called {word}")
+
+    def judge_rest(self):
+        """What there is and nobody has named."""
+        wanted = {one: f"test {one}" for one in [*(it.path() for it in self.tests), *self.scripts]}
+        for one in self.functions:
+            if one.is_public:
+                path = one.path()
+                clauses = sorted(one.clauses or {""})
+                wanted |= {(path, it): f"clause {it or NAMELESS} of {path}" for it in clauses}
+                wanted |= {(path, "given"): f"the premise of {path}"} if one.premises else {}
+        for crate, names in self.edits.items():
+            wanted |= {(crate, name): f"must-fail edit {crate}/{name}" for name in names}
+        left = sorted(what for key, what in wanted.items() if key not in self.named)
+        self.wrongs += [f"in no claim: {what}" for what in left]
+
+    def judge_readmes(self):
+        for crate in self.crates.values():
+            readme = f"crates/{crate.name}/README.md"
+            told = re.findall(r"^\| `([\w:]+)` \|", text_of(readme), re.M)
+            missing = [one for one in crate.modules if one and one not in told]
+            gone = [one for one in told if one not in crate.modules]
+            self.wrongs += [f"{readme}: no line on the module {one}" for one in missing]
+            self.wrongs += [f"{readme}: no module {one}" for one in gone]
+
+
+def many(ones):
+    return "more than one" if ones else "no"
+
+
+def carriers_of(line):
+    """Pairs of a name and its clauses."""
+    found = []
+    for item in line.split(";") if line else ():
+        names, _, clauses = item.partition(": ")
+        found += [(name.strip(), clauses.split()) for name in names.split(",")]
+    return found
+
+
+def carrier_text(item):
+    names, _, clauses = item.partition(": ")
+    told = ", ".join(re.sub(r"[\w:]+", r"`\g<0>`", name.strip()) for name in names.split(","))
+    told = told.replace("`meets`", "meets")
+    return told + (f" ({listed(clauses)})" if clauses else "")
+
+
+def listed(names):
+    return ", ".join(f"`{name}`" for name in names.split())
+
+
+def line_text(kind, line):
+    if kind == "by":
+        line = "; ".join(carrier_text(item) for item in line.split(";"))
+    elif kind != "given":
+        line = listed(line)
+    return f"  - {HEADS[kind]}: {line}."
+
+
+def claim_text(claim):
+    lines = [line_text(kind, claim.lines[kind]) for kind in HEADS if kind in claim.lines]
+    return "\n".join([f"- {claim.words}.", *lines])
+
+
+def page_of(parts, mark="### "):
+    """The parts as a page: claims that follow each other are one list."""
+    page, last = "", None
+    for part in parts:
+        is_claim = isinstance(part, Claim)
+        page += ("\n" if is_claim and isinstance(last, Claim) else "\n\n") if page else ""
+        page += claim_text(part) if is_claim else re.sub("^== ", mark, part)
+        last = part
+    return page
+
+
+def read_claims(path, crate, names):
+    """The parts of a file, of whose claims each name is judged."""
+    parts = parts_of(path, names.wrongs)
+    for part in parts:
+        names.judge_text(path, part.words if isinstance(part, Claim) else part)
+        if isinstance(part, Claim):
+            judge_claim(part.lines, crate, names)
+    return parts
+
+
+def judge_claim(lines, crate, names):
+    names.judge_tests(lines.get("test", "").split())
+    if crate:
+        names.judge_edits(crate, lines.get("wrong", "").split())
+        for name, clauses in carriers_of(lines.get("by", "")):
+            names.judge_carrier(crate, name, clauses, "given" in lines)
+
+
+def counts_of(crate, parts):
+    claims = sum(isinstance(part, Claim) for part in parts)
+    public = sum(one.is_public for one in crate.functions)
+    gate = len(files_below(f"crates/{crate.name}/must-fail", ".edit"))
+    every = len(edits_of(crate.name))
+    edits = f"{every} must-fail edits, of which the gate tries {gate}"
+    return f"{claims} claims, {public} public functions, {edits}."
+
+
+def written_page(names):
+    frame, pages = read_claims(FRAME, None, names), []
+    for crate in names.crates.values():
+        path = f"crates/{crate.name}/claims.txt"
+        if os.path.exists(os.path.join(TOP, path)):
+            parts = read_claims(path, crate, names)
+            pages.append(f"## {crate.name}\n\n{counts_of(crate, parts)}\n\n{page_of(parts)}")
+    return NOTE + page_of(frame, "## ").replace("@crates", "\n\n".join(pages)) + "\n"
+
+
+def main():
+    names = Names()
+    page = written_page(names)
+    names.judge_rest()
+    names.judge_readmes()
+    if sys.argv[1:] == ["--check"]:
+        if not os.path.exists(os.path.join(TOP, PAGE)) or text_of(PAGE) != page:
+            names.wrongs.append(f"{PAGE} isn't what `make pages` writes")
+    else:
+        with open(os.path.join(TOP, PAGE), "w", encoding="utf-8") as file:
+            file.write(page)
+    print("".join(f"FAILED: {wrong}\n" for wrong in names.wrongs), end="")
+    print(f"{len(names.named)} passed, {len(names.wrongs)} failed")
+    return 1 if names.wrongs else 0
+
+
+if __name__ == "__main__":
+    sys.exit(main())

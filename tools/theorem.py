@@ -1,0 +1,300 @@
+#!/usr/bin/env python3
+"""All that a reader of a theorem has to believe: theorem.py [--check | CRATE::FUNCTION [CLAUSE..]]
+
+Prints the contract of a function, or some of its clauses, and each definition that it cites, down
+to the words of the standard library: each once, with its sentence, what is cited before what cites
+it. Names are resolved as the checker does, by the `use` lines of the file that they stand in. A
+type is cited with what contracts see of it (its Model), a trait with its whole contract.
+
+With no function: writes the pages of docs/theorems/, and prints how many lines each has. With
+--check it writes none, and fails where one isn't what would be written. It also fails where a cited
+definition has no sentence.
+"""
+
+import os
+import re
+import sys
+from typing import NamedTuple
+
+from sources import OWNER, TOP, files_below, text_of
+
+FOLDER = "docs/theorems"
+NOTE = "<!-- Written by `make theorem`. -->\n\n"
+# For each page the crate, the function, its clauses where not all are meant, and what it says.
+PAGES = {
+    "write_edited": ("aec_edit", "write_edited", [], "The headline, over any lawful codec"),
+    "decode_edited": ("aec_engine", "decode_edited", [], "The headline, over our own coder"),
+    "shortest": ("aec_interval", "encode_all", ["ok", "shortest"], "No coded data sets are shorter"),
+    "decode_all": ("aec_interval", "decode_all", [], "What coded bits are decoded to"),
+}
+USE = re.compile(r"^\s*(?:pub )?(?:ghost )?use ([\w.]+)\.\{([^}]*)\}", re.M)
+RUST_USE = re.compile(r"^use (crate|aec_\w+)::(?:[\w:]+::)?(?:\{([^}]*)\}|(\w+));", re.M)
+DEFINITION = re.compile(r"(?:(?:abbrev|unfoldable|pub|data|record|def) )+(\S+)")
+MAKER = re.compile(r"  (\w+) :")
+DECLARED = re.compile(r"pub (?:struct|enum|trait) (\w+)")
+CLAUSE = re.compile(r" *(ensures|requires) ?(\w*)")
+# A name or a sign; what stands behind a point is the field of something.
+TOKEN = re.compile(r"(?<![.\w])[^\W\d]\w*|[^\s\w(){},;.\[\]]+ℤ?")
+FENCE = "\n```"
+
+
+class Item(NamedTuple):
+    path: str
+    # The line where it stands.
+    at: int
+    name: str
+    # Its sentence, and the lines of its text.
+    words: list
+    lines: list
+
+    def key(self):
+        return self.path, self.at
+
+
+class Word(NamedTuple):
+    """A word of the standard library."""
+
+    module: str
+    name: str
+
+
+def block_from(lines, start):
+    """The lines of a block of Rattle's from its first line up to its closing brace."""
+    if lines[start].endswith(";") or lines[start].endswith("}"):
+        return [lines[start]]
+    end = next(i for i in range(start, len(lines)) if lines[i].startswith("}"))
+    return lines[start : end + 1]
+
+
+def words_above(lines, start, mark):
+    """The comment that stands right above a line, attributes aside."""
+    words, at = [], start - 1
+    while at >= 0 and lines[at].strip().startswith((mark, "#[")):
+        words += [lines[at]] if lines[at].strip().startswith(mark) else []
+        at -= 1
+    return words[::-1]
+
+
+def without_attributes(lines):
+    left = [line for line in lines if line.strip()]
+    return [line for line in left if not line.strip().startswith(("#[", "ghost use "))]
+
+
+class File:
+    """A file of definitions or of code: what it declares, and what its names mean."""
+
+    def __init__(self, path):
+        self.path, self.text = path, text_of(path)
+        self.items, self.scope = {}, {}
+        lines = self.text.split("\n")
+        for at, line in enumerate(lines):
+            if path.endswith(".antt"):
+                self.define(lines, at, line)
+            else:
+                self.declare(lines, at, line)
+        for module, names in USE.findall(self.text):
+            for name in re.split(r",\s*", names.strip(", \n")):
+                true, _, alias = name.partition(" as ")
+                self.scope[alias or true] = (module, true)
+        for crate, many, one in RUST_USE.findall(self.text):
+            for name in re.findall(r"\w+", many or one):
+                self.scope.setdefault(name, (crate, name))
+
+    def define(self, lines, at, line):
+        named = DEFINITION.match(line)
+        if named and not line.startswith("pub mod"):
+            end = next(i for i in range(at, len(lines)) if not lines[i].strip())
+            item = Item(self.path, at, named[1], words_above(lines, at, "-- "), lines[at:end])
+            made = [it[1] for it in map(MAKER.match, item.lines) if it] if "data " in line else []
+            self.items |= dict.fromkeys([named[1], *made], item)
+
+    def declare(self, lines, at, line):
+        named = DECLARED.match(line)
+        if named:
+            text = without_attributes(block_from(lines, at))
+            model = re.compile(rf"impl.* Model for {named[1]}\b")
+            for start in [i for i, it in enumerate(lines) if model.match(it)]:
+                text += without_attributes(block_from(lines, start))
+            words = words_above(lines, at, "///")
+            self.items[named[1]] = Item(self.path, at, named[1], words, text)
+
+
+class Library:
+    """The files of all crates, read when they are asked for."""
+
+    def __init__(self):
+        self.files = {}
+
+    def file(self, path):
+        if path not in self.files:
+            self.files[path] = File(path)
+        return self.files[path]
+
+    def declared(self, crate, name):
+        """A type or trait of a crate, wherever it stands there."""
+        for path in files_below(f"crates/{crate}/src", ".rt"):
+            if name in self.file(path).items:
+                return self.file(path).items[name]
+        return None
+
+    def meaning(self, file, name):
+        """What a name in a file means, if anything: an item, or a word of the standard library."""
+        if name in file.items:
+            return file.items[name]
+        if name not in file.scope:
+            return None
+        module, true = file.scope[name]
+        if module == "crate":
+            return self.declared(file.path.split("/")[1], true)
+        if re.fullmatch(r"aec_\w+", module):
+            return self.declared(module, true)
+        _, crate, *parts = module.split(".")
+        if not crate.startswith("aec_"):
+            return Word(module, true)
+        if parts[1] == "declared":
+            return self.declared(crate, parts[-2] if parts[-1] == "TheVariants" else true)
+        return self.file(f"crates/{crate}/{'/'.join(parts)}.antt").items[true]
+
+    def cited(self, file, lines):
+        """What lines of a file cite, in their order."""
+        text = "\n".join(line for line in lines if not line.strip().startswith(("--", "///")))
+        signs = {part: name for name in file.scope for part in name.split("◌") if "◌" in name}
+        for token in TOKEN.findall(text):
+            meaning = self.meaning(file, signs.get(token, token))
+            if meaning:
+                yield meaning
+
+
+def contract_of(crate, name, clauses):
+    """The contract of a public function, or what it requires and the clauses that are named."""
+    owner, _, function = name.rpartition("::")
+    for path in files_below(f"crates/{crate}/src", ".rt"):
+        lines, at = text_of(path).split("\n"), ""
+        for start, line in enumerate(lines):
+            opened = OWNER.match(line)
+            at = opened[2] or opened[3] if opened else "" if line.startswith("}") else at
+            if at == owner and re.match(rf" *pub fn {function}\b", line):
+                kept = kept_clauses(lines[start:], clauses)
+                return Item(path, start, name, words_above(lines, start, "///"), kept)
+    return sys.exit(f"no public function {crate}::{name}")
+
+
+def kept_clauses(lines, clauses):
+    kept, is_kept = [], True
+    for line in lines[: next(i for i, it in enumerate(lines) if it.strip() in ("{", "{}"))]:
+        clause = CLAUSE.match(line)
+        if clause:
+            is_kept = not clauses or clause[1] == "requires" or clause[2] in clauses
+        kept += [line] if is_kept else []
+    return kept
+
+
+def gather(library, item, found, words):
+    """Adds an item to what was found, with the keys of what it cites, and all that this cites."""
+    below = found.setdefault(item.key(), (item, set()))[1]
+    for meaning in library.cited(library.file(item.path), item.lines):
+        if isinstance(meaning, Word):
+            words.setdefault(meaning.module.removeprefix("Rattle."), {})[meaning.name] = None
+        elif meaning.key() != item.key():
+            below.add(meaning.key())
+            if meaning.key() not in found:
+                gather(library, meaning, found, words)
+
+
+def run_in(path, left, found):
+    """The keys of a file that can come now, each after what it cites, and how many of it wait."""
+    run = []
+    for key in [key for key in left if key[0] == path] * 2:
+        if key not in run and found[key][1].isdisjoint(set(left) - set(run)):
+            run.append(key)
+    return sum(key[0] == path for key in left) - len(run), run
+
+
+def in_order(found):
+    """The items, what is cited before what cites it; those of one file together where they can."""
+    order, left = [], sorted(found)
+    while left:
+        runs = [run_in(path, left, found) for path in sorted({key[0] for key in left})]
+        _, run = min((run for run in runs if run[1]), default=(0, left))
+        order += run
+        left = [key for key in left if key not in run]
+    return [found[key][0] for key in order]
+
+
+def sections_of(items):
+    """Items as texts, of one file after the other with the file over them."""
+    sections, last = [], None
+    for item in items:
+        text = "\n".join(item.words + item.lines)
+        if item.path == last:
+            sections[-1] = f"{sections[-1].removesuffix(FENCE)}\n\n{text}{FENCE}"
+        else:
+            sections.append(f"[{item.path}](../../{item.path}):\n\n```text\n{text}{FENCE}")
+        last = item.path
+    return sections
+
+
+def listed(names):
+    return ", ".join(f"`{name}`" for name in names)
+
+
+def counts_of(contract, cited):
+    lines = [line for item in cited for line in item.words + item.lines]
+    sentences = sum(line.strip().startswith(("--", "///")) for line in lines)
+    statements = f"{len(contract.lines)} lines of contract; {len(cited)} definitions"
+    return f"{statements} of {len(lines) - sentences} lines, with {sentences} lines of sentences"
+
+
+def page_of(crate, name, clauses, title):
+    """The page of a theorem, how many lines it has, and which definitions have no sentence."""
+    found, words = {}, {}
+    contract = contract_of(crate, name, clauses)
+    gather(Library(), contract, found, words)
+    cited = in_order(found)[:-1]
+    counts = counts_of(contract, cited)
+    what = listed([f"{crate}::{name}", *clauses])
+    page = [
+        f"# {title}",
+        f"{what}. This is all that a reader has to believe: {counts}.",
+        "## The contract",
+        *sections_of([contract]),
+        "## What it cites\n\nWhat is cited stands before what cites it.",
+        *sections_of(cited),
+        "## Words of the standard library\n\n`rt lemma WORD` prints what each is.",
+        "\n".join(f"- `{it}`: {listed(words[it])}" for it in sorted(words)),
+    ]
+    silent = [item.name for item in [contract, *cited] if not item.words]
+    return NOTE + "\n\n".join(page) + "\n", counts, silent
+
+
+def write_pages(is_check):
+    """What is wrong with the pages, which are written where they are not only checked."""
+    wrongs = []
+    os.makedirs(os.path.join(TOP, FOLDER), exist_ok=True)
+    for file, theorem in PAGES.items():
+        path = f"{FOLDER}/{file}.md"
+        page, counts, silent = page_of(*theorem)
+        wrongs += [f"{path}: {name} has no sentence" for name in silent]
+        if not is_check:
+            print(f"{path}: {counts}")
+            with open(os.path.join(TOP, path), "w", encoding="utf-8") as out:
+                out.write(page)
+        elif not os.path.exists(os.path.join(TOP, path)) or text_of(path) != page:
+            wrongs.append(f"{path} isn't what `make theorem` writes")
+    return wrongs
+
+
+def main():
+    asked = [word for word in sys.argv[1:] if word != "--check"]
+    if asked:
+        crate, _, name = asked[0].partition("::")
+        print(page_of(crate, name, asked[1:], asked[0])[0], end="")
+        return 0
+    wrongs = write_pages("--check" in sys.argv)
+    print("".join(f"FAILED: {wrong}\n" for wrong in wrongs), end="")
+    print(f"{max(len(PAGES) - len(wrongs), 0)} passed, {len(wrongs)} failed")
+    return 1 if wrongs else 0
+
+
+if __name__ == "__main__":
+    sys.exit(main())
