@@ -108,17 +108,21 @@ def perform(doc, **actions):
     call(doc, actions.get(first), first, sys.argv[2:])
 
 
+def words_of(action):
+    """The words that a function takes, as the user is told."""
+    taken = inspect.signature(action).parameters.values()
+    return " ".join(it.name.upper() + ".." * (it.kind is it.VAR_POSITIONAL) for it in taken)
+
+
 def call(doc, action, name, words):
     """Does what `perform` says, for one function."""
     if name in ("-h", "--help") or words[:1] in (["-h"], ["--help"]):
         print(doc.strip())
         sys.exit(0)
-    wanted = inspect.signature(action)
     try:
-        wanted.bind(*words)
+        inspect.signature(action).bind(*words)
     except TypeError:
-        needed = " ".join(map(str, wanted.parameters.values())).upper()
-        sys.exit(complain(f"{name} takes the words {needed}; --help tells more", 2))
+        sys.exit(complain(f"{name} takes the words {words_of(action)}; --help tells more", 2))
     try:
         sys.exit(action(*words))
     except Refused as refusal:

@@ -16,7 +16,7 @@ import os
 import sys
 import tempfile
 
-from aec_runs import Refused, perform, read_file, require_aec, said_by, samples_of, write_whole
+from aec_runs import Refused, perform, read_file, require_aec, said_by, samples_of, write_file
 
 BLOCKS = ("8", "16", "32", "64")
 INTERVALS = tuple(str(1 << i) for i in range(13))
@@ -72,13 +72,12 @@ def reads(aec, stream, dest, words, count):
     return said_by([aec, "-d", "--count", str(count), *words, stream, dest])[0] == 0
 
 
-def looked_at(aec, stream, folder, words, count):
+def looked_at(aec, stream, cut, dest, words, count):
     """Whether the last byte isn't needed, the sum of differences in the front, and the words, for
-    signed and unsigned samples where these words read the stream."""
-    cut, dest = os.path.join(folder, "cut"), os.path.join(folder, "dest")
+    signed and unsigned samples where these words read the stream. `cut` is the stream without its
+    last byte, `dest` a file to write."""
     if not reads(aec, stream, "/dev/null", words, count):
         return []
-    write_whole(cut, read_file(stream)[:-1])
     is_spare = reads(aec, cut, "/dev/null", words, count)
     looked = []
     for signed in ([], ["-s"]):
@@ -96,13 +95,13 @@ def streams(aec, stream, count, *options):
     if {"-m", "-3", "-s"} & set(options):
         raise Refused("-m and -3 change nothing in a stream, and -s is tried by itself")
     require_aec(aec)
-    read_file(stream)
-    widths = tuple(map(str, range(1, 33)))
-    found = []
+    widths, found = tuple(map(str, range(1, 33))), []
     with tempfile.TemporaryDirectory() as folder:
+        cut, dest = os.path.join(folder, "cut"), os.path.join(folder, "dest")
+        write_file(cut, read_file(stream)[:-1])
         for words in with_progress(candidates(options, ["-N"], n=widths, j=BLOCKS, r=INTERVALS)):
             if reads(aec, stream, "/dev/null", words, min(int(count), FRONT)):
-                found += looked_at(aec, stream, folder, words, int(count))
+                found += looked_at(aec, stream, cut, dest, words, int(count))
     if not found:
         more = "try --even-blocks with -j, or -t, or -p"
         raise Refused(f"no options of those tried read {count} samples: {more}")

@@ -52,9 +52,10 @@ take_options() {
 
 # Makes the folder `work` beside a file, which is gone when the script ends, by a signal too.
 take_work() {
-    work=$(mktemp -d "$1.work.XXXXXX")
+    work=
     trap 'rm -rf "$work"' EXIT
     trap 'exit 1' HUP INT TERM
+    work=$(mktemp -d "$1.work.XXXXXX")
 }
 
 # Gives a finished file its name, where nothing has it.

@@ -85,6 +85,15 @@ def drawn_chunk(chance):
     return layout, elements, chance.getrandbits(bits).to_bytes(size, order)
 
 
+def may_follow(before, after, raw_bytes):
+    """Whether an edit may leave this chunk: a raw one is raw again, and a coded one becomes raw
+    where it doesn't shrink, but not where HDF5 1.10 would miss that, since its length stays."""
+    if before.is_raw:
+        return after.is_raw
+    is_as_long = len(before.data) == raw_bytes
+    return not is_as_long if after.is_raw else is_as_long or len(after.data) < raw_bytes
+
+
 def try_chunk(number, chance, aec, tally):
     """A chunk: its raw bytes, and those after an edit, by which it may become raw."""
     layout, elements, value = drawn_chunk(chance)
@@ -98,10 +107,8 @@ def try_chunk(number, chance, aec, tally):
         wanted = b"".join([*elements[:place], value, *elements[place + 1 :]])
         back = szip_chunks.decoded(layout, aec.path, after, len(raw))
         tally.check(f"{what}: edited, raw before: {is_raw}", back, wanted)
-        may_be_raw = is_raw or len(chunk.data) != len(raw)
-        is_short = len(after.data) < len(raw)
-        is_so = after.is_raw if is_raw else is_short or after.is_raw == may_be_raw
-        tally.holds(is_so, f"{what}: {len(after.data)} of {len(raw)} bytes, raw: {after.is_raw}")
+        said = f"{what}: {len(after.data)} of {len(raw)} bytes, raw: {after.is_raw}"
+        tally.holds(may_follow(before, after, len(raw)), said)
 
 
 def try_layouts(aec, tally):
@@ -185,9 +192,13 @@ def try_packets(aec, script, tally):
     for name in listed:
         samples = aec.read(os.path.join("all", name))
         tally.check(f"samples of {name}", samples, bytes(range(8)))
-    for folder, length in (("all", "4"), ("new", "x")):
-        status, _ = script.run(PACKETS, "read", aec.path, "p", folder, length, *words)
-        tally.check(f"packets into {folder}, length {length}", status, 1)
+    for given, status, text in (
+        (["all", "4", *words], 1, "all: File exists"),
+        (["new", "x", *words], 1, "x is no length of a secondary header"),
+        (["new"], 2, "read takes the words AEC FILE FOLDER SECONDARY OPTIONS..; --help tells more"),
+    ):
+        answer = script.run(PACKETS, "read", aec.path, "p", *given)
+        tally.check(f"packets: {given}", answer, (status, f"space_packets.py: {text}\n"))
 
 
 def try_without_h5py(aec, script, tally):
