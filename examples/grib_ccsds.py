@@ -100,7 +100,7 @@ def message_of(path):
     if edition != 2:
         raise Refused(f"the message has edition {edition}, not 2")
     end = number(data, 8, 8)
-    if len(data) < max(end, 20):
+    if len(data) < end:
         raise Refused(f"the message is cut: {len(data)} of its {end} bytes are there")
     message = Message(data, end, sections_of(data, end))
     for needed in (5, 7):

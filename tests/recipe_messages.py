@@ -95,6 +95,7 @@ def bad_messages(good, settings):
         (good[:10], "the message is cut: only 10 bytes are there"),
         (good[:-1], f"the message is cut: {size - 1} of its {size} bytes are there"),
         (good[:-4] + b"7778", f"the message is cut or damaged: at byte {size - 4} no section fits"),
+        (good[:8] + bytes(8), "the message is cut or damaged: at byte 16 no section fits"),
         (made(edition=1), "the message has edition 1, not 2"),
         (made(template=40), "the field has data representation template 5.40, not 5.42"),
         (made(bits=0), "the field is constant: it has no stream"),
