@@ -121,6 +121,14 @@ def all_kept(aec, names):
     return not left and all(os.path.exists(aec.file(it + end)) for it in names for end in ENDS)
 
 
+def with_bad_find(aec):
+    """A path on which `find` lists files and fails, as it does where it may not read a folder."""
+    os.makedirs(aec.file("bad"), exist_ok=True)
+    aec.write("bad/find", f"#!/bin/sh\n{shutil.which('find')} \"$@\"\nexit 1\n".encode())
+    os.chmod(aec.file("bad/find"), 0o755)
+    return f"{aec.file('bad')}:{os.environ['PATH']}"
+
+
 def try_parallel(aec, tally):
     """A folder by GNU parallel, twice, by scripts in a folder with a blank in its name."""
     names, archive = fill(aec, "jobs"), aec.file("scripts of mine/archive.sh")
@@ -142,6 +150,8 @@ def try_parallel(aec, tally):
     for words, status in ((["jobs"], 2), (["none", "-n", "16"], 1)):
         answer = run(aec, "sh", ARCHIVE, aec.path, *words)[0]
         tally.check(f"archive.sh {words}", answer, status)
+    answer = run(aec, "sh", ARCHIVE, aec.path, "jobs", "-n", "16", PATH=with_bad_find(aec))
+    tally.check("archive.sh where find fails", answer, (1, ""))
 
 
 def try_tasks(aec, tally):
@@ -156,8 +166,13 @@ def try_tasks(aec, tally):
     tally.check("tasks", answers, wanted)
     tally.holds(all_kept(aec, names), "the tasks keep each file")
     array = {"SLURM_ARRAY_TASK_COUNT": "3", "SLURM_ARRAY_TASK_ID": "1"}
-    answer = run(aec, "bash", SBATCH, KEEP, aec.path, "tasks", "-n", "16", **array)
-    tally.check("a task again", answer, (0, ""))
+    words = ["bash", SBATCH, KEEP, aec.path, "tasks", "-n", "16"]
+    tally.check("a task again", run(aec, *words, **array), (0, ""))
+    answer = run(aec, *words, PATH=with_bad_find(aec), **array)
+    tally.check("a task where find fails", answer, (1, ""))
+    os.mkdir(aec.file("empty"))
+    words[4] = "empty"
+    tally.check("a task of an empty folder", run(aec, *words, **array), (0, ""))
 
 
 def try_bag(aec, tally):
