@@ -1,4 +1,5 @@
-"""What the scripts of this folder share: runs of aec, files that are written whole, and refusals of one line."""
+"""What the scripts of this folder share: runs of aec, files that are written whole, and refusals
+of one line."""
 
 import functools
 import inspect
@@ -18,16 +19,21 @@ def read_file(path):
         return file.read()
 
 
+def write_file(path, data):
+    """Writes the bytes of a file that need not outlive a failure."""
+    with open(path, "wb") as file:
+        file.write(data)
+
+
 def write_whole(path, data, *inputs):
-    """Writes a file under another name beside it, and renames that: a failure leaves what stood there. Refuses to write over one
-    of the inputs."""
+    """Writes a file under another name beside it, and renames that: a failure leaves what stood
+    there. Refuses to write over one of the inputs."""
     path = os.path.realpath(path)
     for name in inputs:
         if os.path.exists(path) and os.path.exists(name) and os.path.samefile(path, name):
             raise Refused(f"{name} is read, so it can't be written too")
     if os.path.exists(path) and not os.path.isfile(path):  # a pipe or a device
-        with open(path, "wb") as file:
-            file.write(data)
+        write_file(path, data)
         return
     new = f"{path}.new-{os.getpid()}"
     try:
@@ -59,13 +65,14 @@ def require_aec(aec):
 
 
 def run_aec(aec, words, source, script=None):
-    """The bytes of DEST of a run with these words on the bytes of SOURCE; with a script, of a run with --edit."""
+    """The bytes of DEST of a run with these words on the bytes of SOURCE; with a script, of a run
+    with --edit. What aec refuses is refused with its text."""
     require_aec(aec)
     with tempfile.TemporaryDirectory() as folder:
         given, made, lines = (os.path.join(folder, name) for name in ("source", "dest", "script"))
-        write_whole(given, source)
+        write_file(given, source)
         if script is not None:
-            write_whole(lines, script)
+            write_file(lines, script)
             words = ["--edit", lines, *words]
         status, text = said_by([aec, *words, given, made])
         if status != 0:
@@ -73,21 +80,38 @@ def run_aec(aec, words, source, script=None):
         return read_file(made)
 
 
-def samples_of(data, words):
-    """The samples of decoded bytes, which these words for aec have decoded."""
+def bytes_of_sample(words):
+    """The bytes of a stored sample, by the words for aec."""
     bits = int(words[words.index("-n") + 1]) if "-n" in words else 8
-    size = 1 if bits <= 8 else 2 if bits <= 16 else 3 if bits <= 24 and "-3" in words else 4
-    order, is_signed = "big" if "-m" in words else "little", "-s" in words
-    return [int.from_bytes(data[i : i + size], order, signed=is_signed) for i in range(0, len(data), size)]
+    if bits <= 8:
+        return 1
+    if bits <= 16:
+        return 2
+    return 3 if bits <= 24 and "-3" in words else 4
+
+
+def samples_of(data, words):
+    """The samples of bytes that aec has decoded by these words."""
+    size, order = bytes_of_sample(words), "big" if "-m" in words else "little"
+    parts = (data[first : first + size] for first in range(0, len(data), size))
+    return [int.from_bytes(part, order, signed="-s" in words) for part in parts]
 
 
 def perform(doc, **actions):
-    """Calls the function that the first word names with the words behind it, and ends with the status that it answers. What it
-    refuses, and files that fail, are one line on standard error and status 1; words that it doesn't take are status 2."""
+    """Calls the function that the first word names with the words behind it, and ends with the
+    status that it answers. What it refuses, and files that fail, are one line on standard error
+    and status 1; words that it doesn't take are status 2."""
     first = sys.argv[1] if len(sys.argv) > 1 else "--help"
     if first not in actions and first not in ("-h", "--help"):
-        sys.exit(complain(f"the first word must be one of {', '.join(actions)}; --help tells more", 2))
+        names = ", ".join(actions)
+        sys.exit(complain(f"the first word must be one of {names}; --help tells more", 2))
     call(doc, actions.get(first), first, sys.argv[2:])
+
+
+def words_of(action):
+    """The words that a function takes, as the user is told."""
+    taken = inspect.signature(action).parameters.values()
+    return " ".join(it.name.upper() + ".." * (it.kind is it.VAR_POSITIONAL) for it in taken)
 
 
 def call(doc, action, name, words):
@@ -95,12 +119,10 @@ def call(doc, action, name, words):
     if name in ("-h", "--help") or words[:1] in (["-h"], ["--help"]):
         print(doc.strip())
         sys.exit(0)
-    wanted = inspect.signature(action)
     try:
-        wanted.bind(*words)
+        inspect.signature(action).bind(*words)
     except TypeError:
-        needed = " ".join(map(str, wanted.parameters.values())).upper()
-        sys.exit(complain(f"{name} takes the words {needed}; --help tells more", 2))
+        sys.exit(complain(f"{name} takes the words {words_of(action)}; --help tells more", 2))
     try:
         sys.exit(action(*words))
     except Refused as refusal:

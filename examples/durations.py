@@ -2,8 +2,8 @@
 
     python3 examples/durations.py examples/durations.raw
 
-Writes each time in units of 16 ns as an unsigned sample of 16 bits, least significant byte first; a longer time than
-such a sample can hold is written as the greatest.
+Writes each time in units of 16 ns as an unsigned sample of 16 bits, least significant byte first; a
+longer time than such a sample can hold is written as the greatest.
 """
 
 import struct

@@ -4,9 +4,10 @@
     fit.py sizes AEC FILE OPTIONS..           OPTIONS say how samples are stored: -n, and -m or -3
     fit.py streams AEC STREAM COUNT OPTIONS.. OPTIONS are what is known, as -n 16
 
-`sizes` codes FILE with each block size, several intervals, with and without -s and -N, and prints the shortest streams first.
-`streams` prints the options that read COUNT samples without a fault, likely ones first: those that need the
-stream's last byte (whole), then by the sum of the differences between neighbours, which is small for samples that belong together. It is a hint:
+`sizes` codes FILE with each block size, several intervals, with and without -s and -N, and prints
+the shortest streams first. `streams` prints the options that read COUNT samples without a fault,
+likely ones first: those that need the stream's last byte (whole), then by the sum of the
+differences between neighbours, which is small for samples that belong together. It is a hint:
 nothing in a stream tells. Progress goes to standard error.
 """
 
@@ -15,26 +16,29 @@ import os
 import sys
 import tempfile
 
-from aec_runs import Refused, perform, read_file, require_aec, said_by, samples_of, write_whole
+from aec_runs import Refused, perform, read_file, require_aec, said_by, samples_of, write_file
 
 BLOCKS = ("8", "16", "32", "64")
-INTERVALS = ("1", "2", "4", "8", "16", "32", "64", "128", "256", "512", "1024", "2048", "4096")
+INTERVALS = tuple(str(1 << i) for i in range(13))
 FEWER_INTERVALS = ("1", "2", "8", "32", "128", "512", "4096")
 FRONT = 1 << 14  # samples that are tried first, and whose differences are added up
-SHOWN = 20
+SHOWN = 20  # rows
 
 
-def candidates(fixed, **values):
-    """Lists of words: those that are fixed, and each choice of what they leave open."""
-    choices = []
-    for letter, tried in values.items():
-        if f"-{letter}" not in fixed:
-            choices.append([["-" + letter, value] for value in tried] if isinstance(tried, tuple) else [[], ["-" + letter]])
+def candidates(fixed, switches, **values):
+    """Lists of words: those that are fixed, and each choice of what they leave open: a value for
+    each option that is named, and whether each switch is there."""
+    choices = [
+        [[f"-{name}", value] for value in tried]
+        for name, tried in values.items()
+        if f"-{name}" not in fixed
+    ]
+    choices += [[[], [switch]] for switch in switches if switch not in fixed]
     return [[*fixed, *itertools.chain(*chosen)] for chosen in itertools.product(*choices)]
 
 
 def with_progress(listed):
-    """Each of a list, and on a terminal how far it has come."""
+    """Each of a list, and on standard error how far it has come."""
     for i, it in enumerate(listed):
         if i % 50 == 0:
             print(f"\r{i} of {len(listed)}", end="", file=sys.stderr, flush=True)
@@ -50,7 +54,7 @@ def sizes(aec, file, *options):
     ranked, refused = [], ""
     with tempfile.TemporaryDirectory() as folder:
         dest = os.path.join(folder, "dest")
-        for words in with_progress(candidates(options, j=BLOCKS, r=FEWER_INTERVALS, s=None, N=None)):
+        for words in with_progress(candidates(options, ["-s", "-N"], j=BLOCKS, r=FEWER_INTERVALS)):
             status, text = said_by([aec, *words, file, dest])
             if status == 0:
                 ranked.append((os.path.getsize(dest), " ".join(words)))
@@ -68,12 +72,12 @@ def reads(aec, stream, dest, words, count):
     return said_by([aec, "-d", "--count", str(count), *words, stream, dest])[0] == 0
 
 
-def looked_at(aec, stream, folder, words, count):
-    """Whether the last byte isn't needed, the sum of differences in the front, and the words, for those that read the stream."""
-    cut, dest = os.path.join(folder, "cut"), os.path.join(folder, "dest")
+def looked_at(aec, stream, cut, dest, words, count):
+    """Whether the last byte isn't needed, the sum of differences in the front, and the words, for
+    signed and unsigned samples where these words read the stream. `cut` is the stream without its
+    last byte, `dest` a file to write."""
     if not reads(aec, stream, "/dev/null", words, count):
         return []
-    write_whole(cut, read_file(stream)[:-1])
     is_spare = reads(aec, cut, "/dev/null", words, count)
     looked = []
     for signed in ([], ["-s"]):
@@ -91,15 +95,16 @@ def streams(aec, stream, count, *options):
     if {"-m", "-3", "-s"} & set(options):
         raise Refused("-m and -3 change nothing in a stream, and -s is tried by itself")
     require_aec(aec)
-    read_file(stream)
-    widths = tuple(map(str, range(1, 33)))
-    found = []
+    widths, found = tuple(map(str, range(1, 33))), []
     with tempfile.TemporaryDirectory() as folder:
-        for words in with_progress(candidates(options, n=widths, j=BLOCKS, r=INTERVALS, N=None)):
+        cut, dest = os.path.join(folder, "cut"), os.path.join(folder, "dest")
+        write_file(cut, read_file(stream)[:-1])
+        for words in with_progress(candidates(options, ["-N"], n=widths, j=BLOCKS, r=INTERVALS)):
             if reads(aec, stream, "/dev/null", words, min(int(count), FRONT)):
-                found += looked_at(aec, stream, folder, words, int(count))
+                found += looked_at(aec, stream, cut, dest, words, int(count))
     if not found:
-        raise Refused(f"no options of those tried read {count} samples: try --even-blocks with -j, or -t, or -p")
+        more = "try --even-blocks with -j, or -t, or -p"
+        raise Refused(f"no options of those tried read {count} samples: {more}")
     print(f"{'ends':10}{'differences':>16}  options: {len(found)} read {count} samples")
     for is_spare, differences, words in sorted(found)[:SHOWN]:
         print(f"{'too early' if is_spare else 'whole':10}{differences:16}  {words}")

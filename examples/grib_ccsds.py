@@ -1,10 +1,13 @@
 #!/usr/bin/env python3
-"""The coded stream of a GRIB2 message (data representation template 5.42), of the first message of a file:
+"""The coded stream of a GRIB2 message (data representation template 5.42), of the first message of
+a file:
 
-    grib_ccsds.py options MESSAGE                 prints the words for aec, with --count
-    grib_ccsds.py take MESSAGE STREAM             writes the stream of section 7
-    grib_ccsds.py put MESSAGE STREAM OUT          writes the file with another stream of the same options and count
-    grib_ccsds.py edit AEC SCRIPT MESSAGE OUT     writes the file with its stream edited by a script that keeps the count
+    grib_ccsds.py options MESSAGE               prints the words for aec, with --count
+    grib_ccsds.py take MESSAGE STREAM           writes the stream of section 7
+    grib_ccsds.py put MESSAGE STREAM OUT        writes the file with another stream of the same
+                                                options and count
+    grib_ccsds.py edit AEC SCRIPT MESSAGE OUT   writes the file with its stream edited by a script
+                                                that keeps the count
 
 Messages behind the first are kept as they are. The standard library is enough.
 """
@@ -13,7 +16,10 @@ from typing import NamedTuple
 
 from aec_runs import Refused, perform, read_file, run_aec, write_whole
 
-SIGNED, THREE_BYTES, MSB_FIRST, PREPROCESS, RESTRICTED, PADDED, ANY_EVEN_BLOCK = (1 << i for i in range(7))
+# bits of ccsdsFlags
+SIGNED, THREE_BYTES, MSB_FIRST, PREPROCESS, RESTRICTED, PADDED, ANY_EVEN_BLOCK = (
+    1 << place for place in range(7)
+)
 STANDARD_BLOCK_SIZES = (8, 16, 32, 64)
 SECTION_HEAD = 5  # its length in four bytes, then its number
 TEMPLATE_END = 25  # bytes of section 5 with template 5.42
@@ -24,7 +30,7 @@ class Message(NamedTuple):
 
     data: bytes
     end: int
-    sections: dict  # from the number of a section to its first byte and its end
+    sections: dict[int, tuple[int, int]]  # from its number: its first byte, and its end
 
     def section(self, number):
         """The bytes of a section."""
@@ -48,15 +54,14 @@ class Coding(NamedTuple):
     def words(self):
         """The words for aec, without the count."""
         words = ["-n", str(self.bits), "-j", str(self.block_size), "-r", str(self.interval)]
-        is_restricted = self.flags & RESTRICTED and self.bits <= 8  # above, the flag changes nothing
-        is_other_size = self.flags & ANY_EVEN_BLOCK or self.block_size not in STANDARD_BLOCK_SIZES
+        is_standard = self.block_size in STANDARD_BLOCK_SIZES
         switches = {
             "-s": self.flags & SIGNED,
             "-N": not self.flags & PREPROCESS,
-            "-t": is_restricted,
+            "-t": self.flags & RESTRICTED and self.bits <= 8,  # above, the flag changes nothing
             "-m": self.flags & MSB_FIRST,
             "-3": self.flags & THREE_BYTES,
-            "--even-blocks": is_other_size,
+            "--even-blocks": self.flags & ANY_EVEN_BLOCK or not is_standard,
         }
         return words + [word for word, is_set in switches.items() if is_set]
 
@@ -66,7 +71,7 @@ class Coding(NamedTuple):
 
 
 def number(data, first, length):
-    """The number without sign in these bytes."""
+    """The number without sign in these bytes, the most significant one first."""
     return int.from_bytes(data[first : first + length], "big")
 
 
@@ -78,7 +83,7 @@ def sections_of(data, end):
         if length < SECTION_HEAD or first + length > end - 4:
             raise Refused(f"the message is cut or damaged: at byte {first} no section fits")
         if name <= last:
-            raise Refused("the message repeats sections: split it into one message a field first")
+            raise Refused("the message repeats sections: split it into one message a field")
         sections[name], last = (first, first + length), name
         first += length
     return sections
@@ -95,7 +100,7 @@ def message_of(path):
     if edition != 2:
         raise Refused(f"the message has edition {edition}, not 2")
     end = number(data, 8, 8)
-    if len(data) < max(end, 20):
+    if len(data) < end:
         raise Refused(f"the message is cut: {len(data)} of its {end} bytes are there")
     message = Message(data, end, sections_of(data, end))
     for needed in (5, 7):
@@ -112,7 +117,8 @@ def coding_of(message):
         raise Refused(f"the field has data representation template 5.{template}, not 5.42")
     if len(section) < TEMPLATE_END:
         raise Refused(f"section 5 has {len(section)} bytes, too few for template 5.42")
-    coding = Coding(number(section, 5, 4), section[19], section[21], section[22], number(section, 23, 2))
+    count, interval = number(section, 5, 4), number(section, 23, 2)
+    coding = Coding(count, section[19], section[21], section[22], interval)
     if coding.bits == 0:
         raise Refused("the field is constant: it has no stream")
     if coding.bits > 32:
@@ -174,7 +180,7 @@ def edit(aec, script, message, out):
     stream = run_aec(aec, coding.counted_words(), read.stream(), lines)
     count = count_after(lines, coding.count)
     if count != coding.count:
-        raise Refused(f"the script leaves {count} values, but the message must keep its {coding.count}")
+        raise Refused(f"the script leaves {count} values, not the {coding.count} of the message")
     write_whole(out, with_stream(read, stream), message, script)
 
 

@@ -1,18 +1,23 @@
 #!/usr/bin/env python3
 """The coded streams of an HDF5 data set with the szip filter. Needs h5py, but not HDF5's own szip:
 
-    h5_szip.py show FILE DATASET                      prints shape, type, chunks, and the words for aec
-    h5_szip.py read AEC FILE DATASET OUT              writes all elements as raw bytes, as they are stored, the last place first
-    h5_szip.py edit AEC FILE DATASET PLACE VALUE      gives the element at PLACE, as 3,0,17, another value: in FILE itself
+    h5_szip.py show FILE DATASET              prints shape, type, chunks, and the words for aec
+    h5_szip.py read AEC FILE DATASET OUT      writes all elements as raw bytes, as they are stored,
+                                              the last place first to change
+    h5_szip.py edit AEC FILE DATASET PLACE VALUE
+                                              gives the element at PLACE, as 3,0,17, another value:
+                                              in FILE itself
 
-A chunk that the filter has passed over is stored raw, and stays so; one that no longer shrinks is written raw.
+A chunk that the filter has passed over is stored raw, and stays so; one that no longer shrinks is
+written raw.
 """
 
 import itertools
+import math
 import sys
 
 from aec_runs import Refused, perform, write_whole
-from szip_chunks import Layout, decoded, edited
+from szip_chunks import Chunk, Layout, decoded, edited
 
 try:
     import h5py
@@ -21,6 +26,8 @@ except ImportError as fault:
     sys.exit(f"h5_szip.py: {fault}: python3-h5py has it for /usr/bin/python3")
 
 SZIP = 4  # the number of the filter
+# what HDF5 says of a chunk that isn't in the file, in its versions
+NOT_STORED = ("storage is not allocated", "address isn't defined", "buf cannot be NULL")
 
 
 def opened(path, mode, name):
@@ -28,7 +35,8 @@ def opened(path, mode, name):
     try:
         file = h5py.File(path, mode)
     except OSError as fault:
-        raise Refused(f"{path} can't be opened as HDF5: {str(fault).splitlines()[0]}") from fault
+        text = str(fault).splitlines()[0]
+        raise Refused(f"{path} can't be opened as HDF5: {text}") from fault
     if not isinstance(file.get(name), h5py.Dataset):
         raise Refused(f"{path} has no data set {name}")
     return file, file[name]
@@ -41,23 +49,38 @@ def layout_of(data_set):
     names = [it[0] for it in filters]
     if names != [SZIP]:
         raise Refused(f"the data set has the filters {names}, not szip (4) alone")
+    stored, dtype = data_set.id.get_type(), data_set.dtype
+    if dtype.kind not in "iufb" or stored.get_size() != dtype.itemsize:
+        raise Refused(f"elements of the type {dtype} aren't single numbers as they are stored")
     mask, block_size, bits, line = filters[0][2][:4]
-    layout = Layout(mask, block_size, bits, line, data_set.dtype.itemsize)
+    layout = Layout(mask, block_size, bits, line, dtype.itemsize)
     layout.check()
     return layout
 
 
+def chunk_bytes(data_set):
+    """The raw bytes of each chunk; those at an edge of the data set are as long as the others."""
+    return data_set.dtype.itemsize * math.prod(data_set.chunks)
+
+
 def chunk_at(data_set, corner):
-    """The bytes of a chunk as they stand in the file, and whether they are raw. One that isn't there has the fill value."""
-    if data_set.id.get_chunk_info_by_coord(corner).byte_offset is None:
-        return numpy.full(data_set.chunks, data_set.fillvalue, data_set.dtype).tobytes(), True
-    mask, chunk = data_set.id.read_direct_chunk(corner)
-    return chunk, mask & 1 == 1
+    """The chunk whose first place that is. One that isn't in the file has the fill value. HDF5 1.10
+    tells only by its fault: where the last dimension may grow, `get_chunk_info_by_coord` misses
+    chunks that are there."""
+    try:
+        mask, data = data_set.id.read_direct_chunk(corner)
+    except (OSError, RuntimeError, ValueError) as fault:
+        if not any(text in str(fault) for text in NOT_STORED):
+            raise Refused(f"the chunk at {corner} can't be read: {fault}") from fault
+        filled = numpy.full(data_set.chunks, data_set.fillvalue, data_set.dtype)
+        return Chunk(filled.tobytes(), True)
+    return Chunk(data, mask & 1 == 1)
 
 
 def corners(data_set):
     """The first place of each chunk."""
-    return itertools.product(*(range(0, n, step) for n, step in zip(data_set.shape, data_set.chunks)))
+    steps = zip(data_set.shape, data_set.chunks)
+    return itertools.product(*(range(0, length, step) for length, step in steps))
 
 
 def show(file, dataset):
@@ -72,8 +95,7 @@ def show(file, dataset):
         print(f"scan lines of {layout.line} samples, filled up to {layout.filled()}")
         if layout.is_planes():
             print(f"each chunk is {layout.element} planes of bytes")
-        raw_bytes = data_set.dtype.itemsize * int(numpy.prod(data_set.chunks))
-        print("aec --count", layout.count(raw_bytes), *layout.words())
+        print("aec --count", layout.count(chunk_bytes(data_set)), *layout.words())
 
 
 def read(aec, file, dataset, out):
@@ -83,74 +105,80 @@ def read(aec, file, dataset, out):
         layout = layout_of(data_set)
         elements = numpy.empty(data_set.shape, data_set.dtype)
         for corner in corners(data_set):
-            chunk, is_raw = chunk_at(data_set, corner)
-            raw = chunk if is_raw else decoded(layout, aec, chunk)
-            if len(raw) != data_set.dtype.itemsize * numpy.prod(data_set.chunks):
-                raise Refused(f"the chunk at {corner} has {len(raw)} raw bytes, other than its shape")
-            part = elements[tuple(slice(i, i + step) for i, step in zip(corner, data_set.chunks))]
-            whole = numpy.frombuffer(raw, data_set.dtype).reshape(data_set.chunks)
-            part[...] = whole[tuple(slice(0, n) for n in part.shape)]
+            raw = decoded(layout, aec, chunk_at(data_set, corner), chunk_bytes(data_set))
+            chunk = numpy.frombuffer(raw, data_set.dtype).reshape(data_set.chunks)
+            places = zip(corner, data_set.chunks)
+            part = elements[tuple(slice(first, first + step) for first, step in places)]
+            part[...] = chunk[tuple(slice(0, length) for length in part.shape)]
     write_whole(out, elements.tobytes(), file)
 
 
 def place_in(data_set, text):
-    """The place of an element: as many numbers as the data set has dimensions, each within the shape."""
+    """The place of an element: as many numbers as the data set has dimensions, each within the
+    shape."""
     numbers = text.split(",")
     if len(numbers) != len(data_set.shape) or not all(it.isdecimal() for it in numbers):
-        raise Refused(f"{text} is no place: {len(data_set.shape)} numbers are wanted, as 3,0,17")
+        wanted = len(data_set.shape)
+        raise Refused(f"{text} is no place: {wanted} numbers are wanted, as 3,0,17")
     place = tuple(map(int, numbers))
-    if any(i >= n for i, n in zip(place, data_set.shape)):
+    if any(i >= length for i, length in zip(place, data_set.shape)):
         raise Refused(f"{text} lies outside the shape {data_set.shape}")
     return place
 
 
-def bytes_of_value(dtype, text):
-    """An element of that type, as it is stored."""
+def bytes_of_integer(data_set, text):
+    """A whole number as an element is stored; the bits above the type's precision are zero."""
+    dtype, stored = data_set.dtype, data_set.id.get_type()
+    precision = stored.get_precision()
     try:
-        value = float(text) if dtype.kind == "f" else int(text)
+        value = int(text)
     except ValueError as fault:
         raise Refused(f"{text} is no value of the type {dtype}") from fault
-    if dtype.kind == "f":
-        with numpy.errstate(over="ignore"):
-            stored = numpy.array(value).astype(dtype)
-        fits = numpy.isfinite(stored) or not numpy.isfinite(value)
-    elif dtype.kind in "iu":
-        limits = numpy.iinfo(dtype)
-        fits = limits.min <= value <= limits.max
-        stored = numpy.array(value if fits else 0, dtype)
-    else:
-        raise Refused(f"elements of the type {dtype} aren't edited")
-    if not fits:
+    least = -1 << precision - 1 if dtype.kind == "i" else 0
+    if not least <= value < least + (1 << precision):
+        raise Refused(f"{text} is out of the range of {dtype} with {precision} bits")
+    order = "big" if stored.get_order() == h5py.h5t.ORDER_BE else "little"
+    return (value % (1 << precision)).to_bytes(dtype.itemsize, order)
+
+
+def bytes_of_float(data_set, text):
+    """A number as an element is stored."""
+    dtype = data_set.dtype
+    try:
+        value = float(text)
+    except ValueError as fault:
+        raise Refused(f"{text} is no value of the type {dtype}") from fault
+    with numpy.errstate(over="ignore"):
+        stored = numpy.array(value).astype(dtype)
+    if numpy.isinf(stored) and not math.isinf(value):
         raise Refused(f"{text} is out of the range of {dtype}")
     return stored.tobytes()
 
 
-def edited_chunk(layout, aec, data_set, corner, element, value):
-    """The mask and the bytes of a chunk with another value for one element."""
-    chunk, is_raw = chunk_at(data_set, corner)
-    whole = data_set.dtype.itemsize * int(numpy.prod(data_set.chunks))
-    if not is_raw:
-        coded = edited(layout, aec, chunk, element, value)
-        if len(coded) < whole:
-            return 0, coded
-        chunk = decoded(layout, aec, chunk)
-    first = element * layout.element
-    return 1, chunk[:first] + value + chunk[first + len(value) :]
+def bytes_of_value(data_set, text):
+    """The bytes that an element of a data set gets."""
+    kind, stored = data_set.dtype.kind, data_set.id.get_type()
+    if kind in "iu" and stored.get_offset() == 0:
+        return bytes_of_integer(data_set, text)
+    if kind == "f" and stored.equal(h5py.h5t.py_create(data_set.dtype)):
+        return bytes_of_float(data_set, text)
+    raise Refused(f"elements of the type {data_set.dtype} aren't edited as they are stored here")
 
 
 def edit(aec, file, dataset, place, value):
-    """Gives an element another value. The file is opened for writing when the new chunk is there."""
+    """Gives an element another value. The file is opened for writing once the new chunk is made."""
     handle, data_set = opened(file, "r", dataset)
     with handle:
         layout, numbers = layout_of(data_set), place_in(data_set, place)
-        stored = bytes_of_value(data_set.dtype, value)
+        stored = bytes_of_value(data_set, value)
         corner = tuple(i // step * step for i, step in zip(numbers, data_set.chunks))
         inside = tuple(i % step for i, step in zip(numbers, data_set.chunks))
         element = int(numpy.ravel_multi_index(inside, data_set.chunks))
-        mask, chunk = edited_chunk(layout, aec, data_set, corner, element, stored)
+        before = chunk_at(data_set, corner)
+        after = edited(layout, aec, before, element, stored, chunk_bytes(data_set))
     handle, data_set = opened(file, "r+", dataset)
     with handle:
-        data_set.id.write_direct_chunk(corner, chunk, mask)
+        data_set.id.write_direct_chunk(corner, after.data, int(after.is_raw))
 
 
 if __name__ == "__main__":

@@ -1,7 +1,8 @@
 #!/bin/sh
 # A file kept as its coded stream beside a note of all that reading it takes.
-#   keep.sh code AEC FILE -n N [OPTIONS of coding]   writes FILE.aec and FILE.aec.note, once the stream has given FILE back
-#   keep.sh back AEC FILE.aec OUT                    writes OUT, once its samples are those of the note
+#   keep.sh code AEC FILE -n N [OPTIONS of coding]   writes FILE.aec and FILE.aec.note, once the
+#                                                    stream has given FILE back
+#   keep.sh back AEC FILE.aec OUT                    writes OUT, once its samples are the note's
 # FILE stays. Nothing that exists is written over. Without -j or -r the options are -j 16 -r 128.
 set -eu
 export LC_ALL=C
@@ -39,7 +40,7 @@ take_options() {
             flags="$flags $1"
             shift
             ;;
-        *) refuse "$1 is none of -n -j -r -3 -s -m -N -t -p --even-blocks, each a word of its own" ;;
+        *) refuse "$1 is none of -n -j -r -3 -s -m -N -t -p --even-blocks, each a word" ;;
         esac
     done
     [ "$bits" ] || refuse "give -n, the bits of a sample: nothing in FILE tells"
@@ -47,6 +48,14 @@ take_options() {
     storage=4
     if [ "$bits" -le 8 ]; then storage=1; elif [ "$bits" -le 16 ]; then storage=2; fi
     if [ "$storage" = 4 ] && [ "$bits" -le 24 ] && [ "$three" ]; then storage=3; fi
+}
+
+# Makes the folder `work` beside a file, which is gone when the script ends, by a signal too.
+take_work() {
+    work=
+    trap 'rm -rf "$work"' EXIT
+    trap 'exit 1' HUP INT TERM
+    work=$(mktemp -d "$1.work.XXXXXX")
 }
 
 # Gives a finished file its name, where nothing has it.
@@ -63,15 +72,16 @@ code() {
         [ ! -e "$name" ] || refuse "$name exists"
     done
     bytes=$(size "$file")
-    [ $((bytes % storage)) = 0 ] || refuse "$file has $bytes bytes, which make up no whole samples of $storage"
+    [ $((bytes % storage)) = 0 ] || refuse "$file has $bytes bytes, no whole samples of $storage"
     count=$((bytes / storage))
-    work=$(mktemp -d "$file.work.XXXXXX")
-    trap 'rm -rf "$work"' EXIT
+    take_work "$file"
     # shellcheck disable=SC2086 # the options are words
     "$aec" $options "$file" "$work/stream" || refuse "$file isn't coded"
     # shellcheck disable=SC2086
-    "$aec" -d --count "$count" $options "$work/stream" "$work/back" || refuse "$file: its stream can't be decoded"
-    cmp -s "$file" "$work/back" || refuse "$file doesn't come back from its stream: has a sample bits above its $bits?"
+    "$aec" -d --count "$count" $options "$work/stream" "$work/back" ||
+        refuse "$file: its stream can't be decoded"
+    cmp -s "$file" "$work/back" ||
+        refuse "$file doesn't come back: bits above $bits must be copies of the sign"
     {
         echo "options $options"
         echo "count $count"
@@ -89,14 +99,16 @@ back() {
     stream=$1 out=$2 note=$1.note
     [ -f "$stream" ] && [ -f "$note" ] || refuse "$stream and $note are wanted"
     [ ! -e "$out" ] || refuse "$out exists"
-    [ "$(sum "$stream")" = "$(noted coded_sha256)" ] || refuse "$stream isn't the stream of its note: damaged, or edited since"
+    [ "$(sum "$stream")" = "$(noted coded_sha256)" ] ||
+        refuse "$stream isn't the stream of its note: damaged, or edited since"
     # shellcheck disable=SC2046
     take_options $(noted options)
-    work=$(mktemp -d "$out.work.XXXXXX")
-    trap 'rm -rf "$work"' EXIT
+    take_work "$out"
     # shellcheck disable=SC2086
-    "$aec" -d --count "$(noted count)" $options "$stream" "$work/back" || refuse "$stream can't be decoded"
-    [ "$(sum "$work/back")" = "$(noted sha256)" ] || refuse "$stream gives other samples than its note says"
+    "$aec" -d --count "$(noted count)" $options "$stream" "$work/back" ||
+        refuse "$stream can't be decoded"
+    [ "$(sum "$work/back")" = "$(noted sha256)" ] ||
+        refuse "$stream gives other samples than its note says"
     name_it "$work/back" "$out"
 }
 

@@ -3,9 +3,10 @@
 
     picture.py STREAM OUT WIDTH OPTIONS..
 
-OUT is named .png or .pgm. OPTIONS are those of aec for STREAM, with --count N, or --range FIRST:LEN for a part. WIDTH is the
-number of samples of a row; the last row is filled up with black. The least sample is black, the greatest white. The program is
-`aec`, or what the environment variable AEC names.
+OUT is named .png or .pgm. OPTIONS are those of aec for STREAM, with --count N, or --range FIRST:LEN
+for a part. WIDTH is the number of samples of a row; the last row is filled up with black. The least
+sample is black, the greatest white. The program is `aec`, or what the environment variable AEC
+names.
 """
 
 import os

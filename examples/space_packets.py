@@ -3,10 +3,11 @@
 
     space_packets.py read AEC FILE FOLDER SECONDARY OPTIONS..
 
-SECONDARY is the length of the secondary header in bytes, for packets that say that they have one. OPTIONS are those of aec, with
---count. Writes the samples of each packet into FOLDER, a new one, as APID_PACKET.raw; packets are counted from 0 in FILE.
-Sequence counts that skip are named. What can't be decoded is named and left, and the rest goes on: the status is then 1.
-Idle packets are passed over. The standard's compression identification packet isn't read.
+SECONDARY is the length of the secondary header in bytes, for packets that say that they have one.
+OPTIONS are those of aec, with --count. Writes the samples of each packet into FOLDER, a new one, as
+APID_PACKET.raw; packets are counted from 0 in FILE. Sequence counts that skip are named. What can't
+be decoded is named and left, and the rest goes on: the status is then 1. Idle packets are passed
+over. The standard's compression identification packet isn't read.
 """
 
 import os
@@ -14,9 +15,9 @@ from typing import NamedTuple
 
 from aec_runs import Refused, perform, read_file, require_aec, run_aec, write_whole
 
-PRIMARY = 6
-IDLE = 0x7FF
-COUNTS = 1 << 14  # the sequence count begins anew
+PRIMARY = 6  # bytes of the primary header
+IDLE = 0x7FF  # the APID of idle packets, the greatest
+COUNTS = 1 << 14  # where the sequence count begins anew
 
 
 class Packet(NamedTuple):
@@ -38,22 +39,26 @@ class Packet(NamedTuple):
 
 
 def packets_of(data):
-    """The packets of a file. Behind one that is cut, or that isn't a packet, no other can be found: it is refused."""
+    """The packets of a file. Behind one that is cut, or that isn't a packet, no other can be found:
+    it is refused."""
     first, number = 0, 0
     while first < len(data):
-        identity, sequence, length = (int.from_bytes(data[first + i : first + i + 2], "big") for i in (0, 2, 4))
+        head = data[first : first + PRIMARY]
+        identity, sequence, length = (int.from_bytes(head[i : i + 2], "big") for i in (0, 2, 4))
         end = first + PRIMARY + length + 1
         if identity >> 13 != 0:
-            raise Refused(f"packet {number}: at byte {first} no space packet begins; the rest of the file isn't read")
-        if first + PRIMARY > len(data) or end > len(data):
+            what = f"packet {number}: at byte {first} no space packet begins"
+            raise Refused(f"{what}; the rest of the file isn't read")
+        if end > len(data):
             raise Refused(f"packet {number}: it is cut, at byte {first} of the file")
-        has_secondary = identity >> 11 & 1 == 1
-        yield Packet(number, identity & IDLE, has_secondary, sequence % COUNTS, data[first + PRIMARY : end])
+        has_secondary, field = identity >> 11 & 1 == 1, data[first + PRIMARY : end]
+        yield Packet(number, identity & IDLE, has_secondary, sequence % COUNTS, field)
         first, number = end, number + 1
 
 
 def skipped(packet, expected):
-    """A text for a sequence count that isn't the expected one, None where it is."""
+    """A text for a sequence count that isn't the expected one, None where it is. `expected` has the
+    next count of each APID, and gets that behind this packet."""
     missing = (packet.sequence - expected.get(packet.apid, packet.sequence)) % COUNTS
     expected[packet.apid] = (packet.sequence + 1) % COUNTS
     return f"{packet.name()}: {missing} before it are missing" if missing else None

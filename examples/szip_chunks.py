@@ -1,9 +1,11 @@
-"""How HDF5's szip filter lays out the elements of a chunk as samples, and a chunk's bytes as they stand in the file: four bytes
-with the number of raw bytes, least significant first, then the stream. Knows nothing of files.
+"""How HDF5's szip filter lays out the elements of a chunk as samples, and a chunk's bytes as they
+stand in the file: four bytes with the number of raw bytes, least significant first, then the
+stream. Knows nothing of files.
 
-Elements of 8 and 16 bits are samples as they are. Those of 32 and 64 bits are planes of bytes: the first byte of each element,
-then the second of each, and so on. Samples are cut into scan lines, and behind each line come samples that fill it up to whole
-blocks, so that a line is one interval.
+Elements of up to 32 bits are samples as they are, but for those of 32 bits: these, and those of 64,
+are planes of bytes, the first byte of each element, then the second of each, and so on. Samples are
+cut into scan lines, and behind each line come samples that fill it up to whole blocks, so that a
+line is one interval.
 """
 
 from typing import NamedTuple
@@ -12,7 +14,7 @@ from aec_runs import Refused, run_aec
 
 MSB_FIRST, PREPROCESS = 16, 32  # bits of the filter's mask
 STANDARD_BLOCK_SIZES = (8, 16, 32, 64)
-HEAD = 4
+HEAD = 4  # bytes of a chunk before its stream
 
 
 class Layout(NamedTuple):
@@ -28,9 +30,17 @@ class Layout(NamedTuple):
         """Refuses what aec doesn't read."""
         if self.block_size < 8:
             raise Refused(f"blocks of {self.block_size} samples: aec has even sizes from 8 to 64")
-        stored = 1 if self.bits <= 8 else 2 if self.bits <= 16 else 4
-        if self.bits not in (32, 64) and stored != self.element:
-            raise Refused(f"elements of {self.bits} bits in {self.element} bytes are laid out in no known way")
+        if self.element != self.expected_element():
+            what = f"elements of {self.bits} bits in {self.element} bytes"
+            raise Refused(f"{what} are laid out in no known way")
+
+    def expected_element(self):
+        """The bytes of an element of so many bits."""
+        if self.bits <= 8:
+            return 1
+        if self.bits <= 16:
+            return 2
+        return 8 if self.bits == 64 else 4
 
     def is_planes(self):
         """Whether the samples are the bytes of elements."""
@@ -60,7 +70,7 @@ class Layout(NamedTuple):
         return words + [word for word, is_set in switches.items() if is_set]
 
     def place(self, sample):
-        """Where a sample stands in the stream, counted from 0."""
+        """Where a sample stands in the stream; both are counted from 0."""
         return sample // self.line * self.filled() + sample % self.line
 
     def count(self, raw_bytes):
@@ -73,8 +83,16 @@ class Layout(NamedTuple):
         return -(-(raw_bytes // self.sample()) // self.line) * self.filled()
 
 
+class Chunk(NamedTuple):
+    """A chunk as it stands in the file: its bytes, and whether the filter has passed over it, so
+    that they are the elements themselves."""
+
+    data: bytes
+    is_raw: bool
+
+
 def of_planes(data, element):
-    """Elements from the planes of their bytes."""
+    """Elements of so many bytes from the planes of their bytes."""
     raw, count = bytearray(len(data)), len(data) // element
     for plane in range(element):
         raw[plane::element] = data[plane * count : (plane + 1) * count]
@@ -89,33 +107,46 @@ def without_filler(layout, stored, raw_bytes):
     return of_planes(raw, layout.element) if layout.is_planes() else raw
 
 
-def raw_len(chunk):
-    """The number of raw bytes that a chunk names."""
-    if len(chunk) < HEAD:
-        raise Refused(f"a chunk has {len(chunk)} bytes, too few for its head")
-    return int.from_bytes(chunk[:HEAD], "little")
+def check_len(chunk, raw_bytes):
+    """Refuses a chunk that doesn't stand for so many raw bytes."""
+    if not chunk.is_raw and len(chunk.data) < HEAD:
+        raise Refused(f"a chunk has {len(chunk.data)} bytes, too few for its head")
+    named = len(chunk.data) if chunk.is_raw else int.from_bytes(chunk.data[:HEAD], "little")
+    if named != raw_bytes:
+        raise Refused(f"a chunk has {named} raw bytes in place of {raw_bytes}")
 
 
-def decoded(layout, aec, chunk):
+def decoded(layout, aec, chunk, raw_bytes):
     """The raw bytes of a chunk."""
-    raw_bytes = raw_len(chunk)
+    check_len(chunk, raw_bytes)
+    if chunk.is_raw:
+        return chunk.data
     words = ["-d", "--count", str(layout.count(raw_bytes)), *layout.words()]
-    return without_filler(layout, run_aec(aec, words, chunk[HEAD:]), raw_bytes)
+    return without_filler(layout, run_aec(aec, words, chunk.data[HEAD:]), raw_bytes)
 
 
 def overwrites(layout, element, value, elements):
-    """The script that gives an element of a chunk, counted from 0, other bytes."""
+    """The script that gives one of so many elements, counted from 0, other bytes."""
     if layout.is_planes():
         samples = {plane * elements + element: byte for plane, byte in enumerate(value)}
     else:
-        samples = {element: int.from_bytes(value, "big" if layout.mask & MSB_FIRST else "little")}
+        order = "big" if layout.mask & MSB_FIRST else "little"
+        samples = {element: int.from_bytes(value, order)}
     lines = [f"overwrite {layout.place(sample)} {it}\n" for sample, it in samples.items()]
     return "".join(lines).encode()
 
 
-def edited(layout, aec, chunk, element, value):
-    """The chunk with other bytes for one element. The filler behind its line stays as it was."""
-    raw_bytes = raw_len(chunk)
-    script = overwrites(layout, element, value, raw_bytes // layout.element)
-    words = ["--count", str(layout.filled_count(raw_bytes)), *layout.words()]
-    return chunk[:HEAD] + run_aec(aec, words, chunk[HEAD:], script)
+def edited(layout, aec, chunk, element, value, raw_bytes):
+    """The chunk with other bytes for one element, which is counted from 0. The filler behind its
+    line stays as it was. A raw chunk stays raw, and one that no longer shrinks becomes raw, but
+    for one that is as long as a raw one: HDF5 1.10 forgets that a chunk is raw from now on where
+    its length stays."""
+    check_len(chunk, raw_bytes)
+    if not chunk.is_raw:
+        script = overwrites(layout, element, value, raw_bytes // layout.element)
+        words = ["--count", str(layout.filled_count(raw_bytes)), *layout.words()]
+        coded = chunk.data[:HEAD] + run_aec(aec, words, chunk.data[HEAD:], script)
+        if len(coded) < raw_bytes or len(chunk.data) == raw_bytes:
+            return Chunk(coded, False)
+    first, raw = element * layout.element, decoded(layout, aec, chunk, raw_bytes)
+    return Chunk(raw[:first] + value + raw[first + len(value) :], True)

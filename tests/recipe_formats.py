@@ -1,144 +1,163 @@
-"""Messages, chunks and packets that the tests make themselves, from the formats' rules: so that the scripts of examples/ are tested
-where eccodes and h5py aren't there."""
+#!/usr/bin/env python3
+"""The scripts of examples/ for GRIB, HDF5 and packets, where neither eccodes nor h5py is there:
+recipe_formats.py PATH_OF_AEC [--seed N] [--cases N] [--only N]
+
+Messages, chunks and packets are made here from the formats' rules, and each refusal is tried.
+`recipes.py` runs this with eccodes, h5py and numpy hidden.
+"""
 
 import os
+import random
 import struct
 import sys
+import tempfile
 
+from program import Program, Tally, asked_of
+from recipe_calls import EXAMPLES, called, hiding
+from recipe_messages import try_bad_messages, try_message
 from settings import Settings
 
-EXAMPLES = os.path.join(os.path.dirname(os.path.abspath(__file__)), "..", "examples")
-sys.path.append(EXAMPLES)
+import szip_chunks
 
-import szip_chunks  # noqa: E402 - it stands in the folder that was just added
-
-GRIB, PACKETS = os.path.join(EXAMPLES, "grib_ccsds.py"), os.path.join(EXAMPLES, "space_packets.py")
-
-
-def section(number, body):
-    """A section of a message."""
-    return struct.pack(">IB", len(body) + 5, number) + body
+PACKETS, HDF5 = os.path.join(EXAMPLES, "space_packets.py"), os.path.join(EXAMPLES, "h5_szip.py")
+NN, EC = 32, 4  # bits of the filter's mask: with preprocessing, without
+MSB_FIRST, LSB_FIRST = 16, 8
+BLOCK_SIZES = [8, 16, 32, 10, 12, 14, 18, 20, 22, 24, 26, 28, 30]
 
 
-def message(stream, count, settings, flags, template=42, bits=None, edition=2, more=b""):
-    """A message with this stream. `more` stands behind section 7."""
-    numbers = struct.pack(">IHfhhBBBBH", count, template, 250.0, -9 & 0x7FFF, 0, settings.bits if bits is None else bits, 0, flags,
-                          settings.block_size, settings.interval)
-    body = section(1, bytes(16)) + section(3, bytes(67)) + section(4, bytes(29)) + section(5, numbers)
-    body += section(6, b"\xff") + section(7, stream) + more + b"7777"
-    return b"GRIB\0\0\0" + bytes([edition]) + struct.pack(">Q", len(body) + 16) + body
+def written_out(samples, bits, block_size):
+    """A stream without preprocessing, each block of it uncompressed: the identifier, all of it
+    ones, then the samples. It is as long as whole blocks."""
+    ones = 3 if bits <= 8 else 4 if bits <= 16 else 5
+    text = ""
+    for first in range(0, len(samples), block_size):
+        block = samples[first : first + block_size]
+        text += "1" * ones + "".join(f"{x:0{bits}b}" for x in block)
+    text += "0" * (-len(text) % 8)
+    return bytes(int(text[i : i + 8], 2) for i in range(0, len(text), 8))
 
 
-def drawn_settings(chance, bits):
-    """Settings that a message may have, and its flags."""
-    settings = Settings.by_chance(chance, [bits], [8, 16, 32, 64], [1, 2, 64, 128], restricted=0)._replace(bits=bits, pad=False)
-    flags = [settings.signed, settings.three_byte, settings.msb_first, settings.preprocess, False, False, settings.even_blocks]
-    return settings, sum(1 << i for i, is_set in enumerate(flags) if is_set)
-
-
-def drawn_samples(chance, settings, count):
-    """A walk within the range of the settings."""
-    x, samples = settings.least(), []
-    for _ in range(count):
-        x = min(max(x + chance.randint(-9, 10), settings.least()), settings.most())
-        samples.append(x)
-    return samples
-
-
-def try_message(number, chance, aec, script, tally):
-    """A message with a sample of so many bits: its options, its stream, and an edit; another message behind it stays."""
-    settings, flags = drawn_settings(chance, 1 + number % 32)
-    samples = drawn_samples(chance, settings, chance.randint(1, 700))
-    stream = aec.answer(settings.options(), settings.stored(samples))
-    data = message(stream, len(samples), settings, flags)
-    aec.write("m", data + b"GRIB what stands behind")
-    wanted = " ".join(["--count", str(len(samples)), *settings.options()])
-    status, said = script.run(GRIB, "options", "m")
-    tally.check(f"own message {number}: options", (status, sorted(said.split())), (0, sorted(wanted.split())))
-    tally.check(f"own message {number}: take", (script.run(GRIB, "take", "m", "s"), aec.read("s")), ((0, ""), stream))
-    place, x = chance.randrange(len(samples)), chance.randint(settings.least(), settings.most())
-    aec.write("script", b"insert %d %d\nremove %d 1\n" % (place, x, place + 1))
-    samples[place] = x
-    edited = message(aec.answer(settings.options(), settings.stored(samples)), len(samples), settings, flags)
-    tally.check(f"own message {number}: edit", script.run(GRIB, "edit", aec.path, "script", "m", "out"), (0, ""))
-    tally.check(f"own message {number}: edited", aec.read("out"), edited + b"GRIB what stands behind")
-    aec.write("s", aec.answer(settings.options(), settings.stored(samples)))
-    tally.check(f"own message {number}: put", script.run(GRIB, "put", "m", "s", "out"), (0, ""))
-    tally.check(f"own message {number}: put in", aec.read("out"), edited + b"GRIB what stands behind")
-
-
-def try_bad_messages(aec, script, tally):
-    """Each refusal, by its text; OUT is then as it was."""
-    settings = Settings(bits=8, block_size=8, interval=2)
-    good = message(bytes.fromhex("20 09 24 92"), 8, settings, 8)
-    cases = [
-        (b"BUFR" + good[4:], "m doesn't begin with GRIB"),
-        (good[:10], "the message is cut: only 10 bytes are there"),
-        (good[:-1], f"the message is cut: {len(good) - 1} of its {len(good)} bytes are there"),
-        (good[:-4] + b"7778", f"the message is cut or damaged: at byte {len(good) - 4} no section fits"),
-        (message(b"", 8, settings, 8, edition=1), "the message has edition 1, not 2"),
-        (message(b"", 8, settings, 8, template=40), "the field has data representation template 5.40, not 5.42"),
-        (message(b"", 8, settings, 8, bits=0), "the field is constant: it has no stream"),
-        (message(b"", 8, settings, 8, bits=33), "a value has 33 bits, more than 32"),
-        (message(b"\0\x78", 8, settings, 40), "intervals are padded (flag 32): -p of aec has another rule"),
-        (message(b"", 8, settings, 8, more=section(7, b"")), "the message repeats sections: split it into one message a field first"),
-        (message(b"", 8, settings, 8, more=section(4, b"")), "the message repeats sections: split it into one message a field first"),
-    ]
-    for data, text in cases:
-        for action in (["options", "m"], ["take", "m", "out"], ["put", "m", "m", "out"], ["edit", aec.path, "m", "m", "out"]):
-            aec.write("m", data)
-            aec.write("out", b"old")
-            tally.check(f"{action[0]}: {text}", script.run(GRIB, *action), (1, f"grib_ccsds.py: {text}\n"))
-            tally.check(f"{action[0]}: {text}: OUT", aec.read("out"), b"old")
-    aec.write("m", good)
-    for lines, text in (
-        (b"append 1", "the script leaves 9 values, but the message must keep its 8"),
-        (b"truncate 7", "the script leaves 7 values, but the message must keep its 8"),
-        (b"remove 0 2\ninsert 0 1", "the script leaves 7 values, but the message must keep its 8"),
-        (b"overwrite 0 256", "aec: line 1: sample 0 is out of range"),
-        (b"overwrite", "aec: script line 1 is not an edit"),
-    ):
-        aec.write("script", lines)
-        tally.check(f"{lines}", script.run(GRIB, "edit", aec.path, "script", "m", "out"), (1, f"grib_ccsds.py: {text}\n"))
-        tally.check(f"{lines}: OUT", aec.read("out"), b"old")
-    aec.write("script", b"overwrite 0 1")
-    tally.check("OUT is MESSAGE", script.run(GRIB, "edit", aec.path, "script", "m", "m")[0], 1)
-    tally.check("OUT is MESSAGE: it stays", aec.read("m"), good)
+def lines_of(samples, layout, is_filled_by_copies):
+    """Samples with the filler behind each line: copies of the line's last one, or zeros."""
+    filled = []
+    for first in range(0, len(samples), layout.line):
+        line = samples[first : first + layout.line]
+        room = -layout.line % layout.block_size + layout.line - len(line)
+        filled += line + [line[-1] if is_filled_by_copies else 0] * room
+    return filled
 
 
 def chunk_of(layout, elements, aec):
-    """A chunk of elements, each given as bytes: planes, lines, filler and head by the filter's rules."""
-    if layout.is_planes():
-        elements = [bytes([it[plane]]) for plane in range(layout.element) for it in elements]
-    lines = [elements[i : i + layout.line] for i in range(0, len(elements), layout.line)]
-    blank = bytes(layout.sample())
-    filled = b"".join(b"".join(line + [line[-1] if layout.mask & 32 else blank] * (layout.filled() - len(line))) for line in lines)
-    raw_bytes = len(elements) * layout.sample()
-    return raw_bytes.to_bytes(4, "little") + aec.answer(layout.words(), filled)
+    """A chunk of elements, each given as bytes: planes, lines, filler and head by the filter's
+    rules."""
+    raw = b"".join(elements)
+    is_nn, is_msb = bool(layout.mask & NN), bool(layout.mask & MSB_FIRST)
+    if layout.element >= 4 and layout.bits >= 32:
+        bits, samples = 8, [it[place] for place in range(layout.element) for it in elements]
+    else:
+        order = "big" if is_msb else "little"
+        bits, samples = layout.bits, [int.from_bytes(it, order) for it in elements]
+    samples = lines_of(samples, layout, is_nn)
+    settings = Settings.of_blocks(
+        layout.block_size,
+        bits=bits,
+        interval=-(-layout.line // layout.block_size),
+        preprocess=is_nn,
+        msb_first=is_msb,
+    )
+    if is_nn:
+        stream = aec.answer(settings.options(), settings.stored(samples))
+    else:
+        stream = written_out(samples, bits, layout.block_size)
+    return szip_chunks.Chunk(len(raw).to_bytes(4, "little") + stream, False)
+
+
+def drawn_chunk(chance):
+    """A layout, and elements that have it: of 1, 2, 4 or 8 bytes, some with fewer bits."""
+    size, least, most = chance.choice([(1, 1, 8), (2, 9, 16), (4, 17, 24), (8, 64, 64)])
+    bits = chance.choice([chance.randint(least, most), 8 * size])
+    mask = chance.choice([NN, EC]) | chance.choice([MSB_FIRST, LSB_FIRST])
+    block_size, line = chance.choice(BLOCK_SIZES), chance.randint(1, 90)
+    layout = szip_chunks.Layout(mask, block_size, bits, line, size)
+    order = "big" if mask & MSB_FIRST else "little"
+    count, kept = chance.randint(1, 300), chance.choice([0, bits // 2])
+    elements = [(chance.getrandbits(bits) >> kept).to_bytes(size, order) for _ in range(count)]
+    return layout, elements, chance.getrandbits(bits).to_bytes(size, order)
+
+
+def may_follow(before, after, raw_bytes):
+    """Whether an edit may leave this chunk: a raw one is raw again, and a coded one becomes raw
+    where it doesn't shrink, but not where HDF5 1.10 would miss that, since its length stays."""
+    if before.is_raw:
+        return after.is_raw
+    is_as_long = len(before.data) == raw_bytes
+    return not is_as_long if after.is_raw else is_as_long or len(after.data) < raw_bytes
 
 
 def try_chunk(number, chance, aec, tally):
-    """A chunk of elements of 1, 2, 4 or 8 bytes: its raw bytes, and those after an edit."""
-    size = chance.choice([1, 2, 4, 8])
-    mask = chance.choice([32, 4]) | chance.choice([16, 8])
-    layout = szip_chunks.Layout(mask, chance.choice([8, 16, 32, 10, 14, 30]), 8 * size, chance.randint(1, 90), size)
-    elements = [(chance.randrange(1 << 30) >> chance.randrange(30)).to_bytes(8, "little")[:size] for _ in range(chance.randint(1, 300))]
-    chunk = chunk_of(layout, elements, aec)
-    tally.check(f"own chunk {number}: {layout}", szip_chunks.decoded(layout, aec.path, chunk), b"".join(elements))
-    place, value = chance.randrange(len(elements)), chance.randbytes(size)
-    elements[place] = value
-    edited = szip_chunks.edited(layout, aec.path, chunk, place, value)
-    tally.check(f"own chunk {number}: edited, {layout}", szip_chunks.decoded(layout, aec.path, edited), b"".join(elements))
+    """A chunk: its raw bytes, and those after an edit, by which it may become raw."""
+    layout, elements, value = drawn_chunk(chance)
+    chunk, raw = chunk_of(layout, elements, aec), b"".join(elements)
+    what = f"own chunk {number}: {layout}"
+    tally.check(what, szip_chunks.decoded(layout, aec.path, chunk, len(raw)), raw)
+    for is_raw in (False, True):
+        before = szip_chunks.Chunk(raw, True) if is_raw else chunk
+        place = chance.randrange(len(elements))
+        after = szip_chunks.edited(layout, aec.path, before, place, value, len(raw))
+        wanted = b"".join([*elements[:place], value, *elements[place + 1 :]])
+        back = szip_chunks.decoded(layout, aec.path, after, len(raw))
+        tally.check(f"{what}: edited, raw before: {is_raw}", back, wanted)
+        said = f"{what}: {len(after.data)} of {len(raw)} bytes, raw: {after.is_raw}"
+        tally.holds(may_follow(before, after, len(raw)), said)
+
+
+def try_layouts(aec, tally):
+    """The words of layouts, and the layouts and chunks that are refused."""
+    for mask, more in (
+        (EC | LSB_FIRST, ["-N"]),
+        (EC | MSB_FIRST, ["-m", "-N"]),
+        (NN | LSB_FIRST, []),
+        (NN | MSB_FIRST, ["-m"]),
+    ):
+        words = szip_chunks.Layout(mask, 16, 12, 70, 2).words()
+        tally.check(f"mask {mask}", words, ["-n", "12", "-j", "16", "-r", "5", *more])
+    words = szip_chunks.Layout(NN, 10, 64, 70, 8).words()
+    tally.check("planes", words, ["-n", "8", "-j", "10", "-r", "7", "--even-blocks"])
+    for block_size, bits, element, text in (
+        (2, 8, 1, "blocks of 2 samples: aec has even sizes from 8 to 64"),
+        (4, 8, 1, "blocks of 4 samples: aec has even sizes from 8 to 64"),
+        (6, 8, 1, "blocks of 6 samples: aec has even sizes from 8 to 64"),
+        (8, 24, 3, "elements of 24 bits in 3 bytes are laid out in no known way"),
+        (8, 8, 2, "elements of 8 bits in 2 bytes are laid out in no known way"),
+        (8, 32, 8, "elements of 32 bits in 8 bytes are laid out in no known way"),
+        (8, 64, 4, "elements of 64 bits in 4 bytes are laid out in no known way"),
+    ):
+        layout = szip_chunks.Layout(NN, block_size, bits, 64, element)
+        tally.check(f"layout: {text}", called(layout.check), (1, text))
+    layout = szip_chunks.Layout(NN, 8, 8, 8, 1)
+    for data, is_raw, text in (
+        (b"\x08\0\0", False, "a chunk has 3 bytes, too few for its head"),
+        (b"\x09\0\0\0\x20\x09\x24\x92", False, "a chunk has 9 raw bytes in place of 8"),
+        (b"\0\1\2", True, "a chunk has 3 raw bytes in place of 8"),
+        (b"\x08\0\0\0\x20\x09", False, "aec: coded data is cut short at bit 0"),
+    ):
+        chunk = szip_chunks.Chunk(data, is_raw)
+        for act in (szip_chunks.decoded, szip_chunks.edited):
+            more = (chunk, 8) if act is szip_chunks.decoded else (chunk, 0, b"\1", 8)
+            answer = called(act, layout, aec.path, *more)
+            tally.check(f"{act.__name__}: {text}", answer, (1, text))
 
 
 def packet(apid, sequence, field, secondary=b""):
     """A space packet."""
     body = secondary + field
-    return struct.pack(">HHH", (0x800 if secondary else 0) | apid, 0xC000 | sequence, len(body) - 1) + body
+    identity = (0x800 if secondary else 0) | apid
+    return struct.pack(">HHH", identity, 0xC000 | sequence, len(body) - 1) + body
 
 
 def try_packets(aec, script, tally):
-    """Packets of two instruments: one is missing, one is damaged, one is idle, and the last one is cut."""
+    """Packets of two instruments: one is missing, one is damaged, one is idle, and the last one is
+    cut."""
     words = ["--count", "8", "-N"]
     stream = bytes.fromhex("E0 00 20 40 60 80 A0 C0 E0")
     listed = [
@@ -154,19 +173,69 @@ def try_packets(aec, script, tally):
         "packet 4 (APID 77, sequence count 3): 2 before it are missing",
         "packet 5 (APID 78, sequence count 6): aec: coded data is cut short at bit 0",
     ]
+    cut = "packet 6: it is cut, at byte 99 of the file"
+    short = "packet 1: it is cut, at byte 19 of the file"
+    lost = "packet 1: at byte 15 no space packet begins; the rest of the file isn't read"
     for name, data, more, status in (
         ("all", b"".join(listed), [*said, "5 packets decoded, 1 not"], 1),
-        ("cut", b"".join(listed)[:-1], [*said, "packet 6: it is cut, at byte 99 of the file", "4 packets decoded, 2 not"], 1),
+        ("cut", b"".join(listed)[:-1], [*said, cut, "4 packets decoded, 2 not"], 1),
+        ("head", listed[0] + b"\0", [short, "1 packets decoded, 1 not"], 1),
         ("sound", listed[0] + listed[1], ["2 packets decoded, 0 not"], 0),
-        ("lost", listed[1] + b"\xff" * 9, ["packet 1: at byte 15 no space packet begins; the rest of the file isn't read",
-                                          "1 packets decoded, 1 not"], 1),
+        ("lost", listed[1] + b"\xff" * 9, [lost, "1 packets decoded, 1 not"], 1),
     ):
         aec.write("p", data)
         answer = script.run(PACKETS, "read", aec.path, "p", name, "4", *words)
         tally.check(f"packets {name}", answer, (status, "".join(line + "\n" for line in more)))
-    names = ["0077_000000.raw", "0077_000002.raw", "0077_000004.raw", "0078_000001.raw", "0078_000006.raw"]
-    tally.check("packets decoded", sorted(os.listdir(aec.file("all"))), names)
-    for name in names:
-        tally.check(f"samples of {name}", aec.read(os.path.join("all", name)), bytes(range(8)))
-    tally.check("a folder that exists", script.run(PACKETS, "read", aec.path, "p", "all", "4", *words)[0], 1)
-    tally.check("no length", script.run(PACKETS, "read", aec.path, "p", "new", "x", *words)[0], 1)
+    names = ["0077_000000", "0077_000002", "0077_000004", "0078_000001", "0078_000006"]
+    listed = sorted(os.listdir(aec.file("all")))
+    tally.check("packets decoded", listed, [name + ".raw" for name in names])
+    for name in listed:
+        samples = aec.read(os.path.join("all", name))
+        tally.check(f"samples of {name}", samples, bytes(range(8)))
+    for given, status, text in (
+        (["all", "4", *words], 1, "all: File exists"),
+        (["new", "x", *words], 1, "x is no length of a secondary header"),
+        (["new"], 2, "read takes the words AEC FILE FOLDER SECONDARY OPTIONS..; --help tells more"),
+    ):
+        answer = script.run(PACKETS, "read", aec.path, "p", *given)
+        tally.check(f"packets: {given}", answer, (status, f"space_packets.py: {text}\n"))
+
+
+def try_without_h5py(aec, script, tally):
+    """What h5_szip.py says where h5py isn't there."""
+    said = "h5_szip.py: No module named 'h5py': python3-h5py has it for /usr/bin/python3\n"
+    for words in (["show", "none.h5", "d"], ["--help"]):
+        answer = script.run(HDF5, *words, env=hiding(aec.folder, "h5py"))
+        tally.check(f"without h5py: {words}", answer, (1, said))
+
+
+def try_refused_programs(aec, tally):
+    """A program that isn't this project's, and one that isn't there."""
+    for path, text in (
+        ("/bin/true", "/bin/true isn't this project's aec: its --version prints something else"),
+        (aec.file("none"), f"{aec.file('none')}: No such file or directory"),
+    ):
+        layout, chunk = szip_chunks.Layout(NN, 8, 8, 8, 1), szip_chunks.Chunk(b"\x08\0\0\0", False)
+        answer = called(szip_chunks.decoded, layout, path, chunk, 8)
+        tally.check(f"the program {path}", answer, (1, text))
+
+
+def main():
+    asked = asked_of("The formats of the recipes, without eccodes and h5py.", 48)
+    tally = Tally()
+    with tempfile.TemporaryDirectory() as folder:
+        aec, script = Program(asked.program, folder), Program(sys.executable, folder)
+        for number in asked.numbers:
+            try_message(number, random.Random(f"{asked.seed} {number}"), aec, tally)
+            try_chunk(number, random.Random(f"{asked.seed} {number}"), aec, tally)
+        try_bad_messages(aec, script, tally)
+        try_layouts(aec, tally)
+        try_packets(aec, script, tally)
+        try_without_h5py(aec, script, tally)
+        try_refused_programs(aec, tally)
+    tally.print()
+    return 1 if tally.failed else 0
+
+
+if __name__ == "__main__":
+    sys.exit(main())

@@ -1,24 +1,38 @@
 #!/usr/bin/env python3
 """examples/h5_szip.py beside HDF5: recipe_hdf5.py PATH_OF_AEC [--seed N] [--cases N] [--only N]
 
-HDF5 writes data sets with its szip filter: 11 element types in both byte orders, 1 to 3 dimensions, chunks that don't divide the
-shape, NN and EC, J 8 to 32 and other even sizes. What the script reads must be what was written, and after an edit HDF5 must read
-that value there and all others as before. Needs h5py with szip.
+HDF5 writes data sets with its szip filter: 11 element types in both byte orders, 1 to 4 dimensions,
+chunks that don't divide the shape, NN and EC, J 8 to 32 and other even sizes, old and new formats
+of the file. What the script reads must be what was written, and after an edit HDF5 must read that
+value there and all others as before. Needs h5py with szip.
 """
 
 import math
-import os
 import random
+import shutil
 import sys
 import tempfile
 
 import h5py
 import numpy
 from program import Program, Tally, asked_of
+from recipe_calls import called
+from recipe_hdf5_cases import (
+    is_read,
+    try_command_lines,
+    try_grown,
+    try_masks,
+    try_precision,
+    try_raw,
+    try_refusals,
+    try_types,
+)
 
-SCRIPT = os.path.join(os.path.dirname(os.path.abspath(__file__)), "..", "examples", "h5_szip.py")
+import h5_szip
+
 TYPES = ["i1", "u1", "i2", "u2", "i4", "u4", "i8", "u8", "f2", "f4", "f8"]
 BLOCK_SIZES = [8, 16, 32, 10, 12, 14, 18, 20, 22, 24, 26, 28, 30]
+MOST = [[3000], [40, 60], [60, 5], [9, 20, 30], [5, 6, 7, 20]]  # the greatest shapes
 SZIP = h5py.h5z.FILTER_SZIP
 
 
@@ -36,20 +50,26 @@ def drawn_elements(chance, shape):
 
 
 def drawn_file(chance, path):
-    """Writes a file with one data set. Its elements, and a text for it; None where HDF5 refuses the data set."""
-    shape = tuple(chance.randint(1, most) for most in chance.choice([[3000], [40, 60], [60, 5], [9, 20, 30]]))
-    chunks = tuple(chance.randint(-(-n // 3), n) for n in shape)
-    elements, option = drawn_elements(chance, shape), (chance.choice(["nn", "ec"]), chance.choice(BLOCK_SIZES))
-    is_part = chance.random() < 0.2  # chunks behind the first rows aren't there
-    with h5py.File(path, "w") as file:
+    """Writes a file with one data set. Its elements, and a text for it; None where HDF5 refuses the
+    data set."""
+    shape = tuple(chance.randint(1, most) for most in chance.choice(MOST))
+    elements = drawn_elements(chance, shape)
+    keys = {
+        "chunks": tuple(chance.randint(-(-n // 3), n) for n in shape),
+        "maxshape": tuple(chance.choice([n, None]) for n in shape),
+        "compression_opts": (chance.choice(["nn", "ec"]), chance.choice(BLOCK_SIZES)),
+        "fillvalue": chance.choice([0, 0, 7]),
+    }
+    version, is_part = chance.choice(["earliest", "latest"]), chance.random() < 0.2
+    with h5py.File(path, "w", libver=version) as file:
         try:
-            made = file.create_dataset("d", shape, elements.dtype, chunks=chunks, compression="szip", compression_opts=option)
+            made = file.create_dataset("d", shape, elements.dtype, compression="szip", **keys)
         except ValueError:
             return None
-        rows = chunks[0] if is_part else shape[0]
+        rows = keys["chunks"][0] if is_part else shape[0]  # chunks behind these aren't there
         made[:rows] = elements[:rows]
-        elements[rows:] = 0
-    return elements, f"{elements.dtype.str} {shape} in {chunks}, {option}"
+        elements[rows:] = keys["fillvalue"]
+    return elements, f"{elements.dtype.str} {shape}, {keys}, {version}"
 
 
 def drawn_value(chance, dtype):
@@ -57,69 +77,63 @@ def drawn_value(chance, dtype):
     if dtype.kind == "f":
         return chance.choice(["0", "-1.5", "1e4", "-inf", "nan", "0.1"])
     limits = numpy.iinfo(dtype)
-    return str(chance.choice([0, 1, limits.min, limits.max, chance.randint(int(limits.min), int(limits.max))]))
+    least, most = int(limits.min), int(limits.max)
+    return str(chance.choice([0, 1, least, most, chance.randint(least, most)]))
 
 
-def try_case(number, seed, aec, script, tally):
+def differences(aec):
+    """What h5diff says of the data set before and after an edit: its last line but empty ones."""
+    _, said = Program(shutil.which("h5diff"), aec.folder).run("-r", "before.h5", "d.h5", "/d")
+    return (said.split("\n\n")[0].strip().splitlines() or [""])[-1]
+
+
+def try_edit(what, chance, elements, aec, tally):
+    """One edit of a data set, which HDF5 must read, and h5diff must see."""
+    path, place = aec.file("d.h5"), tuple(chance.randrange(n) for n in elements.shape)
+    value, before = drawn_value(chance, elements.dtype), elements.copy()
+    shutil.copy(path, aec.file("before.h5"))
+    spelled, what = ",".join(map(str, place)), f"{what}: {place} becomes {value}"
+    tally.check(what, called(h5_szip.edit, aec.path, path, "d", spelled, value), (0, ""))
+    elements[place] = float(value) if elements.dtype.kind == "f" else int(value)
+    tally.holds(is_read(path, elements), f"{what}: read by HDF5")
+    if shutil.which("h5diff") and elements.dtype.kind in "iu":
+        wanted = f"{int(elements[place] != before[place])} differences found"
+        tally.check(f"{what}: h5diff", differences(aec), wanted)
+
+
+def try_case(number, seed, aec, tally):
     """One data set: its elements, and two edits. Whether HDF5 takes it."""
-    chance = random.Random(f"{seed} {number}")
-    drawn = drawn_file(chance, aec.file("d.h5"))
+    chance, path = random.Random(f"{seed} {number}"), aec.file("d.h5")
+    drawn = drawn_file(chance, path)
     if drawn is None:
         return False
-    elements, what = drawn
-    tally.check(f"{number}: show {what}", script.run(SCRIPT, "show", "d.h5", "d")[0], 0)
-    tally.check(f"{number}: read {what}", script.run(SCRIPT, "read", aec.path, "d.h5", "d", "raw"), (0, ""))
-    tally.holds(aec.read("raw") == elements.tobytes(), f"{number}: elements of {what}")
+    elements, what = drawn[0], f"{number}: {drawn[1]}"
+    tally.check(f"show {what}", called(h5_szip.show, path, "d")[0], 0)
+    answer = called(h5_szip.read, aec.path, path, "d", aec.file("raw"))
+    tally.check(f"read {what}", answer, (0, ""))
+    tally.holds(aec.read("raw") == elements.tobytes(), f"elements of {what}")
     for _ in range(2):
-        place = tuple(chance.randrange(n) for n in elements.shape)
-        value = drawn_value(chance, elements.dtype)
-        words = ["edit", aec.path, "d.h5", "d", ",".join(map(str, place)), value]
-        tally.check(f"{number}: {words[4:]} {what}", script.run(SCRIPT, *words), (0, ""))
-        elements[place] = float(value) if elements.dtype.kind == "f" else int(value)
-        with h5py.File(aec.file("d.h5"), "r") as file:
-            tally.holds(file["d"][...].tobytes() == elements.tobytes(), f"{number}: {words[4:]}, read by HDF5 {what}")
+        try_edit(what, chance, elements, aec, tally)
     return True
 
 
-def try_refusals(aec, script, tally):
-    """What the script refuses, and that the file is then as it was."""
-    numbers = numpy.arange(2000, dtype="u1")
-    with h5py.File(aec.file("bad.h5"), "w") as file:
-        for block in (2, 4, 6, 8):
-            file.create_dataset(f"of{block}", data=numbers, chunks=(500,), compression="szip", compression_opts=("nn", block))
-        file.create_dataset("plain", data=numbers)
-        file.create_dataset("both", data=numbers, chunks=(500,), shuffle=True, compression="szip", compression_opts=("nn", 8))
-    before = aec.read("bad.h5")
-    cases = [
-        *((["of%d" % b, "0", "1"], f"blocks of {b} samples: aec has even sizes from 8 to 64") for b in (2, 4, 6)),
-        (["plain", "0", "1"], "the data set has the filters [], not szip (4) alone"),
-        (["both", "0", "1"], "the data set has the filters [2, 4], not szip (4) alone"),
-        (["none", "0", "1"], "bad.h5 has no data set none"),
-        (["of8", "2000", "1"], "2000 lies outside the shape (2000,)"),
-        (["of8", "0,0", "1"], "0,0 is no place: 1 numbers are wanted, as 3,0,17"),
-        (["of8", "-1", "1"], "-1 is no place: 1 numbers are wanted, as 3,0,17"),
-        (["of8", "0", "256"], "256 is out of the range of uint8"),
-        (["of8", "0", "x"], "x is no value of the type uint8"),
-    ]
-    for words, text in cases:
-        tally.check(f"edit {words}", script.run(SCRIPT, "edit", aec.path, "bad.h5", *words), (1, f"h5_szip.py: {text}\n"))
-    tally.check("the file is the output", script.run(SCRIPT, "read", aec.path, "bad.h5", "of8", "bad.h5")[0], 1)
-    tally.check("a program that is none", script.run(SCRIPT, "edit", "/bin/true", "bad.h5", "of8", "0", "1")[0], 1)
-    tally.check("too few words", script.run(SCRIPT, "edit", aec.path)[0], 2)
-    tally.holds(aec.read("bad.h5") == before, "a file whose edits are refused stays as it was")
-
-
 def main():
-    asked = asked_of("HDF5 data sets beside HDF5.", 24)
-    tally, refused = Tally(), 0
-    if not h5py.h5z.filter_avail(SZIP) or not h5py.h5z.get_filter_info(SZIP) & h5py.h5z.FILTER_CONFIG_ENCODE_ENABLED:
+    asked = asked_of("HDF5 data sets beside HDF5.", 48)
+    tally, refused, is_there = Tally(), 0, h5py.h5z.filter_avail(SZIP)
+    if not is_there or not h5py.h5z.get_filter_info(SZIP) & h5py.h5z.FILTER_CONFIG_ENCODE_ENABLED:
         tally.print(len(asked.numbers), "HDF5 has no szip that writes")
         return 0
     with tempfile.TemporaryDirectory() as folder:
         aec, script = Program(asked.program, folder), Program(sys.executable, folder)
         for number in asked.numbers:
-            refused += not try_case(number, asked.seed, aec, script, tally)
-        try_refusals(aec, script, tally)
+            refused += not try_case(number, asked.seed, aec, tally)
+        try_masks(aec, tally)
+        try_raw(aec, tally)
+        try_grown(aec, tally)
+        try_precision(aec, tally)
+        try_types(aec, tally)
+        try_refusals(aec, tally)
+        try_command_lines(aec, script, tally)
     tally.print(refused, "HDF5 refuses such chunks")
     return 1 if tally.failed else 0
 

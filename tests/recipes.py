@@ -1,13 +1,14 @@
 #!/usr/bin/env python3
-"""The scripts of examples/ and the page about them: recipes.py PATH_OF_AEC [--seed N] [--cases N] [--only N]
+"""The scripts of examples/ and the page about them:
+recipes.py PATH_OF_AEC [--seed N] [--cases N] [--only N]
 
-Self-made messages, chunks and packets, each refusal of the scripts, kept files and archives, pictures, options that fit; then
-recipe_grib.py beside eccodes and recipe_hdf5.py beside HDF5, by an interpreter that has these; and each command of docs/RECIPES.md
-in a folder of its own. What needs a program or a module that isn't installed is skipped, and said.
+The formats, with eccodes and h5py hidden (recipe_formats.py); kept files and archives, pictures,
+options that fit; then recipe_grib.py beside eccodes and recipe_hdf5.py beside HDF5, by an
+interpreter that has these; and each command of docs/RECIPES.md in a folder of its own. What needs a
+program or a module that isn't installed is skipped, and said.
 """
 
 import os
-import random
 import re
 import shutil
 import subprocess
@@ -15,35 +16,62 @@ import sys
 import tempfile
 
 from program import Program, Tally, asked_of
-from recipe_archives import try_archives, try_fits, try_kept, try_pictures
-from recipe_formats import EXAMPLES, packet, try_bad_messages, try_chunk, try_message, try_packets
+from recipe_archives import try_archives, try_kept, try_not_kept, try_stopped
+from recipe_calls import EXAMPLES, hiding
+from recipe_formats import packet
+from recipe_pictures import try_fits, try_pictures
 from settings import Settings
 
 HERE = os.path.dirname(os.path.abspath(__file__))
 PAGE = os.path.join(HERE, "..", "docs", "RECIPES.md")
 SAMPLES = "/usr/share/eccodes/ifs_samples/grib1_mlgrib2_ccsds"
+MODULES = ("eccodes", "gribapi", "h5py", "numpy")
 
 
-def interpreter_with(module):
+def interpreter_with(module, environment=None):
     """A Python that has a module, None where none has."""
     for path in (sys.executable, "/usr/bin/python3"):
-        if os.path.exists(path) and subprocess.run([path, "-c", f"import {module}"], capture_output=True).returncode == 0:
-            return path
+        words = [path, "-c", f"import {module}"]
+        if os.path.exists(path):
+            ended = subprocess.run(words, env=environment, capture_output=True, check=False)
+            if ended.returncode == 0:
+                return path
     return None
 
 
-def judged(module, name, asked, tally):
-    """Runs a test that needs a module, and adds what it counts. What was skipped."""
-    python = interpreter_with(module)
-    if python is None:
-        return [f"{name}: no {module}"]
-    ended = subprocess.run([python, os.path.join(HERE, name), asked.program, "--seed", str(asked.seed)], capture_output=True, text=True)
+def run_test(python, name, asked, tally, environment=None):
+    """Runs a test by itself, with the seed and the cases asked for, and adds what it counts."""
+    words = [python, os.path.join(HERE, name), asked.program]
+    words += ["--seed", str(asked.seed), "--cases", str(asked.cases)]
+    words += [] if asked.only is None else ["--only", str(asked.only)]
+    more = {"env": environment, "capture_output": True, "text": True}
+    ended = subprocess.run(words, check=False, **more)
     print(ended.stdout + ended.stderr, end="", flush=True)
     counts = re.findall(r"^(\d+) passed, (\d+) failed", ended.stdout, re.M)
-    tally.holds(counts and (ended.returncode == 0) == (counts[-1][1] == "0"), f"{name} ended with {ended.returncode}")
+    is_so = counts and (ended.returncode == 0) == (counts[-1][1] == "0")
+    tally.holds(is_so, f"{name} ended with {ended.returncode}")
     for passed, failed in counts[-1:]:
         tally.passed, tally.failed = tally.passed + int(passed), tally.failed + int(failed)
-    return []
+
+
+def try_hidden(asked, tally):
+    """The formats where no Python has eccodes, h5py or numpy."""
+    with tempfile.TemporaryDirectory() as folder:
+        environment = hiding(folder, *MODULES)
+        found = [it for it in MODULES if interpreter_with(it, environment)]
+        tally.check("modules that are hidden", found, [])
+        run_test(sys.executable, "recipe_formats.py", asked, tally, environment)
+
+
+def try_judged(asked, tally):
+    """The formats beside eccodes and HDF5. What was skipped."""
+    skipped = []
+    for module, name in (("eccodes", "recipe_grib.py"), ("h5py", "recipe_hdf5.py")):
+        if python := interpreter_with(module):
+            run_test(python, name, asked, tally)
+        else:
+            skipped.append(f"{name}: no {module}")
+    return skipped
 
 
 def missing_for(block):
@@ -65,51 +93,65 @@ def wanted_words(line):
     return remark if re.search(r"\d", remark) else ""
 
 
-def try_page(aec, tally):
-    """Each block of commands of the page, in one folder, with `aec` on the path. What was skipped."""
-    bin_folder, skipped, failed_before = aec.file("bin"), [], set()
+def prepare_page(aec):
+    """What the commands of the page find: `aec` on the path, examples/, and packets. The
+    environment to run them in."""
+    bin_folder = aec.file("bin")
     os.mkdir(bin_folder)
     os.symlink(aec.path, os.path.join(bin_folder, "aec"))
     os.symlink(EXAMPLES, aec.file("examples"))
     with open(os.path.join(EXAMPLES, "durations.raw"), "rb") as file:
         measured = file.read()
     settings = Settings(bits=12, block_size=16, interval=32)
-    fields = [aec.answer(settings.options(), measured[i : i + 1024]) for i in range(0, 4096, 1024)]
-    aec.write("packets.bin", b"".join(packet(77, i, it, b"time") for i, it in enumerate(fields)))
+    parts = [measured[first : first + 1024] for first in range(0, 4096, 1024)]
+    fields = [aec.answer(settings.options(), part) for part in parts]
+    packets = [packet(77, number, it, b"time") for number, it in enumerate(fields)]
+    aec.write("packets.bin", b"".join(packets))
+    return {**os.environ, "PATH": f"{bin_folder}:{os.environ['PATH']}"}
+
+
+def try_block(block, aec, environment, tally):
+    """The commands of a block, and what its remarks say that they print."""
+    more = {"env": environment, "capture_output": True, "text": True}
+    ended = subprocess.run(["sh", "-euc", block], cwd=aec.folder, check=False, **more)
+    said = f"{ended.stdout[-300:]} {ended.stderr[-300:]}"
+    tally.holds(ended.returncode == 0, f"the page: {block.splitlines()[0]}: {said}")
+    for line in block.splitlines():
+        is_so = wanted_words(line) in ended.stdout
+        tally.holds(is_so, f"the page: {line}: not in {ended.stdout}")
+
+
+def try_page(aec, tally):
+    """Each block of commands of the page, in one folder. What was skipped."""
+    environment, skipped, failed_before = prepare_page(aec), [], set()
     with open(PAGE, encoding="utf-8") as file:
-        blocks = re.findall(r"```sh\n(.*?)```", file.read(), re.S)
-    environment = {**os.environ, "PATH": f"{bin_folder}:{os.environ['PATH']}", "PYTHONDONTWRITEBYTECODE": "1"}
-    for block in blocks:
+        text = file.read()
+    words = len(text.split())
+    tally.holds(words <= 1500, f"the page has {words} words, more than 1,500")
+    for block in re.findall(r"```sh\n(.*?)```", text, re.S):
         missing = missing_for(block) or [it for it in failed_before if it in block]
         if missing:
             skipped.append(f"a block of the page: no {', '.join(missing)}")
             failed_before |= {"message.grib"} if "message.grib" in block else set()
-            continue
-        ended = subprocess.run(["sh", "-euc", block], cwd=aec.folder, env=environment, capture_output=True, text=True, check=False)
-        tally.holds(ended.returncode == 0, f"the page: {block.splitlines()[0]}: {ended.stdout[-300:]} {ended.stderr[-300:]}")
-        for line in block.splitlines():
-            wanted = wanted_words(line)
-            tally.holds(wanted in ended.stdout, f"the page: {line}: not in {ended.stdout}")
+        else:
+            try_block(block, aec, environment, tally)
     return skipped
 
 
 def main():
-    asked = asked_of("The recipes.", 32)
+    asked = asked_of("The recipes.", 48)
     os.environ["PYTHONDONTWRITEBYTECODE"] = "1"
     tally, skipped = Tally(), []
+    try_hidden(asked, tally)
     with tempfile.TemporaryDirectory() as folder:
         aec, script = Program(asked.program, folder), Program(sys.executable, folder)
-        for number in asked.numbers:
-            try_message(number, random.Random(f"{asked.seed} {number}"), aec, script, tally)
-            try_chunk(number, random.Random(f"{asked.seed} {number}"), aec, tally)
-        try_bad_messages(aec, script, tally)
-        try_packets(aec, script, tally)
         try_kept(aec, tally)
+        try_not_kept(aec, tally)
+        try_stopped(aec, tally)
         try_pictures(aec, script, tally)
         try_fits(aec, script, tally)
         skipped += try_archives(aec, tally)
-    skipped += judged("eccodes", "recipe_grib.py", asked, tally)
-    skipped += judged("h5py", "recipe_hdf5.py", asked, tally)
+    skipped += try_judged(asked, tally)
     with tempfile.TemporaryDirectory() as folder:
         skipped += try_page(Program(asked.program, folder), tally)
     tally.print(len(skipped), "; ".join(skipped))
