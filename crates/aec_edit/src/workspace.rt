@@ -64,8 +64,8 @@ impl<C: Codec> Workspace<C> {
         }
     }
 
-    /// Takes room for `bits` bits of code and for the starts of so many intervals: up to there edits that put little at a time don't
-    /// ask for memory for the code as a whole. `Memory` where the room is refused. Nothing that is kept changes.
+    /// Takes room for so many more bits of code, and for the starts of so many more intervals. `Memory` where it is refused. Nothing
+    /// that is kept changes.
     pub fn reserve(&mut self, bits: u64, intervals: u64) -> Result<(), Fault>
         ensures same { self.new ≡ self.old }
         ensures fault { IfErr result (λ e. e ≡ Memory) }

@@ -16,7 +16,8 @@ use Rattle.aec_engine.specs.ReadingTwice.{AreSamplesOf}
 use Rattle.aec_engine.specs.Editing.{Left, left_of, edits_left, first_calls, LacksMemoryOn, Recoded}
 use Rattle.aec_engine.specs.EditingSteps.{StopsEditing, recoded_of}
 
--- Edits lead to others, which are made on what is left then: what the former leave, and where they lack memory, is what the latter say.
+-- Edits lead to others, which are made on what is left then: what the former leave is what the latter do, and where the latter lack
+-- memory the former do.
 pub record LeadsToEdits (f : Format) (limit : ℕ) (from : Left) (edits : List Edit) (lines : List ℕ)
     (to : Left) (edits_then : List Edit) (lines_then : List ℕ) : Type 0 where
   pub same : edits_left f limit from.calls from.samples edits lines ≡ edits_left f limit to.calls to.samples edits_then lines_then

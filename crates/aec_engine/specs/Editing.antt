@@ -33,8 +33,8 @@ pub record Left : Type 0 where
 abbrev pub left_of : List ℤ → ℕ → Left
 left_of samples calls = record { samples = samples; calls = calls }
 
--- What is left by edits of the samples s, made one after the other, each on its line, after so many calls of the coder: each calls it
--- as often as it needs. Or why the first that is refused is, with its line: it doesn't fit, or too few calls are left for it.
+-- What is left by edits of the samples s, made one after the other, of which each has its line, after so many calls of the coder: each
+-- calls it as often as it needs. Or why the first that is refused is, with its line: it doesn't fit, or too few calls are left for it.
 abbrev pub edits_left : Format → ℕ → ℕ → List ℤ → List Edit → List ℕ → Result Left EditFault
 edits_left f limit calls s (e ∷ edits) (n ∷ lines) =
     option_map_or (λ fault. Err (Line n fault)) (due_refusal f limit s calls e)

@@ -23,7 +23,7 @@ fn line_of(script: &Script, place: usize) -> u64
     script.lines[place]
 }
 
-/// Whether an edit only overwrites places among the first `count`.
+/// Whether an edit only overwrites places among the first `count`; true is answered of no other.
 fn is_inside(edit: &Edit, count: u64) -> bool
     ensures { result ≡ true → IsInside count edit.now }
 {
@@ -39,6 +39,7 @@ fn is_inside(edit: &Edit, count: u64) -> bool
 /// Makes the edits of a script from `place` on that overwrite samples that are there, up to the first other one. The place of that.
 ///
 /// Whatever samples come behind those that are there, these edits leave the same of all. The first that is refused is named by its line.
+/// Contracts don't say how many are made: those that wait are made when all samples are there.
 pub(crate) fn carry_early<C: Codec>(
     workspace: &mut Workspace<C>,
     script: &Script,

@@ -119,7 +119,7 @@ pub fn edit_over<C: Codec + Drop, Q: Source, R: Source, W: Sink>(
 /// the first `count`, without one all), and writes the bytes of the code of the samples that they leave.
 ///
 /// The refusals in their order: `Read`, `StreamTooLong` and `Memory` as they are met while the script is read, then
-/// `Script` or `Memory`, and until then nothing is taken of the source; those of `decode`; `Memory`. The first edit that is
+/// `Script` (and until then nothing is taken of the source) or `Memory`; those of `decode`; `Memory`. The first edit that is
 /// refused, for its place, the limit, its values, or want of calls or of memory, is named by its line and ends the run; all other
 /// refusals are plain.
 /// Nothing has been written then and `begin` was not called. After `begin` only `Write` can come, and a front of the answer

@@ -12,7 +12,7 @@ ghost use Rattle.aec_engine.specs.ReadingTwice.{AreSamplesOf};
 ghost use Rattle.aec_engine.specs.EarlyEdits.{LoadsAll, StopsLoading, EditsBits, EditsSamples};
 
 use crate::engine::carrying::{carry_early, carry_rest};
-use crate::engine::two_readings::count_samples;
+use crate::engine::two_readings::{Judged, judge_all};
 use crate::scripts::{EditFault, Script};
 use aec_bits::{BitBuf, Codec};
 use aec_edit::Workspace;
@@ -58,7 +58,7 @@ fn append_all<C: Codec>(
     Ok(next)
 }
 
-/// A reader of bits that have been judged whole: it is at the first bit, and the samples can be read; beside it how many these are. Takes
+/// A reader of bits that have been judged whole: it is at the first bit, and the samples can be read; beside it what judging told. Takes
 /// no memory. The refusals are those of `decode_all`, but for want of memory.
 fn judged_reader<'a>(
     alloc: Global,
@@ -66,21 +66,21 @@ fn judged_reader<'a>(
     limits: Limits,
     count: Option<u64>,
     bits: &'a BitBuf,
-) -> Result<(StreamReader<'a>, u64), Fault>
-    ensures settings { IfOk result (λ judged. judged.0.settings ≡ params.now) }
-    ensures limit { IfOk result (λ judged. judged.0.limit ≡ limits.samples) }
-    ensures count { IfOk result (λ judged. judged.0.count ≡ count) }
-    ensures block { IfOk result (λ judged. judged.0.block ≡ 0) }
-    ensures bit { IfOk result (λ judged. judged.0.bit ≡ 0) }
+) -> Result<(StreamReader<'a>, Judged), Fault>
+    ensures settings { IfOk result (λ read. read.0.settings ≡ params.now) }
+    ensures limit { IfOk result (λ read. read.0.limit ≡ limits.samples) }
+    ensures count { IfOk result (λ read. read.0.count ≡ count) }
+    ensures block { IfOk result (λ read. read.0.block ≡ 0) }
+    ensures bit { IfOk result (λ read. read.0.bit ≡ 0) }
     ensures within { IfOk result (λ _. count_refusal limits.samples count ≡ None) }
-    ensures read { IfOk result (λ judged. (xs : List ℤ) × AreSamplesOf judged.0 xs) }
-    ensures samples { IfOk result (λ judged. (xs : List ℤ) → AreSamplesOf judged.0 xs
+    ensures read { IfOk result (λ read. (xs : List ℤ) × AreSamplesOf read.0 xs) }
+    ensures samples { IfOk result (λ read. (xs : List ℤ) → AreSamplesOf read.0 xs
         → IsReading params.now count limits.samples bits.now.list xs) }
     ensures refuses { IfErr result (λ fault. RefusesDecoding params.now count limits.samples bits.now.list fault) }
 {
     let mut reader = StreamReader::new(alloc, *params, bits, count, limits.samples())?;
-    let total = count_samples(params, &mut reader)?;
-    Ok((reader, total))
+    let judged = judge_all(params, &mut reader)?;
+    Ok((reader, judged))
 }
 
 /// Room for the samples of an interval.
@@ -99,11 +99,11 @@ struct Room {
 }
 
 impl Room {
-    /// Room for so many samples whose code has so many bits, and a sixteenth more bits for what edits put.
-    fn of(params: &Params, samples: u64, bits: u64) -> Room {
+    /// Room for the samples that were judged, and a sixteenth more bits for what edits put.
+    fn of(params: &Params, judged: Judged) -> Room {
         Room {
-            bits: bits.saturating_add(bits / 16),
-            intervals: samples.div_ceil(params.interval_len()),
+            bits: judged.bits.saturating_add(judged.bits / 16),
+            intervals: judged.total.div_ceil(params.interval_len()),
         }
     }
 }
@@ -173,7 +173,7 @@ pub(crate) fn edit_bits<C: Codec + Drop>(
         (answer_of (λ w. recoded_of (C.format w.codec) w.samples (C.called w.codec)) result) }
     ensures format { IfOk result (λ w. C.format w.codec ≡ interval_format params.now) }
 {
-    let (mut reader, total) = judged_reader(alloc, params, limits, count, bits)?;
-    let room = Room::of(params, total, bits.len());
+    let (mut reader, judged) = judged_reader(alloc, params, limits, count, bits)?;
+    let room = Room::of(params, judged);
     edit_samples(alloc, codec, params, limits, room, &mut reader, script)
 }

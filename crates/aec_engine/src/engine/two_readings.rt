@@ -33,12 +33,13 @@ fn last_begin(noted: Begin, here: Begin, first: u64) -> Begin
     if here.before <= first { here } else { noted }
 }
 
-/// What judging tells: how many samples there are, and how many of them lie before the place that was
-/// gone back to.
+/// What judging tells: how many samples there are, how many of them lie before the place that was gone
+/// back to, and how many bits they were read from.
 #[derive(Clone, Copy)]
 pub(crate) struct Judged {
     pub(crate) total: u64,
     pub(crate) before: u64,
+    pub(crate) bits: u64,
 }
 
 /// Goes over all samples from the first bit on, and back to the last interval that begins at or before
@@ -73,14 +74,30 @@ pub(crate) fn judge_samples(
         };
         begin = last_begin(begin, here, first);
     }
+    let bits = reader.place().bit;
     reader.go_back(begin.place);
     Ok(Judged {
         total,
         before: begin.before,
+        bits,
     })
 }
 
-/// Goes over all samples from the first bit on, and back to it. How many there are. Takes no memory.
+/// Goes over all samples from the first bit on, and back to it. Takes no memory.
+pub(crate) fn judge_all(params: &Params, reader: &mut StreamReader) -> Result<Judged, Fault>
+    requires settings { reader.old.settings ≡ params.now }
+    requires block { reader.old.block ≡ 0 }
+    requires bit { reader.old.bit ≡ 0 }
+    ensures ok { IfOk result (λ judged. HaveSamples reader.old judged.total) }
+    ensures refuses { IfErr result (λ fault. RefusesReading reader.old.settings reader.old.count reader.old.limit reader.old.bits 0 0 fault) }
+    ensures same { OnOk result (reader.new ≡ reader.old) }
+{
+    let judged = judge_samples(params, reader, 0)?;
+    reader.restart();
+    Ok(judged)
+}
+
+/// The same. How many samples there are.
 pub(crate) fn count_samples(params: &Params, reader: &mut StreamReader) -> Result<u64, Fault>
     requires settings { reader.old.settings ≡ params.now }
     requires block { reader.old.block ≡ 0 }
@@ -89,9 +106,7 @@ pub(crate) fn count_samples(params: &Params, reader: &mut StreamReader) -> Resul
     ensures refuses { IfErr result (λ fault. RefusesReading reader.old.settings reader.old.count reader.old.limit reader.old.bits 0 0 fault) }
     ensures same { OnOk result (reader.new ≡ reader.old) }
 {
-    let judged = judge_samples(params, reader, 0)?;
-    reader.restart();
-    Ok(judged.total)
+    Ok(judge_all(params, reader)?.total)
 }
 
 /// Of samples those behind the first `skip`, at most `left` of them.

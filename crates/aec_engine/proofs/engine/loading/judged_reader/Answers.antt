@@ -12,10 +12,10 @@ returns-in_err-reader-clause-refuses c =
     (subst (λ limit. RefusesDecoding c.args.params.now c.args.count limit c.args.bits.now.list exit.0) c.samples.ensures.value
     (refuses_count _ _ _ _ exit.0 (ap Some exit.2 ∙ c.in_err-reader.ensures.refuses)))
 
-pub returns-in_err-count_samples-clause-refuses : goal.returns-in_err-count_samples-clause-refuses
-returns-in_err-count_samples-clause-refuses c =
-    let exit = err_from_is_err_and c.from_residual-in_err-count_samples.result c.from_residual-in_err-count_samples.ensures.1 in
+pub returns-in_err-judged-clause-refuses : goal.returns-in_err-judged-clause-refuses
+returns-in_err-judged-clause-refuses c =
+    let exit = err_from_is_err_and c.from_residual-in_err-judged.result c.from_residual-in_err-judged.ensures.1 in
     refuses_err _ exit.0 (RefusesDecoding c.args.params.now c.args.count c.args.limits.samples c.args.bits.now.list) exit.1
     (subst (λ limit. RefusesDecoding c.args.params.now c.args.count limit c.args.bits.now.list exit.0) c.samples.ensures.value
-    (subst (RefusesDecoding _ _ _ _) (sym exit.2) (refuses_reading _ _ _ _ c.in_ok-reader.reader c.in_err-count_samples.field-0.0 c.in_ok-reader.ensures.ok
-    c.in_ok-reader.ensures.refuses c.in_err-count_samples.ensures.refuses)))
+    (subst (RefusesDecoding _ _ _ _) (sym exit.2) (refuses_reading _ _ _ _ c.in_ok-reader.reader c.in_err-judged.field-0.0 c.in_ok-reader.ensures.ok
+    c.in_ok-reader.ensures.refuses c.in_err-judged.ensures.refuses)))
