@@ -69,11 +69,17 @@ def try_fits(aec, script, tally):
     shortest = min(sizes, key=sizes.get, default="")
     coded = aec.answer(shortest.split(), settings.stored(walk)) or b""
     tally.check("fit sizes", (status, sizes.get(shortest)), (0, len(coded)))
+    tally.check("fit sizes: 4 block sizes, with and without -s and -N", len(sizes), 16)
     is_so = sizes.get("-n 12 -r 8 -j 32", 0) == len(aec.read("unknown"))
     tally.holds(is_so, f"fit sizes has the options of the stream: {said}")
     status, said = script.run(FIT, "streams", aec.path, "unknown", "3000", "-n", "12")
     first = [row.split()[2:] for row in said.splitlines() if row.startswith("whole")][:1]
     tally.check("fit streams", (status, first), (0, ["-n 12 -j 32 -r 8".split()]))
+    plain = settings._replace(preprocess=False)
+    aec.write("plain", aec.answer(plain.options(), plain.stored(walk)))
+    status, said = script.run(FIT, "streams", aec.path, "plain", "3000", *settings.options())
+    found = [row.split()[-7:] for row in said.splitlines() if row.startswith("whole")]
+    tally.check("fit streams: -N", (status, plain.options() in found), (0, True))
     stored = "-m and -3 change nothing in a stream, and -s is tried by itself"
     none = "no options of those tried read 999999 samples"
     for words, text in (
