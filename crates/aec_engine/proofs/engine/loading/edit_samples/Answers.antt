@@ -17,7 +17,7 @@ pub returns-in_err-next-clause-edits : goal.returns-in_err-next-clause-edits
 returns-in_err-next-clause-edits g c =
     let exit = err_from_is_err_and c.from_residual-in_err-next.result c.from_residual-in_err-next.ensures.1 in
     loading_err _ _ exit.0 c.in_err-next.field-0.0 c.args.params.now _ _ _ _ _ _ exit.1 exit.2
-    (ap g.C.Codec.format c.in_ok-workspace.ensures.codec ∙ c.requires.format) (c.in_ok-workspace.ensures.limit ∙ c.samples.ensures.value)
+    (ap g.C.Codec.format c.in_ok-workspace.ensures.codec ∙ c.requires.format) c.in_ok-workspace.ensures.limit
     c.in_err-next.ensures.refuses
 
 pub returns-in_err-carry_rest-clause-edits : goal.returns-in_err-carry_rest-clause-edits
@@ -25,10 +25,10 @@ returns-in_err-carry_rest-clause-edits g c =
     let exit = err_from_is_err_and c.from_residual-in_err-carry_rest.result c.from_residual-in_err-carry_rest.ensures.1 in
     rest_err _ _ exit.0 c.in_err-carry_rest.field-0.0 c.args.params.now _ _ _ _ _ _ _ _ c.in_ok-next.next _ _ exit.1 exit.2
     (ap g.C.Codec.format c.in_ok-workspace.ensures.codec ∙ c.requires.format) c.append_all.ensures.format
-    (c.in_ok-workspace.ensures.limit ∙ c.samples.ensures.value) c.append_all.ensures.limit c.in_ok-next.ensures.ok c.in_err-carry_rest.ensures.refuses
+    c.in_ok-workspace.ensures.limit c.append_all.ensures.limit c.in_ok-next.ensures.ok c.in_err-carry_rest.ensures.refuses
 
 pub returns-clause-edits : goal.returns-clause-edits
 returns-clause-edits g c =
     rest_made c.args.params.now _ _ _ _ _ _ _ _ _ c.in_ok-next.next _ _ _ _ (ap g.C.Codec.format c.in_ok-workspace.ensures.codec ∙ c.requires.format)
-    c.append_all.ensures.format c.carry_rest.ensures.format (c.in_ok-workspace.ensures.limit ∙ c.samples.ensures.value) c.append_all.ensures.limit
+    c.append_all.ensures.format c.carry_rest.ensures.format c.in_ok-workspace.ensures.limit c.append_all.ensures.limit
     c.in_ok-next.ensures.ok c.in_ok-carry_rest.ensures.ok
