@@ -15,6 +15,7 @@ import itertools
 import os
 import sys
 import tempfile
+from concurrent.futures import ThreadPoolExecutor
 
 from aec_runs import Refused, perform, read_file, require_aec, said_by, samples_of, write_file
 
@@ -95,12 +96,14 @@ def streams(aec, stream, count, *options):
     if {"-m", "-3", "-s"} & set(options):
         raise Refused("-m and -3 change nothing in a stream, and -s is tried by itself")
     require_aec(aec)
-    widths, found = tuple(map(str, range(1, 33))), []
-    with tempfile.TemporaryDirectory() as folder:
+    widths, found, front = tuple(map(str, range(1, 33))), [], min(int(count), FRONT)
+    listed = candidates(options, ["-N"], n=widths, j=BLOCKS, r=INTERVALS)
+    with tempfile.TemporaryDirectory() as folder, ThreadPoolExecutor(os.cpu_count()) as pool:
         cut, dest = os.path.join(folder, "cut"), os.path.join(folder, "dest")
         write_file(cut, read_file(stream)[:-1])
-        for words in with_progress(candidates(options, ["-N"], n=widths, j=BLOCKS, r=INTERVALS)):
-            if reads(aec, stream, "/dev/null", words, min(int(count), FRONT)):
+        are_read = pool.map(lambda it: reads(aec, stream, "/dev/null", it, front), listed)
+        for words, is_read in zip(with_progress(listed), are_read):
+            if is_read:
                 found += looked_at(aec, stream, cut, dest, words, int(count))
     if not found:
         more = "try --even-blocks with -j, or -t, or -p"

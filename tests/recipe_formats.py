@@ -192,6 +192,11 @@ def try_packets(aec, script, tally):
     for name in listed:
         samples = aec.read(os.path.join("all", name))
         tally.check(f"samples of {name}", samples, bytes(range(8)))
+    try_packet_words(words, aec, script, tally)
+
+
+def try_packet_words(words, aec, script, tally):
+    """Words that space_packets.py refuses; a folder `all` and packets `p` are there."""
     for given, status, text in (
         (["all", "4", *words], 1, "all: File exists"),
         (["new", "x", *words], 1, "x is no length of a secondary header"),

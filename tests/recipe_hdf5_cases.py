@@ -214,6 +214,10 @@ def try_refusals(aec, tally):
     ):
         answer = called(h5_szip.edit, aec.path, path, *words)
         tally.check(f"edit {words}", answer, (1, text))
+    tally.check("the file is the output", called(h5_szip.read, aec.path, path, "of8", path)[0], 1)
+    answer = called(h5_szip.edit, "/bin/true", path, "of8", "0", "1")
+    tally.check("a program that is none", answer[0], 1)
+    tally.holds(aec.read("bad.h5") == before, "a file whose edits are refused")
     with h5py.File(path, "r+") as file:
         file["of8"].id.write_direct_chunk((500,), bytes(499), 1)
         file["of8"].id.write_direct_chunk((0,), b"\xf5\1\0\0\0\0\0", 0)
@@ -221,11 +225,6 @@ def try_refusals(aec, tally):
         text = f"a chunk has {length} raw bytes in place of 500"
         answer = called(h5_szip.edit, aec.path, path, "of8", place, "1")
         tally.check(f"a chunk of another length at {place}", answer, (1, text))
-    made_bad(path)
-    tally.check("the file is the output", called(h5_szip.read, aec.path, path, "of8", path)[0], 1)
-    answer = called(h5_szip.edit, "/bin/true", path, "of8", "0", "1")
-    tally.check("a program that is none", answer[0], 1)
-    tally.holds(len(aec.read("bad.h5")) == len(before), "a file whose edits are refused")
 
 
 def try_command_lines(aec, script, tally):

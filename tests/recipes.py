@@ -2,10 +2,10 @@
 """The scripts of examples/ and the page about them:
 recipes.py PATH_OF_AEC [--seed N] [--cases N] [--only N]
 
-The formats, with eccodes and h5py hidden (recipe_formats.py); kept files and archives, pictures,
-options that fit; then recipe_grib.py beside eccodes and recipe_hdf5.py beside HDF5, by an
-interpreter that has these; and each command of docs/RECIPES.md in a folder of its own. What needs a
-program or a module that isn't installed is skipped, and said.
+Kept files and archives, pictures, options that fit, and each command of docs/RECIPES.md in a folder
+of its own. Meanwhile the formats are tried: with eccodes and h5py hidden (recipe_formats.py), and
+beside these by an interpreter that has them (recipe_grib.py, recipe_hdf5.py). What needs a program
+or a module that isn't installed is skipped, and said.
 """
 
 import os
@@ -39,39 +39,43 @@ def interpreter_with(module, environment=None):
     return None
 
 
-def run_test(python, name, asked, tally, environment=None):
-    """Runs a test by itself, with the seed and the cases asked for, and adds what it counts."""
+def begun(python, name, asked, environment=None):
+    """A test that runs by itself, with the seed and the cases asked for."""
     words = [python, os.path.join(HERE, name), asked.program]
     words += ["--seed", str(asked.seed), "--cases", str(asked.cases)]
     words += [] if asked.only is None else ["--only", str(asked.only)]
-    more = {"env": environment, "capture_output": True, "text": True}
-    ended = subprocess.run(words, check=False, **more)
-    print(ended.stdout + ended.stderr, end="", flush=True)
-    counts = re.findall(r"^(\d+) passed, (\d+) failed", ended.stdout, re.M)
-    is_so = counts and (ended.returncode == 0) == (counts[-1][1] == "0")
-    tally.holds(is_so, f"{name} ended with {ended.returncode}")
+    pipes = {"stdout": subprocess.PIPE, "stderr": subprocess.STDOUT, "text": True}
+    return subprocess.Popen(words, env=environment, **pipes)
+
+
+def add_test(running, tally):
+    """Waits for a test, prints what it says, and adds what it counts."""
+    said, name = running.communicate()[0], os.path.basename(running.args[1])
+    print(f"{name}: {said}", end="", flush=True)
+    counts = re.findall(r"^(\d+) passed, (\d+) failed", said, re.M)
+    is_so = counts and (running.returncode == 0) == (counts[-1][1] == "0")
+    tally.holds(is_so, f"{name} ended with {running.returncode}")
     for passed, failed in counts[-1:]:
         tally.passed, tally.failed = tally.passed + int(passed), tally.failed + int(failed)
 
 
-def try_hidden(asked, tally):
-    """The formats where no Python has eccodes, h5py or numpy."""
-    with tempfile.TemporaryDirectory() as folder:
-        environment = hiding(folder, *MODULES)
-        found = [it for it in MODULES if interpreter_with(it, environment)]
-        tally.check("modules that are hidden", found, [])
-        run_test(sys.executable, "recipe_formats.py", asked, tally, environment)
+def begun_hidden(asked, folder, tally):
+    """The test of the formats, where no Python has eccodes, h5py or numpy."""
+    environment = hiding(folder, *MODULES)
+    found = [it for it in MODULES if interpreter_with(it, environment)]
+    tally.check("modules that are hidden", found, [])
+    return begun(sys.executable, "recipe_formats.py", asked, environment)
 
 
-def try_judged(asked, tally):
-    """The formats beside eccodes and HDF5. What was skipped."""
-    skipped = []
+def begun_judged(asked):
+    """The tests of the formats beside eccodes and HDF5, and what is skipped."""
+    running, skipped = [], []
     for module, name in (("eccodes", "recipe_grib.py"), ("h5py", "recipe_hdf5.py")):
         if python := interpreter_with(module):
-            run_test(python, name, asked, tally)
+            running.append(begun(python, name, asked))
         else:
             skipped.append(f"{name}: no {module}")
-    return skipped
+    return running, skipped
 
 
 def missing_for(block):
@@ -141,19 +145,21 @@ def try_page(aec, tally):
 def main():
     asked = asked_of("The recipes.", 48)
     os.environ["PYTHONDONTWRITEBYTECODE"] = "1"
-    tally, skipped = Tally(), []
-    try_hidden(asked, tally)
+    tally = Tally()
     with tempfile.TemporaryDirectory() as folder:
         aec, script = Program(asked.program, folder), Program(sys.executable, folder)
+        running, skipped = begun_judged(asked)
+        running.append(begun_hidden(asked, folder, tally))
         try_kept(aec, tally)
         try_not_kept(aec, tally)
         try_stopped(aec, tally)
         try_pictures(aec, script, tally)
         try_fits(aec, script, tally)
         skipped += try_archives(aec, tally)
-    skipped += try_judged(asked, tally)
-    with tempfile.TemporaryDirectory() as folder:
-        skipped += try_page(Program(asked.program, folder), tally)
+        os.mkdir(aec.file("page"))
+        skipped += try_page(Program(asked.program, aec.file("page")), tally)
+        for it in running:
+            add_test(it, tally)
     tally.print(len(skipped), "; ".join(skipped))
     return 1 if tally.failed else 0
 
