@@ -54,6 +54,7 @@ fn with_numbers<'a>(alloc: Global, command: Command<'a>) -> Result<Command<'a>, 
         alloc,
         "bits",
         'n',
+        "BITS",
         clap::value_parser!(u32),
         "bits per sample, 1 to 32 (default 8)",
     );
@@ -61,6 +62,7 @@ fn with_numbers<'a>(alloc: Global, command: Command<'a>) -> Result<Command<'a>, 
         alloc,
         "block-size",
         'j',
+        "SIZE",
         clap::value_parser!(u32),
         "samples per block: 8, 16, 32 or 64 (default 8)",
     );
@@ -68,6 +70,7 @@ fn with_numbers<'a>(alloc: Global, command: Command<'a>) -> Result<Command<'a>, 
         alloc,
         "interval",
         'r',
+        "BLOCKS",
         clap::value_parser!(u32),
         "blocks per reference sample interval, 1 to 4096{n}(default 2)",
     );
@@ -150,6 +153,7 @@ fn with_work<'a>(alloc: Global, command: Command<'a>) -> Result<Command<'a>, All
     let count = long_number(
         alloc,
         "count",
+        "COUNT",
         clap::value_parser!(u64),
         "sample count of a coded SOURCE; without it the{n}\
          filler of the last block is decoded too",
@@ -158,6 +162,7 @@ fn with_work<'a>(alloc: Global, command: Command<'a>) -> Result<Command<'a>, All
         alloc,
         "buffer",
         'b',
+        "SIZE",
         clap::value_parser!(u64),
         "size of a buffer; read, without effect",
     );
@@ -174,7 +179,11 @@ fn with_files<'a>(alloc: Global, command: Command<'a>) -> Result<Command<'a>, Al
     ensures { IfOk result (λ c. app_of c ≡ with_rules (app_of command.entry) file_rules) }
 {
     let source = file(alloc, "SOURCE", "the file that is read");
-    let dest = file(alloc, "DEST", "the file that is written whole");
+    let dest = file(
+        alloc,
+        "DEST",
+        "the file that is written, in place of what it held",
+    );
     command.arg(source)?.arg(dest)
 }
 
@@ -203,6 +212,7 @@ fn number<'a>(
     alloc: Global,
     id: &'a str,
     letter: char,
+    shown: &'a str,
     parser: ValueParser<'a>,
     help: &'a str,
 ) -> Arg<'a>
@@ -211,19 +221,25 @@ fn number<'a>(
 {
     Arg::new(alloc, id)
         .short(letter)
-        .value_name("N")
+        .value_name(shown)
         .value_parser(parser)
         .help(help)
 }
 
 // An option with a long name that takes a number, which the parser judges.
-fn long_number<'a>(alloc: Global, name: &'a str, parser: ValueParser<'a>, help: &'a str) -> Arg<'a>
+fn long_number<'a>(
+    alloc: Global,
+    name: &'a str,
+    shown: &'a str,
+    parser: ValueParser<'a>,
+    help: &'a str,
+) -> Arg<'a>
     ensures rule { rule_of result ≡ long_number_rule parser.entry name.entry.now }
     ensures local { result.global ≡ false }
 {
     Arg::new(alloc, name)
         .long(name)
-        .value_name("N")
+        .value_name(shown)
         .value_parser(parser)
         .help(help)
 }

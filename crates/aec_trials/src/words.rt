@@ -254,7 +254,7 @@ fn help_goes_to_standard_output(rt: HostRuntime) -> Result<(), Fail> {
     );
     for option in [
         "--range <FIRST:LEN>",
-        "--count <N>",
+        "--count <COUNT>",
         "--even-blocks",
         "--version",
         "--help",
