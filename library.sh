@@ -21,10 +21,13 @@ if [ "${1:-}" != --link ]; then
     fi
 fi
 
-# One object of the archive and of the kit's calls of malloc, realloc and free, in which all names but the library's are its own.
+# One object of the archive and of the kit's calls of malloc, realloc and free: what the exports reach, with no names for others
+# but theirs.
+roots=$(sed -n 's/.*\(aecp_[a-z]*\)(.*/-u \1/p' include/aecp.h | sort -u)
 work=$(mktemp -d)
 trap 'rm -rf "$work"' EXIT
-ld -r -o "$work/all.o" --whole-archive "${ARCHIVE:-$archive}" --no-whole-archive "$kit/c/liblibc_c.a"
+# shellcheck disable=SC2086
+ld -r --gc-sections $roots -o "$work/all.o" --whole-archive "${ARCHIVE:-$archive}" --no-whole-archive "$kit/c/liblibc_c.a"
 objcopy --wildcard --keep-global-symbol='aecp_*' "$work/all.o" "$work/aecp.o"
 rm -f bin/libaecp.a
 ar rcs bin/libaecp.a "$work/aecp.o"

@@ -69,7 +69,7 @@ ROWS = [
     (Call("decode", USUAL, b"\x00\x78"), b"\x07" * 8),
     (Call("range", USUAL, CODED, ALL, 2, 3), b"\x02\x03\x04"),
 ]
-# Each with its number, its place and its text.
+# Each with its number, its place and its text. The eight samples take 3 + 8 + 2 + 6 * 3 = 31 bits.
 REFUSED = [
     (Call("encode", USUAL._replace(bits=0), b""), 1, 0, "bits per sample must be 1 to 32"),
     (Call("encode", USUAL._replace(bits=33), b""), 1, 0, "bits per sample must be 1 to 32"),
@@ -79,7 +79,7 @@ REFUSED = [
     (Call("encode", USUAL._replace(bits=5, restricted=True), b""), 4, 0, "restricted codes need 4 bits per sample or fewer"),
     (Call("encode", USUAL._replace(bits=4), b"\x0f\x10"), 5, 1, "sample 1 is out of range"),
     (Call("decode", USUAL, CODED[:3], 8), 6, 0, "coded data is cut short at bit 0"),
-    (Call("decode", USUAL, CODED, 9), 6, 32, "coded data is cut short at bit 32"),
+    (Call("decode", USUAL, CODED, 9), 6, 31, "coded data is cut short at bit 31"),
     (Call("decode", USUAL, CODED, 2**32 + 1), 9, 2**32, f"more than {2**32} samples"),
     (Call("range", USUAL, CODED, 8, 6, 3), 10, 8, "position outside the 8 samples"),
     (Call("range", USUAL, CODED, 8, 2**64 - 1, 1), 10, 8, "position outside the 8 samples"),
