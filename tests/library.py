@@ -210,7 +210,9 @@ def try_case(aecp, ours, theirs, seed, number, tally):
         cut = in_python(aecp, Call("decode", settings, coded[:-1], len(samples)))
         tally.check(f"{what}: cut", cut[:1], (6,))
     if theirs and settings.block_size in STANDARD_BLOCK_SIZES and not settings.pad and samples:
-        foreign = theirs.answer([word for word in settings.options() if word != "--even-blocks"], stored)
+        # Theirs takes no copies of the sign above the bits of a sample.
+        taken = [word for word in settings.options() if word != "--even-blocks"]
+        foreign = theirs.answer(taken, settings.stored(samples, settings.bits))
         tally.check(f"{what}: libaec's stream", bytes(aecp.decode_bytes(foreign, len(samples), options)), stored)
     if tally.failed > before:
         print(f"  that was --seed {seed} --only {number}", flush=True)
