@@ -41,7 +41,10 @@ pub(crate) fn text_of(alloc: Global, reply: &Reply) -> Result<String, AllocError
         Some(fault) => format!(in alloc; "{fault}"),
         None if reply.fault == 0 => format!(in alloc; "no fault"),
         None if reply.fault == NO_ROOM => {
-            format!(in alloc; "the answer takes {} bytes, more than the buffer has", reply.len)
+            format!(in alloc;
+                "the answer takes {} bytes, more than the buffer has",
+                reply.len
+            )
         }
         None => format!(in alloc; "no fault has the number {}", reply.fault),
     }

@@ -28,7 +28,16 @@ pub fn range_bytes(
 {
     let mut source = SliceSource::new(coded);
     let mut sink = WriteSink::new(Vec::new(alloc));
-    match range(alloc, params, limits, count, first, len, &mut source, &mut sink) {
+    match range(
+        alloc,
+        params,
+        limits,
+        count,
+        first,
+        len,
+        &mut source,
+        &mut sink,
+    ) {
         Ok(()) => Ok(sink.into_inner()),
         Err(fault) => Err(refusal(fault)),
     }
