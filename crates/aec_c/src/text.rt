@@ -5,6 +5,7 @@ ghost use Rattle.aec_c.specs.Replies.{number_of};
 ghost use Rattle.aec_c.specs.Texts.{PutsText, text_in};
 
 use crate::reply::{NO_ROOM, Reply};
+use crate::settling::put_front;
 use aec_params::Fault;
 use std::alloc::{AllocError, Global};
 
@@ -57,8 +58,8 @@ pub(crate) fn put_text(text: &[u8], out: &mut [u8]) -> usize
     let Some(last) = out.len().checked_sub(1) else {
         return text.len();
     };
-    let shown = text.len().min(last);
-    out[..shown].copy_from_slice(&text[..shown]);
+    let shown = last.min(text.len());
+    put_front(&text[..shown], out);
     out[shown] = 0;
     text.len()
 }
