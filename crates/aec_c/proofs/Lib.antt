@@ -1,2 +1,3 @@
-pub mod ReplyLemmas
 pub mod TextLemmas
+pub mod AnswerLemmas
+pub mod BoundLemmas

@@ -17,13 +17,24 @@ fn limits() -> Limits
     Limits::new(1 << 32, 1 << 40).unwrap()
 }
 
+/// The parameters that options are.
+fn params_of(options: &Options) -> Result<Params, Fault>
+    ensures ok { IfOk result (λ params. params ≡ settings_of options.now) }
+    ensures allowed { IfOk result (λ params. IsAllowed params) }
+    ensures refuses { result_err result ≡ settings_fault (settings_of options.now) }
+{
+    Params::new(asked(options))
+}
+
 /// The code of stored samples.
 pub(crate) fn coded(alloc: Global, options: &Options, samples: &[u8]) -> Result<Vec<u8>, Fault>
     ensures ok { IfOk result (λ bytes. IsCoding (settings_of options.now) samples.now (Ok bytes.items)) }
     ensures refuses { IfErr result (λ fault. IsCoding (settings_of options.now) samples.now (Err fault)) }
 {
-    let params = Params::new(asked(options))?;
-    encode_bytes(alloc, &params, limits(), samples)
+    match params_of(options) {
+        Ok(params) => encode_bytes(alloc, &params, limits(), samples),
+        Err(fault) => Err(fault),
+    }
 }
 
 /// The stored samples of coded bytes.
@@ -36,8 +47,10 @@ pub(crate) fn decoded(
     ensures ok { IfOk result (λ samples. IsDecoding (settings_of options.now) (count_of count) bytes.now (Ok samples.items)) }
     ensures refuses { IfErr result (λ fault. IsDecoding (settings_of options.now) (count_of count) bytes.now (Err fault)) }
 {
-    let params = Params::new(asked(options))?;
-    decode_bytes(alloc, &params, limits(), counted(count), bytes)
+    match params_of(options) {
+        Ok(params) => decode_bytes(alloc, &params, limits(), counted(count), bytes),
+        Err(fault) => Err(fault),
+    }
 }
 
 /// A range of the stored samples of coded bytes.
@@ -52,6 +65,8 @@ pub(crate) fn ranged(
     ensures ok { IfOk result (λ samples. IsRanging (settings_of options.now) (count_of count) first len bytes.now (Ok samples.items)) }
     ensures refuses { IfErr result (λ fault. IsRanging (settings_of options.now) (count_of count) first len bytes.now (Err fault)) }
 {
-    let params = Params::new(asked(options))?;
-    range_bytes(alloc, &params, limits(), counted(count), first, len, bytes)
+    match params_of(options) {
+        Ok(params) => range_bytes(alloc, &params, limits(), counted(count), first, len, bytes),
+        Err(fault) => Err(fault),
+    }
 }

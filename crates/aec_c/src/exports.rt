@@ -15,7 +15,6 @@ use crate::text::{put_text, text_of};
 use std::alloc::Global;
 
 /// Codes stored samples.
-#[tactic(auto, using(crate::proofs::ReplyLemmas::replied))]
 #[unsafe(no_mangle)]
 pub extern "C" fn aecp_encode(
     alloc: Global,
@@ -33,7 +32,6 @@ pub extern "C" fn aecp_encode(
 }
 
 /// Decodes coded bytes: the first `count` samples, or all where `count` is the greatest number of 64 bits.
-#[tactic(auto, using(crate::proofs::ReplyLemmas::replied))]
 #[unsafe(no_mangle)]
 pub extern "C" fn aecp_decode(
     alloc: Global,
@@ -52,7 +50,6 @@ pub extern "C" fn aecp_decode(
 }
 
 /// Decodes `len` samples from place `first` on.
-#[tactic(auto, using(crate::proofs::ReplyLemmas::replied))]
 #[unsafe(no_mangle)]
 pub extern "C" fn aecp_range(
     alloc: Global,

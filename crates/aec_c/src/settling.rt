@@ -8,7 +8,7 @@ use crate::reply::{Reply, answered, refused, too_long};
 use aec_params::Fault;
 
 /// Puts bytes at the front of a buffer that has room for them.
-pub(crate) fn put_front(answer: &[u8], out: &mut [u8])
+fn put_front(answer: &[u8], out: &mut [u8])
     requires { length answer.now ≤ length out.old }
     ensures { out.new ≡ over_front answer.now out.old }
 {

@@ -5,7 +5,6 @@ ghost use Rattle.aec_c.specs.Replies.{number_of};
 ghost use Rattle.aec_c.specs.Texts.{PutsText, text_in};
 
 use crate::reply::{NO_ROOM, Reply};
-use crate::settling::put_front;
 use aec_params::Fault;
 use std::alloc::{AllocError, Global};
 
@@ -59,7 +58,7 @@ pub(crate) fn put_text(text: &[u8], out: &mut [u8]) -> usize
         return text.len();
     };
     let shown = last.min(text.len());
-    put_front(&text[..shown], out);
+    out[..shown].copy_from_slice(&text[..shown]);
     out[shown] = 0;
     text.len()
 }
