@@ -57,7 +57,7 @@ bytes_fit s samples size width blocks interval bytes intervals allowed few sizes
     let most = few_bits s samples allowed few in
     let same = bits_of_blocks s samples size width blocks sizes widths counts in
     let least : blocks ≤ 4294967360 = subst (λ n. n ≤ 4294967360) (sym (counts ∙ ap (div_ceil samples) sizes)) (few_blocks s samples allowed few) in
-    let in_bytes : div_ceil (blocks * (5 + size * width)) 8 < blocks * (5 + size * width) + 8 = ceil-below (blocks * (5 + size * width)) 8 (omega) in
+    let in_bytes : div_ceil (blocks * (5 + size * width)) 8 < blocks * (5 + size * width) + 8 = ceil-below (blocks * (5 + size * width)) 8 (omega arith) in
     let in_intervals : div_ceil blocks s.interval < blocks + s.interval = ceil-below blocks s.interval (interval-positive s allowed) in
     let longest : s.interval ≤ 4096 = interval-most s allowed in
     let cut : intervals ≡ div_ceil blocks s.interval = parts ∙ ap (div_ceil blocks) long in
