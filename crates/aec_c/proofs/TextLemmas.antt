@@ -1,9 +1,9 @@
 -- A text and a zero behind it, written one after the other.
-use Rattle.std.proofs.Common.{◌≡◌, ℕ, ◌+◌, ◌-◌, ◌<◌, ◌≤◌, min, nat_lt, if◌then◌else◌, List, [], ◌∷◌, ◌++◌, length, take, drop, set, refl, sym, ap, ◌∙◌, arith}
+use Rattle.std.proofs.Common.{◌≡◌, ℕ, ◌+◌, ◌-◌, ◌<◌, ◌≤◌, min, if◌then◌else◌, List, [], ◌∷◌, ◌++◌, length, take, drop, set, refl, sym, ap, ◌∙◌, arith}
 use Rattle.std.proofs.lemmas.Bool.{lt-ltb}
 use Rattle.std.proofs.lemmas.List.{take_min, length-take-le}
 use Rattle.aec_c.specs.Replies.{over_front}
-use Rattle.aec_c.specs.Texts.{PutsText, text_in}
+use Rattle.aec_c.specs.Texts.{PutsText}
 
 -- an element behind a front that was written makes the front longer
 set_behind : (front before : List ℕ) (y : ℕ) → length front < length before
