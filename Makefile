@@ -67,3 +67,24 @@ install:
 
 clean:
 	rm -rf bin crates/*/out
+
+# The library for C and the Python module over it: bin/libaecp.a and bin/libaecp.so, proved.
+.PHONY: library test-library install-library
+library:
+	@sh library.sh
+
+# The tests of the library in bin/, beside the program that the gate has built.
+test-library:
+	python3 tests/library.py crates/aec/out/aec bin
+
+# Header, libraries, pkg-config file and Python module. The module goes where `python3` looks for modules, with a library of its own.
+PYTHON_DIR ?= $(shell python3 -c 'import sysconfig; print(sysconfig.get_path("purelib"))')
+install-library:
+	install -d $(DESTDIR)$(PREFIX)/include $(DESTDIR)$(PREFIX)/lib/pkgconfig $(DESTDIR)$(PYTHON_DIR)/aecp
+	install -m 644 include/aecp.h $(DESTDIR)$(PREFIX)/include/aecp.h
+	install -m 644 bin/libaecp.a $(DESTDIR)$(PREFIX)/lib/libaecp.a
+	install -m 755 bin/libaecp.so $(DESTDIR)$(PREFIX)/lib/libaecp.so.0
+	ln -sf libaecp.so.0 $(DESTDIR)$(PREFIX)/lib/libaecp.so
+	sed 's|@PREFIX@|$(PREFIX)|; s|@VERSION@|0.1.0|' include/aecp.pc.in > $(DESTDIR)$(PREFIX)/lib/pkgconfig/aecp.pc
+	install -m 644 python/aecp/*.py $(DESTDIR)$(PYTHON_DIR)/aecp
+	install -m 755 bin/libaecp.so $(DESTDIR)$(PYTHON_DIR)/aecp/libaecp.so

@@ -19,7 +19,7 @@ use Rattle.aec_engine.proofs.FrontLemmas.{coding-whole, decoding-whole}
 -- ---- any engine
 
 -- what a sink holds that held nothing
-answered_ok : (answers : Input → Result (List ℕ) Fault → Type 0) (enough : List ℕ → Bool) (source : Taking) (sink : Putting) (bytes held : List ℕ)
+pub answered_ok : (answers : Input → Result (List ℕ) Fault → Type 0) (enough : List ℕ → Bool) (source : Taking) (sink : Putting) (bytes held : List ℕ)
     (r : Result (Unit {0}) Fault)
     → IsJudgedWhole answers enough → source.before ≡ Some bytes → source.failures ≡ 0 → sink.before ≡ Some [] → sink.after ≡ Some held
     → Leaves answers source enough sink r → r ≡ Ok tt → answers (input_of bytes false) (Ok held)
@@ -30,7 +30,7 @@ answered_ok answers enough source sink bytes held r whole before sound empty hol
 answered_ok answers enough source sink bytes held r whole before sound empty holds (no_answer nothing) is = absurd (cc)
 answered_ok answers enough source sink bytes held r whole before sound empty holds (not_written input out gave answered front counts fails) is = absurd (cc)
 
-answered_err : (answers : Input → Result (List ℕ) Fault → Type 0) (enough : List ℕ → Bool) (source : Taking) (sink : Putting) (bytes : List ℕ)
+pub answered_err : (answers : Input → Result (List ℕ) Fault → Type 0) (enough : List ℕ → Bool) (source : Taking) (sink : Putting) (bytes : List ℕ)
     (r : Result (Unit {0}) Fault) (fault : Fault)
     → IsJudgedWhole answers enough → source.before ≡ Some bytes → source.failures ≡ 0
     → Leaves answers source enough sink r → r ≡ Err fault → (fault ≡ Memory) ⊎ ((fault ≡ Write) ⊎ answers (input_of bytes false) (Err fault))
@@ -43,7 +43,7 @@ answered_err answers enough source sink bytes r fault whole before sound (not_wr
     let same : fault ≡ Write = cc in inr (inl same)
 
 -- a failed write is want of memory
-as_refusal : (P : Fault → Type 0) (fault f : Fault) → (fault ≡ Write → f ≡ Memory) → (f ≡ fault) ⊎ (f ≡ Memory)
+pub as_refusal : (P : Fault → Type 0) (fault f : Fault) → (fault ≡ Write → f ≡ Memory) → (f ≡ fault) ⊎ (f ≡ Memory)
     → (fault ≡ Memory) ⊎ ((fault ≡ Write) ⊎ P fault) → (f ≡ Memory) ⊎ P f
 as_refusal P fault f memory (inr lacks) why = inl lacks
 as_refusal P fault f memory (inl same) (inl lacks) = inl (same ∙ lacks)

@@ -16,6 +16,7 @@ pub mod ScriptWordLemmas
 pub mod ScriptNumberLemmas
 pub mod ScriptLineLemmas
 pub mod InMemoryLemmas
+pub mod RangeInMemoryLemmas
 pub mod CallLemmas
 pub mod EditingLemmas
 pub mod EarlyEditLemmas

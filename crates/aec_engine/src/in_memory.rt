@@ -12,12 +12,12 @@ use std::io::Read;
 
 // Bytes in memory as a source, which never fails.
 #[derive(Drop)]
-struct SliceSource<'a> {
+pub(crate) struct SliceSource<'a> {
     rest: &'a [u8],
 }
 
 impl<'a> SliceSource<'a> {
-    fn new(bytes: &'a [u8]) -> SliceSource<'a>
+    pub(crate) fn new(bytes: &'a [u8]) -> SliceSource<'a>
         ensures { ⟦<SliceSource<'a> as Source>⟧.left result ≡ Some bytes.now }
     {
         SliceSource { rest: bytes }

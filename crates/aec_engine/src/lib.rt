@@ -2,6 +2,7 @@
 //! sink, coding and decoding in memory, edits from nothing, and scripts of edits.
 #![tactic(auto)]
 
+mod bytes_range;
 mod edited_streams;
 mod engine;
 mod in_memory;
@@ -12,6 +13,7 @@ mod script_reading;
 mod script_words;
 mod scripts;
 
+pub use bytes_range::range_bytes;
 pub use edited_streams::{Decoded, decode_edited};
 pub use engine::{carry_out, decode, edit, edit_over, encode, range};
 pub use in_memory::{decode_bytes, encode_bytes};

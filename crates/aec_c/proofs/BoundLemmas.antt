@@ -1,0 +1,64 @@
+-- The numbers of a bound fit 64 bits.
+use Rattle.std.proofs.Common.{◌≡◌, ℕ, ◌+◌, ◌*◌, ◌^◌, ◌<◌, ◌≤◌, leb, ap, sym, ◌∙◌, subst, Fits, w64, arith}
+use Rattle.std.proofs.Math.Facts.{Fits-of_lt}
+use Rattle.std.specs.Int.{div_ceil}
+use Rattle.std.proofs.Math.Nat.{le-mul_of_pos_right}
+use Rattle.std.proofs.lemmas.Bool.{and_parts, leb-true}
+use Rattle.std.proofs.lemmas.Nat.{mul-le}
+use Rattle.aec_params.specs.declared.settings.Settings.{Settings}
+use Rattle.aec_params.specs.Params.{IsAllowed}
+use Rattle.aec_params.proofs.SettingLaws.{block_size-positive, block_size-most, interval-positive}
+use Rattle.aec_params.proofs.CountLaws.{ceil_bounds}
+
+bits-most : (s : Settings) → IsAllowed s → s.bits ≤ 32
+bits-most s allowed = leb-true s.bits 32 (and_parts (leb 1 s.bits) (leb s.bits 32) allowed.bits).1
+
+interval-most : (s : Settings) → IsAllowed s → s.interval ≤ 4096
+interval-most s allowed = leb-true s.interval 4096 (and_parts (leb 1 s.interval) (leb s.interval 4096) allowed.interval).1
+
+-- a rounded quotient is below the sum of its numbers
+ceil-below : (m n : ℕ) → 0 < n → div_ceil m n < m + n
+ceil-below m n some =
+    let below : div_ceil m n * n < m + n = (ceil_bounds m n some).1 in
+    let least : div_ceil m n ≤ div_ceil m n * n = le-mul_of_pos_right (div_ceil m n) some in omega arith
+
+few_blocks : (s : Settings) (samples : ℕ) → IsAllowed s → samples ≤ 2 ^ 32 → div_ceil samples s.block_size ≤ 4294967360
+few_blocks s samples allowed few =
+    let below : div_ceil samples s.block_size < samples + s.block_size = ceil-below samples s.block_size (block_size-positive s allowed) in
+    let most : s.block_size ≤ 64 = block_size-most s allowed in
+    let limit : samples ≤ 4294967296 = few in omega arith
+
+few_bits : (s : Settings) (samples : ℕ) → IsAllowed s → samples ≤ 2 ^ 32
+    → div_ceil samples s.block_size * (5 + s.block_size * s.bits) ≤ 8817567990080
+few_bits s samples allowed few =
+    let one : s.block_size * s.bits ≤ 2048 = mul-le s.block_size s.bits 64 32 (block_size-most s allowed) (bits-most s allowed) in
+    let each : 5 + s.block_size * s.bits ≤ 2053 = omega arith in
+    mul-le (div_ceil samples s.block_size) (5 + s.block_size * s.bits) 4294967360 2053 (few_blocks s samples allowed few) each
+
+bits_of_blocks : (s : Settings) (samples size width blocks : ℕ) → size ≡ s.block_size → width ≡ s.bits → blocks ≡ div_ceil samples size
+    → blocks * (5 + size * width) ≡ div_ceil samples s.block_size * (5 + s.block_size * s.bits)
+bits_of_blocks s samples size width blocks sizes widths counts =
+    ap (λ n. n * (5 + size * width)) counts ∙ (ap (λ j. div_ceil samples j * (5 + j * width)) sizes
+    ∙ ap (λ n. div_ceil samples s.block_size * (5 + s.block_size * n)) widths)
+
+-- the bits of all blocks
+pub bits_fit : (s : Settings) (samples size width blocks : ℕ) → IsAllowed s → samples ≤ 2 ^ 32 → size ≡ s.block_size → width ≡ s.bits
+    → blocks ≡ div_ceil samples size → Fits w64 (blocks * (5 + size * width))
+bits_fit s samples size width blocks allowed few sizes widths counts =
+    let most = few_bits s samples allowed few in
+    let same = bits_of_blocks s samples size width blocks sizes widths counts in
+    let below : blocks * (5 + size * width) < 18446744073709551616 = omega arith in Fits-of_lt below
+
+-- their bytes, and one for each interval
+pub bytes_fit : (s : Settings) (samples size width blocks interval bytes intervals : ℕ) → IsAllowed s → samples ≤ 2 ^ 32 → size ≡ s.block_size
+    → width ≡ s.bits → blocks ≡ div_ceil samples size → bytes ≡ div_ceil (blocks * (5 + size * width)) 8 → interval ≡ s.interval
+    → intervals ≡ div_ceil blocks interval → Fits w64 (bytes + intervals)
+bytes_fit s samples size width blocks interval bytes intervals allowed few sizes widths counts all long parts =
+    let most = few_bits s samples allowed few in
+    let same = bits_of_blocks s samples size width blocks sizes widths counts in
+    let least : blocks ≤ 4294967360 = subst (λ n. n ≤ 4294967360) (sym (counts ∙ ap (div_ceil samples) sizes)) (few_blocks s samples allowed few) in
+    let in_bytes : div_ceil (blocks * (5 + size * width)) 8 < blocks * (5 + size * width) + 8 = ceil-below (blocks * (5 + size * width)) 8 (omega arith) in
+    let in_intervals : div_ceil blocks s.interval < blocks + s.interval = ceil-below blocks s.interval (interval-positive s allowed) in
+    let longest : s.interval ≤ 4096 = interval-most s allowed in
+    let cut : intervals ≡ div_ceil blocks s.interval = parts ∙ ap (div_ceil blocks) long in
+    let below : bytes + intervals < 18446744073709551616 = omega arith in Fits-of_lt below

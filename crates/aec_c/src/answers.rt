@@ -1,0 +1,72 @@
+//! What the calls answer, before it is put into a buffer.
+
+ghost use Rattle.std.specs.Prelude.{◌≡◌, Ok, Err, IfOk, IfErr};
+ghost use Rattle.aec_params.specs.Params.{IsAllowed, settings_fault};
+ghost use Rattle.std.specs.Result.{result_err};
+ghost use Rattle.aec_c.specs.Calls.{settings_of, count_of, most, IsCoding, IsDecoding, IsRanging};
+
+use crate::options::{Options, asked, counted};
+use aec_engine::{decode_bytes, encode_bytes, range_bytes};
+use aec_params::{Fault, Limits, Params};
+use std::alloc::Global;
+
+/// The greatest limits.
+fn limits() -> Limits
+    ensures { result ≡ most }
+{
+    Limits::new(1 << 32, 1 << 40).unwrap()
+}
+
+/// The parameters that options are.
+fn params_of(options: &Options) -> Result<Params, Fault>
+    ensures ok { IfOk result (λ params. params ≡ settings_of options.now) }
+    ensures allowed { IfOk result (λ params. IsAllowed params) }
+    ensures refuses { result_err result ≡ settings_fault (settings_of options.now) }
+{
+    Params::new(asked(options))
+}
+
+/// The code of stored samples.
+pub(crate) fn coded(alloc: Global, options: &Options, samples: &[u8]) -> Result<Vec<u8>, Fault>
+    ensures ok { IfOk result (λ bytes. IsCoding (settings_of options.now) samples.now (Ok bytes.items)) }
+    ensures refuses { IfErr result (λ fault. IsCoding (settings_of options.now) samples.now (Err fault)) }
+{
+    match params_of(options) {
+        Ok(params) => encode_bytes(alloc, &params, limits(), samples),
+        Err(fault) => Err(fault),
+    }
+}
+
+/// The stored samples of coded bytes.
+pub(crate) fn decoded(
+    alloc: Global,
+    options: &Options,
+    count: u64,
+    bytes: &[u8],
+) -> Result<Vec<u8>, Fault>
+    ensures ok { IfOk result (λ samples. IsDecoding (settings_of options.now) (count_of count) bytes.now (Ok samples.items)) }
+    ensures refuses { IfErr result (λ fault. IsDecoding (settings_of options.now) (count_of count) bytes.now (Err fault)) }
+{
+    match params_of(options) {
+        Ok(params) => decode_bytes(alloc, &params, limits(), counted(count), bytes),
+        Err(fault) => Err(fault),
+    }
+}
+
+/// A range of the stored samples of coded bytes.
+pub(crate) fn ranged(
+    alloc: Global,
+    options: &Options,
+    count: u64,
+    first: u64,
+    len: u64,
+    bytes: &[u8],
+) -> Result<Vec<u8>, Fault>
+    ensures ok { IfOk result (λ samples. IsRanging (settings_of options.now) (count_of count) first len bytes.now (Ok samples.items)) }
+    ensures refuses { IfErr result (λ fault. IsRanging (settings_of options.now) (count_of count) first len bytes.now (Err fault)) }
+{
+    match params_of(options) {
+        Ok(params) => range_bytes(alloc, &params, limits(), counted(count), first, len, bytes),
+        Err(fault) => Err(fault),
+    }
+}

@@ -1,0 +1,28 @@
+//! A length that a code never passes.
+
+ghost use Rattle.std.specs.Prelude.{◌≡◌, ◌≤◌, ◌^◌};
+ghost use Rattle.aec_c.specs.Calls.{settings_of};
+ghost use Rattle.aec_c.specs.Bounds.{bound_of, most_bytes};
+
+use crate::options::{Options, asked};
+use aec_params::Params;
+
+/// Of settings that the format has: five bits and the plain samples for each block, and a byte for each interval.
+fn bound_within(params: &Params, samples: u64) -> u64
+    requires { samples ≤ 2 ^ 32 }
+    ensures { result ≡ most_bytes params.now samples }
+{
+    let size = u64::from(params.block_size());
+    let blocks = samples.div_ceil(size);
+    let bits = blocks * (5 + size * u64::from(params.bits()));
+    bits.div_ceil(8) + blocks.div_ceil(u64::from(params.interval()))
+}
+
+pub(crate) fn bound(options: &Options, samples: u64) -> u64
+    ensures { result ≡ bound_of (settings_of options.now) samples }
+{
+    match Params::new(asked(options)) {
+        Ok(params) if samples <= 1 << 32 => bound_within(&params, samples),
+        _ => 0,
+    }
+}

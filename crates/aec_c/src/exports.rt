@@ -1,0 +1,89 @@
+//! The calls from C. `include/aecp.h` says the same to its reader.
+
+ghost use Rattle.std.specs.Prelude.{◌≡◌};
+ghost use Rattle.aec_c.specs.Calls.{settings_of, count_of, IsCoding, IsDecoding, IsRanging};
+ghost use Rattle.aec_c.specs.Replies.{Replies};
+ghost use Rattle.aec_c.specs.Bounds.{bound_of};
+ghost use Rattle.aec_c.specs.Texts.{PutsText};
+
+use crate::answers::{coded, decoded, ranged};
+use crate::bound::bound;
+use crate::options::Options;
+use crate::reply::Reply;
+use crate::settling::settle;
+use crate::text::{put_text, text_of};
+use std::alloc::Global;
+
+/// Codes stored samples.
+#[unsafe(no_mangle)]
+pub extern "C" fn aecp_encode(
+    alloc: Global,
+    options: &Options,
+    samples: &[u8],
+    out: &mut [u8],
+    reply: &mut Reply,
+) -> u32
+    ensures replies { Replies (IsCoding (settings_of options.now) samples.now) out.old out.new reply.new }
+    ensures number { result ≡ reply.new.fault }
+{
+    let answer = coded(alloc, options, samples);
+    *reply = settle(answer, out);
+    reply.fault
+}
+
+/// Decodes coded bytes: the first `count` samples, or all where `count` is the greatest number of 64 bits.
+#[unsafe(no_mangle)]
+pub extern "C" fn aecp_decode(
+    alloc: Global,
+    options: &Options,
+    count: u64,
+    bytes: &[u8],
+    out: &mut [u8],
+    reply: &mut Reply,
+) -> u32
+    ensures replies { Replies (IsDecoding (settings_of options.now) (count_of count) bytes.now) out.old out.new reply.new }
+    ensures number { result ≡ reply.new.fault }
+{
+    let answer = decoded(alloc, options, count, bytes);
+    *reply = settle(answer, out);
+    reply.fault
+}
+
+/// Decodes `len` samples from place `first` on.
+#[unsafe(no_mangle)]
+pub extern "C" fn aecp_range(
+    alloc: Global,
+    options: &Options,
+    count: u64,
+    first: u64,
+    len: u64,
+    bytes: &[u8],
+    out: &mut [u8],
+    reply: &mut Reply,
+) -> u32
+    ensures replies { Replies (IsRanging (settings_of options.now) (count_of count) first len bytes.now) out.old out.new reply.new }
+    ensures number { result ≡ reply.new.fault }
+{
+    let answer = ranged(alloc, options, count, first, len, bytes);
+    *reply = settle(answer, out);
+    reply.fault
+}
+
+/// How many bytes always suffice for the code of so many samples; 0 where no samples, these options or so many samples are coded.
+#[unsafe(no_mangle)]
+pub extern "C" fn aecp_bound(options: &Options, samples: u64) -> u64
+    ensures { result ≡ bound_of (settings_of options.now) samples }
+{
+    bound(options, samples)
+}
+
+/// The text of a reply, as much of it as fits, with a zero behind it. The length of the text.
+#[unsafe(no_mangle)]
+pub extern "C" fn aecp_text(alloc: Global, reply: &Reply, out: &mut [u8]) -> usize
+    ensures { PutsText out.old out.new result }
+{
+    match text_of(alloc, reply) {
+        Ok(text) => put_text(text.as_bytes(), out),
+        Err(_) => put_text("out of memory".as_bytes(), out),
+    }
+}

@@ -1,0 +1,69 @@
+//! What C is told.
+
+ghost use Rattle.std.specs.Prelude.{◌≡◌};
+ghost use Rattle.aec_c.specs.Replies.{done, wants_room, refused_for};
+
+use aec_params::Fault;
+
+/// How a call ended. `fault` is 0 where `len` bytes of `out` are the answer; 18 where it takes `len` bytes, which are more than `out`
+/// has; else the number of a refusal, with its place.
+#[repr(C)]
+#[derive(Clone, Copy)]
+pub struct Reply {
+    pub fault: u32,
+    pub place: u64,
+    pub len: u64,
+}
+
+/// The number of a reply whose answer is longer than the buffer.
+pub(crate) const NO_ROOM: u32 = 18;
+
+pub(crate) fn answered(len: u64) -> Reply
+    ensures { result ≡ done len }
+{
+    Reply {
+        fault: 0,
+        place: 0,
+        len,
+    }
+}
+
+pub(crate) fn too_long(len: u64) -> Reply
+    ensures { result ≡ wants_room len }
+{
+    Reply {
+        fault: NO_ROOM,
+        place: 0,
+        len,
+    }
+}
+
+/// The reply of a refusal: its number, and the bit, index, line, count or limit that it names.
+pub(crate) fn refused(fault: Fault) -> Reply
+    ensures { result ≡ refused_for fault }
+{
+    let (fault, place) = match fault {
+        Fault::BitsPerSample => (1, 0),
+        Fault::BlockSize => (2, 0),
+        Fault::Interval => (3, 0),
+        Fault::RestrictedWidth => (4, 0),
+        Fault::SampleRange { index } => (5, index),
+        Fault::Truncated { bit } => (6, bit),
+        Fault::ValueTooLarge { bit } => (7, bit),
+        Fault::RunTooLong { bit } => (8, bit),
+        Fault::TooManySamples { limit } => (9, limit),
+        Fault::OutOfRange { count } => (10, count),
+        Fault::Spent => (11, 0),
+        Fault::Memory => (12, 0),
+        Fault::Read => (13, 0),
+        Fault::Write => (14, 0),
+        Fault::Script { line } => (15, line),
+        Fault::StreamTooLong { limit } => (16, limit),
+        Fault::EvenBlockSize => (17, 0),
+    };
+    Reply {
+        fault,
+        place,
+        len: 0,
+    }
+}

@@ -1,0 +1,41 @@
+//! An answer put into a buffer.
+
+ghost use Rattle.std.specs.Prelude.{◌≡◌, ◌≤◌, Ok, length};
+ghost use Rattle.aec_engine.specs.Transfers.{answer_of};
+ghost use Rattle.aec_c.specs.Replies.{over_front, left_by, reply_to};
+
+use crate::reply::{Reply, answered, refused, too_long};
+use aec_params::Fault;
+
+/// Puts bytes at the front of a buffer that has room for them.
+fn put_front(answer: &[u8], out: &mut [u8])
+    requires { length answer.now ≤ length out.old }
+    ensures { out.new ≡ over_front answer.now out.old }
+{
+    out[..answer.len()].copy_from_slice(answer);
+}
+
+/// Puts an answer at the front of a buffer, where there is room for all of it, and says how that ended.
+fn settle_bytes(answer: &[u8], out: &mut [u8]) -> Reply
+    ensures left { out.new ≡ left_by (Ok answer.now) out.old }
+    ensures reply { result ≡ reply_to (Ok answer.now) (length out.old) }
+{
+    let len = answer.len();
+    if len <= out.len() {
+        put_front(answer, out);
+        answered(len as u64)
+    } else {
+        too_long(len as u64)
+    }
+}
+
+/// The same for an answer or a refusal, which leaves the buffer as it was.
+pub(crate) fn settle(answer: Result<Vec<u8>, Fault>, out: &mut [u8]) -> Reply
+    ensures left { out.new ≡ left_by (answer_of (λ bytes. bytes.items) answer) out.old }
+    ensures reply { result ≡ reply_to (answer_of (λ bytes. bytes.items) answer) (length out.old) }
+{
+    match answer {
+        Ok(bytes) => settle_bytes(&bytes, out),
+        Err(fault) => refused(fault),
+    }
+}

@@ -1,0 +1,13 @@
+use Rattle.std.proofs.Common.{Some, ap, refl, ◌∙◌}
+use Rattle.aec_engine.proofs.RangeInMemoryLemmas.{ranged_in_memory, not_ranged_in_memory}
+use Rattle.aec_engine.proofs.bytes_range.range_bytes.Goals as goal
+
+pub returns-in-Ok-clause-ok : goal.returns-in-Ok-clause-ok
+returns-in-Ok-clause-ok c =
+    ranged_in_memory c.args.params.now c.args.limits c.args.count c.args.first c.args.len _ _ c.args.coded.now c.into_inner.result.items
+    c.new-source.ensures refl (c.new-sink.ensures.taken ∙ ap Some c.new.ensures.items) c.into_inner.ensures c.in-Ok.ensures
+
+pub returns-in-Err-clause-refuses : goal.returns-in-Err-clause-refuses
+returns-in-Err-clause-refuses c =
+    not_ranged_in_memory c.args.params.now c.args.limits c.args.count c.args.first c.args.len _ _ c.args.coded.now c.in-Err.fault c.refusal.result
+    c.new-source.ensures refl c.refusal.ensures.memory c.refusal.ensures.other c.in-Err.ensures

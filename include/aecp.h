@@ -1,0 +1,100 @@
+/* aecp.h: lossless coding of samples as CCSDS 121.0-B-3 has it, from buffer to buffer.
+ *
+ * A coded stream is raw: it carries neither its options nor its sample count. Keep both beside it; nothing tells if they are wrong.
+ *
+ * What every caller owes, since nothing here can see it: no pointer is NULL, also where a length is 0; lengths are true; `out` and
+ * `reply` overlap nothing else that is passed; a bool is 0 or 1; malloc, realloc and free come from one allocator. No call is made
+ * from a signal handler, or in a forked child of a process with threads.
+ *
+ * The library keeps nothing between calls and owns nothing of the caller's: every buffer stays the caller's, and what a call
+ * allocates it frees before it returns. Threads may call at once, each with an `out` and a `reply` of its own.
+ */
+#ifndef AECP_H
+#define AECP_H
+
+#include <stdbool.h>
+#include <stddef.h>
+#include <stdint.h>
+
+#ifdef __cplusplus
+extern "C" {
+#endif
+
+/* How samples are stored and coded. Samples of 1 to 8 bits take one byte, up to 16 two, else four (or three, see below). */
+typedef struct {
+    uint32_t bits;       /* bits per sample, 1 to 32 */
+    uint32_t block_size; /* samples in a block: 8, 16, 32 or 64, and with even_blocks every even number from 8 to 64 */
+    uint32_t interval;   /* blocks in a reference sample interval, 1 to 4096 */
+    bool is_signed;      /* samples are signed */
+    bool msb_first;      /* a stored sample has its most significant byte first */
+    bool three_byte;     /* samples of 17 to 24 bits are stored in three bytes */
+    bool preprocess;     /* predict each sample from the one before; nearly always true */
+    bool pad;            /* fill each interval up to a byte boundary */
+    bool restricted;     /* the restricted set of code options, for at most 4 bits */
+    bool even_blocks;    /* see block_size */
+} aecp_options;
+
+/* Options to begin with. Trap: `preprocess` is false in `aecp_options o = {0}`. */
+#define AECP_OPTIONS(n) {(n), 16, 128, false, false, false, true, false, false, false}
+
+/* How a call ended: `fault` is 0 and `len` the length of the answer in bytes; or it is AECP_NO_ROOM and `len` the length that the
+ * answer takes; or it is another number below, and `place` what stands behind it there, else 0. */
+typedef struct {
+    uint32_t fault;
+    uint64_t place;
+    uint64_t len;
+} aecp_reply;
+
+enum {
+    AECP_OK = 0,
+    AECP_BITS_PER_SAMPLE = 1,
+    AECP_BLOCK_SIZE = 2,
+    AECP_INTERVAL = 3,
+    AECP_RESTRICTED_WIDTH = 4,
+    AECP_SAMPLE_RANGE = 5,     /* place: index of the first sample that is out of range */
+    AECP_TRUNCATED = 6,        /* place: bit where the coded data set begins that runs off the end */
+    AECP_VALUE_TOO_LARGE = 7,  /* place: bit where the coded data set begins */
+    AECP_RUN_TOO_LONG = 8,     /* place: bit where the coded data set begins */
+    AECP_TOO_MANY_SAMPLES = 9, /* place: the greatest number, 2^32 */
+    AECP_OUT_OF_RANGE = 10,    /* place: how many samples there are */
+    AECP_MEMORY = 12,
+    AECP_STREAM_TOO_LONG = 16, /* place: the greatest length in bytes, 2^40 */
+    AECP_EVEN_BLOCK_SIZE = 17,
+    AECP_NO_ROOM = 18          /* len: the bytes that the answer takes */
+};
+
+/* In place of a sample count: all samples that the stream is read as, with the filler of its last block. */
+#define AECP_ALL UINT64_MAX
+
+/* The calls that fill `out` answer the number in `reply->fault`. Where it is 0, the answer is the first `reply->len` bytes of `out` and
+ * the bytes behind it are as they were; else all of `out` is as it was, and the same call may be made again. */
+
+/* Codes stored samples; bytes at the end that make up no whole sample are dropped. Faults: options, SAMPLE_RANGE, TOO_MANY_SAMPLES,
+ * MEMORY, NO_ROOM. Takes memory for the code twice, and an interval of samples. Trap: keep the count of samples for decoding. */
+uint32_t aecp_encode(const aecp_options *options, const uint8_t *samples, size_t samples_len, uint8_t *out, size_t out_len,
+                     aecp_reply *reply);
+
+/* Decodes the first `count` samples of a stream, or all with AECP_ALL; bytes behind them are left unread. Faults: options, TRUNCATED,
+ * VALUE_TOO_LARGE, RUN_TOO_LONG, TOO_MANY_SAMPLES, STREAM_TOO_LONG, MEMORY, NO_ROOM. Takes memory for the stream and for the
+ * samples. Trap: AECP_ALL gives filler too, and a cut stream may pass; a few bytes can stand for 2^32 samples. */
+uint32_t aecp_decode(const aecp_options *options, uint64_t count, const uint8_t *coded, size_t coded_len, uint8_t *out,
+                     size_t out_len, aecp_reply *reply);
+
+/* Decodes `len` of those samples, from place `first` on, counted from 0. Faults: those of aecp_decode, of the stream as a whole, and
+ * OUT_OF_RANGE. Takes memory for the stream and for the part. Trap: `first` and `len` are samples, `out_len` is bytes. */
+uint32_t aecp_range(const aecp_options *options, uint64_t count, uint64_t first, uint64_t len, const uint8_t *coded,
+                    size_t coded_len, uint8_t *out, size_t out_len, aecp_reply *reply);
+
+/* A length in bytes that suffices for the code of so many samples, whatever they are; 0 where the options are refused or there are more
+ * than 2^32. Takes no memory. Trap: it counts samples and not bytes, and is 0 for no samples too. */
+uint64_t aecp_bound(const aecp_options *options, uint64_t samples);
+
+/* Puts the text of a reply into `out`, as much of it as fits before a zero, and the zero. The length of the whole text without the
+ * zero. Takes memory; where there is none the text is "out of memory". Trap: with `out_len` 0 no zero is put. */
+size_t aecp_text(const aecp_reply *reply, char *out, size_t out_len);
+
+#ifdef __cplusplus
+}
+#endif
+
+#endif

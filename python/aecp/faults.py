@@ -1,0 +1,67 @@
+"""What a call raises."""
+
+BITS_PER_SAMPLE, BLOCK_SIZE, INTERVAL, RESTRICTED_WIDTH, SAMPLE_RANGE, TRUNCATED, VALUE_TOO_LARGE, RUN_TOO_LONG = range(1, 9)
+TOO_MANY_SAMPLES, OUT_OF_RANGE, MEMORY, STREAM_TOO_LONG, EVEN_BLOCK_SIZE, NO_ROOM = 9, 10, 12, 16, 17, 18
+
+
+class Fault(ValueError):
+    """A refusal. `number` is that of aecp.h, `place` what it names there, else 0; the text says both in words."""
+
+    def __init__(self, number, place, text):
+        super().__init__(text)
+        self.number, self.place, self.text = number, place, text
+
+    def __reduce__(self):
+        return type(self), (self.number, self.place, self.text)
+
+
+class OptionsRefused(Fault):
+    """The format has no such options."""
+
+
+class SampleRefused(Fault):
+    """A sample is out of range: `index` is that of the first."""
+
+    @property
+    def index(self):
+        return self.place
+
+
+class StreamRefused(Fault):
+    """The stream is cut or damaged: the coded data set that begins at `bit` is refused."""
+
+    @property
+    def bit(self):
+        return self.place
+
+
+class RangeRefused(Fault, IndexError):
+    """A range is outside the `count` samples."""
+
+    @property
+    def count(self):
+        return self.place
+
+
+class LimitPassed(Fault):
+    """There are more than `limit` samples or bytes: the greatest are 2^32 samples, and 2^40 coded bytes."""
+
+    @property
+    def limit(self):
+        return self.place
+
+
+class NoMemory(Fault, MemoryError):
+    """A growth was refused. Nothing has changed."""
+
+
+KINDS = {
+    BITS_PER_SAMPLE: OptionsRefused, BLOCK_SIZE: OptionsRefused, INTERVAL: OptionsRefused, RESTRICTED_WIDTH: OptionsRefused,
+    EVEN_BLOCK_SIZE: OptionsRefused, SAMPLE_RANGE: SampleRefused, TRUNCATED: StreamRefused, VALUE_TOO_LARGE: StreamRefused,
+    RUN_TOO_LONG: StreamRefused, OUT_OF_RANGE: RangeRefused, TOO_MANY_SAMPLES: LimitPassed, STREAM_TOO_LONG: LimitPassed,
+    MEMORY: NoMemory,
+}  # fmt: skip
+
+
+def fault_of(number, place, text):
+    return KINDS.get(number, Fault)(number, place, text)

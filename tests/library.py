@@ -1,0 +1,272 @@
+#!/usr/bin/env python3
+"""The library for C and Python: library.py PATH_OF_AEC FOLDER [--seed N] [--cases N] [--only N]
+
+FOLDER has libaecp.a and libaecp.so. In turn, by the C program library_calls.c and by the Python module without numpy,
+  - the rows of README's table, options that are refused with their number, and the other refusals with their place;
+  - buffers of every length around the one that is needed, with nothing changed beyond the answer, and nothing at all without one;
+  - each growth refused, that one alone and all after it: the call answers want of memory and has changed nothing;
+  - eight threads at once; a run under valgrind, where it is installed, that loses no memory;
+  - lists by chance with settings by chance: beside the plain coder, the program at PATH_OF_AEC, and libaec's client.
+And the names that the shared library defines and needs.
+
+Prints the checks that fail and, last, how many passed. Ends with 1 where one failed.
+"""
+
+import argparse
+import os
+import random
+import shutil
+import subprocess
+import sys
+import tempfile
+from typing import NamedTuple
+
+import plain_coder
+from damaged_cases import some_samples, some_settings
+from program import Program, Tally
+from refusing import NO_COMPILER, Growths, build, has_compiler, ways
+from settings import STANDARD_BLOCK_SIZES, Settings
+
+TOP = os.path.join(os.path.dirname(os.path.abspath(__file__)), "..")
+THEIRS = os.environ.get("LIBAEC", "/usr/bin/aec")
+ALL, NO_ROOM, MEMORY = 2**64 - 1, 18, 12
+EIGHT, CODED = bytes(range(8)), bytes.fromhex("20092492")
+FLAGS = {"signed": "s", "msb_first": "m", "three_byte": "3", "pad": "p", "restricted": "t", "even_blocks": "e"}
+
+
+class Call(NamedTuple):
+    """A call of the library: its name, the settings, count, first, length, and the bytes that it is given."""
+
+    name: str
+    settings: Settings
+    given: bytes
+    count: int = ALL
+    first: int = 0
+    length: int = 0
+
+    def words(self, room):
+        s = self.settings
+        flags = "".join(letter for name, letter in FLAGS.items() if getattr(s, name)) + ("" if s.preprocess else "N")
+        numbers = [s.bits, s.block_size, s.interval, flags or "-", self.count, self.first, self.length, room]
+        return [self.name, *map(str, numbers), self.given.hex()]
+
+
+class Answer(NamedTuple):
+    """What a call ends with."""
+
+    number: int
+    place: int
+    length: int
+    answer: bytes
+    text: str
+
+
+USUAL = Settings()
+ROWS = [
+    (Call("encode", USUAL, EIGHT), CODED),
+    (Call("decode", USUAL, CODED, 8), EIGHT),
+    (Call("decode", USUAL, b"\x00\x78", 5), b"\x07" * 5),
+    (Call("decode", USUAL, b"\x00\x78"), b"\x07" * 8),
+    (Call("range", USUAL, CODED, ALL, 2, 3), b"\x02\x03\x04"),
+]
+# Each with its number, its place and its text. The eight samples take 3 + 8 + 2 + 6 * 3 = 31 bits.
+REFUSED = [
+    (Call("encode", USUAL._replace(bits=0), b""), 1, 0, "bits per sample must be 1 to 32"),
+    (Call("encode", USUAL._replace(bits=33), b""), 1, 0, "bits per sample must be 1 to 32"),
+    (Call("encode", USUAL._replace(block_size=12), b""), 2, 0, "block size must be 8, 16, 32 or 64"),
+    (Call("decode", USUAL._replace(interval=0), b""), 3, 0, "reference sample interval must be 1 to 4096"),
+    (Call("range", USUAL._replace(interval=4097), b""), 3, 0, "reference sample interval must be 1 to 4096"),
+    (Call("encode", USUAL._replace(bits=5, restricted=True), b""), 4, 0, "restricted codes need 4 bits per sample or fewer"),
+    (Call("encode", USUAL._replace(bits=4), b"\x0f\x10"), 5, 1, "sample 1 is out of range"),
+    (Call("decode", USUAL, CODED[:3], 8), 6, 0, "coded data is cut short at bit 0"),
+    (Call("decode", USUAL, CODED, 9), 6, 31, "coded data is cut short at bit 31"),
+    (Call("decode", USUAL, CODED, 2**32 + 1), 9, 2**32, f"more than {2**32} samples"),
+    (Call("range", USUAL, CODED, 8, 6, 3), 10, 8, "position outside the 8 samples"),
+    (Call("range", USUAL, CODED, 8, 2**64 - 1, 1), 10, 8, "position outside the 8 samples"),
+    (Call("encode", USUAL._replace(block_size=9, even_blocks=True), b""), 17, 0, "block size must be even, 8 to 64"),
+]
+
+
+class InC:
+    """The calls by the C program, in a process each."""
+
+    def __init__(self, program):
+        self.program = program
+
+    def ask(self, call, room, run=None, **more):
+        """What a call with a buffer of so many bytes answers, and what went wrong in the C program."""
+        status, printed = (run or self.program.run)(*call.words(room), **more)
+        lines = [line for line in printed.splitlines() if line not in ("refuse", "grant")]
+        if status != 0 or not lines:
+            return f"status {status}: {printed}"
+        number, place, length, answer, text = lines[0].split(" ", 4)
+        return Answer(int(number), int(place), int(length), bytes.fromhex(answer), text)
+
+
+def in_python(aecp, call):
+    """What the module answers: bytes, or a refusal's number and place."""
+    options = aecp.Options(**call.settings._asdict())
+    count = None if call.count == ALL else call.count
+    try:
+        if call.name == "encode":
+            return bytes(aecp.encode(call.given, options))
+        if call.name == "decode":
+            return bytes(aecp.decode_bytes(call.given, count, options))
+        return bytes(aecp.decode_range_bytes(call.given, count, call.first, call.length, options))
+    except aecp.Fault as fault:
+        return fault.number, fault.place, str(fault)
+
+
+def try_rows(in_c, aecp, tally):
+    for call, wanted in ROWS:
+        what = " ".join(call.words(100))
+        tally.check(f"C: {what}", in_c.ask(call, 100), Answer(0, 0, len(wanted), wanted, "no fault"))
+        tally.check(f"Python: {what}", in_python(aecp, call), wanted)
+    for call, number, place, text in REFUSED:
+        what = " ".join(call.words(100))
+        tally.check(f"C: {what}", in_c.ask(call, 100), Answer(number, place, 0, b"", text))
+        tally.check(f"Python: {what}", in_python(aecp, call), (number, place, text))
+
+
+def try_rooms(in_c, tally):
+    """Buffers that are too short, exact and longer; that the bytes around an answer stay is judged by the C program."""
+    for call, wanted in ROWS:
+        for room in range(len(wanted) + 4):
+            text = f"the answer takes {len(wanted)} bytes, more than the buffer has"
+            short = Answer(NO_ROOM, 0, len(wanted), b"", text)
+            right = Answer(0, 0, len(wanted), wanted, "no fault") if room >= len(wanted) else short
+            tally.check(f"C: {' '.join(call.words(room))}", in_c.ask(call, room), right)
+
+
+def try_refusals(in_c, folder, tally):
+    library = build(folder)
+    growths = Growths(in_c.program, library, in_parts=True)
+    want = Answer(MEMORY, 0, 0, b"", "out of memory")
+    for call, wanted in ROWS:
+        right = Answer(0, 0, len(wanted), wanted, "no fault")
+        for alone in (True, False):
+            for first, last in ways(alone):
+                def run(*words, **more):
+                    answer, _, run.refused = growths.refuse(first, last, in_c.program.run, *words)
+                    return answer
+
+                got = in_c.ask(call, 100, run)
+                # The k-th alone may be one that the call goes on without.
+                allowed = [right] if run.refused == 0 else [want, right] if alone else [want]
+                tally.holds(got in allowed, f"growth {first} to {last} refused in {call.name}: {got}")
+                if run.refused == 0:
+                    break
+
+
+def try_threads(in_c, tally):
+    tally.check("threads", in_c.program.run("threads"), (0, "8 of 8 threads\n"))
+
+
+def try_valgrind(in_c, tally):
+    """Calls that answer and calls that refuse, none of which loses memory."""
+    if not shutil.which("valgrind"):
+        return
+    judge = ["valgrind", "-q", "--leak-check=full", "--error-exitcode=9", in_c.program.path]
+    for call in [row[0] for row in ROWS] + [REFUSED[7][0], REFUSED[10][0]]:
+        ended = subprocess.run([*judge, *call.words(100)], capture_output=True)
+        tally.check(f"valgrind: {call.name}: {ended.stderr[-300:]}", ended.returncode, 0)
+
+
+def try_names(folder, tally):
+    """The names that the shared library defines for others, and the libraries that it needs."""
+    library = os.path.join(folder, "libaecp.so")
+    names = subprocess.run(["nm", "-D", "--defined-only", library], capture_output=True, text=True, check=True).stdout
+    wanted = {"aecp_bound", "aecp_decode", "aecp_encode", "aecp_range", "aecp_text"}
+    tally.check("names", {line.split()[-1] for line in names.splitlines()}, wanted)
+    needs = subprocess.run(["readelf", "-d", library], capture_output=True, text=True, check=True).stdout
+    tally.check("needs", [line.split("[")[1] for line in needs.splitlines() if "(NEEDED)" in line], ["libc.so.6]"])
+
+
+def part_of(chance, samples):
+    """The first place of a part of samples, and its length."""
+    first = chance.randint(0, len(samples))
+    return first, chance.randint(0, len(samples) - first)
+
+
+def try_case(aecp, ours, theirs, seed, number, tally):
+    """Samples by chance: coded as the plain coder and the program do, read back, a part of them, cut short by a byte."""
+    chance, before = random.Random(f"{seed} {number}"), tally.failed
+    settings = some_settings(chance)
+    samples = some_samples(settings, chance)
+    stored, options = settings.stored(samples), aecp.Options(**settings._asdict())
+    what, width = f"{settings} on {len(samples)} samples", settings.storage()
+    coded = aecp.encode(stored, options)
+    tally.check(f"{what}: the plain coder", coded, plain_coder.stream(samples, settings))
+    tally.check(f"{what}: the program", coded, ours.answer(settings.options(), stored))
+    tally.check(f"{what}: decoded", bytes(aecp.decode_bytes(coded, len(samples), options)), stored)
+    filled = bytes(aecp.decode_bytes(coded, None, options))
+    tally.check(f"{what}: decoded without a count", filled, ours.answer(["-d", *settings.options()], coded))
+    first, length = part_of(chance, samples)
+    part = bytes(aecp.decode_range_bytes(coded, len(samples), first, length, options))
+    tally.check(f"{what}: {length} samples from {first} on", part, stored[width * first : width * (first + length)])
+    bound = aecp.calls.LIBRARY.aecp_bound(aecp.library.c_options(options), len(samples))
+    tally.holds(len(coded) <= bound, f"{what}: {len(coded)} bytes, more than {bound}")
+    if coded:
+        cut = in_python(aecp, Call("decode", settings, coded[:-1], len(samples)))
+        tally.check(f"{what}: cut", cut[:1], (6,))
+    if theirs and settings.block_size in STANDARD_BLOCK_SIZES and not settings.pad and samples:
+        # Theirs takes no copies of the sign above the bits of a sample.
+        taken = [word for word in settings.options() if word != "--even-blocks"]
+        foreign = theirs.answer(taken, settings.stored(samples, settings.bits))
+        tally.check(f"{what}: libaec's stream", bytes(aecp.decode_bytes(foreign, len(samples), options)), stored)
+    if tally.failed > before:
+        print(f"  that was --seed {seed} --only {number}", flush=True)
+
+
+def words():
+    asked = argparse.ArgumentParser(description=__doc__)
+    asked.add_argument("program")
+    asked.add_argument("library", metavar="FOLDER")
+    asked.add_argument("--seed", type=int, default=121)
+    asked.add_argument("--cases", type=int, default=2000)
+    asked.add_argument("--only", type=int, help="the number of the one case to try")
+    return asked.parse_args()
+
+
+def module(library):
+    """The Python module, without numpy."""
+    os.environ["AECP_LIBRARY"] = os.path.join(library, "libaecp.so")
+    sys.path.insert(0, os.path.join(TOP, "python"))
+    sys.modules["numpy"] = None
+    import aecp
+
+    return aecp
+
+
+def try_in_c(asked, folder, aecp, tally):
+    path = os.path.join(folder, "library_calls")
+    source, header = os.path.join(TOP, "tests", "library_calls.c"), os.path.join(TOP, "include")
+    archive = os.path.join(asked.library, "libaecp.a")
+    subprocess.run(["cc", "-O1", "-Wall", "-Werror", "-I", header, "-o", path, source, archive, "-pthread"], check=True)
+    in_c = InC(Program(path, folder))
+    try_rows(in_c, aecp, tally)
+    try_rooms(in_c, tally)
+    try_refusals(in_c, folder, tally)
+    try_threads(in_c, tally)
+    try_valgrind(in_c, tally)
+
+
+def main():
+    asked, tally = words(), Tally()
+    aecp = module(asked.library)
+    with tempfile.TemporaryDirectory() as folder:
+        try_names(asked.library, tally)
+        if has_compiler():
+            try_in_c(asked, folder, aecp, tally)
+        else:
+            print(NO_COMPILER)
+        theirs = Program(THEIRS, folder) if os.path.exists(THEIRS) else None
+        numbers = range(asked.cases) if asked.only is None else [asked.only]
+        for number in numbers:
+            try_case(aecp, Program(asked.program, folder), theirs, asked.seed, number, tally)
+    tally.print()
+    sys.exit(tally.failed > 0)
+
+
+if __name__ == "__main__":
+    main()

@@ -1,0 +1,122 @@
+/* Calls of libaecp for tests/library.py. `library_calls CALL BITS BLOCK INTERVAL FLAGS COUNT FIRST LEN ROOM HEX` makes one call with a
+ * buffer of ROOM bytes and prints its number, place and length, the bytes of its answer, and its text; FLAGS are the letters of the
+ * program's options. `library_calls threads` codes and decodes in eight threads at once. Each buffer stands between bytes that
+ * have to stay as they are. */
+#include <aecp.h>
+#include <pthread.h>
+#include <stdio.h>
+#include <stdlib.h>
+#include <string.h>
+#include <unistd.h>
+
+enum { EDGE = 16, MOST = 1 << 16, THREADS = 8, ROUNDS = 200, SAMPLES = 3000 };
+
+typedef struct {
+    const char *call;
+    aecp_options options;
+    uint64_t count, first, len;
+    size_t room, given_len;
+    uint8_t *given;
+} asked;
+
+static uint8_t buffer[EDGE + MOST + EDGE];
+
+static uint32_t made(const asked *it, uint8_t *out, aecp_reply *reply) {
+    if (!strcmp(it->call, "encode"))
+        return aecp_encode(&it->options, it->given, it->given_len, out, it->room, reply);
+    if (!strcmp(it->call, "decode"))
+        return aecp_decode(&it->options, it->count, it->given, it->given_len, out, it->room, reply);
+    return aecp_range(&it->options, it->count, it->first, it->len, it->given, it->given_len, out, it->room, reply);
+}
+
+static int is_untouched(const uint8_t *from, const uint8_t *to) {
+    while (from < to)
+        if (*from++ != 0xA5) return 0;
+    return 1;
+}
+
+/* One call, between the words that tests/refusing.py listens for. */
+static int try_call(const asked *it) {
+    aecp_reply reply = {99, 99, 99};
+    char text[200];
+    uint8_t *out = buffer + EDGE;
+    memset(buffer, 0xA5, sizeof buffer);
+    if (write(2, "refuse\n", 7) != 7) return 2;
+    uint32_t number = made(it, out, &reply);
+    if (write(2, "grant\n", 6) != 6) return 2;
+    size_t filled = number == 0 ? reply.len : 0;
+    if (filled > it->room || number != reply.fault) return 3;
+    if (!is_untouched(buffer, out) || !is_untouched(out + filled, buffer + sizeof buffer)) return 4;
+    size_t length = aecp_text(&reply, text, sizeof text);
+    if (length != strlen(text)) return 5;
+    printf("%u %llu %llu ", number, (unsigned long long)reply.place, (unsigned long long)reply.len);
+    for (size_t i = 0; i < filled; i++) printf("%02x", out[i]);
+    printf(" %s\n", text);
+    return 0;
+}
+
+static aecp_options options_of(char **words) {
+    const char *flags = words[3];
+    aecp_options options = AECP_OPTIONS((uint32_t)strtoul(words[0], 0, 10));
+    options.block_size = (uint32_t)strtoul(words[1], 0, 10);
+    options.interval = (uint32_t)strtoul(words[2], 0, 10);
+    options.is_signed = strchr(flags, 's') != 0;
+    options.msb_first = strchr(flags, 'm') != 0;
+    options.three_byte = strchr(flags, '3') != 0;
+    options.preprocess = strchr(flags, 'N') == 0;
+    options.pad = strchr(flags, 'p') != 0;
+    options.restricted = strchr(flags, 't') != 0;
+    options.even_blocks = strchr(flags, 'e') != 0;
+    return options;
+}
+
+static int call(char **words) {
+    static uint8_t given[MOST];
+    asked it = {words[0], options_of(words + 1), strtoull(words[5], 0, 10), strtoull(words[6], 0, 10), strtoull(words[7], 0, 10),
+                strtoul(words[8], 0, 10), strlen(words[9]) / 2, given};
+    if (it.room > MOST || it.given_len > MOST) return 2;
+    for (size_t i = 0; i < it.given_len; i++) {
+        unsigned byte;
+        if (sscanf(words[9] + 2 * i, "%2x", &byte) != 1) return 2;
+        given[i] = (uint8_t)byte;
+    }
+    return try_call(&it);
+}
+
+/* Codes and decodes samples by chance, again and again. */
+static void *work(void *seed) {
+    aecp_options options = AECP_OPTIONS(16);
+    unsigned state = *(unsigned *)seed;
+    uint64_t room = aecp_bound(&options, SAMPLES);
+    uint8_t samples[2 * SAMPLES], back[2 * SAMPLES], *coded = malloc(room);
+    aecp_reply reply;
+    for (int round = 0; coded && round < ROUNDS; round++) {
+        for (size_t i = 0; i < sizeof samples; i++) samples[i] = (uint8_t)(rand_r(&state) >> (round % 8 + 8) & 0xFF >> round % 8);
+        if (aecp_encode(&options, samples, sizeof samples, coded, room, &reply)) break;
+        if (aecp_decode(&options, SAMPLES, coded, reply.len, back, sizeof back, &reply)) break;
+        if (reply.len != sizeof back || memcmp(samples, back, sizeof back)) break;
+        if (round == ROUNDS - 1) *(unsigned *)seed = 0;
+    }
+    free(coded);
+    return 0;
+}
+
+static int threads(void) {
+    pthread_t all[THREADS];
+    unsigned seeds[THREADS];
+    for (unsigned i = 0; i < THREADS; i++) {
+        seeds[i] = i + 1;
+        if (pthread_create(&all[i], 0, work, &seeds[i])) return 2;
+    }
+    int right = 0;
+    for (int i = 0; i < THREADS; i++) right += !pthread_join(all[i], 0) && seeds[i] == 0;
+    printf("%d of %d threads\n", right, THREADS);
+    return 0;
+}
+
+int main(int count, char **words) {
+    if (count == 2 && !strcmp(words[1], "threads")) return threads();
+    if (count == 11) return call(words + 1);
+    fputs("library_calls CALL BITS BLOCK INTERVAL FLAGS COUNT FIRST LEN ROOM HEX, or library_calls threads\n", stderr);
+    return 2;
+}
