@@ -59,10 +59,10 @@ install:
 	@test -x $(BUILT) || { echo "there is no $(BUILT): run make first, which proves the program and builds it" >&2; exit 1; }
 	install -d $(DESTDIR)$(PREFIX)/bin $(share)/man/man1 $(share)/bash-completion/completions $(share)/zsh/site-functions
 	install -m 755 $(BUILT) $(DESTDIR)$(PREFIX)/bin/$(PROGRAM)
-	install -m 644 man/aec.1 $(share)/man/man1/$(PROGRAM).1
+	sed 's|share/doc/aec|share/doc/$(PROGRAM)|' man/aec.1 > $(share)/man/man1/$(PROGRAM).1
 	sed '/^complete /s/ aec$$/ $(PROGRAM)/' completions/aec.bash > $(share)/bash-completion/completions/$(PROGRAM)
 	sed '/^#compdef /s/ aec$$/ $(PROGRAM)/' completions/_aec > $(share)/zsh/site-functions/_$(PROGRAM)
-	for file in README.md CHANGELOG.md LICENSE docs/*.md docs/*/* examples/*; do \
+	for file in README.md CHANGELOG.md CONTRIBUTING.md LICENSE docs/*.md docs/*/* bench/tables.md examples/*; do \
 	    test ! -f $$file || install -D -m 644 $$file $(share)/doc/$(PROGRAM)/$$file || exit 1; done
 
 clean:

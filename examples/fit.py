@@ -4,8 +4,8 @@
     fit.py sizes AEC FILE OPTIONS..           OPTIONS say how samples are stored: -n, and -m or -3
     fit.py streams AEC STREAM COUNT OPTIONS.. OPTIONS are what is known, as -n 16
 
-`sizes` codes FILE with each block size, several intervals, with and without -s and -N, and prints
-the shortest streams first. `streams` prints the options that read COUNT samples without a fault,
+`sizes` codes FILE with each block size, several intervals, with and without -s and -N, decodes the
+shortest streams, and prints those first that give the same bytes back. `streams` prints the options that read COUNT samples without a fault,
 likely ones first: those that need the stream's last byte (whole), then by the sum of the
 differences between neighbours, which is small for samples that belong together. It is a hint:
 nothing in a stream tells. Progress goes to standard error.
@@ -17,7 +17,16 @@ import sys
 import tempfile
 from concurrent.futures import ThreadPoolExecutor
 
-from aec_runs import Refused, perform, read_file, require_aec, said_by, samples_of, write_file
+from aec_runs import (
+    Refused,
+    bytes_of_sample,
+    perform,
+    read_file,
+    require_aec,
+    said_by,
+    samples_of,
+    write_file,
+)
 
 BLOCKS = ("8", "16", "32", "64")
 INTERVALS = tuple(str(1 << i) for i in range(13))
@@ -47,6 +56,16 @@ def with_progress(listed):
     print(f"\r{len(listed)} of {len(listed)}", file=sys.stderr)
 
 
+def comes_back(aec, file, words, folder):
+    """Whether these options give a file's samples back, byte for byte."""
+    samples, width = read_file(file), bytes_of_sample(words)
+    count = len(samples) // width
+    stream, back = os.path.join(folder, "stream"), os.path.join(folder, "back")
+    said_by([aec, *words, file, stream])
+    status, _ = said_by([aec, "-d", "--count", str(count), *words, stream, back])
+    return status == 0 and read_file(back) == samples[: count * width]
+
+
 def sizes(aec, file, *options):
     """Prints the lengths of a file's streams."""
     if "-n" not in options:
@@ -58,14 +77,16 @@ def sizes(aec, file, *options):
         for words in with_progress(candidates(options, ["-s", "-N"], j=BLOCKS, r=FEWER_INTERVALS)):
             status, text = said_by([aec, *words, file, dest])
             if status == 0:
-                ranked.append((os.path.getsize(dest), " ".join(words)))
+                ranked.append((os.path.getsize(dest), words))
             else:
                 refused = text.strip().split("\n")[0]
-    if not ranked:
-        raise Refused(refused)
-    print(f"{'bytes':>12}  options, for {os.path.getsize(file)} bytes of samples")
-    for size, words in sorted(ranked, key=lambda it: it[0])[:SHOWN]:
-        print(f"{size:12}  {words}")
+        if not ranked:
+            raise Refused(refused)
+        ranked.sort(key=lambda it: it[0])
+        kept = (it for it in ranked if comes_back(aec, file, it[1], folder))
+        print(f"{'bytes':>12}  options, for {os.path.getsize(file)} bytes of samples")
+        for size, words in itertools.islice(kept, SHOWN):
+            print(f"{size:12}  {' '.join(words)}")
 
 
 def reads(aec, stream, dest, words, count):

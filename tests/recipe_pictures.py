@@ -58,18 +58,27 @@ def drawn_walk():
     return walk
 
 
+def sizes_said(said):
+    """The bytes that `fit.py sizes` says, by the options."""
+    rows = [row.split(None, 1) for row in said.splitlines() if " -j " in row]
+    return {words: int(size) for size, words in rows}
+
+
 def try_fits(aec, script, tally):
     """The options with the shortest stream, and those of a stream that nobody knows."""
     settings, walk = Settings(bits=12, block_size=32, interval=8), drawn_walk()
     aec.write("walk", settings.stored(walk))
     aec.write("unknown", aec.answer(settings.options(), settings.stored(walk)))
     status, said = script.run(FIT, "sizes", aec.path, "walk", "-n", "12", "-r", "8")
-    rows = [row.split(None, 1) for row in said.splitlines() if " -j " in row]
-    sizes = {words: int(size) for size, words in rows}
+    sizes = sizes_said(said)
     shortest = min(sizes, key=sizes.get, default="")
     coded = aec.answer(shortest.split(), settings.stored(walk)) or b""
     tally.check("fit sizes", (status, sizes.get(shortest)), (0, len(coded)))
-    tally.check("fit sizes: 4 block sizes, with and without -s and -N", len(sizes), 16)
+    tally.check("fit sizes: 4 block sizes, with and without -N", len(sizes), 8)
+    tally.holds(not any("-s" in words.split() for words in sizes), "fit sizes: -s changes bytes")
+    aec.write("low", settings.stored([value // 2 for value in walk]))
+    said = script.run(FIT, "sizes", aec.path, "low", "-n", "12", "-r", "8")[1]
+    tally.check("fit sizes: with and without -s where it changes none", len(sizes_said(said)), 16)
     is_so = sizes.get("-n 12 -r 8 -j 32", 0) == len(aec.read("unknown"))
     tally.holds(is_so, f"fit sizes has the options of the stream: {said}")
     status, said = script.run(FIT, "streams", aec.path, "unknown", "3000", "-n", "12")
