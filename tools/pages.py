@@ -16,7 +16,7 @@ them, indented by four, what it has of these lines, each of which may go on belo
 docs/claims.txt has what stands around the claims; its line `@crates` gives way to them.
 
 Fails where a name is none; where an ensures clause of a public function, its premise, a must-fail
-edit, a test or a script of tests/run.sh stands in no claim; where the README.md of a crate has no
+edit, a test or a script of tests/ that make runs stands in no claim; where the README.md of a crate has no
 line on a module; and with --check, which writes nothing, where the page isn't what is written.
 """
 
@@ -32,6 +32,8 @@ FRAME = "docs/claims.txt"
 HEADS = {"given": "Premise", "by": "Carried by", "wrong": "Must-fail edits", "test": "Tests"}
 LINE = rf"^    ({'|'.join(HEADS)}) +(.*)"
 NAMELESS = "without a name"
+# Scripts of tests/ that try the proofs, and no promise.
+NO_TESTS = {"tests/wrong_bodies.py"}
 NOTE = "<!-- Written by `make pages` from docs/claims.txt and crates/*/claims.txt. -->\n\n"
 
 
@@ -72,7 +74,8 @@ class Names:
         self.crates = all_crates()
         self.functions = [one for crate in self.crates.values() for one in crate.functions]
         self.tests = [one for one in self.functions if one.is_test]
-        self.scripts = set(re.findall(r"tests/\w+\.py", text_of("tests/run.sh")))
+        runs = text_of("tests/run.sh") + text_of("Makefile")
+        self.scripts = set(re.findall(r"tests/\w+\.py", runs)) - NO_TESTS
         self.edits = {name: edits_of(name) for name in self.crates}
         self.words = set(re.findall(r"\w+", self.all_text()))
         self.named, self.wrongs = set(), []
