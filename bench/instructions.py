@@ -1,10 +1,11 @@
 #!/usr/bin/env python3
-"""Instructions of two programs side by side: instructions.py PATH_OF_AEC
+"""Instructions of two programs side by side: instructions.py PATH_OF_AEC [--even]
 
 Counts with `valgrind --tool=callgrind` how many instructions the program at PATH_OF_AEC ('ours') and the command-line client
 of libaec ('theirs', named by the environment variable LIBAEC, else /usr/bin/aec) take for each sample, on one MiB of the samples
 of bench.py, starting included; both decode the stream that theirs has coded. A count isn't a time, but it doesn't differ from run to run,
-however busy the machine is. Prints a table in Markdown. Nothing is judged.
+however busy the machine is. Then those of ours with even block sizes; with --even these alone. Prints tables in Markdown. Nothing is
+judged.
 """
 
 import os
@@ -17,6 +18,8 @@ import tempfile
 from bench import INPUTS, MIB
 
 BLOCKS = [8, 16, 64]
+EVEN_BLOCKS = [8, 10, 12, 16, 30, 32]
+EVEN_INPUTS = ["8-bit ramp with noise", "16-bit detector", "16-bit sparse zeros"]
 INTERVAL = 128
 # The bytes of a sample, by its greatest width.
 STORAGE = {8: 1, 12: 2, 16: 2, 32: 4}
@@ -37,21 +40,48 @@ def told(ours, theirs, options, folder):
     return [[counted([path, *job]) for path in (ours, theirs)] for job in jobs]
 
 
-def main():
-    ours, theirs = sys.argv[1], os.environ.get("LIBAEC", "/usr/bin/aec")
+def beside_theirs(ours, theirs, folder):
+    """Prints both programs' instructions for a sample."""
     print("| Input | J | coding, ours | theirs | ratio | decoding, ours | theirs | ratio |")
     print("|---|---|---|---|---|---|---|---|")
+    for name, options, made in INPUTS:
+        with open(os.path.join(folder, "raw"), "wb") as file:
+            file.write(made(random.Random(1)))
+        samples = MIB // STORAGE[int(options[1])]
+        for block in BLOCKS:
+            words = [*options, "-j", str(block), "-r", str(INTERVAL)]
+            cells = []
+            for our_count, their_count in told(ours, theirs, words, folder):
+                cells += [f"{our_count / samples:.0f}", f"{their_count / samples:.0f}", f"{our_count / their_count:.2f}"]
+            print(f"| {name} | {block} | {' | '.join(cells)} |", flush=True)
+
+
+def even_blocks(ours, folder):
+    """Prints ours for a sample with even block sizes, which theirs doesn't code; ours decodes its own streams."""
+    print(f"\n| Input | Job | {' | '.join(f'J {block}' for block in EVEN_BLOCKS)} |")
+    print(f"|---|---|{'---|' * len(EVEN_BLOCKS)}")
+    raw, coded, dest = (os.path.join(folder, name) for name in ("raw", "coded", "dest"))
+    for name, options, made in INPUTS:
+        if name not in EVEN_INPUTS:
+            continue
+        with open(raw, "wb") as file:
+            file.write(made(random.Random(1)))
+        samples = MIB // STORAGE[int(options[1])]
+        coding, decoding = [], []
+        for block in EVEN_BLOCKS:
+            words = [*options, "--even-blocks", "-j", str(block), "-r", str(INTERVAL)]
+            coding.append(f"{counted([ours, *words, raw, coded]) / samples:.1f}")
+            decoding.append(f"{counted([ours, '-d', *words, coded, dest]) / samples:.1f}")
+        print(f"| {name} | coding | {' | '.join(coding)} |")
+        print(f"| {name} | decoding | {' | '.join(decoding)} |", flush=True)
+
+
+def main():
+    ours, theirs = sys.argv[1], os.environ.get("LIBAEC", "/usr/bin/aec")
     with tempfile.TemporaryDirectory() as folder:
-        for name, options, made in INPUTS:
-            with open(os.path.join(folder, "raw"), "wb") as file:
-                file.write(made(random.Random(1)))
-            samples = MIB // STORAGE[int(options[1])]
-            for block in BLOCKS:
-                words = [*options, "-j", str(block), "-r", str(INTERVAL)]
-                cells = []
-                for our_count, their_count in told(ours, theirs, words, folder):
-                    cells += [f"{our_count / samples:.0f}", f"{their_count / samples:.0f}", f"{our_count / their_count:.2f}"]
-                print(f"| {name} | {block} | {' | '.join(cells)} |", flush=True)
+        if "--even" not in sys.argv[2:]:
+            beside_theirs(ours, theirs, folder)
+        even_blocks(ours, folder)
 
 
 main()
