@@ -76,10 +76,12 @@ library:
 # The tests of the library in bin/, beside the program that the gate has built.
 test-library:
 	python3 tests/library.py crates/aec/out/aec bin
+	python3 tests/library_arrays.py crates/aec/out/aec bin
 
 # Header, libraries, pkg-config file and Python module. The module goes where `python3` looks for modules, with a library of its own.
 PYTHON_DIR ?= $(shell python3 -c 'import sysconfig; print(sysconfig.get_path("purelib"))')
 install-library:
+	@test -e bin/libaecp.a -a -e bin/libaecp.so || { echo "there is no bin/libaecp.a or no bin/libaecp.so: run make library first" >&2; exit 1; }
 	install -d $(DESTDIR)$(PREFIX)/include $(DESTDIR)$(PREFIX)/lib/pkgconfig $(DESTDIR)$(PYTHON_DIR)/aecp
 	install -m 644 include/aecp.h $(DESTDIR)$(PREFIX)/include/aecp.h
 	install -m 644 bin/libaecp.a $(DESTDIR)$(PREFIX)/lib/libaecp.a

@@ -25,7 +25,7 @@ import tempfile
 
 MIB = 1 << 20
 SIZES = [1, 4, 16]
-SETTINGS = [(8, 128), (16, 128), (64, 128), (8, 4096), (16, 4096), (64, 4096)]
+SETTINGS = [(8, 128), (16, 128), (64, 128), (8, 4096), (16, 4096), (64, 4096), (8, 2), (8, 1)]
 EVEN_BLOCKS = [8, 10, 12, 16, 30, 32]
 # Which of these are compared: a block size, and the next power of two below.
 BESIDE = [(10, 8), (12, 8), (30, 16)]
@@ -44,15 +44,20 @@ def noise_12(chance):
     return struct.pack(f"<{MIB // 2}H", *(chance.randrange(4096) for _ in range(MIB // 2)))
 
 
-def detector(chance):
+def detector(chance, greatest=65535):
     """16-bit samples like those of a detector: a level, noise around it, and seldom a peak that decays."""
     samples, peak = [], 0
     for _ in range(MIB // 2):
         if chance.random() < 0.004:
             peak = chance.randrange(2000, 40000)
-        samples.append(min(1000 + peak + int(chance.gauss(0, 12)) + 60, 65535))
+        samples.append(min(1000 + peak + int(chance.gauss(0, 12)) + 60, greatest))
         peak = peak * 3 // 4
     return struct.pack(f"<{MIB // 2}H", *samples)
+
+
+def detector_12(chance):
+    """12-bit samples of such a detector, whose peaks are cut."""
+    return detector(chance, 4095)
 
 
 def walk(chance):
@@ -62,6 +67,19 @@ def walk(chance):
         x += chance.randrange(-500, 501)
         samples.append(x)
     return struct.pack(f"<{MIB // 4}i", *samples)
+
+
+def waves(chance):
+    """16-bit signed samples: three waves of different lengths, and a little noise on them."""
+    samples = (
+        9000 * math.sin(i / 700) + 2500 * math.sin(i / 57) + 300 * math.sin(i / 9) + chance.gauss(0, 4) for i in range(MIB // 2)
+    )
+    return struct.pack(f"<{MIB // 2}h", *map(round, samples))
+
+
+def noise_8(chance):
+    """8-bit samples, all equally likely."""
+    return chance.randbytes(MIB)
 
 
 def sparse(chance):
@@ -76,7 +94,10 @@ INPUTS = [
     ("8-bit ramp with noise", ["-n", "8"], ramp_with_noise),
     ("12-bit noise", ["-n", "12"], noise_12),
     ("12-bit noise, -N", ["-n", "12", "-N"], noise_12),
+    ("8-bit noise, -N", ["-n", "8", "-N"], noise_8),
+    ("12-bit detector", ["-n", "12"], detector_12),
     ("16-bit detector", ["-n", "16"], detector),
+    ("16-bit waves", ["-n", "16", "-s"], waves),
     ("32-bit walk", ["-n", "32", "-s"], walk),
     ("16-bit sparse zeros", ["-n", "16"], sparse),
 ]

@@ -4,10 +4,11 @@
 Counts with `valgrind --tool=callgrind` how many instructions the program at PATH_OF_AEC ('ours') and the command-line client
 of libaec ('theirs', named by the environment variable LIBAEC, else /usr/bin/aec) take for each sample, on one MiB of the samples
 of bench.py, starting included; both decode the stream that theirs has coded. A count isn't a time, but it doesn't differ from run to run,
-however busy the machine is. Then those of ours with even block sizes; with --even these alone. Prints tables in Markdown. Nothing is
-judged.
+however busy the machine is. Behind these rows stand the geometric means of theirs divided by ours over the inputs of MEAN. Then those
+of ours with even block sizes; with --even these alone. Prints tables in Markdown. Nothing is judged.
 """
 
+import math
 import os
 import random
 import re
@@ -17,7 +18,8 @@ import tempfile
 
 from bench import INPUTS, MIB
 
-BLOCKS = [8, 16, 64]
+SETTINGS = [(8, 128), (16, 128), (64, 128), (8, 2), (8, 1)]
+MEAN = ["8-bit ramp with noise", "12-bit detector", "16-bit detector", "16-bit waves", "32-bit walk"]
 EVEN_BLOCKS = [8, 10, 12, 16, 30, 32]
 EVEN_INPUTS = ["8-bit ramp with noise", "16-bit detector", "16-bit sparse zeros"]
 INTERVAL = 128
@@ -41,19 +43,25 @@ def told(ours, theirs, options, folder):
 
 
 def beside_theirs(ours, theirs, folder):
-    """Prints both programs' instructions for a sample."""
-    print("| Input | J | coding, ours | theirs | ratio | decoding, ours | theirs | ratio |")
+    """Prints both programs' instructions for a sample, and how many times ours theirs are."""
+    print("| Input | J, r | coding, ours | theirs | times | decoding, ours | theirs | times |")
     print("|---|---|---|---|---|---|---|---|")
+    times = {setting: ([], []) for setting in SETTINGS}
     for name, options, made in INPUTS:
         with open(os.path.join(folder, "raw"), "wb") as file:
             file.write(made(random.Random(1)))
         samples = MIB // STORAGE[int(options[1])]
-        for block in BLOCKS:
-            words = [*options, "-j", str(block), "-r", str(INTERVAL)]
+        for block, interval in SETTINGS:
+            words = [*options, "-j", str(block), "-r", str(interval)]
             cells = []
-            for our_count, their_count in told(ours, theirs, words, folder):
-                cells += [f"{our_count / samples:.0f}", f"{their_count / samples:.0f}", f"{our_count / their_count:.2f}"]
-            print(f"| {name} | {block} | {' | '.join(cells)} |", flush=True)
+            for way, (our_count, their_count) in enumerate(told(ours, theirs, words, folder)):
+                times[block, interval][way].extend([their_count / our_count] * (name in MEAN))
+                cells += [f"{our_count / samples:.0f}", f"{their_count / samples:.0f}", f"{their_count / our_count:.2f}"]
+            print(f"| {name} | {block}, {interval} | {' | '.join(cells)} |", flush=True)
+    print("\n| J, r | coding, times | decoding, times |\n|---|---|---|")
+    for (block, interval), ways in times.items():
+        means = " | ".join(f"{math.exp(math.fsum(map(math.log, way)) / len(way)):.2f}" for way in ways)
+        print(f"| {block}, {interval} | {means} |")
 
 
 def even_blocks(ours, folder):

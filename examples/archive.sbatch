@@ -6,7 +6,7 @@
 keep=$1 aec=$2 folder=$3 status=0
 shift 3
 mine="length && NR % $SLURM_ARRAY_TASK_COUNT == $SLURM_ARRAY_TASK_ID"
-names=$(find "$folder" -name '*.work.*' -prune -o \
+names=$(find "$folder" -type d -name '*.work.??????' -prune -o \
     -type f ! -name '*.aec' ! -name '*.aec.note' -print) || status=1
 printf '%s\n' "$names" | LC_ALL=C sort | awk "$mine" | {
     while IFS= read -r file; do

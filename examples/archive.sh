@@ -14,7 +14,7 @@ shift 2
 trap 'rm -f "$names"' EXIT
 trap 'exit 1' HUP INT TERM
 names=$(mktemp)
-find "$folder" -name '*.work.*' -prune -o -type f ! -name '*.aec' ! -name '*.aec.note' \
+find "$folder" -type d -name '*.work.??????' -prune -o -type f ! -name '*.aec' ! -name '*.aec.note' \
     ! -exec test -e {}.aec \; -print0 > "$names" || status=1
 parallel -q -0 -r -a "$names" -j "${JOBS:-100%}" sh "$keep" code "$aec" {} "$@" || status=1
 exit $status

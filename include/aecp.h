@@ -2,12 +2,13 @@
  *
  * A coded stream is raw: it carries neither its options nor its sample count. Keep both beside it; nothing tells if they are wrong.
  *
- * What every caller owes, since nothing here can see it: no pointer is NULL, also where a length is 0; lengths are true; `out` and
- * `reply` overlap nothing else that is passed; a bool is 0 or 1; malloc, realloc and free come from one allocator. No call is made
- * from a signal handler, or in a forked child of a process with threads.
+ * What every caller owes, since nothing here can see it: no pointer is NULL, but that to a buffer of no bytes may be; lengths are
+ * true; `out` and `reply` overlap nothing else that is passed; a bool is 0 or 1; malloc, realloc and free come from one allocator.
+ * No call is made from a signal handler, or in a forked child of a process with threads.
  *
- * The library keeps nothing between calls and owns nothing of the caller's: every buffer stays the caller's, and what a call
- * allocates it frees before it returns. Threads may call at once, each with an `out` and a `reply` of its own.
+ * The library keeps nothing between calls but what handles hold, and owns nothing of the caller's: every buffer stays the caller's, and
+ * what a call allocates it frees before it returns, but for the workspace of a handle. Threads may call at once, each with an `out`, a
+ * `reply` and a handle of its own.
  */
 #ifndef AECP_H
 #define AECP_H
@@ -57,10 +58,12 @@ enum {
     AECP_RUN_TOO_LONG = 8,     /* place: bit where the coded data set begins */
     AECP_TOO_MANY_SAMPLES = 9, /* place: the greatest number, 2^32 */
     AECP_OUT_OF_RANGE = 10,    /* place: how many samples there are */
+    AECP_SPENT = 11,           /* the coder of a workspace has been called 2^64 - 1 times */
     AECP_MEMORY = 12,
     AECP_STREAM_TOO_LONG = 16, /* place: the greatest length in bytes, 2^40 */
     AECP_EVEN_BLOCK_SIZE = 17,
-    AECP_NO_ROOM = 18          /* len: the bytes that the answer takes */
+    AECP_NO_ROOM = 18,         /* len: the bytes, or samples, that the answer takes */
+    AECP_NOT_OPEN = 19         /* the handle holds no workspace */
 };
 
 /* In place of a sample count: all samples that the stream is read as, with the filler of its last block. */
@@ -75,13 +78,13 @@ uint32_t aecp_encode(const aecp_options *options, const uint8_t *samples, size_t
                      aecp_reply *reply);
 
 /* Decodes the first `count` samples of a stream, or all with AECP_ALL; bytes behind them are left unread. Faults: options, TRUNCATED,
- * VALUE_TOO_LARGE, RUN_TOO_LONG, TOO_MANY_SAMPLES, STREAM_TOO_LONG, MEMORY, NO_ROOM. Takes memory for the stream and for the
- * samples. Trap: AECP_ALL gives filler too, and a cut stream may pass; a few bytes can stand for 2^32 samples. */
+ * VALUE_TOO_LARGE, RUN_TOO_LONG, TOO_MANY_SAMPLES, STREAM_TOO_LONG, MEMORY, NO_ROOM. Takes memory for the stream and for an
+ * interval of samples. Trap: AECP_ALL gives filler too, and a cut stream may pass; a few bytes can stand for 2^32 samples. */
 uint32_t aecp_decode(const aecp_options *options, uint64_t count, const uint8_t *coded, size_t coded_len, uint8_t *out,
                      size_t out_len, aecp_reply *reply);
 
 /* Decodes `len` of those samples, from place `first` on, counted from 0. Faults: those of aecp_decode, of the stream as a whole, and
- * OUT_OF_RANGE. Takes memory for the stream and for the part. Trap: `first` and `len` are samples, `out_len` is bytes. */
+ * OUT_OF_RANGE. Takes memory for the stream and for an interval of samples. Trap: `first` and `len` are samples, `out_len` is bytes. */
 uint32_t aecp_range(const aecp_options *options, uint64_t count, uint64_t first, uint64_t len, const uint8_t *coded,
                     size_t coded_len, uint8_t *out, size_t out_len, aecp_reply *reply);
 
@@ -92,6 +95,63 @@ uint64_t aecp_bound(const aecp_options *options, uint64_t samples);
 /* Puts the text of a reply into `out`, as much of it as fits before a zero, and the zero. The length of the whole text without the
  * zero. Takes memory; where there is none the text is "out of memory". Trap: with `out_len` 0 no zero is put. */
 size_t aecp_text(const aecp_reply *reply, char *out, size_t out_len);
+
+/* A handle: all of it is the library's, and begins as AECP_HANDLE or as zeros. It holds a workspace, which is a list of samples kept
+ * as its code, from aecp_open or aecp_load to aecp_close, or none. Copy no handle that holds one. One thread at a time calls with a
+ * handle, the one that opened it. In the calls below samples are numbers, not stored bytes, and a refused edit changes nothing. */
+typedef struct {
+    void *at;
+    bool full;
+} aecp_handle;
+
+#define AECP_HANDLE {0, false}
+
+/* Opens an empty workspace of at most 2^32 samples; what the handle held is freed. Faults: options, MEMORY, and then the handle
+ * is as it was. Takes memory, which is freed by aecp_close. Trap: a handle that isn't zeros at first is memory that is freed. */
+uint32_t aecp_open(const aecp_options *options, aecp_handle *handle, aecp_reply *reply);
+
+/* The same with the samples that a stream is read as: its first `count`, or all with AECP_ALL; `reply->len` is their number. Faults:
+ * those of aecp_decode but NO_ROOM and STREAM_TOO_LONG. Takes memory for the stream and eight bytes a sample until it returns.
+ * Trap: the samples are coded anew, so aecp_write need not give the bytes of another coder. */
+uint32_t aecp_load(const aecp_options *options, uint64_t count, const uint8_t *coded, size_t coded_len, aecp_handle *handle,
+                   aecp_reply *reply);
+
+/* Frees the workspace. Allowed where there is none, and twice. Trap: a handle that is dropped without it loses its memory. */
+void aecp_close(aecp_handle *handle);
+
+/* The five edits. Each answers the number in `reply->fault`, and `reply->len` is how many intervals it has coded.
+ * Adds samples behind the last one. Faults: SAMPLE_RANGE, TOO_MANY_SAMPLES, SPENT, MEMORY, NOT_OPEN. Takes memory for their code.
+ * Trap: each call codes the last interval anew, so that many samples in one call are faster than one by one. */
+uint32_t aecp_append(aecp_handle *handle, const int64_t *values, size_t values_len, aecp_reply *reply);
+
+/* Keeps the first `count` samples. Faults: OUT_OF_RANGE, SPENT, MEMORY, NOT_OPEN. Trap: MEMORY can come here too, since the last
+ * interval that is kept in part is coded anew. */
+uint32_t aecp_truncate(aecp_handle *handle, uint64_t count, aecp_reply *reply);
+
+/* Takes out `len` samples from place `first` on. Faults: OUT_OF_RANGE, SPENT, MEMORY, NOT_OPEN. Trap: all intervals behind are coded
+ * anew where `len` is no multiple of an interval's samples, as in aecp_insert. */
+uint32_t aecp_remove(aecp_handle *handle, uint64_t first, uint64_t len, aecp_reply *reply);
+
+/* Replaces samples from place `first` on by as many values. Faults: OUT_OF_RANGE, SAMPLE_RANGE, SPENT, MEMORY, NOT_OPEN. Takes memory for
+ * a copy of the values. Trap: it never makes the list longer. */
+uint32_t aecp_overwrite(aecp_handle *handle, uint64_t first, const int64_t *values, size_t values_len, aecp_reply *reply);
+
+/* Puts values in front of the sample at place `first`, or behind the last one. Faults: those of aecp_append, and OUT_OF_RANGE. Takes
+ * memory for a copy of the values. Trap: `first` may be the number of samples, and no more. */
+uint32_t aecp_insert(aecp_handle *handle, uint64_t first, const int64_t *values, size_t values_len, aecp_reply *reply);
+
+/* Puts `len` samples from place `first` on into `out`, which is filled as by the calls above. Faults: OUT_OF_RANGE, MEMORY, NO_ROOM,
+ * NOT_OPEN. Takes memory for the intervals that hold them. Trap: `out_len` and `reply->len` are samples, not bytes. */
+uint32_t aecp_read(aecp_handle *handle, uint64_t first, uint64_t len, int64_t *out, size_t out_len, aecp_reply *reply);
+
+/* Puts the stream of all samples into `out`, which is filled as by the calls above; aecp_decode reads it with the number of samples.
+ * Faults: MEMORY, NO_ROOM, NOT_OPEN. Takes memory for the code. Trap: keep aecp_size beside the stream. */
+uint32_t aecp_write(aecp_handle *handle, uint8_t *out, size_t out_len, aecp_reply *reply);
+
+/* The number of samples, and how many intervals have been coded since it was opened. Take no memory. Trap: both are 0 where the handle
+ * holds no workspace. */
+uint64_t aecp_size(aecp_handle *handle);
+uint64_t aecp_calls(aecp_handle *handle);
 
 #ifdef __cplusplus
 }

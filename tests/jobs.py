@@ -25,7 +25,7 @@ append 0 0 0 0 0 0 0 0 0 0 0 0 0 0 0 0
 insert 7 3 3 0
 remove 6 3
 """
-EDIT_LINES = [1, 2, 4, 5, 6]
+EDIT_LINES = [1, 2, 4, 5, 6]  # on which an edit may lack memory, of all scripts that are run with growths refused
 
 JOBS = [
     Job("coding", [], CHANGED, CHANGED_STREAM),
@@ -52,6 +52,17 @@ ZEROS, ZEROS_STREAM = bytes(64 * 64 * 64), bytes_of_bits("0000" + "0" * 8 + "000
 # Bytes whose blocks no other option writes in fewer bits than no compression: three ones and the bytes as they are.
 NOISE = bytes(255 - 101 * i % 256 for i in range(100_000))
 NOISE_STREAM = bytes_of_bits("".join("111" + "".join(f"{x:08b}" for x in NOISE[i : i + 8]) for i in range(0, len(NOISE), 8)))
+
+# Eight intervals of a block, of which the first edits are made while the others are still to come. They change nothing.
+FEW, FEW_STREAM = NOISE[:64], NOISE_STREAM[:67]
+EARLY_SCRIPT = b"""overwrite 1 %d
+overwrite 9 %d %d
+# the last places
+overwrite 62 %d %d
+append
+truncate 64
+""" % (FEW[1], *FEW[9:11], *FEW[62:])
+EARLY_JOB = Job("edits made early", ["-N", "-r", "1", "--edit", "script"], FEW_STREAM, FEW_STREAM, EARLY_SCRIPT)
 
 # Answers that no pipe holds at once.
 LARGE_JOBS = [

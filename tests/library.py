@@ -5,7 +5,9 @@ FOLDER has libaecp.a and libaecp.so. In turn, by the C program library_calls.c a
   - the rows of README's table, options that are refused with their number, and the other refusals with their place;
   - buffers of every length around the one that is needed, with nothing changed beyond the answer, and nothing at all without one;
   - each growth refused, that one alone and all after it: the call answers want of memory and has changed nothing;
-  - eight threads at once; a run under valgrind, where it is installed, that loses no memory;
+  - eight threads at once; NULL for a buffer of no bytes; a run under valgrind, where it is installed, that loses no memory;
+  - samples and coded bytes in each kind of buffer that Python has (library_buffers.py);
+  - the program in C of docs/LIBRARY.md;
   - lists by chance with settings by chance: beside the plain coder, the program at PATH_OF_AEC, and libaec's client.
 And the names that the shared library defines and needs.
 
@@ -15,6 +17,7 @@ Prints the checks that fail and, last, how many passed. Ends with 1 where one fa
 import argparse
 import os
 import random
+import re
 import shutil
 import subprocess
 import sys
@@ -23,6 +26,7 @@ from typing import NamedTuple
 
 import plain_coder
 from damaged_cases import some_samples, some_settings
+from library_buffers import try_buffers
 from program import Program, Tally
 from refusing import NO_COMPILER, Growths, build, has_compiler, ways
 from settings import STANDARD_BLOCK_SIZES, Settings
@@ -69,6 +73,8 @@ ROWS = [
     (Call("decode", USUAL, b"\x00\x78"), b"\x07" * 8),
     (Call("range", USUAL, CODED, ALL, 2, 3), b"\x02\x03\x04"),
 ]
+# The samples of CODED with three numbers put in, as library_calls.c does it.
+EDITED = (Call("edit", USUAL, CODED, 8, 2), bytes(plain_coder.stream([0, 1, 9, 9, 9, 2, 3, 4, 5, 6, 7], USUAL)))
 # Each with its number, its place and its text. The eight samples take 3 + 8 + 2 + 6 * 3 = 31 bits.
 REFUSED = [
     (Call("encode", USUAL._replace(bits=0), b""), 1, 0, "bits per sample must be 1 to 32"),
@@ -142,7 +148,7 @@ def try_refusals(in_c, folder, tally):
     library = build(folder)
     growths = Growths(in_c.program, library, in_parts=True)
     want = Answer(MEMORY, 0, 0, b"", "out of memory")
-    for call, wanted in ROWS:
+    for call, wanted in [*ROWS, EDITED]:
         right = Answer(0, 0, len(wanted), wanted, "no fault")
         for alone in (True, False):
             for first, last in ways(alone):
@@ -162,21 +168,45 @@ def try_threads(in_c, tally):
     tally.check("threads", in_c.program.run("threads"), (0, "8 of 8 threads\n"))
 
 
+def try_nulls(in_c, tally):
+    """NULL in the place of buffers of no bytes: the answer where none is needed, and else the length that is."""
+    none = ["encode 0 0", "decode 0 0", "decode 0 0", "range 0 0", "decode 6 0"]
+    some = ["encode 18 5", "decode 18 8", "range 18 3", f"text {len('the answer takes 3 bytes, more than the buffer has')}"]
+    tally.check("nulls", in_c.program.run("nulls"), (0, "\n".join([*none, *some, ""])))
+
+
+def try_page(asked, folder, tally):
+    """The program in C of the library's page, and with it the lines on workspaces. Its eight samples and those that fill the block
+    take 3 + 8 + 7 * 3 + 8 = 40 bits."""
+    with open(os.path.join(TOP, "docs", "LIBRARY.md"), encoding="utf-8") as page:
+        program, *lines = re.findall(r"```c\n(.*?)```", page.read(), re.S)
+    end = "    free(coded);\n"
+    code = program.replace(end, "".join(lines) + end)
+    source, path = os.path.join(folder, "example.c"), os.path.join(folder, "example")
+    with open(source, "w", encoding="utf-8") as file:
+        file.write(code)
+    build_in_c(asked, path, source)
+    tally.check("the page's program", Program(path, folder).run(), (0, "5 bytes, last sample 7\n"))
+
+
 def try_valgrind(in_c, tally):
     """Calls that answer and calls that refuse, none of which loses memory."""
     if not shutil.which("valgrind"):
         return
     judge = ["valgrind", "-q", "--leak-check=full", "--error-exitcode=9", in_c.program.path]
-    for call in [row[0] for row in ROWS] + [REFUSED[7][0], REFUSED[10][0]]:
-        ended = subprocess.run([*judge, *call.words(100)], capture_output=True)
-        tally.check(f"valgrind: {call.name}: {ended.stderr[-300:]}", ended.returncode, 0)
+    calls = [row[0] for row in [*ROWS, EDITED]] + [REFUSED[7][0], REFUSED[10][0]]
+    for words in [call.words(100) for call in calls] + [["nulls"]]:
+        ended = subprocess.run([*judge, *words], capture_output=True)
+        tally.check(f"valgrind: {words[0]}: {ended.stderr[-300:]}", ended.returncode, 0)
 
 
 def try_names(folder, tally):
     """The names that the shared library defines for others, and the libraries that it needs."""
     library = os.path.join(folder, "libaecp.so")
     names = subprocess.run(["nm", "-D", "--defined-only", library], capture_output=True, text=True, check=True).stdout
-    wanted = {"aecp_bound", "aecp_decode", "aecp_encode", "aecp_range", "aecp_text"}
+    edits = {"append", "insert", "overwrite", "remove", "truncate"}
+    calls = {"bound", "decode", "encode", "range", "text", "open", "load", "close", "read", "write", "size", "calls"} | edits
+    wanted = {f"aecp_{name}" for name in calls}
     tally.check("names", {line.split()[-1] for line in names.splitlines()}, wanted)
     needs = subprocess.run(["readelf", "-d", library], capture_output=True, text=True, check=True).stdout
     tally.check("needs", [line.split("[")[1] for line in needs.splitlines() if "(NEEDED)" in line], ["libc.so.6]"])
@@ -218,6 +248,77 @@ def try_case(aecp, ours, theirs, seed, number, tally):
         print(f"  that was --seed {seed} --only {number}", flush=True)
 
 
+def some_edit(chance, samples, new):
+    """An edit by chance that fits: the name of its method, what it is given, and the samples that it leaves."""
+    first, length = part_of(chance, samples)
+    stop = first + length
+    return chance.choice([
+        ("append", [new], samples + new),
+        ("insert", [first, new], samples[:first] + new + samples[first:]),
+        ("overwrite", [first, samples[first:stop][::-1]], samples[:first] + samples[first:stop][::-1] + samples[stop:]),
+        ("remove", [first, length], samples[:first] + samples[stop:]),
+        ("truncate", [stop], samples[:stop]),
+    ])
+
+
+def try_list(chance, work, samples, what, tally):
+    """A workspace as a list, beside one. The samples are the same afterwards."""
+    before = list(samples)
+    first, length = part_of(chance, samples)
+    part = slice(first, first + length)
+    tally.check(f"{what}: slice", list(work[part]), samples[part])
+    work[part], samples[part] = samples[part][::-1], samples[part][::-1]
+    tally.check(f"{what}: slice set", list(work), samples)
+    for place in (0, -1) if samples else ():
+        tally.check(f"{what}: [{place}]", work[place], samples[place])
+        work[place] = samples[place] = before[place]
+    del work[part], samples[part]
+    tally.check(f"{what}: slice deleted", list(work[:]), samples)
+    work.insert(first, before[part])
+    work[part] = before[part]
+    samples = before
+    for key in (len(samples), -len(samples) - 1):
+        tally.holds(is_refused(IndexError, lambda: work[key]), f"{what}: [{key}]")
+    tally.holds(is_refused(ValueError, lambda: work[::2]), f"{what}: a slice with steps")
+    tally.holds(is_refused(ValueError, lambda: work.__setitem__(part, [0] * (length + 1))), f"{what}: a longer part is set")
+    work.overwrite(0, samples)
+    tally.check(f"{what}: as before", list(work), samples)
+
+
+def is_refused(fault, call):
+    """Whether a call raises this."""
+    try:
+        call()
+    except fault:
+        return True
+    return False
+
+
+def try_workspace(aecp, seed, number, tally):
+    """Edits by chance, their samples read back, their stream beside that of the coder, and edits that are refused."""
+    chance = random.Random(f"workspace {seed} {number}")
+    settings = some_settings(chance)
+    samples, what = list(some_samples(settings, chance)), f"workspace {seed} {number}"
+    options = aecp.Options(**settings._asdict())
+    with aecp.Workspace(options, samples) as work:
+        for _ in range(8):
+            name, given, samples = some_edit(chance, samples, list(some_samples(settings, chance))[:20])
+            getattr(work, name)(*given)
+            tally.check(f"{what}: {name}", list(work.read(0, len(work))), samples)
+        first, length = part_of(chance, samples)
+        tally.check(f"{what}: part", list(work.read(first, length)), samples[first : first + length])
+        tally.check(f"{what}: coded", work.tobytes(), bytes(aecp.encode(settings.stored(samples), options)))
+        try_list(chance, work, list(samples), what, tally)
+        with aecp.Workspace.of_coded(work.tobytes(), len(work), options) as other:
+            tally.check(f"{what}: loaded", list(other), list(work))
+        for name, given in [("append", [[2**40]]), ("remove", [len(samples), 1]), ("truncate", [len(samples) + 1])]:
+            try:
+                getattr(work, name)(*given)
+                tally.holds(False, f"{what}: {name} isn't refused")
+            except (aecp.SampleRefused, aecp.RangeRefused):
+                tally.check(f"{what}: {name} refused", list(work.read(0, len(work))), samples)
+
+
 def words():
     asked = argparse.ArgumentParser(description=__doc__)
     asked.add_argument("program")
@@ -238,17 +339,34 @@ def module(library):
     return aecp
 
 
+def build_in_c(asked, path, source):
+    """Builds a program over the library."""
+    words = ["-I", os.path.join(TOP, "include"), "-o", path, source, os.path.join(asked.library, "libaecp.a"), "-pthread"]
+    subprocess.run(["cc", "-O1", "-Wall", "-Werror", *words], check=True)
+
+
+def try_handles(asked, folder, tally):
+    """The C program library_handles, by itself and under valgrind."""
+    path = os.path.join(folder, "library_handles")
+    build_in_c(asked, path, os.path.join(TOP, "tests", "library_handles.c"))
+    judges = [[], ["valgrind", "-q", "--leak-check=full", "--error-exitcode=9"]]
+    for judge in judges if shutil.which("valgrind") else judges[:1]:
+        ended = subprocess.run([*judge, path], capture_output=True, text=True)
+        tally.check(f"handles: {ended.stdout[-300:]}{ended.stderr[-300:]}", ended.returncode, 0)
+
+
 def try_in_c(asked, folder, aecp, tally):
     path = os.path.join(folder, "library_calls")
-    source, header = os.path.join(TOP, "tests", "library_calls.c"), os.path.join(TOP, "include")
-    archive = os.path.join(asked.library, "libaecp.a")
-    subprocess.run(["cc", "-O1", "-Wall", "-Werror", "-I", header, "-o", path, source, archive, "-pthread"], check=True)
+    build_in_c(asked, path, os.path.join(TOP, "tests", "library_calls.c"))
+    try_page(asked, folder, tally)
     in_c = InC(Program(path, folder))
     try_rows(in_c, aecp, tally)
     try_rooms(in_c, tally)
     try_refusals(in_c, folder, tally)
     try_threads(in_c, tally)
+    try_nulls(in_c, tally)
     try_valgrind(in_c, tally)
+    try_handles(asked, folder, tally)
 
 
 def main():
@@ -256,6 +374,7 @@ def main():
     aecp = module(asked.library)
     with tempfile.TemporaryDirectory() as folder:
         try_names(asked.library, tally)
+        try_buffers(aecp, tally)
         if has_compiler():
             try_in_c(asked, folder, aecp, tally)
         else:
@@ -264,6 +383,8 @@ def main():
         numbers = range(asked.cases) if asked.only is None else [asked.only]
         for number in numbers:
             try_case(aecp, Program(asked.program, folder), theirs, asked.seed, number, tally)
+            if number % 8 == 0:
+                try_workspace(aecp, asked.seed, number, tally)
     tally.print()
     sys.exit(tally.failed > 0)
 

@@ -1,7 +1,7 @@
 /* Calls of libaecp for tests/library.py. `library_calls CALL BITS BLOCK INTERVAL FLAGS COUNT FIRST LEN ROOM HEX` makes one call with a
  * buffer of ROOM bytes and prints its number, place and length, the bytes of its answer, and its text; FLAGS are the letters of the
- * program's options. `library_calls threads` codes and decodes in eight threads at once. Each buffer stands between bytes that
- * have to stay as they are. */
+ * program's options. `library_calls threads` codes and decodes in eight threads at once, `library_calls nulls` passes NULL as
+ * buffers of no bytes. Each buffer stands between bytes that have to stay as they are. */
 #include <aecp.h>
 #include <pthread.h>
 #include <stdio.h>
@@ -21,11 +21,25 @@ typedef struct {
 
 static uint8_t buffer[EDGE + MOST + EDGE];
 
+/* A workspace loaded, three numbers put in front of the sample at place FIRST, and its stream. A refused edit has to leave the size. */
+static uint32_t edited(const asked *it, uint8_t *out, aecp_reply *reply) {
+    const int64_t values[] = {9, 9, 9};
+    aecp_handle handle = AECP_HANDLE;
+    uint32_t number = aecp_load(&it->options, it->count, it->given, it->given_len, &handle, reply);
+    uint64_t size = aecp_size(&handle);
+    if (number == 0) number = aecp_insert(&handle, it->first, values, 3, reply);
+    if (number != 0 && aecp_size(&handle) != size) number = 98;
+    if (number == 0) number = aecp_write(&handle, out, it->room, reply);
+    aecp_close(&handle);
+    return number;
+}
+
 static uint32_t made(const asked *it, uint8_t *out, aecp_reply *reply) {
     if (!strcmp(it->call, "encode"))
         return aecp_encode(&it->options, it->given, it->given_len, out, it->room, reply);
     if (!strcmp(it->call, "decode"))
         return aecp_decode(&it->options, it->count, it->given, it->given_len, out, it->room, reply);
+    if (!strcmp(it->call, "edit")) return edited(it, out, reply);
     return aecp_range(&it->options, it->count, it->first, it->len, it->given, it->given_len, out, it->room, reply);
 }
 
@@ -114,9 +128,32 @@ static int threads(void) {
     return 0;
 }
 
+static void say(const char *call, uint32_t number, const aecp_reply *reply) {
+    printf("%s %u %llu\n", call, number, (unsigned long long)reply->len);
+}
+
+/* Buffers of no bytes that are NULL: where none is needed, and where one is. */
+static int nulls(void) {
+    aecp_options options = AECP_OPTIONS(8);
+    uint8_t samples[8] = {0, 1, 2, 3, 4, 5, 6, 7}, coded[8];
+    aecp_reply reply = {99, 99, 99}, made;
+    if (aecp_encode(&options, samples, 8, coded, 8, &made)) return 2;
+    say("encode", aecp_encode(&options, 0, 0, 0, 0, &reply), &reply);
+    say("decode", aecp_decode(&options, 0, 0, 0, 0, 0, &reply), &reply);
+    say("decode", aecp_decode(&options, AECP_ALL, 0, 0, 0, 0, &reply), &reply);
+    say("range", aecp_range(&options, AECP_ALL, 0, 0, 0, 0, 0, 0, &reply), &reply);
+    say("decode", aecp_decode(&options, 1, 0, 0, 0, 0, &reply), &reply);
+    say("encode", aecp_encode(&options, samples, 8, 0, 0, &reply), &reply);
+    say("decode", aecp_decode(&options, 8, coded, made.len, 0, 0, &reply), &reply);
+    say("range", aecp_range(&options, 8, 2, 3, coded, made.len, 0, 0, &reply), &reply);
+    printf("text %zu\n", aecp_text(&reply, 0, 0));
+    return 0;
+}
+
 int main(int count, char **words) {
     if (count == 2 && !strcmp(words[1], "threads")) return threads();
+    if (count == 2 && !strcmp(words[1], "nulls")) return nulls();
     if (count == 11) return call(words + 1);
-    fputs("library_calls CALL BITS BLOCK INTERVAL FLAGS COUNT FIRST LEN ROOM HEX, or library_calls threads\n", stderr);
+    fputs("library_calls CALL BITS BLOCK INTERVAL FLAGS COUNT FIRST LEN ROOM HEX, or library_calls threads, or library_calls nulls\n", stderr);
     return 2;
 }

@@ -7,7 +7,8 @@ end with status 1, with the one line for want of memory on standard error, and h
 run that meets no refusal has to give the right bytes. Where the k-th alone is refused, a run may also go on without that
 growth, and then has to give the right bytes too.
 
-Beside that a short stream of very many samples is decoded, cut to a range and edited with little memory, without the library.
+Beside that a short stream of very many samples is decoded, cut to a range and edited with little memory, and a stream is edited
+by a script of a million lines with four times its bytes, without the library.
 
 The library is built by `cc`; without that command its runs are skipped. Prints a table, the checks that fail and, last, how
 many passed. Ends with 1 where one failed.
@@ -21,7 +22,7 @@ from concurrent.futures import ProcessPoolExecutor
 from functools import partial
 from typing import NamedTuple, Optional
 
-from jobs import EDIT_LINES, EVEN_JOBS, JOBS, LARGE_JOBS, LONGEST, ZEROS, ZEROS_STREAM, Job
+from jobs import CHANGED_STREAM, EARLY_JOB, EDIT_LINES, EVEN_JOBS, JOBS, LARGE_JOBS, LONGEST, STILL_STREAM, ZEROS, ZEROS_STREAM, Job
 from program import Program, Tally
 from refusing import MOST_GROWTHS, NO_COMPILER, Growths, build, has_compiler, ways
 from spelling import bytes_of_bits
@@ -48,7 +49,7 @@ def succeeding(job):
 
 
 RUNS = [
-    *map(succeeding, JOBS + EVEN_JOBS),
+    *map(succeeding, [*JOBS, *EVEN_JOBS, EARLY_JOB]),
     succeeding(Job("coding of many zeros", LONGEST, ZEROS, ZEROS_STREAM)),
     *map(succeeding, LARGE_JOBS[1:]),
     Run("help", ["--help"], b"", b"", 0, None, None),
@@ -161,9 +162,24 @@ def try_little_memory(path, tally):
             tally.check(f"{what}: DEST", program.read("dest"), wanted)
 
 
+def try_long_script(path, tally):
+    """A script of a million lines, with memory of four times its bytes and 16 MiB."""
+    script = b"overwrite 20 1\n" * 10**6
+    most = 4 * len(script) + 2**24
+    with tempfile.TemporaryDirectory() as folder:
+        program = Program(path, folder)
+        program.write("source", STILL_STREAM)
+        program.write("script", script)
+        words = ["--edit", "script", "--count", "48", "source", "dest"]
+        answer = program.run(*words, preexec_fn=lambda: resource.setrlimit(resource.RLIMIT_AS, (most, most)))
+        tally.check(f"a million lines with {most >> 20} MB", answer, (0, ""))
+        tally.check(f"a million lines with {most >> 20} MB: DEST", program.read("dest"), CHANGED_STREAM)
+
+
 def main():
     path, tally = os.path.abspath(sys.argv[1]), Tally()
     try_little_memory(path, tally)
+    try_long_script(path, tally)
     if not has_compiler():
         tally.print(len(RUNS), NO_COMPILER)
     else:

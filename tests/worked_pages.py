@@ -1,9 +1,9 @@
 #!/usr/bin/env python3
-"""The worked rows and commands of README.md and docs/COMMAND.md: worked_pages.py PATH_OF_AEC
+"""The worked rows, commands and code of README.md, docs/COMMAND.md and docs/LIBRARY.md: worked_pages.py PATH_OF_AEC
 
 Runs each row of README that has a command, the bytes of SOURCE and those of DEST; the commands of README's part 'Use it', of which the
-sizes that it names are looked at; and those of COMMAND's part 'Edits', whose bytes stand behind them. A page without rows or
-commands fails.
+sizes that it names are looked at; and those of COMMAND's part 'Edits', whose bytes stand behind them. The code of LIBRARY's part
+'Rattle' has to stand in the file that is named before it. A page without rows, commands or code fails.
 """
 
 import os
@@ -63,8 +63,20 @@ def try_commands(program, tally):
     tally.check("commands of COMMAND, Edits", (status, said.strip()), (0, wanted))
 
 
+def try_code(tally):
+    """Code of the library's page: as it stands in a file that is proved."""
+    part = part_of("docs/LIBRARY.md", "Rattle")
+    shown = re.findall(r"\]\(\.\./(crates/[^)]*\.rt)\)[^`]*```rust\n(.*?)```", part, re.S)
+    tally.check("code of LIBRARY", len(shown), part.count("```rust"))
+    tally.holds(len(shown) > 0, "LIBRARY shows no code")
+    for name, code in shown:
+        with open(os.path.join(TOP, name), encoding="utf-8") as file:
+            tally.holds(code in file.read(), f"code of LIBRARY isn't in {name}")
+
+
 def main():
     tally = Tally()
+    try_code(tally)
     with tempfile.TemporaryDirectory() as folder:
         program = Program(sys.argv[1], folder)
         try_rows(program, tally)

@@ -58,10 +58,16 @@ def edits_of(crate):
     return [Edit(crate, name.removesuffix(".edit"), os.path.join(folder, name)) for name in names]
 
 
+def crate_of(line):
+    """The crate that a line of crates.txt is for, if it is for one."""
+    named = re.match(r"(\w+)( staticlib)?:", line)
+    return named and named[1]
+
+
 def uses():
     """The libraries of the repository that each crate stands on, directly."""
-    lines = [line.partition(":") for line in text_of(TOP, "crates.txt").splitlines() if re.match(r"\w+:", line)]
-    named = {crate: rest.split() for crate, _, rest in lines}
+    lines = [line for line in text_of(TOP, "crates.txt").splitlines() if crate_of(line)]
+    named = {crate_of(line): line.partition(":")[2].split() for line in lines}
     return {crate: [it for it in rest if it in named] for crate, rest in named.items()}
 
 
@@ -78,7 +84,7 @@ def copy_of(crate, direct, room):
     os.makedirs(os.path.join(top, "crates"))
     shutil.copy(os.path.join(TOP, "HANDLES"), top)
     lines = text_of(TOP, "crates.txt").splitlines(True)
-    put(top, {"crates.txt": "".join(line for line in lines if line.partition(":")[0] in {crate, *others})})
+    put(top, {"crates.txt": "".join(line for line in lines if crate_of(line) in {crate, *others})})
     shared = {"copy_function": os.link, "ignore": shutil.ignore_patterns("incremental")}
     for name in (crate, *others):
         more = {} if name == crate else shared

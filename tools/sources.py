@@ -7,7 +7,9 @@ from typing import NamedTuple
 TOP = os.path.abspath(os.path.join(os.path.dirname(__file__), ".."))
 
 OWNER = re.compile(r"(?:pub )?(?:impl(?:<.*?>)? (?:([\w:]+)(?:<.*>)? for )?(\w+)|trait (\w+))")
-FUNCTION = re.compile(r"( *)(pub(?:\(crate\))? )?(?:const )?fn (\w+)")
+FUNCTION = re.compile(r"( *)(pub(?:\(crate\))? )?(?:const )?(extern \"C\" )?fn (\w+)")
+# What crates.txt says of a crate begins with its name.
+CRATE = re.compile(r"(\w+)( staticlib)?:")
 CLAUSE = re.compile(r"\s+(ensures|requires) (\w+)?")
 GHOST = re.compile(r"\s+ghost (\w+)")
 
@@ -78,9 +80,9 @@ def functions_in(path, crate, found):
             crate.impls.add((at[1], owner))
         elif at := FUNCTION.match(line):
             clauses = {"ensures": set(), "requires": set()}
-            is_open = module in opened or (owner or at[3]) in names
-            is_public = is_open and (is_trait or at[2] == "pub ")
-            path = (crate.name, module, owner, at[3])
+            is_open = at[3] or module in opened or (owner or at[4]) in names
+            is_public = bool(is_open) and (is_trait or at[2] == "pub ")
+            path = (crate.name, module, owner, at[4])
             found.append(Function(*path, *clauses.values(), is_public, is_test))
             is_test = False
         elif at := CLAUSE.match(line):
@@ -101,8 +103,8 @@ def crate_of(name):
 
 def all_crates():
     """The crates of the repository by name, lowest first."""
-    lines = [line for line in text_of("crates.txt").splitlines() if re.match(r"\w+:", line)]
-    return {line.partition(":")[0]: crate_of(line.partition(":")[0]) for line in lines}
+    lines = map(CRATE.match, text_of("crates.txt").splitlines())
+    return {line[1]: crate_of(line[1]) for line in lines if line}
 
 
 def edits_of(crate):

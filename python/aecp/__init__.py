@@ -14,8 +14,9 @@ Calls may be made from several threads at once; they run at the same time.
 from aecp.calls import decode, decode_bytes, decode_range, decode_range_bytes, encode
 from aecp.faults import Fault, LimitPassed, NoMemory, OptionsRefused, RangeRefused, SampleRefused, StreamRefused
 from aecp.options import Options
+from aecp.workspace import Workspace
 
 __all__ = [
     "Fault", "LimitPassed", "NoMemory", "Options", "OptionsRefused", "RangeRefused", "SampleRefused", "StreamRefused",
-    "decode", "decode_bytes", "decode_range", "decode_range_bytes", "encode",
+    "Workspace", "decode", "decode_bytes", "decode_range", "decode_range_bytes", "encode",
 ]  # fmt: skip

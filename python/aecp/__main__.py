@@ -18,7 +18,7 @@ SWITCHES = {
 def words():
     parser = argparse.ArgumentParser(prog="python -m aecp", description=__doc__.split(": ")[1])
     parser.add_argument("source")
-    parser.add_argument("dest")
+    parser.add_argument("dest", help="is replaced without asking")
     parser.add_argument("-d", "--decode", action="store_true", help="decode; options and count are those of coding")
     parser.add_argument("-c", "--count", type=int, help="the number of samples, for decoding; without it filler is decoded too")
     parser.add_argument("--range", metavar="FIRST:LEN", help="decode LEN samples from place FIRST on")
@@ -40,7 +40,10 @@ def work(asked, data):
 
 
 def main():
-    asked = words().parse_args()
+    parser = words()
+    asked = parser.parse_args()
+    if asked.count is not None and not (asked.decode or asked.range):
+        parser.error("--count needs --decode or --range")
     try:
         with open(asked.source, "rb") as file:
             answer = work(asked, file.read())

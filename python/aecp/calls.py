@@ -43,7 +43,8 @@ def decode_range(coded, count, first, length, options):
 def decode_bytes(coded, count, options):
     """What decode answers, as a bytearray of stored samples.
 
-    Raises OptionsRefused, StreamRefused, LimitPassed, NoMemory. A few bytes can stand for 2^32 samples: give a count.
+    coded: bytes, or what has a buffer of bytes that lie one behind the other, also one that can't be written.
+    Raises OptionsRefused, StreamRefused, LimitPassed, NoMemory; TypeError for what has no such buffer. A few bytes can stand for 2^32 samples: give a count.
     """
     source, before = Source(coded), [c_options(options), number_of(count)]
     if count is None:

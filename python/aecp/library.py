@@ -23,6 +23,12 @@ class Reply(ctypes.Structure):
     _fields_ = [("fault", ctypes.c_uint32), ("place", ctypes.c_uint64), ("len", ctypes.c_uint64)]
 
 
+class Handle(ctypes.Structure):
+    """aecp_handle."""
+
+    _fields_ = [("at", ctypes.c_void_p), ("full", ctypes.c_bool)]
+
+
 def places():
     """Where the library may lie: AECP_LIBRARY, beside this module, a checkout's bin, and last where the loader looks."""
     named = os.environ.get("AECP_LIBRARY")
@@ -47,11 +53,30 @@ def load():
         "aecp_range": (ctypes.c_uint32, [options, number, number, number, *ends]),
         "aecp_bound": (number, [options, number]),
         "aecp_text": (size, [reply, bytes_at, size]),
+        **handle_calls(options, reply),
     }
     for name, (result, arguments) in takes.items():
         call = getattr(library, name)
         call.restype, call.argtypes = result, arguments
     return library
+
+
+def handle_calls(options, reply):
+    """The calls on a handle."""
+    number, handle, end = ctypes.c_uint64, ctypes.POINTER(Handle), [ctypes.c_void_p, ctypes.c_size_t, reply]
+    edits = {
+        "aecp_append": [handle, *end],
+        "aecp_insert": [handle, number, *end],
+        "aecp_load": [options, number, ctypes.c_void_p, ctypes.c_size_t, handle, reply],
+        "aecp_open": [options, handle, reply],
+        "aecp_overwrite": [handle, number, *end],
+        "aecp_read": [handle, number, number, *end],
+        "aecp_remove": [handle, number, number, reply],
+        "aecp_truncate": [handle, number, reply],
+        "aecp_write": [handle, *end],
+    }
+    counts = {"aecp_calls": (number, [handle]), "aecp_size": (number, [handle]), "aecp_close": (None, [handle])}
+    return {**{name: (ctypes.c_uint32, takes) for name, takes in edits.items()}, **counts}
 
 
 LIBRARY = load()

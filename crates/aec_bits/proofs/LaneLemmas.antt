@@ -9,7 +9,8 @@ use Rattle.aec_bits.specs.WordBits.{word_bits}
 use Rattle.aec_bits.proofs.OverwriteLemmas.{overwritten, take-append-add}
 use Rattle.aec_bits.proofs.WordLemmas.{length-word_bits, bits_of_words-cons, bits_of_words-append, bits_of_words-take, bits_of_words-drop, joined_bits}
 
--- the bits from a place of the first word on: those of that word, some of the next one, and those from that place of the next one on
+-- the bits from a place of the first word on: those of that word, some of the next one, and those
+-- from that place of the next one on
 next_word : (x y : ℕ) (ys : List ℕ) (at n : ℕ) → at ≤ 64
     → (drop at (word_bits x) ++ take at (word_bits y)) ++ take (64 * n) (drop at (bits_of_words (y ∷ ys)))
     ≡ take (64 * suc n) (drop at (bits_of_words (x ∷ y ∷ ys)))

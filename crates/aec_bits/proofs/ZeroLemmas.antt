@@ -40,7 +40,8 @@ binary_topmost n zeros j v whole above below =
 pub low_mask : (word at : ℕ) → at ≤ 64 → bit_and word ((2 ^ 64 - 1) / 2 ^ at) ≡ word % 2 ^ (64 - at)
 low_mask word at within = ap (bit_and word) (ones_shr 64 at within) ∙ and_mask word (64 - at)
 
--- how many zeros stand from a place of a word on: that many fewer than at the front of what is left of it there
+-- how many zeros stand from a place of a word on: that many fewer than at the front of what is left
+-- of it there
 pub zeros_in : (word at rest : ℕ) → rest ≡ word % 2 ^ (64 - at) → at < 64 → 0 < rest
     → (at ≤ count_leading_zeros 64 rest) × ((at + (count_leading_zeros 64 rest - at) < 64)
     × (drop at (word_bits word) ≡ fs (count_leading_zeros 64 rest - at) ++ drop (at + (count_leading_zeros 64 rest - at) + 1) (word_bits word)))

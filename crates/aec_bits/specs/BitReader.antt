@@ -28,7 +28,8 @@ behind_ones (suc n) (false ∷ bits) = further 1 (behind_ones (suc n) bits)
 abbrev pub AreBelow : ℕ → List ℕ → Type 0
 AreBelow limit numbers = AllByRecursion (λ v. v < limit) numbers
 
--- fewer fundamental sequences than a count begin the bits, and no one stands in the 64 bits behind them
+-- fewer fundamental sequences than a count begin the bits, and no one stands in the 64 bits behind
+-- them
 pub record StopsBefore (count : ℕ) (bits : List Bool) : Type 0 where
   pub numbers : List ℕ
   pub rest : List Bool

@@ -5,7 +5,8 @@ use Rattle.std.specs.Int.RustNames.{FitsSigned}
 use Rattle.std.specs.List.{list_all, flat_map}
 use Rattle.aec_params.specs.Cutting.{pieces_of}
 
--- a way to code intervals: the bits of an interval, the greatest number of samples in one, and which numbers are samples
+-- a way to code intervals: the bits of an interval, the greatest number of samples in one, and
+-- which numbers are samples
 pub record Format : Type 0 where
   pub bits_of : List ℤ → List Bool
   pub most : ℕ

@@ -3,8 +3,8 @@ use Rattle.std.specs.Prelude.{◌≡◌, ℕ, ◌+◌, ◌-◌, ◌^◌, min, Li
 use Rattle.std.specs.Io.KnownBytes.{Appends}
 use Rattle.aec_params.specs.declared.fault.Fault.{Fault}
 
--- A call answers the device's fault exactly where the device has failed by its end. The count of failures, 0 or 1, was 0
--- before a call that succeeds, and stays so.
+-- A call answers the device's fault exactly where the device has failed by its end. The count of
+-- failures, 0 or 1, was 0 before a call that succeeds, and stays so.
 abbrev pub FailsOnce : {X : Type 0} → Fault → ℕ → ℕ → Result X Fault → Type 0
 FailsOnce fault old new result = MatchResult result (λ _. (old ≡ 0) × (new ≡ 0)) (λ e. (e ≡ fault) × (new ≡ 1))
 

@@ -31,14 +31,15 @@ JudgesPlacesFirst = (f : Format) (limit first len : ℕ) (s values : List ℤ)
     × (length s < first → refusal_of f limit s (Insert first values) ≡ Some (OutOfRange (length s)))
     × (length s < first + len → refusal_of f limit s (Remove first len) ≡ Some (OutOfRange (length s)))
 
--- a number of samples past the limit is refused whatever the values are, for an insertion at a place of the samples
+-- a number of samples past the limit is refused whatever the values are, for an insertion at a
+-- place of the samples
 abbrev pub JudgesTheLimitFirst : Type 0
 JudgesTheLimitFirst = (f : Format) (limit first : ℕ) (s values : List ℤ) → limit < length s + length values
     → (refusal_of f limit s (Append values) ≡ Some (TooManySamples limit))
     × (first ≤ length s → refusal_of f limit s (Insert first values) ≡ Some (TooManySamples limit))
 
--- an overwrite within the samples, an append within the limit and an insertion within both are refused for the first value that
--- is no sample, and for no other
+-- an overwrite within the samples, an append within the limit and an insertion within both are
+-- refused for the first value that is no sample, and for no other
 abbrev pub NamesTheFirstValue : Type 0
 NamesTheFirstValue = (f : Format) (limit first : ℕ) (s values : List ℤ) (i : ℕ) → i < length values → AreHeld f (take i values)
     → f.holds (slice_index_or values i (pos 0)) ≡ false

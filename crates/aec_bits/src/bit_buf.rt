@@ -10,8 +10,8 @@ use std::marker::Model;
 /// The greatest length of a list of bits.
 const MOST_BITS: u64 = 1 << 62;
 
-/// Bits in order, at most 2^62 of them. Contracts see the list and the room, which is the number of bits by which it
-/// can grow with no further memory: a growth into the room is never refused.
+/// Bits in order, at most 2^62 of them. Contracts see the list and the room, which is the number of
+/// bits by which it can grow with no further memory: a growth into the room is never refused.
 ///
 /// Every call that grows answers `Memory` where a growth was refused, and nothing has changed then.
 #[derive(Debug, Drop)]
@@ -107,7 +107,8 @@ impl BitBuf {
         requires width { width ≤ 64 }
         requires within { start + width ≤ length self.now.list }
         ensures fits { result < 2 ^ width }
-        ensures bits { drop start self.now.list ≡ binary width result ++ drop (start + width) self.now.list }
+        ensures bits { drop start self.now.list
+            ≡ binary width result ++ drop (start + width) self.now.list }
     {
         number_at(&self.words, start, width)
     }
@@ -127,7 +128,8 @@ impl BitBuf {
         requires { start ≤ length self.now.list }
         ensures cases { MatchOption result
             (has_one (drop start self.now.list) ≡ false)
-            (λ v. (start + v < length self.now.list) × (drop start self.now.list ≡ fs v ++ drop (start + v + 1) self.now.list)) }
+            (λ v. (start + v < length self.now.list)
+            × (drop start self.now.list ≡ fs v ++ drop (start + v + 1) self.now.list)) }
         ensures some { is_some result ≡ has_one (drop start self.now.list) }
         ensures bound { length self.now.list ≤ 2 ^ 62 }
     {
@@ -169,7 +171,8 @@ impl BitBuf {
         Ok(())
     }
 
-    /// Appends the bits of `value` in `width` bits, for which there is room, the most significant first. Takes no memory.
+    /// Appends the bits of `value` in `width` bits, for which there is room, the most significant
+    /// first. Takes no memory.
     #[inline(always)]
     pub fn push_reserved(&mut self, value: u64, width: u32)
         requires width { width ≤ 64 }
@@ -216,13 +219,15 @@ impl BitBuf {
         Ok(())
     }
 
-    /// Replaces the bits from place `start` up to place `stop` by those of another list. Takes no memory where the list
-    /// does not get longer.
+    /// Replaces the bits from place `start` up to place `stop` by those of another list. Takes no
+    /// memory where the list does not get longer.
     pub fn splice(&mut self, start: u64, stop: u64, with: &BitBuf) -> Result<(), Fault>
         requires order { start ≤ stop }
         requires within { stop ≤ length self.old.list }
-        ensures ok { OnOk result (self.new.list ≡ take start self.old.list ++ (with.now.list ++ drop stop self.old.list)) }
-        ensures room { OnOk result (self.old.room + (stop - start) ≤ self.new.room + length with.now.list) }
+        ensures ok { OnOk result (self.new.list
+            ≡ take start self.old.list ++ (with.now.list ++ drop stop self.old.list)) }
+        ensures room { OnOk result
+            (self.old.room + (stop - start) ≤ self.new.room + length with.now.list) }
         ensures err { OnErr result (self.new ≡ self.old) }
         ensures full { OnErr result (self.old.room + (stop - start) < length with.now.list) }
         ensures fault { IfErr result (λ e. e ≡ Memory) }
@@ -238,7 +243,8 @@ impl BitBuf {
     /// Appends zeros up to a multiple of 8 bits.
     pub fn pad_to_byte(&mut self) -> Result<(), Fault>
         ensures ok { OnOk result (self.new.list ≡ padded_to_byte self.old.list) }
-        ensures room { OnOk result (self.old.room ≤ self.new.room + up_to_multiple 8 (length self.old.list)) }
+        ensures room { OnOk result
+            (self.old.room ≤ self.new.room + up_to_multiple 8 (length self.old.list)) }
         ensures err { OnErr result (self.new ≡ self.old) }
         ensures full { OnErr result (self.old.room < up_to_multiple 8 (length self.old.list)) }
         ensures fault { IfErr result (λ e. e ≡ Memory) }
@@ -247,8 +253,8 @@ impl BitBuf {
         Ok(())
     }
 
-    /// The bits of bytes, the most significant bit of each first. `Memory` where a growth was refused; for no bytes
-    /// none is asked for.
+    /// The bits of bytes, the most significant bit of each first. `Memory` where a growth was
+    /// refused; for no bytes none is asked for.
     pub fn from_bytes(alloc: Global, bytes: &[u8]) -> Result<BitBuf, Fault>
         ensures ok { IfOk result (λ b. b.list ≡ bits_of_bytes bytes.now) }
         ensures fault { IfErr result (λ e. (e ≡ Memory) × (0 < length bytes.now)) }

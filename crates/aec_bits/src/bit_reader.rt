@@ -6,8 +6,8 @@ use crate::windows::{numbers_from, sequences_from};
 use aec_params::Fault;
 use std::marker::Model;
 
-/// A place in a list of bits, from which bits are read in order. Contracts see the list and the place. No call takes
-/// memory.
+/// A place in a list of bits, from which bits are read in order. Contracts see the list and the
+/// place. No call takes memory.
 #[derive(Debug, Drop)]
 pub struct BitReader<'a> {
     buf: &'a BitBuf,
@@ -60,14 +60,15 @@ impl<'a> BitReader<'a> {
         self.pos = pos;
     }
 
-    /// The number that the next `width` bits spell, the most significant first. `Truncated` with the present place where
-    /// fewer bits are left.
+    /// The number that the next `width` bits spell, the most significant first. `Truncated` with
+    /// the present place where fewer bits are left.
     #[inline(always)]
     pub fn read(&mut self, width: u32) -> Result<u64, Fault>
         requires { width ≤ 64 }
         ensures fits { IfOk result (λ v. v < 2 ^ width) }
         ensures bits { IfOk result (λ v.
-            drop self.old.pos self.old.list ≡ binary width v ++ drop (self.old.pos + width) self.old.list) }
+            drop self.old.pos self.old.list
+            ≡ binary width v ++ drop (self.old.pos + width) self.old.list) }
         ensures moves { OnOk result (self.new.pos ≡ self.old.pos + width) }
         ensures refuses { MatchResult result
             (λ _. self.old.pos + width ≤ length self.old.list)
@@ -85,7 +86,8 @@ impl<'a> BitReader<'a> {
         Ok(value)
     }
 
-    /// The number of zeros before the next one, which is read too. `Truncated` with the present place where no one is left.
+    /// The number of zeros before the next one, which is read too. `Truncated` with the present
+    /// place where no one is left.
     pub fn read_fs(&mut self) -> Result<u64, Fault>
         ensures bits { IfOk result (λ v.
             drop self.old.pos self.old.list ≡ fs v ++ drop (self.old.pos + v + 1) self.old.list) }
@@ -106,15 +108,18 @@ impl<'a> BitReader<'a> {
         }
     }
 
-    /// Puts the numbers of the next fundamental sequences into `numbers`, if each is below 64, and goes behind them. Else
-    /// false: at one of them no one stands in the next 64 bits, or in those that are left, and `read_fs` may still read it. The reader is
-    /// then where it was, and what stands in `numbers` isn't said.
+    /// Puts the numbers of the next fundamental sequences into `numbers`, if each is below 64, and
+    /// goes behind them. Else false: at one of them no one stands in the next 64 bits, or in those
+    /// that are left, and `read_fs` may still read it. The reader is then where it was, and what
+    /// stands in `numbers` isn't said.
     #[inline(always)]
     pub fn read_sequences(&mut self, numbers: &mut [u32]) -> bool
         ensures bits { result ≡ true →
-            drop self.old.pos self.old.list ≡ flat_map fs numbers.new ++ drop self.new.pos self.old.list }
+            drop self.old.pos self.old.list
+            ≡ flat_map fs numbers.new ++ drop self.new.pos self.old.list }
         ensures below { result ≡ true → AreBelow 64 numbers.new }
-        ensures refuses { result ≡ false → StopsBefore (length numbers.old) (drop self.old.pos self.old.list) }
+        ensures refuses { result ≡ false
+            → StopsBefore (length numbers.old) (drop self.old.pos self.old.list) }
         ensures len { length numbers.new ≡ length numbers.old }
         ensures within { self.new.pos ≤ length self.new.list }
         ensures list { self.new.list ≡ self.old.list }
@@ -129,18 +134,21 @@ impl<'a> BitReader<'a> {
         }
     }
 
-    /// Puts the numbers that the next `width` bits each spell into `numbers`, the most significant bit first. `Truncated`
-    /// with the present place where fewer bits are left than all of them have.
+    /// Puts the numbers that the next `width` bits each spell into `numbers`, the most significant
+    /// bit first. `Truncated` with the present place where fewer bits are left than all of them
+    /// have.
     #[inline(always)]
     pub fn read_numbers(&mut self, width: u32, numbers: &mut [u32]) -> Result<(), Fault>
         requires { width ≤ 32 }
         ensures bits { OnOk result
-            (drop self.old.pos self.old.list ≡ flat_map (binary width) numbers.new ++ drop self.new.pos self.old.list) }
+            (drop self.old.pos self.old.list
+            ≡ flat_map (binary width) numbers.new ++ drop self.new.pos self.old.list) }
         ensures below { OnOk result (AreBelow (2 ^ width) numbers.new) }
         ensures moves { OnOk result (self.new.pos ≡ self.old.pos + width * length numbers.old) }
         ensures refuses { MatchResult result
             (λ _. self.old.pos + width * length numbers.old ≤ length self.old.list)
-            (λ e. (length self.old.list < self.old.pos + width * length numbers.old) × (e ≡ Truncated self.old.pos)) }
+            (λ e. (length self.old.list < self.old.pos + width * length numbers.old)
+            × (e ≡ Truncated self.old.pos)) }
         ensures len { length numbers.new ≡ length numbers.old }
         ensures within { self.new.pos ≤ length self.new.list }
         ensures list { self.new.list ≡ self.old.list }
@@ -176,12 +184,13 @@ impl<'a> BitReader<'a> {
         }
     }
 
-    /// Goes behind the `count`-th of the next ones. How many bits that takes. `Truncated` with the present place where fewer
-    /// ones are left.
+    /// Goes behind the `count`-th of the next ones. How many bits that takes. `Truncated` with the
+    /// present place where fewer ones are left.
     pub fn skip_ones(&mut self, count: u64) -> Result<u64, Fault>
         ensures place { MatchResult result
             (λ gone. behind_ones count (drop self.old.pos self.old.list) ≡ Some gone)
-            (λ e. (behind_ones count (drop self.old.pos self.old.list) ≡ None) × (e ≡ Truncated self.old.pos)) }
+            (λ e. (behind_ones count (drop self.old.pos self.old.list) ≡ None)
+            × (e ≡ Truncated self.old.pos)) }
         ensures moves { IfOk result (λ gone. self.new.pos ≡ self.old.pos + gone) }
         ensures within { self.new.pos ≤ length self.new.list }
         ensures list { self.new.list ≡ self.old.list }
@@ -200,10 +209,12 @@ impl<'a> BitReader<'a> {
         }
     }
 
-    /// Goes to the next multiple of 8, or to the end where that comes first. A place that is a multiple of 8 stays.
+    /// Goes to the next multiple of 8, or to the end where that comes first. A place that is a
+    /// multiple of 8 stays.
     pub fn skip_to_byte(&mut self)
         ensures list { self.new.list ≡ self.old.list }
-        ensures pos { self.new.pos ≡ min (self.old.pos + up_to_multiple 8 self.old.pos) (length self.old.list) }
+        ensures pos { self.new.pos
+            ≡ min (self.old.pos + up_to_multiple 8 self.old.pos) (length self.old.list) }
     {
         let len = self.buf.len();
         let missing = (8 - self.pos % 8) % 8;

@@ -10,7 +10,8 @@ use aec_params::Fault;
 
 /// A coder of intervals, with counts of what it was called for.
 pub trait Codec {
-    /// The bits of an interval, the greatest number of samples in one, and which numbers are samples.
+    /// The bits of an interval, the greatest number of samples in one, and which numbers are
+    /// samples.
     ghost format: { Self → Format };
 
     /// How many intervals it has coded.
@@ -38,11 +39,12 @@ pub trait Codec {
     fn reads(&self) -> u64
         ensures { result ≡ read self.now };
 
-    /// Appends the bits of an interval. `Spent` exactly where `calls` is the greatest number of 64 bits, then `Memory`
-    /// where a growth was refused; the bits and `calls` are then as before.
+    /// Appends the bits of an interval. `Spent` exactly where `calls` is the greatest number of 64
+    /// bits, then `Memory` where a growth was refused; the bits and `calls` are then as before.
     fn code(&mut self, samples: &[i64], out: &mut BitBuf) -> Result<(), Fault>
         requires { IsInterval (format self.old) samples.now }
-        ensures ok { OnOk result (out.new.list ≡ out.old.list ++ (format self.old).bits_of samples.now) }
+        ensures ok { OnOk result (out.new.list
+            ≡ out.old.list ++ (format self.old).bits_of samples.now) }
         ensures counts { OnOk result (called self.new ≡ called self.old + 1) }
         ensures spent { (result ≡ Err Spent) ↔ (called self.old ≡ 2 ^ 64 - 1) }
         ensures fault { IfErr result (λ e. (e ≡ Spent) ⊎ (e ≡ Memory)) }
@@ -51,8 +53,8 @@ pub trait Codec {
         ensures same_reads { read self.new ≡ read self.old }
         ensures same_format { format self.new ≡ format self.old };
 
-    /// Appends the `count` samples of the interval whose bits begin at place `pos`. `Memory` where a growth was refused;
-    /// the samples in `out` are then as before.
+    /// Appends the `count` samples of the interval whose bits begin at place `pos`. `Memory` where
+    /// a growth was refused; the samples in `out` are then as before.
     fn decode(
         &mut self,
         stream: &BitBuf,

@@ -15,8 +15,8 @@ pub trait Source {
     /// How often the source has failed: 0, and from the first failure on 1.
     ghost failed: { Self → ℕ };
 
-    /// Puts the next bytes at the front of `buf`. The number of them, which is 0 only at the end or for an empty
-    /// `buf`. `Read` where the source fails or has failed; nothing is taken then.
+    /// Puts the next bytes at the front of `buf`. The number of them, which is 0 only at the end or
+    /// for an empty `buf`. `Read` where the source fails or has failed; nothing is taken then.
     fn take(&mut self, buf: &mut [u8]) -> Result<usize, Fault>
         ensures bound { IfOk result (λ k. k ≤ length buf.new) }
         ensures bytes { ReadConsumes (left self.old) (left self.new) result buf.new }
@@ -48,8 +48,8 @@ pub trait Sink {
         ensures order { Keeps (mark self.new) (taken self.old) }
         ensures failure { FailsOnce WriteFault (failed self.old) (failed self.new) result };
 
-    /// Takes bytes from the front of the piece. The number of them, which is 0 only for an empty piece. `Write` where
-    /// the sink fails or has failed; it has taken nothing then.
+    /// Takes bytes from the front of the piece. The number of them, which is 0 only for an empty
+    /// piece. `Write` where the sink fails or has failed; it has taken nothing then.
     fn put(&mut self, piece: &[u8]) -> Result<usize, Fault>
         ensures bound { IfOk result (λ k. k ≤ length piece.now) }
         ensures progress { IfOk result (λ k. 0 < length piece.now → 0 < k) }

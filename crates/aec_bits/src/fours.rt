@@ -5,13 +5,15 @@ ghost use Rattle.aec_bits.specs.Words.{bits_of_words};
 
 use std::simd::prelude::*;
 
-/// Overwrites four times so many words from word `place` on by the bits of other words from place `from` on.
+/// Overwrites four times so many words from word `place` on by the bits of other words from place
+/// `from` on.
 pub(crate) fn copy_fours(words: &mut [u64], place: usize, with: &[u64], from: u64, fours: usize)
     requires shifted { 0 < from % 64 }
     requires within { place + 4 * fours ≤ length words.old }
     requires there { from + 256 * fours ≤ 64 * length with.now }
     ensures bits { bits_of_words words.new ≡ take (64 * place) (bits_of_words words.old)
-        ++ (take (256 * fours) (drop from (bits_of_words with.now)) ++ drop (64 * place + 256 * fours) (bits_of_words words.old)) }
+        ++ (take (256 * fours) (drop from (bits_of_words with.now))
+        ++ drop (64 * place + 256 * fours) (bits_of_words words.old)) }
     ensures len { length words.new ≡ length words.old }
 {
     let first = (from / 64) as usize;
@@ -27,7 +29,8 @@ pub(crate) fn move_fours_down(words: &mut [u64], from: u64, place: usize, fours:
     requires order { 64 * place ≤ from }
     requires source { from + 256 * fours ≤ 64 * length words.old }
     ensures bits { bits_of_words words.new ≡ take (64 * place) (bits_of_words words.old)
-        ++ (take (256 * fours) (drop from (bits_of_words words.old)) ++ drop (64 * place + 256 * fours) (bits_of_words words.old)) }
+        ++ (take (256 * fours) (drop from (bits_of_words words.old))
+        ++ drop (64 * place + 256 * fours) (bits_of_words words.old)) }
     ensures len { length words.new ≡ length words.old }
 {
     let first = (from / 64) as usize;
@@ -43,7 +46,8 @@ pub(crate) fn move_fours_up(words: &mut [u64], from: u64, place: usize, fours: u
     requires order { from ≤ 64 * place }
     requires target { place + 4 * fours ≤ length words.old }
     ensures bits { bits_of_words words.new ≡ take (64 * place) (bits_of_words words.old)
-        ++ (take (256 * fours) (drop from (bits_of_words words.old)) ++ drop (64 * place + 256 * fours) (bits_of_words words.old)) }
+        ++ (take (256 * fours) (drop from (bits_of_words words.old))
+        ++ drop (64 * place + 256 * fours) (bits_of_words words.old)) }
     ensures len { length words.new ≡ length words.old }
 {
     let first = (from / 64) as usize;
@@ -61,7 +65,8 @@ fn joined_four(words: &[u64], from: usize, at: u32) -> u64x4
     requires some { 0 < at }
     requires inside { at < 64 }
     requires within { from + 5 ≤ length words.now }
-    ensures bits { bits_of_words result ≡ take 256 (drop (64 * from + at) (bits_of_words words.now)) }
+    ensures bits { bits_of_words result
+        ≡ take 256 (drop (64 * from + at) (bits_of_words words.now)) }
     ensures len { length result ≡ 4 }
 {
     let first = u64x4::from_slice(&words[from..]);
@@ -77,7 +82,8 @@ fn move_four(words: &mut [u64], from: usize, at: u32, place: usize)
     requires source { from + 5 ≤ length words.old }
     requires target { place + 4 ≤ length words.old }
     ensures bits { bits_of_words words.new ≡ take (64 * place) (bits_of_words words.old)
-        ++ (take 256 (drop (64 * from + at) (bits_of_words words.old)) ++ drop (64 * place + 256) (bits_of_words words.old)) }
+        ++ (take 256 (drop (64 * from + at) (bits_of_words words.old))
+        ++ drop (64 * place + 256) (bits_of_words words.old)) }
     ensures len { length words.new ≡ length words.old }
 {
     joined_four(words, from, at).copy_to_slice(&mut words[place..]);
@@ -91,7 +97,8 @@ fn copy_four(words: &mut [u64], place: usize, with: &[u64], from: usize, at: u32
     requires there { from + 5 ≤ length with.now }
     requires target { place + 4 ≤ length words.old }
     ensures bits { bits_of_words words.new ≡ take (64 * place) (bits_of_words words.old)
-        ++ (take 256 (drop (64 * from + at) (bits_of_words with.now)) ++ drop (64 * place + 256) (bits_of_words words.old)) }
+        ++ (take 256 (drop (64 * from + at) (bits_of_words with.now))
+        ++ drop (64 * place + 256) (bits_of_words words.old)) }
     ensures len { length words.new ≡ length words.old }
 {
     joined_four(with, from, at).copy_to_slice(&mut words[place..]);

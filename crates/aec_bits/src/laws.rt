@@ -97,7 +97,8 @@ pub fn codes_intervals()
     ensures { CodesIntervals }
 {}
 
-/// An interval stands behind the code of the samples before it, and before the code of those after it.
+/// An interval stands behind the code of the samples before it, and before the code of those after
+/// it.
 pub fn stands_between()
     ensures { StandsBetween }
 {}

@@ -11,7 +11,8 @@ use std::alloc::Global;
 /// The words of bytes; zeros fill the last one.
 pub(crate) fn words_of(alloc: Global, bytes: &[u8]) -> Result<Vec<u64>, Fault>
     requires { 8 * length bytes.now ≤ 2 ^ 62 }
-    ensures ok { IfOk result (λ words. Keep words.items (8 * length bytes.now) (bits_of_bytes bytes.now)) }
+    ensures ok { IfOk result (λ words. Keep words.items (8 * length bytes.now)
+        (bits_of_bytes bytes.now)) }
     ensures fault { IfErr result (λ e. (e ≡ Memory) × (0 < length bytes.now)) }
 {
     let count = bytes.len().div_ceil(8);

@@ -7,7 +7,8 @@ ghost use Rattle.aec_bits.specs.WordBits.{word_bits};
 
 use crate::bit_buf::BitBuf;
 
-/// Bits, as a number, in which the `nth` one is looked for, and how many places of the word stand before them.
+/// Bits, as a number, in which the `nth` one is looked for, and how many places of the word stand
+/// before them.
 #[derive(Clone, Copy)]
 struct Stretch {
     bits: u64,
@@ -27,7 +28,8 @@ fn half_with_one(stretch: Stretch, width: u32) -> Stretch
     ensures some { 0 < result.nth }
     ensures there { result.nth ≤ count_ones result.bits }
     ensures place { result.before + width ≤ 64 }
-    ensures same { further stretch.before (behind_ones stretch.nth (binary (2 * width) stretch.bits))
+    ensures same { further stretch.before
+        (behind_ones stretch.nth (binary (2 * width) stretch.bits))
         ≡ further result.before (behind_ones result.nth (binary width result.bits)) }
 {
     let high = stretch.bits >> width;

@@ -16,7 +16,8 @@ pub(crate) fn grow(words: &mut Vec<u64>, len: u64)
     requires bound { len ≤ 2 ^ 62 }
     requires room { len ≤ 64 * vec_capacity words.old }
     ensures bits { bits_of_words words.new.items
-        ≡ bits_of_words words.old.items ++ replicate (64 * (div_ceil len 64 - vec_len words.old)) false }
+        ≡ bits_of_words words.old.items
+        ++ replicate (64 * (div_ceil len 64 - vec_len words.old)) false }
     ensures len { vec_len words.new ≡ max (div_ceil len 64) (vec_len words.old) }
     ensures capacity { vec_capacity words.old ≤ vec_capacity words.new }
 {
@@ -53,7 +54,8 @@ pub(crate) fn push_reserved_number(words: &mut Vec<u64>, len: u64, value: u64, w
     requires bound { len + width ≤ 2 ^ 62 }
     requires room { len + width ≤ 64 * vec_capacity words.old }
     requires packed { ArePacked words.old.items len }
-    ensures list { Keep words.new.items (len + width) (take len (bits_of_words words.old.items) ++ binary width value) }
+    ensures list { Keep words.new.items (len + width)
+        (take len (bits_of_words words.old.items) ++ binary width value) }
     ensures capacity { vec_capacity words.old ≤ vec_capacity words.new }
 {
     let used = (len % 64) as u32;
@@ -89,9 +91,11 @@ pub(crate) fn push_number(
     requires bound { len + width ≤ 2 ^ 62 }
     requires packed { ArePacked words.old.items len }
     ensures list { OnOk result
-        (Keep words.new.items (len + width) (take len (bits_of_words words.old.items) ++ binary width value)) }
+        (Keep words.new.items (len + width)
+        (take len (bits_of_words words.old.items) ++ binary width value)) }
     ensures capacity { vec_capacity words.old ≤ vec_capacity words.new }
-    ensures err { OnErr result ((words.new.items ≡ words.old.items) × (vec_capacity words.new ≡ vec_capacity words.old)) }
+    ensures err { OnErr result
+        ((words.new.items ≡ words.old.items) × (vec_capacity words.new ≡ vec_capacity words.old)) }
     ensures full { OnErr result (64 * vec_capacity words.old < len + width) }
     ensures fault { IfErr result (λ e. e ≡ Memory) }
 {
@@ -107,7 +111,8 @@ pub(crate) fn push_unary(words: &mut Vec<u64>, len: u64, v: u64)
     requires bound { len + (v + 1) ≤ 2 ^ 62 }
     requires room { len + (v + 1) ≤ 64 * vec_capacity words.old }
     requires packed { ArePacked words.old.items len }
-    ensures list { Keep words.new.items (len + (v + 1)) (take len (bits_of_words words.old.items) ++ fs v) }
+    ensures list { Keep words.new.items (len + (v + 1))
+        (take len (bits_of_words words.old.items) ++ fs v) }
     ensures capacity { vec_capacity words.old ≤ vec_capacity words.new }
 {
     grow(words, len + (v + 1));
@@ -128,8 +133,8 @@ pub(crate) fn append_bits(words: &mut Vec<u64>, len: u64, with: &[u64], count: u
     copy_bits(words.as_mut_slice(), len, with, count);
 }
 
-/// Replaces the bits from place `start` up to place `stop` of a list of `len` bits by the first `count` bits of other
-/// words. There is room for what the list gets longer.
+/// Replaces the bits from place `start` up to place `stop` of a list of `len` bits by the first
+/// `count` bits of other words. There is room for what the list gets longer.
 pub(crate) fn splice_bits(
     words: &mut Vec<u64>,
     len: u64,
@@ -147,7 +152,8 @@ pub(crate) fn splice_bits(
     requires packed { ArePacked words.old.items len }
     ensures list { Keep words.new.items (start + count + (len - stop))
         (take start (take len (bits_of_words words.old.items))
-        ++ (take count (bits_of_words with.now) ++ drop stop (take len (bits_of_words words.old.items)))) }
+        ++ (take count (bits_of_words with.now)
+        ++ drop stop (take len (bits_of_words words.old.items)))) }
     ensures capacity { vec_capacity words.old ≤ vec_capacity words.new }
 {
     let total = start + count + (len - stop);

@@ -38,7 +38,8 @@ fn copy_chunk(words: &mut [u64], at: u64, with: &[u64], from: u64, width: u32)
     requires within { at + width ≤ 64 * length words.old }
     requires there { from + width ≤ 64 * length with.now }
     ensures bits { bits_of_words words.new ≡ take at (bits_of_words words.old)
-        ++ (take width (drop from (bits_of_words with.now)) ++ drop (at + width) (bits_of_words words.old)) }
+        ++ (take width (drop from (bits_of_words with.now))
+        ++ drop (at + width) (bits_of_words words.old)) }
     ensures len { length words.new ≡ length words.old }
 {
     put_number(words, at, width, number_at(with, from, width));
@@ -50,7 +51,8 @@ fn copy_words(words: &mut [u64], place: usize, with: &[u64], from: u64, count: u
     requires there { from + 64 * count ≤ 64 * length with.now }
     requires bound { from + 64 * count ≤ 2 ^ 63 }
     ensures bits { bits_of_words words.new ≡ take (64 * place) (bits_of_words words.old)
-        ++ (take (64 * count) (drop from (bits_of_words with.now)) ++ drop (64 * place + 64 * count) (bits_of_words words.old)) }
+        ++ (take (64 * count) (drop from (bits_of_words with.now))
+        ++ drop (64 * place + 64 * count) (bits_of_words words.old)) }
     ensures len { length words.new ≡ length words.old }
 {
     if from % 64 == 0 {
@@ -74,7 +76,8 @@ fn copy_each(words: &mut [u64], place: usize, with: &[u64], from: u64, count: us
     requires there { from + 64 * count ≤ 64 * length with.now }
     requires bound { from + 64 * count ≤ 2 ^ 63 }
     ensures bits { bits_of_words words.new ≡ take (64 * place) (bits_of_words words.old)
-        ++ (take (64 * count) (drop from (bits_of_words with.now)) ++ drop (64 * place + 64 * count) (bits_of_words words.old)) }
+        ++ (take (64 * count) (drop from (bits_of_words with.now))
+        ++ drop (64 * place + 64 * count) (bits_of_words words.old)) }
     ensures len { length words.new ≡ length words.old }
 {
     for i in 0..count {
@@ -88,7 +91,8 @@ pub(crate) fn move_bits(words: &mut [u64], from: u64, to: u64, count: u64)
     requires target { to + count ≤ 64 * length words.old }
     requires bound { 64 * length words.old ≤ 2 ^ 63 }
     ensures bits { bits_of_words words.new ≡ take to (bits_of_words words.old)
-        ++ (take count (drop from (bits_of_words words.old)) ++ drop (to + count) (bits_of_words words.old)) }
+        ++ (take count (drop from (bits_of_words words.old))
+        ++ drop (to + count) (bits_of_words words.old)) }
     ensures len { length words.new ≡ length words.old }
 {
     if from == to {
@@ -107,7 +111,8 @@ fn move_down(words: &mut [u64], from: u64, to: u64, count: u64)
     requires source { from + count ≤ 64 * length words.old }
     requires bound { 64 * length words.old ≤ 2 ^ 63 }
     ensures bits { bits_of_words words.new ≡ take to (bits_of_words words.old)
-        ++ (take count (drop from (bits_of_words words.old)) ++ drop (to + count) (bits_of_words words.old)) }
+        ++ (take count (drop from (bits_of_words words.old))
+        ++ drop (to + count) (bits_of_words words.old)) }
     ensures len { length words.new ≡ length words.old }
 {
     let head = (64 - to % 64) % 64;
@@ -137,7 +142,8 @@ fn move_up(words: &mut [u64], from: u64, to: u64, count: u64)
     requires target { to + count ≤ 64 * length words.old }
     requires bound { 64 * length words.old ≤ 2 ^ 63 }
     ensures bits { bits_of_words words.new ≡ take to (bits_of_words words.old)
-        ++ (take count (drop from (bits_of_words words.old)) ++ drop (to + count) (bits_of_words words.old)) }
+        ++ (take count (drop from (bits_of_words words.old))
+        ++ drop (to + count) (bits_of_words words.old)) }
     ensures len { length words.new ≡ length words.old }
 {
     let tail = (to + count) % 64;
@@ -167,7 +173,8 @@ fn move_chunk(words: &mut [u64], from: u64, to: u64, width: u32)
     requires source { from + width ≤ 64 * length words.old }
     requires target { to + width ≤ 64 * length words.old }
     ensures bits { bits_of_words words.new ≡ take to (bits_of_words words.old)
-        ++ (take width (drop from (bits_of_words words.old)) ++ drop (to + width) (bits_of_words words.old)) }
+        ++ (take width (drop from (bits_of_words words.old))
+        ++ drop (to + width) (bits_of_words words.old)) }
     ensures len { length words.new ≡ length words.old }
 {
     let value = number_at(words, from, width);
@@ -180,7 +187,8 @@ fn move_words_down(words: &mut [u64], from: u64, place: usize, count: usize)
     requires source { from + 64 * count ≤ 64 * length words.old }
     requires bound { from + 64 * count ≤ 2 ^ 63 }
     ensures bits { bits_of_words words.new ≡ take (64 * place) (bits_of_words words.old)
-        ++ (take (64 * count) (drop from (bits_of_words words.old)) ++ drop (64 * place + 64 * count) (bits_of_words words.old)) }
+        ++ (take (64 * count) (drop from (bits_of_words words.old))
+        ++ drop (64 * place + 64 * count) (bits_of_words words.old)) }
     ensures len { length words.new ≡ length words.old }
 {
     if from % 64 == 0 {
@@ -203,7 +211,8 @@ fn move_each_down(words: &mut [u64], from: u64, place: usize, count: usize)
     requires source { from + 64 * count ≤ 64 * length words.old }
     requires bound { from + 64 * count ≤ 2 ^ 63 }
     ensures bits { bits_of_words words.new ≡ take (64 * place) (bits_of_words words.old)
-        ++ (take (64 * count) (drop from (bits_of_words words.old)) ++ drop (64 * place + 64 * count) (bits_of_words words.old)) }
+        ++ (take (64 * count) (drop from (bits_of_words words.old))
+        ++ drop (64 * place + 64 * count) (bits_of_words words.old)) }
     ensures len { length words.new ≡ length words.old }
 {
     for i in 0..count {
@@ -217,7 +226,8 @@ fn move_words_up(words: &mut [u64], from: u64, place: usize, count: usize)
     requires target { place + count ≤ length words.old }
     requires bound { from + 64 * count ≤ 2 ^ 63 }
     ensures bits { bits_of_words words.new ≡ take (64 * place) (bits_of_words words.old)
-        ++ (take (64 * count) (drop from (bits_of_words words.old)) ++ drop (64 * place + 64 * count) (bits_of_words words.old)) }
+        ++ (take (64 * count) (drop from (bits_of_words words.old))
+        ++ drop (64 * place + 64 * count) (bits_of_words words.old)) }
     ensures len { length words.new ≡ length words.old }
 {
     if from % 64 == 0 {
@@ -235,7 +245,8 @@ fn move_each_up(words: &mut [u64], from: u64, place: usize, count: usize)
     requires target { place + count ≤ length words.old }
     requires bound { from + 64 * count ≤ 2 ^ 63 }
     ensures bits { bits_of_words words.new ≡ take (64 * place) (bits_of_words words.old)
-        ++ (take (64 * count) (drop from (bits_of_words words.old)) ++ drop (64 * place + 64 * count) (bits_of_words words.old)) }
+        ++ (take (64 * count) (drop from (bits_of_words words.old))
+        ++ drop (64 * place + 64 * count) (bits_of_words words.old)) }
     ensures len { length words.new ≡ length words.old }
 {
     let mut left = count;

@@ -48,7 +48,8 @@ fn with_one(buf: &BitBuf, window: Window) -> Window
     ensures window { IsWindow buf.now.list result.word result.left result.end }
     ensures fits { result.word < 2 ^ result.left }
     ensures place { result.end - result.left ≡ window.end - window.left }
-    ensures none { result.word ≡ 0 → has_one (take 64 (drop (window.end - window.left) buf.now.list)) ≡ false }
+    ensures none { result.word ≡ 0
+        → has_one (take 64 (drop (window.end - window.left) buf.now.list)) ≡ false }
 {
     if window.word != 0 {
         return window;
@@ -73,7 +74,8 @@ fn next_sequence(window: Window) -> (u32, Window)
     requires size { window.left ≤ 64 }
     requires fits { window.word < 2 ^ window.left }
     requires some { 0 < window.word }
-    ensures stands { binary window.left window.word ≡ fs result.0 ++ binary result.1.left result.1.word }
+    ensures stands { binary window.left window.word
+        ≡ fs result.0 ++ binary result.1.left result.1.word }
     ensures left { result.1.left + (result.0 + 1) ≡ window.left }
     ensures fits { result.1.word < 2 ^ result.1.left }
     ensures end { result.1.end ≡ window.end }
@@ -87,14 +89,15 @@ fn next_sequence(window: Window) -> (u32, Window)
     (window.left - top - 1, rest)
 }
 
-/// Puts the numbers of the fundamental sequences from place `start` on into `numbers`. The place behind them; `None`
-/// where no one stands in the 64 bits at one of them.
+/// Puts the numbers of the fundamental sequences from place `start` on into `numbers`. The place
+/// behind them; `None` where no one stands in the 64 bits at one of them.
 #[inline(always)]
 pub(crate) fn sequences_from(buf: &BitBuf, start: u64, numbers: &mut [u32]) -> Option<u64>
     requires { start ≤ length buf.now.list }
     ensures cases { MatchOption result
         (StopsBefore (length numbers.old) (drop start buf.now.list))
-        (λ stop. StandsBefore fs 64 numbers.new (drop stop buf.now.list) (drop start buf.now.list) × (stop ≤ length buf.now.list)) }
+        (λ stop. StandsBefore fs 64 numbers.new (drop stop buf.now.list) (drop start buf.now.list)
+        × (stop ≤ length buf.now.list)) }
     ensures len { length numbers.new ≡ length numbers.old }
 {
     let mut window = window_from(buf, start);
@@ -125,14 +128,15 @@ fn with_bits(buf: &BitBuf, window: Window, width: u32) -> Window
     window_from(buf, place_of(window))
 }
 
-/// The number that the first `width` bits of a window spell, and what is left behind them. The mask leaves nothing at
-/// width 0, where the window may be whole.
+/// The number that the first `width` bits of a window spell, and what is left behind them. The mask
+/// leaves nothing at width 0, where the window may be whole.
 #[inline(always)]
 fn next_number(window: Window, width: u32) -> (u32, Window)
     requires width { width ≤ 32 }
     requires there { width ≤ window.left }
     requires size { window.left ≤ 64 }
-    ensures stands { binary window.left window.word ≡ binary width result.0 ++ binary result.1.left result.1.word }
+    ensures stands { binary window.left window.word
+        ≡ binary width result.0 ++ binary result.1.left result.1.word }
     ensures fits { result.0 < 2 ^ width }
     ensures left { result.1.left + width ≡ window.left }
     ensures end { result.1.end ≡ window.end }

@@ -13,7 +13,8 @@ fn part_of(word: u64, at: u32, width: u32) -> u64
     requires some { 0 < width }
     requires within { at + width ≤ 64 }
     ensures fits { result < 2 ^ width }
-    ensures bits { drop at (word_bits word) ≡ binary width result ++ drop (at + width) (word_bits word) }
+    ensures bits { drop at (word_bits word)
+        ≡ binary width result ++ drop (at + width) (word_bits word) }
 {
     (word << at) >> (64 - width)
 }
@@ -34,7 +35,8 @@ pub(crate) fn number_at(words: &[u64], start: u64, width: u32) -> u64
     requires width { width ≤ 64 }
     requires within { start + width ≤ 64 * length words.now }
     ensures fits { result < 2 ^ width }
-    ensures bits { drop start (bits_of_words words.now) ≡ binary width result ++ drop (start + width) (bits_of_words words.now) }
+    ensures bits { drop start (bits_of_words words.now)
+        ≡ binary width result ++ drop (start + width) (bits_of_words words.now) }
 {
     if width == 0 {
         return 0;
@@ -51,7 +53,8 @@ pub(crate) fn number_at(words: &[u64], start: u64, width: u32) -> u64
 #[inline(always)]
 pub(crate) fn word_at(words: &[u64], start: u64) -> u64
     requires { start + 64 ≤ 64 * length words.now }
-    ensures { drop start (bits_of_words words.now) ≡ word_bits result ++ drop (start + 64) (bits_of_words words.now) }
+    ensures { drop start (bits_of_words words.now)
+        ≡ word_bits result ++ drop (start + 64) (bits_of_words words.now) }
 {
     let place = (start / 64) as usize;
     let at = (start % 64) as u32;
@@ -91,7 +94,8 @@ fn put_in_word(word: u64, at: u32, width: u32, value: u64) -> u64
     requires some { 0 < width }
     requires within { at + width ≤ 64 }
     requires fits { value < 2 ^ width }
-    ensures bits { word_bits result ≡ take at (word_bits word) ++ (binary width value ++ drop (at + width) (word_bits word)) }
+    ensures bits { word_bits result
+        ≡ take at (word_bits word) ++ (binary width value ++ drop (at + width) (word_bits word)) }
 {
     let behind = 64 - at - width;
     let front = word & !(u64::MAX >> at);
@@ -104,7 +108,9 @@ pub(crate) fn put_number(words: &mut [u64], start: u64, width: u32, value: u64)
     requires width { width ≤ 64 }
     requires fits { value < 2 ^ width }
     requires within { start + width ≤ 64 * length words.old }
-    ensures bits { bits_of_words words.new ≡ take start (bits_of_words words.old) ++ (binary width value ++ drop (start + width) (bits_of_words words.old)) }
+    ensures bits { bits_of_words words.new
+        ≡ take start (bits_of_words words.old)
+        ++ (binary width value ++ drop (start + width) (bits_of_words words.old)) }
     ensures len { length words.new ≡ length words.old }
 {
     if width == 0 {
@@ -123,13 +129,15 @@ pub(crate) fn put_number(words: &mut [u64], start: u64, width: u32, value: u64)
     words[place + 1] = second;
 }
 
-/// How many zeros stand in a word from place `at` on before a one; `None` where no one follows in it.
+/// How many zeros stand in a word from place `at` on before a one; `None` where no one follows in
+/// it.
 #[inline(always)]
 fn zeros_in_word(word: u64, at: u32) -> Option<u32>
     requires { at < 64 }
     ensures { MatchOption result
         (drop at (word_bits word) ≡ replicate (64 - at) false)
-        (λ v. (at + v < 64) × (drop at (word_bits word) ≡ fs v ++ drop (at + v + 1) (word_bits word))) }
+        (λ v. (at + v < 64) × (drop at (word_bits word)
+        ≡ fs v ++ drop (at + v + 1) (word_bits word))) }
 {
     let rest = word & (u64::MAX >> at);
     if rest == 0 {
@@ -144,7 +152,9 @@ pub(crate) fn zeros_at(words: &[u64], start: u64) -> Option<u64>
     requires bound { 64 * length words.now ≤ 2 ^ 63 }
     ensures cases { MatchOption result
         (has_one (drop start (bits_of_words words.now)) ≡ false)
-        (λ v. (start + v < 64 * length words.now) × (drop start (bits_of_words words.now) ≡ fs v ++ drop (start + v + 1) (bits_of_words words.now))) }
+        (λ v. (start + v < 64 * length words.now)
+        × (drop start (bits_of_words words.now)
+        ≡ fs v ++ drop (start + v + 1) (bits_of_words words.now))) }
     ensures some { is_some result ≡ has_one (drop start (bits_of_words words.now)) }
 {
     let mut at = (start % 64) as u32;

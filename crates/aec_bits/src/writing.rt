@@ -14,11 +14,14 @@ use aec_params::Fault;
 const PIECE_LEN: usize = 65536;
 
 impl BitBuf {
-    /// Appends the bytes that the bits fill to what the sink has taken; zeros fill the last one. `Write` where the sink
-    /// fails, which has then taken the front of these bytes. Takes no memory, and doesn't call `begin`.
+    /// Appends the bytes that the bits fill to what the sink has taken; zeros fill the last one.
+    /// `Write` where the sink fails, which has then taken the front of these bytes. Takes no
+    /// memory, and doesn't call `begin`.
     pub fn write_to<W: Sink>(&self, out: &mut W) -> Result<(), Fault>
-        ensures ok { OnOk result (Appends (W.taken out.old) (W.taken out.new) (bytes_of self.now.list)) }
-        ensures front { OnErr result (AppendsFront (W.taken out.old) (W.taken out.new) (bytes_of self.now.list)) }
+        ensures ok { OnOk result (Appends (W.taken out.old) (W.taken out.new)
+            (bytes_of self.now.list)) }
+        ensures front { OnErr result
+            (AppendsFront (W.taken out.old) (W.taken out.new) (bytes_of self.now.list)) }
         ensures begun { W.begun out.new ≡ W.begun out.old }
         ensures order { W.mark out.new ≡ W.mark out.old }
         ensures fault { IfErr result (λ e. (e ≡ WriteFault) × (W.failed out.new ≡ 1)) }
@@ -37,7 +40,8 @@ impl BitBuf {
     }
 }
 
-/// Puts the bytes from byte `first` on into a piece, as many as it holds and there are. The number of them.
+/// Puts the bytes from byte `first` on into a piece, as many as it holds and there are. The number
+/// of them.
 fn fill(buf: &BitBuf, first: u64, piece: &mut [u8]) -> usize
     requires { first ≤ length (bytes_of buf.now.list) }
     ensures count { result ≡ min (length piece.old) (length (bytes_of buf.now.list) - first) }

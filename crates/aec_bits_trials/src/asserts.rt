@@ -1,4 +1,5 @@
-//! Assertions as functions: a test that calls them is proved several times faster than one in which the macros' code stands.
+//! Assertions as functions: a test that calls them is proved several times faster than one in which
+//! the macros' code stands.
 
 ghost use Rattle.std.specs.Prelude.{◌≡◌, true};
 

@@ -19,7 +19,8 @@ use Rattle.aec_block.specs.declared.choice.Coding.TheVariants.{NoCompression, Se
 use Rattle.aec_block.specs.Lengths.{sum_of_shifted, pairs_length, split_values_length, IsBestSplit, uncompressed_length, paired_length, split_length}
 use Rattle.aec_block.proofs.LengthLemmas.{length-uncompressed, length-paired, length-split}
 
--- the first of the shortest among no compression, second extension and the first so many splitting options
+-- the first of the shortest among no compression, second extension and the first so many splitting
+-- options
 abbrev pub best_among : Settings → Block → ℕ → CodedDataSet
 best_among s b count = best_of (is_shorter s) (uncompressed b) (paired b ∷ map (split b) (range_with_len 0 count))
 

@@ -1,4 +1,5 @@
--- Fundamental sequences and numbers in so many bits: what was spelled is read back, and what is read was spelled.
+-- Fundamental sequences and numbers in so many bits: what was spelled is read back, and what is
+-- read was spelled.
 use Rattle.std.proofs.Common.{◌≡◌, ℕ, zero, suc, ◌+◌, ◌*◌, ◌/◌, ◌%◌, ◌^◌, ◌<◌, ◌≤◌, Bool, true, false, ◌==◌, cond, List, [], ◌∷◌, ◌++◌, length, take, drop, refl, sym, ap, ◌∙◌, add-one, append_assoc, arith, inl, inr, zero-add, ◌⊎◌}
 use Rattle.std.specs.List.{AllByRecursion, flat_map}
 use Rattle.std.proofs.lemmas.Nat.{mod-pow-add, pow_pos, pow-add, shr-shr, shr_high}

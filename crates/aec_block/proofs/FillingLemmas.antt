@@ -93,7 +93,8 @@ pub block_filled : (n first : ℕ) (reference inside : Option ℕ) (items shown 
 block_filled n first reference inside items shown values behind b same is_first within count =
     rw (b.same, refilled n first reference inside items shown values behind b same is_first within count) refl
 
--- the block that has begun anew, and the values behind its reference place, as many as a coded data set writes
+-- the block that has begun anew, and the values behind its reference place, as many as a coded data
+-- set writes
 pub record IsFilled (s : Settings) (first : ℕ) (reference inside : Option ℕ) (items shown values behind : List ℕ) : Type 0 where
   pub count : length (take (length shown - first) (drop first shown)) ≡ written_count s (is_some reference)
   pub block : block_of_values reference values

@@ -50,7 +50,8 @@ members_at-done f n bits count = rw count refl
 
 -- ---- values that are kept while they are below a limit
 
--- the values of before with later ones behind them, where the test has held for all and the later ones keep it
+-- the values of before with later ones behind them, where the test has held for all and the later
+-- ones keep it
 abbrev pub gathered : ℕ → List ℕ → Bool → List ℕ → Option (List ℕ)
 gathered limit before fit later = when (fit && all_below limit later) (before ++ later)
 
@@ -148,7 +149,8 @@ later_pair placed zero some = absurd (omega arith)
 later_pair true (suc i) some = grind arith
 later_pair false (suc i) some = refl
 
--- of the members that begin the bits of start, those of the first i pairs are in place, and the others begin the bits
+-- of the members that begin the bits of start, those of the first i pairs are in place, and the
+-- others begin the bits
 abbrev pub MembersGathered : ℕ → Bool → ℕ → List Bool → List ℕ → ℕ → Bool → List Bool → Type 0
 MembersGathered limit placed n start values i fit bits =
     map_taken (small_members limit placed) (members_at n start)
@@ -182,7 +184,8 @@ MembersGathered-done limit placed n start values i fit bits past some all so_far
 
 -- ---- the high parts
 
--- of the high parts that begin the bits of start, those up to i are in place, and the others begin the bits
+-- of the high parts that begin the bits of start, those up to i are in place, and the others begin
+-- the bits
 abbrev pub HighsGathered : ℕ → List Bool → List ℕ → ℕ → Bool → List Bool → Type 0
 HighsGathered limit start highs i fit bits =
     map_taken (small_values limit) (values_at fs_at (length highs) start)

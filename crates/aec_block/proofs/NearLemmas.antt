@@ -1,4 +1,5 @@
--- Values that are near: where their differences lead, what a bound for all of them shows, and that a near value is that of its offset.
+-- Values that are near: where their differences lead, what a bound for all of them shows, and that
+-- a near value is that of its offset.
 use Rattle.std.proofs.Common.{◌≡◌, ℕ, suc, ◌+◌, ◌-◌, ◌*◌, ◌/◌, ◌%◌, ◌<◌, ◌≤◌, List, [], ◌∷◌, ◌++◌, length, map, take, drop, get_or, arith, subst, sym, ap, ◌∙◌, refl, drop-cons, add-one}
 use Rattle.std.proofs.Math.Seq.{take-add}
 use Rattle.std.proofs.Math.Nat.{suc-mul}

@@ -1,4 +1,5 @@
--- Coded data sets: what was spelled is read back, and what is read was spelled; so none is a prefix of another.
+-- Coded data sets: what was spelled is read back, and what is read was spelled; so none is a prefix
+-- of another.
 use Rattle.std.proofs.Common.{◌≡◌, ℕ, ◌/◌, ◌^◌, ◌<◌, Bool, true, false, Option, Some, None, List, ◌++◌, refl, sym, ap, ◌∙◌, append_assoc, inl, inr, if◌then◌else◌, nat_le, lit<, arith}
 use Rattle.aec_params.specs.declared.settings.Settings.{Settings}
 use Rattle.aec_params.specs.Params.{IsAllowed, id_len}

@@ -1,4 +1,5 @@
--- The shortest spelling of a block is no longer than any coded data set that stands for the block by a single option.
+-- The shortest spelling of a block is no longer than any coded data set that stands for the block
+-- by a single option.
 use Rattle.std.proofs.Common.{◌≡◌, ℕ, zero, suc, ◌+◌, ◌*◌, ◌/◌, ◌<◌, ◌≤◌, Bool, cond, Option, Some, None, List, [], ◌∷◌, ◌++◌, length, map, refl, ap, subst, arith, ⊎_elim}
 use Rattle.std.specs.Prelude.{nat_lt, unwrap_or}
 use Rattle.std.specs.List.{AllByRecursion, range_with_len, best_of}

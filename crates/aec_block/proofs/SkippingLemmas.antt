@@ -1,4 +1,5 @@
--- Values that are gone over: their length alone where nothing judges them, and split values by their high parts.
+-- Values that are gone over: their length alone where nothing judges them, and split values by
+-- their high parts.
 use Rattle.std.proofs.Common.{◌≡◌, ℕ, zero, suc, ◌+◌, ◌-◌, ◌*◌, ◌/◌, ◌^◌, ◌<◌, ◌≤◌, Bool, true, false, Option, Some, None, Result, Ok, Err, List, [], ◌∷◌, length, take, drop, refl, sym, ap, ◌∙◌, inl, inr, arith}
 use Rattle.std.specs.Option.{is_some}
 use Rattle.std.specs.Prelude.{OnOk, MatchResult}

@@ -18,7 +18,8 @@ sum_of_shifted-halved k (v ∷ values) =
     let half : v / 2 ^ k / 2 ≡ v / 2 ^ (k + 1) = shr-shr v k 1 in
     omega arith
 
--- where the sum is no more than the number of values, each k from there on is no shorter than the one before
+-- where the sum is no more than the number of values, each k from there on is no shorter than the
+-- one before
 sum_of_shifted-small : (k d : ℕ) (values : List ℕ) → sum_of_shifted k values ≤ length values → sum_of_shifted (k + d) values ≤ length values
 sum_of_shifted-small k zero values small = subst (λ j. sum_of_shifted j values ≤ length values) (omega arith) small
 sum_of_shifted-small k (suc d) values small =
@@ -96,7 +97,8 @@ sum_of_shifted-whole k (v ∷ values) =
     let all_counts = ap (λ (n : ℕ). n * 2 ^ k) one_more ∙ counts in
     omega arith
 
--- where the values add up to more than three times their number with k low bits, one low bit more makes them shorter
+-- where the values add up to more than three times their number with k low bits, one low bit more
+-- makes them shorter
 longer_before : (k : ℕ) (values : List ℕ) → 3 * length values * 2 ^ k < sum_of_shifted 0 values
     → split_values_length (k + 1) values < split_values_length k values
 longer_before k values past =

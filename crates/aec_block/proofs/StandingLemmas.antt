@@ -84,7 +84,8 @@ same_cursor old new front inside_old inside_new same begins =
     omega (arith, length-drop old.pos old.list, length-append front (bits_at new)) in
     cursor_is old new (old.pos + length front) same pos
 
--- the coded data set c, whose values are at most 2^n - 1, tells the answer, and the cursor moves behind it
+-- the coded data set c, whose values are at most 2^n - 1, tells the answer, and the cursor moves
+-- behind it
 record IsToldBy {Y : Type 0} (told : CodedDataSet → Y) (s : Settings) (is_reference : Bool) (old new : Cursor) (c : CodedDataSet) (answer : Y) : Type 0 where
   set : IsSetAt s is_reference old.list old.pos c
   small : has_small_values s c ≡ true

@@ -15,7 +15,8 @@ use Rattle.aec_block.specs.Choices.{IsFull}
 use Rattle.aec_block.specs.Written.{high_parts, low_parts}
 use Rattle.aec_block.proofs.LengthLemmas.{length-fs, length-binary, length-reference_bits}
 
--- what stands in a list so far, with what is still to be appended, makes a whole; and there is room for what is still to come
+-- what stands in a list so far, with what is still to be appended, makes a whole; and there is room
+-- for what is still to come
 pub record Appending (old new done todo : List Bool) (before after : ℕ) : Type 0 where
   pub list : new ++ todo ≡ old ++ done
   pub room : before + length todo ≤ after + length done

@@ -1,5 +1,5 @@
--- How the private functions of reading answer: what was taken, in the place of a result, and values where they are small
--- enough.
+-- How the private functions of reading answer: what was taken, in the place of a result, and values
+-- where they are small enough.
 use Rattle.std.specs.Prelude.{ℕ, Bool, nat_lt, true, false, if◌then◌else◌, Option, Some, None, Result, Ok, Err, List, ◌∷◌, drop}
 use Rattle.std.specs.List.{list_all}
 use Rattle.aec_bits.specs.BitReader.{Cursor}
@@ -37,7 +37,8 @@ all_below limit values = list_all (λ v. nat_lt v limit) values
 abbrev pub small_values : ℕ → List ℕ → Option (List ℕ)
 small_values limit values = when (all_below limit values) values
 
--- the members of pairs, of which the first gives way to 0 in the reference place, where there is one
+-- the members of pairs, of which the first gives way to 0 in the reference place, where there is
+-- one
 abbrev pub kept_members : Bool → List ℕ → List ℕ
 kept_members true members = 0 ∷ drop 1 members
 kept_members false members = members

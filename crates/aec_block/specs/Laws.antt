@@ -34,15 +34,16 @@ abbrev pub OneSetStands : Type 0
 OneSetStands = (s : Settings) → IsAllowed s → (is_reference : Bool) (bits : List Bool) (b : ℕ) (c d : CodedDataSet)
     → IsSetAt s is_reference bits b c → IsSetAt s is_reference bits b d → c ≡ d
 
--- the block that a coded data set of a single option stands for: of pairs in a reference block, whatever the first member is; a
--- run of zero blocks is none
+-- the block that a coded data set of a single option stands for: of pairs in a reference block,
+-- whatever the first member is; a run of zero blocks is none
 abbrev pub single_block_of : Option ℕ → Body → Option Block
 single_block_of reference (uncompressed_values values) = Some (block_of_values reference values)
 single_block_of reference (value_pairs members) = Some (block_of_members reference members)
 single_block_of reference (split_values k values) = Some (block_of_values reference values)
 single_block_of reference (zero_blocks m) = None
 
--- no coded data set that stands for a block by a single option has fewer bits than the block's shortest spelling
+-- no coded data set that stands for a block by a single option has fewer bits than the block's
+-- shortest spelling
 abbrev pub NoOptionIsShorter : Type 0
 NoOptionIsShorter = (s : Settings) → IsAllowed s → (is_reference : Bool) (c : CodedDataSet) (b : Block) → HasShape s is_reference c
     → single_block_of c.reference c.body ≡ Some b → length (cds_bits s (shortest_spelling s b)) ≤ length (cds_bits s c)

@@ -1,4 +1,5 @@
--- What the private functions of `lengths` compute: the length of each spelling of a block, as a sum.
+-- What the private functions of `lengths` compute: the length of each spelling of a block, as a
+-- sum.
 use Rattle.std.specs.Prelude.{ℕ, ◌+◌, ◌*◌, ◌/◌, ◌^◌, ◌<◌, ◌≤◌, Option, Some, None, List, [], ◌∷◌, length}
 use Rattle.std.specs.List.{sum_by}
 use Rattle.aec_params.specs.declared.settings.Settings.{Settings}
@@ -20,7 +21,8 @@ head_length s reference = id_len s + reference_len s reference
 abbrev pub sum_of_shifted : ℕ → List ℕ → ℕ
 sum_of_shifted k values = sum_by (λ v. v / 2 ^ k) values
 
--- bits of the values that are split with k: the codewords of what is left of them, and their k low bits
+-- bits of the values that are split with k: the codewords of what is left of them, and their k low
+-- bits
 abbrev pub split_values_length : ℕ → List ℕ → ℕ
 split_values_length k values = sum_of_shifted k values + length values * (k + 1)
 

@@ -1,4 +1,5 @@
--- What the private functions of `mapping` and `near_values` compute: the mapping on offsets from the least sample, of which `top` is the greatest.
+-- What the private functions of `mapping` and `near_values` compute: the mapping on offsets from
+-- the least sample, of which `top` is the greatest.
 use Rattle.std.specs.Prelude.{ℕ, ◌+◌, ◌-◌, ◌*◌, ◌/◌, ◌%◌, ◌^◌, ◌≤◌, ◌==◌, min, ◌&&◌, nat_le, nat_lt, if◌then◌else◌, ℤ, ◌-ℤ◌, unsigned_abs, ⊤, List, [], ◌∷◌}
 use Rattle.aec_params.specs.declared.settings.Settings.{Settings}
 use Rattle.aec_params.specs.Params.{x_min}
@@ -27,7 +28,8 @@ abbrev pub mapped_offsets : ℕ → ℕ → List ℕ → List ℕ
 mapped_offsets top p [] = []
 mapped_offsets top p (x ∷ xs) = mapped_offset top p x ∷ mapped_offsets top x xs
 
--- the offset for which m is coded at p, where both sides of p have room for it: above p for even m, below for odd
+-- the offset for which m is coded at p, where both sides of p have room for it: above p for even m,
+-- below for odd
 abbrev pub near_offset : ℕ → ℕ → ℕ
 near_offset p m = if m % 2 == 0 then p + m / 2 else p - (m / 2 + 1)
 
@@ -35,7 +37,8 @@ near_offset p m = if m % 2 == 0 then p + m / 2 else p - (m / 2 + 1)
 abbrev pub near_difference : ℕ → ℕ
 near_difference m = if m % 2 == 0 then m / 2 else 2 ^ 32 - (m / 2 + 1)
 
--- values for which there is room on both sides, each at the offset of the one before, which is p for the first
+-- values for which there is room on both sides, each at the offset of the one before, which is p
+-- for the first
 abbrev pub AreNear : ℕ → ℕ → List ℕ → Type 0
 AreNear top p [] = ⊤
 AreNear top p (m ∷ ms) = (m ≤ 2 * offset_room top p) × AreNear top (near_offset p m) ms

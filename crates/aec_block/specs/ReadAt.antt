@@ -1,4 +1,5 @@
--- What the private functions of reading compute, on lists of bits; proofs/ ties it to coded data sets.
+-- What the private functions of reading compute, on lists of bits; proofs/ ties it to coded data
+-- sets.
 use Rattle.std.specs.Prelude.{ℕ, zero, suc, ◌+◌, ◌-◌, ◌*◌, ◌/◌, ◌^◌, ◌==◌, nat_le, Bool, true, false, if◌then◌else◌, Option, Some, None, List, [], ◌∷◌, length, take, drop}
 use Rattle.aec_params.specs.declared.settings.Settings.{Settings}
 use Rattle.aec_params.specs.Params.{id_len}

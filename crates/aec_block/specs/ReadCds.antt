@@ -1,4 +1,5 @@
--- What the reading of a coded data set answers: what the one stands for that begins at the position.
+-- What the reading of a coded data set answers: what the one stands for that begins at the
+-- position.
 use Rattle.std.specs.Prelude.{◌≡◌, ℕ, ◌+◌, ◌<◌, Bool, true, Option, Some, None, length, ⊤}
 use Rattle.aec_params.specs.declared.settings.Settings.{Settings}
 use Rattle.aec_params.specs.CodedDataSets.{Body, uncompressed_values, value_pairs, split_values, zero_blocks, CodedDataSet, cds_bits, has_small_values}
@@ -17,7 +18,8 @@ use Rattle.aec_block.specs.declared.reading.Kind.TheVariants.{ZeroBlocks, Second
 use Rattle.aec_block.specs.ReadAt.{set_of}
 use Rattle.aec_block.specs.Gathering.{when}
 
--- how many zero blocks the number of a run's code tells; without a place the rest of the segment is no number
+-- how many zero blocks the number of a run's code tells; without a place the rest of the segment is
+-- no number
 abbrev pub as_run_len : Option ℕ → RunLen
 as_run_len None = Rest
 as_run_len (Some z) = Blocks z
@@ -58,7 +60,8 @@ HasShortSplit ZeroBlocks = ⊤
 HasShortSplit SecondExtension = ⊤
 HasShortSplit NoCompression = ⊤
 
--- the coded data set c, whose values are at most 2^n - 1, is read as what it stands for, and the cursor moves behind it
+-- the coded data set c, whose values are at most 2^n - 1, is read as what it stands for, and the
+-- cursor moves behind it
 pub record IsReadAs (s : Settings) (is_reference : Bool) (old new : Cursor) (c : CodedDataSet) (cds : Cds) : Type 0 where
   pub set : IsSetAt s is_reference old.list old.pos c
   pub small : has_small_values s c ≡ true

@@ -1,4 +1,5 @@
--- What going over a coded data set answers: for how many blocks the one stands that begins at the position.
+-- What going over a coded data set answers: for how many blocks the one stands that begins at the
+-- position.
 use Rattle.std.specs.Prelude.{◌≡◌, ℕ, Bool, Option}
 use Rattle.aec_params.specs.declared.settings.Settings.{Settings}
 use Rattle.aec_params.specs.CodedDataSets.{Body, uncompressed_values, value_pairs, split_values, zero_blocks, CodedDataSet, has_small_values}
@@ -33,7 +34,8 @@ judged_len s c = when (has_small_values s c) (set_len c)
 abbrev pub judged_body_len : Settings → Option ℕ → Body → Option RunLen
 judged_body_len s reference body = judged_len s (set_of reference body)
 
--- the coded data set c, whose values are at most 2^n - 1, is gone over as `IsReadAs` has it, and stands for so many blocks
+-- the coded data set c, whose values are at most 2^n - 1, is gone over as `IsReadAs` has it, and
+-- stands for so many blocks
 pub record IsSkippedAs (s : Settings) (is_reference : Bool) (old new : Cursor) (c : CodedDataSet) (len : RunLen) : Type 0 where
   pub read : IsReadAs s is_reference old new c (cds_of c)
   pub told : len ≡ set_len c

@@ -7,8 +7,9 @@ use std::marker::Model;
 /// The most values of a block.
 pub(crate) const MOST_VALUES: usize = 64;
 
-/// A block of at most 64 mapped values, and the reference sample's pattern where it has one; then 0 stands in the
-/// reference place, which is the first. The values lie in the block itself, so no call takes memory.
+/// A block of at most 64 mapped values, and the reference sample's pattern where it has one; then 0
+/// stands in the reference place, which is the first. The values lie in the block itself, so no
+/// call takes memory.
 #[derive(Debug, Drop)]
 pub struct Block {
     reference: Option<u32>,
@@ -58,8 +59,8 @@ impl Block {
         Block { reference, values }
     }
 
-    /// Begins anew with so many values, of which the one in the reference place is 0, where there is a reference. What
-    /// the others are isn't said.
+    /// Begins anew with so many values, of which the one in the reference place is 0, where there
+    /// is a reference. What the others are isn't said.
     #[inline(always)]
     pub(crate) fn restart(&mut self, reference: Option<u32>, len: usize)
         requires most { len ≤ most_values }
@@ -115,7 +116,8 @@ impl Block {
         self.values.as_slice().iter().all(|v| *v == 0)
     }
 
-    /// The values that are written one by one: those behind the reference place, where there is one.
+    /// The values that are written one by one: those behind the reference place, where there is
+    /// one.
     #[tactic(auto, using(crate::proofs::BlockLemmas::some_values))]
     pub(crate) fn written(&self) -> &[u32]
         ensures value { result.now ≡ written_values self.now }

@@ -25,8 +25,8 @@ pub enum Cds {
 pub enum Found {
     /// One block, by any option: the block that it was read into.
     Single,
-    /// A run of zero blocks, of which the first has the reference sample where there is one. What stands in the block that
-    /// was lent isn't said.
+    /// A run of zero blocks, of which the first has the reference sample where there is one. What
+    /// stands in the block that was lent isn't said.
     Zeros { reference: Option<u32>, len: RunLen },
 }
 

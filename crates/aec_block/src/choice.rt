@@ -1,6 +1,6 @@
 //! The choice of the shortest option for a block.
 
-ghost use Rattle.std.specs.Prelude.{◌≡◌, ◌*◌, ◌^◌, ◌≤◌, ◌&&◌, ◌||◌, nat_lt, nat_le};
+ghost use Rattle.std.specs.Prelude.{◌≡◌, ◌*◌, ◌^◌, ◌≤◌, ◌&&◌, ◌||◌, nat_lt, nat_le, length};
 ghost use Rattle.aec_params.specs.Params.{IsAllowed, split_count, id_len as identifier_len};
 ghost use Rattle.aec_params.specs.Spellings.{written_values};
 ghost use Rattle.aec_block.specs.declared.choice.Coding.TheVariants.{SecondExtension, Split};
@@ -32,6 +32,7 @@ pub struct Choice {
 }
 
 /// How many sample-splitting options there are, by the length of identifiers.
+#[inline(always)]
 fn split_options(params: &Params, id_len: u32) -> u32
     requires allowed { IsAllowed params.now }
     requires id_len { id_len ≡ identifier_len params.now }
@@ -42,6 +43,7 @@ fn split_options(params: &Params, id_len: u32) -> u32
 }
 
 /// The option of so many bits, where it is shorter than the best so far, and else that one.
+#[inline(always)]
 fn shorter_of(best: Choice, coding: Coding, bits: u64) -> Choice
     ensures { result ≡ shorter_choice best coding bits }
 {
@@ -65,8 +67,10 @@ fn shorter_of_pairs(params: &Params, id_len: u32, block: &Block, best: Choice) -
     }
 }
 
-/// Whether the second extension is longer than splitting: where there are splitting options, and k isn't 0 or the values
-/// add up to their number or more, since a pair's codeword has at least twice as many bits as the pair adds up to.
+/// Whether the second extension is longer than splitting: where there are splitting options, and k
+/// isn't 0 or the values add up to their number or more, since a pair's codeword has at least twice
+/// as many bits as the pair adds up to.
+#[inline(always)]
 fn pairs_are_longer(options: u32, split: Splitting, count: u64) -> bool
     requires { count ≤ most_values }
     ensures { result ≡ (nat_lt 0 options && (nat_lt 0 split.k || nat_le (2 * count) split.bits)) }
@@ -75,6 +79,7 @@ fn pairs_are_longer(options: u32, split: Splitting, count: u64) -> bool
 }
 
 /// Splitting, where it is shorter than the best so far, and else that one.
+#[inline(always)]
 fn shorter_of_split(
     params: &Params,
     id_len: u32,
@@ -85,25 +90,28 @@ fn shorter_of_split(
     requires id_len { id_len ≡ identifier_len params.now }
     requires bits { split.bits ≡ split_values_length split.k (written_values block.now) }
     requires bound { split.bits ≤ 2 ^ 40 }
-    ensures { result ≡ shorter_choice best (Split split.k) (split_length params.now block.now split.k) }
+    ensures { result ≡ shorter_choice best (Split split.k)
+        (split_length params.now block.now split.k) }
 {
     let head = head_len(params, id_len, block.reference());
     shorter_of(best, Coding::Split(split.k), u64::from(head) + split.bits)
 }
 
-/// The shortest option for a block of J values below `2^n`, with a reference below `2^n` where it has one. Of equal
-/// lengths the first in this order: no compression, second extension, splitting with the least k.
-pub fn choose(params: &Params, block: &Block) -> Choice
-    requires { IsFull params.now block.now }
+/// The shortest option for a block whose values behind the reference place are given too, so that
+/// their number can be known where this is inlined.
+#[inline(always)]
+pub(crate) fn choose_among(params: &Params, block: &Block, values: &[u32]) -> Choice
+    requires full { IsFull params.now block.now }
+    requires values { values.now ≡ written_values block.now }
+    requires len { length values.now ≤ most_values }
     ensures { IsChoice params.now block.now result }
 {
     let width = params.id_len();
     let plain = Choice {
         coding: Coding::NoCompression,
-        bits: uncompressed_len(params, width, block),
+        bits: uncompressed_len(params, width, block, values),
     };
     let options = split_options(params, width);
-    let values = block.written();
     let split = best_split(values, options);
     if pairs_are_longer(options, split, values.len() as u64) {
         return shorter_of_split(params, width, block, plain, split);
@@ -113,4 +121,14 @@ pub fn choose(params: &Params, block: &Block) -> Choice
         return best;
     }
     shorter_of_split(params, width, block, best, split)
+}
+
+/// The shortest option for a block of J values below `2^n`, with a reference below `2^n` where it
+/// has one. Of equal lengths the first in this order: no compression, second extension, splitting
+/// with the least k.
+pub fn choose(params: &Params, block: &Block) -> Choice
+    requires { IsFull params.now block.now }
+    ensures { IsChoice params.now block.now result }
+{
+    choose_among(params, block, block.written())
 }

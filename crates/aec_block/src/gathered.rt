@@ -79,8 +79,8 @@ impl Gathered {
         out.push_reserved(self.word, self.used);
     }
 
-    /// Gathers the bits of a number too. Where the word has no place for them, those before are appended to the list,
-    /// which has room for all.
+    /// Gathers the bits of a number too. Where the word has no place for them, those before are
+    /// appended to the list, which has room for all.
     #[inline(always)]
     pub(crate) fn put(self, value: u64, width: u32, out: &mut BitBuf) -> Gathered
         requires width { width < 64 }

@@ -10,6 +10,7 @@ use crate::lanes::shifted_sum;
 use std::simd::prelude::*;
 
 /// How many bits the codewords of values without their `k` low bits have.
+#[inline(always)]
 pub(crate) fn high_word_len(values: &[u32], k: u32) -> u64
     requires k { k < 32 }
     requires len { length values.now ≤ most_values }
@@ -35,7 +36,8 @@ fn with_eight(values: &[u32], k: u32, mut word: u64) -> u64
     requires k { k < 32 }
     requires len { length values.now ≡ 8 }
     requires few { length (high_parts k values.now) < 64 }
-    ensures { (used : ℕ) → used + length (high_parts k values.now) ≤ 64 → word < 2 ^ used → GoesOn k used word values.now result }
+    ensures { (used : ℕ) → used + length (high_parts k values.now) ≤ 64 → word < 2 ^ used
+        → GoesOn k used word values.now result }
 {
     let highs = eight_highs(values, k);
     for i in 0..8 {
@@ -49,7 +51,8 @@ fn with_eight(values: &[u32], k: u32, mut word: u64) -> u64
 fn with_each(values: &[u32], k: u32, mut word: u64) -> u64
     requires k { k < 32 }
     requires few { length (high_parts k values.now) < 64 }
-    ensures { (used : ℕ) → used + length (high_parts k values.now) ≤ 64 → word < 2 ^ used → GoesOn k used word values.now result }
+    ensures { (used : ℕ) → used + length (high_parts k values.now) ≤ 64 → word < 2 ^ used
+        → GoesOn k used word values.now result }
 {
     for v in values {
         word = ((word << (*v >> k)) << 1) + 1;
@@ -57,8 +60,10 @@ fn with_each(values: &[u32], k: u32, mut word: u64) -> u64
     word
 }
 
-/// The codewords of values without their `k` low bits, one behind the other, where these are fewer than 64 bits: of
-/// eight values at a time, whose low bits are taken away in lanes, and one by one of the last few.
+/// The codewords of values without their `k` low bits, one behind the other, where these are fewer
+/// than 64 bits: of eight values at a time, whose low bits are taken away in lanes, and one by one
+/// of the last few.
+#[inline(always)]
 pub(crate) fn high_word(values: &[u32], k: u32) -> u64
     requires k { k < 32 }
     requires few { length (high_parts k values.now) < 64 }

@@ -43,6 +43,7 @@ fn sum_of_lanes(sums: u64x8) -> u64
 }
 
 /// The sum of the values that fill lanes: all but the last few, fewer than eight.
+#[inline(always)]
 fn sum_by_eights(values: &[u32], k: u32) -> u64
     requires k { k < 32 }
     requires len { length values.now ≤ most_values }
@@ -57,6 +58,7 @@ fn sum_by_eights(values: &[u32], k: u32) -> u64
 }
 
 /// The sum of a few values, one by one.
+#[inline(always)]
 pub(crate) fn sum_one_by_one(values: &[u32], k: u32) -> u64
     requires k { k < 32 }
     requires len { length values.now ≤ most_values }
@@ -71,6 +73,7 @@ pub(crate) fn sum_one_by_one(values: &[u32], k: u32) -> u64
 }
 
 /// The values without their `k` low bits, added up.
+#[inline(always)]
 pub(crate) fn shifted_sum(values: &[u32], k: u32) -> u64
     requires k { k < 32 }
     requires len { length values.now ≤ most_values }

@@ -22,13 +22,14 @@ pub fn no_set_is_a_prefix()
     ensures { NoSetIsAPrefix }
 {}
 
-/// At most one coded data set of a reference block, and at most one of another, stands at a position.
+/// At most one coded data set of a reference block, and at most one of another, stands at a
+/// position.
 pub fn one_set_stands()
     ensures { OneSetStands }
 {}
 
-/// No coded data set that stands for a block by a single option is shorter than the block's shortest spelling, also
-/// with any first member of a reference pair.
+/// No coded data set that stands for a block by a single option is shorter than the block's
+/// shortest spelling, also with any first member of a reference pair.
 pub fn no_option_is_shorter()
     ensures { NoOptionIsShorter }
 {}

@@ -3,6 +3,7 @@
 ghost use Rattle.std.specs.Prelude.{◌≡◌, ◌+◌, ◌*◌, ◌^◌, ◌≤◌, length, IfSome, IfNone};
 ghost use Rattle.aec_params.specs.Params.{IsAllowed, id_len as identifier_len};
 ghost use Rattle.aec_params.specs.CodedDataSets.{pair_number};
+ghost use Rattle.aec_params.specs.Spellings.{written_values};
 ghost use Rattle.aec_block.specs.BlockShape.{most_values};
 ghost use Rattle.aec_block.specs.Lengths.{head_length, pairs_length, uncompressed_length, paired_length};
 
@@ -10,6 +11,7 @@ use crate::block::Block;
 use aec_params::Params;
 
 /// An identifier of `id_len` bits, the usual length, and the reference sample where there is one.
+#[inline(always)]
 pub(crate) fn head_len(params: &Params, id_len: u32, reference: Option<u32>) -> u32
     requires id_len { id_len ≡ identifier_len params.now }
     ensures len { result ≡ head_length params.now reference }
@@ -30,7 +32,8 @@ pub(crate) fn pair_len(a: u32, b: u32) -> u128
     sum * (sum + 1) / 2 + u128::from(b) + 1
 }
 
-/// The codeword of a pair whose sum is below 2^16. That of any other is longer than each block by no compression.
+/// The codeword of a pair whose sum is below 2^16. That of any other is longer than each block by
+/// no compression.
 #[tactic(auto, using(crate::proofs::LengthLemmas::great_pairs))]
 fn small_pair_len(a: u32, b: u32) -> Option<u64>
     ensures some { IfSome result (λ len. (len ≡ pair_number a b + 1) × (len ≤ 2 ^ 32)) }
@@ -48,7 +51,8 @@ fn small_pair_len(a: u32, b: u32) -> Option<u64>
 #[tactic(auto, using(crate::proofs::LengthLemmas::pair_steps))]
 fn pairs_len(values: &[u32]) -> Option<u64>
     requires { length values.now ≤ most_values }
-    ensures some { IfSome result (λ len. (len ≡ pairs_length values.now) × (len ≤ most_values * 2 ^ 32)) }
+    ensures some { IfSome result
+        (λ len. (len ≡ pairs_length values.now) × (len ≤ most_values * 2 ^ 32)) }
     ensures none { IfNone result (2 ^ 31 ≤ pairs_length values.now) }
 {
     let mut sum = 0u64;
@@ -59,16 +63,20 @@ fn pairs_len(values: &[u32]) -> Option<u64>
 }
 
 /// The length by no compression.
-pub(crate) fn uncompressed_len(params: &Params, id_len: u32, block: &Block) -> u64
+#[inline(always)]
+pub(crate) fn uncompressed_len(params: &Params, id_len: u32, block: &Block, values: &[u32]) -> u64
     requires id_len { id_len ≡ identifier_len params.now }
+    requires values { values.now ≡ written_values block.now }
+    requires few { length values.now ≤ most_values }
     ensures len { result ≡ uncompressed_length params.now block.now }
     ensures bound { result ≤ 37 + 32 * most_values }
 {
     u64::from(head_len(params, id_len, block.reference()))
-        + block.written().len() as u64 * u64::from(params.bits())
+        + values.len() as u64 * u64::from(params.bits())
 }
 
-/// The length by the second extension, or nothing where a codeword alone is longer than each block by no compression.
+/// The length by the second extension, or nothing where a codeword alone is longer than each block
+/// by no compression.
 pub(crate) fn paired_len(params: &Params, id_len: u32, block: &Block) -> Option<u64>
     requires id_len { id_len ≡ identifier_len params.now }
     ensures some { IfSome result (λ len. len ≡ paired_length params.now block.now) }

@@ -1,5 +1,5 @@
-//! Blocks of mapped values: prediction and mapping, the choice of the shortest option, and one coded data set, written
-//! and read.
+//! Blocks of mapped values: prediction and mapping, the choice of the shortest option, and one
+//! coded data set, written and read.
 #![tactic(auto)]
 
 mod block;
@@ -18,6 +18,7 @@ mod reading;
 mod reading_blocks;
 mod reading_codewords;
 mod reading_values;
+mod shortest;
 mod skipping;
 mod skipping_values;
 mod splitting;
@@ -31,5 +32,6 @@ pub use choice::{Choice, Coding, choose};
 pub use mapped_blocks::map_into;
 pub use mapping::{map, unmap, unmap_all};
 pub use reading::{read_cds, read_into};
+pub use shortest::write_shortest;
 pub use skipping::skip_cds;
 pub use writing::{write_block, write_run};

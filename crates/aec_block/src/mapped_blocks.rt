@@ -24,7 +24,8 @@ fn put_offsets(params: &Params, samples: &[i64], values: &mut [u32])
     }
 }
 
-/// Puts what is coded for offsets in their place, each at the one before it, which is `previous` for the first.
+/// Puts what is coded for offsets in their place, each at the one before it, which is `previous`
+/// for the first.
 fn map_offsets(top: u32, previous: u32, values: &mut [u32])
     requires prediction { previous ≤ top }
     requires offsets { AllByRecursion (λ x. x ≤ top) values.old }
@@ -38,8 +39,8 @@ fn map_offsets(top: u32, previous: u32, values: &mut [u32])
     }
 }
 
-/// Puts what is coded for samples at their predictions, which are the samples before them, into `values`. In two
-/// loops, each of which the compiler can take several values at a time.
+/// Puts what is coded for samples at their predictions, which are the samples before them, into
+/// `values`. In two loops, each of which the compiler can take several values at a time.
 fn map_predicted(params: &Params, previous: i64, samples: &[i64], values: &mut [u32])
     requires on { params.now.preprocess ≡ true }
     requires prediction { IsHeld params.now previous }
@@ -64,7 +65,8 @@ fn put_patterns(params: &Params, samples: &[i64], values: &mut [u32])
     }
 }
 
-/// Puts what is coded for samples into `values`, each predicted from the one before it, the first from `previous`.
+/// Puts what is coded for samples into `values`, each predicted from the one before it, the first
+/// from `previous`.
 fn map_list(params: &Params, previous: i64, samples: &[i64], values: &mut [u32])
     requires prediction { IsHeld params.now previous }
     requires held { AllByRecursion (IsHeld params.now) samples.now }
@@ -78,10 +80,11 @@ fn map_list(params: &Params, previous: i64, samples: &[i64], values: &mut [u32])
     }
 }
 
-/// Makes the block that of a reference, where there is one, and of what is coded for samples behind the reference
-/// place, whatever stood in it before. Each sample is predicted from the one before it, the first from `previous`.
-/// Without preprocessing their patterns are coded, and `previous`, which has to be a sample all the same, has no effect. The
-/// reference place and the samples are at most 64. Takes no memory.
+/// Makes the block that of a reference, where there is one, and of what is coded for samples behind
+/// the reference place, whatever stood in it before. Each sample is predicted from the one before
+/// it, the first from `previous`. Without preprocessing their patterns are coded, and `previous`,
+/// which has to be a sample all the same, has no effect. The reference place and the samples are at
+/// most 64. Takes no memory.
 #[inline(always)]
 pub fn map_into(
     params: &Params,

@@ -10,9 +10,9 @@ ghost use Rattle.aec_block.specs.Unmapping.{Unmaps, UnmapsTo};
 use crate::near_values::push_eights;
 use aec_params::Params;
 
-/// What is coded for the offset `x` at the prediction `p`: differences within the room on both sides of `p` count in
-/// turn on both sides, those beyond it go on from there. Twice a difference within the room, and one less below `p`; no
-/// branch depends on the sample.
+/// What is coded for the offset `x` at the prediction `p`: differences within the room on both
+/// sides of `p` count in turn on both sides, those beyond it go on from there. Twice a difference
+/// within the room, and one less below `p`; no branch depends on the sample.
 pub(crate) fn map_offset(top: u32, p: u32, x: u32) -> u32
     requires prediction { p ≤ top }
     requires offset { x ≤ top }
@@ -24,8 +24,8 @@ pub(crate) fn map_offset(top: u32, p: u32, x: u32) -> u32
     distance + distance.min(room) - u32::from((x < p) & (distance <= room))
 }
 
-/// The offset for which `m` is coded at the prediction `p`. What it would be on either side of the room's end is
-/// computed before one is taken, so that no branch depends on the sign or parity.
+/// The offset for which `m` is coded at the prediction `p`. What it would be on either side of the
+/// room's end is computed before one is taken, so that no branch depends on the sign or parity.
 fn unmap_offset(top: u32, p: u32, m: u32) -> u32
     requires prediction { p ≤ top }
     requires mapped { m ≤ top }
@@ -82,7 +82,8 @@ fn sample_at(params: &Params, offset: u32) -> i64
     params.x_min() + i64::from(offset)
 }
 
-/// What is coded for the sample `x` at the prediction `p`; without preprocessing the sample's pattern. Below `2^n`.
+/// What is coded for the sample `x` at the prediction `p`; without preprocessing the sample's
+/// pattern. Below `2^n`.
 #[tactic(auto, using(crate::proofs::MappingLemmas::mapping))]
 pub fn map(params: &Params, p: i64, x: i64) -> u32
     requires prediction { IsHeld params.now p }
@@ -116,8 +117,8 @@ pub fn unmap(params: &Params, p: i64, m: u32) -> i64
     }
 }
 
-/// Appends the samples for which values are coded, predicted from the sample at an offset on, and tells the offset of
-/// the last. Takes no memory.
+/// Appends the samples for which values are coded, predicted from the sample at an offset on, and
+/// tells the offset of the last. Takes no memory.
 pub(crate) fn push_each(params: &Params, offset: u32, values: &[u32], samples: &mut Vec<i64>) -> u32
     requires on { params.now.preprocess ≡ true }
     requires within { offset ≤ top_offset params.now }
@@ -139,8 +140,8 @@ pub(crate) fn push_each(params: &Params, offset: u32, values: &[u32], samples: &
     last
 }
 
-/// Appends the samples for which values are coded, where samples are predicted: eight at a time, and the last few, fewer
-/// than eight, one by one. Takes no memory.
+/// Appends the samples for which values are coded, where samples are predicted: eight at a time,
+/// and the last few, fewer than eight, one by one. Takes no memory.
 fn push_offsets(params: &Params, previous: i64, values: &[u32], samples: &mut Vec<i64>)
     requires on { params.now.preprocess ≡ true }
     requires prediction { IsHeld params.now previous }
@@ -170,9 +171,9 @@ fn push_values(params: &Params, patterns: &[u32], samples: &mut Vec<i64>)
     }
 }
 
-/// Appends the samples for which values are coded, each predicted from the one before it, the first from `previous`.
-/// Without preprocessing the values are patterns, and `previous`, which has to be a sample all the same, has no effect. Takes no
-/// memory.
+/// Appends the samples for which values are coded, each predicted from the one before it, the first
+/// from `previous`. Without preprocessing the values are patterns, and `previous`, which has to be
+/// a sample all the same, has no effect. Takes no memory.
 pub fn unmap_all(params: &Params, previous: i64, values: &[u32], samples: &mut Vec<i64>)
     requires prediction { IsHeld params.now previous }
     requires mapped { AllByRecursion (λ v. v < 2 ^ params.now.bits) values.now }

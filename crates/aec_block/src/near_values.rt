@@ -1,5 +1,5 @@
-//! Values taken back to samples eight at a time, where all of them stand for differences within the room on both sides
-//! of their prediction: there a difference is known from its value alone.
+//! Values taken back to samples eight at a time, where all of them stand for differences within the
+//! room on both sides of their prediction: there a difference is known from its value alone.
 
 ghost use Rattle.std.specs.Prelude.{◌≡◌, ◌+◌, ◌*◌, ◌/◌, ◌^◌, ◌<◌, ◌≤◌, ◌+ℤ◌, true, pos, ℕ, length, take, map as list_map, get_or, vec_len, vec_capacity};
 ghost use Rattle.std.specs.List.{AllByRecursion};
@@ -11,7 +11,8 @@ use crate::mapping::{greatest_offset, push_each};
 use aec_params::Params;
 use std::simd::prelude::*;
 
-/// True only where eight values are all below a bound; false says nothing. No branch depends on a single one.
+/// True only where eight values are all below a bound; false says nothing. No branch depends on a
+/// single one.
 #[inline(always)]
 fn are_below(values: &[u32], bound: u32) -> bool
     requires { length values.now ≡ 8 }
@@ -20,9 +21,9 @@ fn are_below(values: &[u32], bound: u32) -> bool
     u32x8::from_slice(values).simd_lt(u32x8::splat(bound)).all()
 }
 
-/// True only where eight values are near, each predicted from the one before it; false says nothing. None of them leads
-/// further than half of what they all stay below, so eight of these halves have to lie within the room of the first
-/// prediction.
+/// True only where eight values are near, each predicted from the one before it; false says
+/// nothing. None of them leads further than half of what they all stay below, so eight of these
+/// halves have to lie within the room of the first prediction.
 #[inline(always)]
 fn are_near(top: u32, offset: u32, values: &[u32]) -> bool
     requires within { offset ≤ top }
@@ -33,8 +34,8 @@ fn are_near(top: u32, offset: u32, values: &[u32]) -> bool
     are_below(values, room / 4)
 }
 
-/// The differences for which eight near values are coded, modulo 2^32: half of an even value, and for an odd one that
-/// half without the value.
+/// The differences for which eight near values are coded, modulo 2^32: half of an even value, and
+/// for an odd one that half without the value.
 #[inline(always)]
 #[tactic(auto, using(crate::proofs::NearLaneLemmas::differences))]
 fn near_differences(values: &[u32]) -> [u32; 8]
@@ -50,13 +51,15 @@ fn near_differences(values: &[u32]) -> [u32; 8]
 /// The offset that lies a near value's difference from another one.
 #[inline(always)]
 fn near_place(offset: u32, difference: u32) -> u32
-    ensures near { (top value : ℕ) → top < 2 ^ 32 → offset ≤ top → value ≤ 2 * offset_room top offset
+    ensures near { (top value : ℕ) → top < 2 ^ 32 → offset ≤ top
+        → value ≤ 2 * offset_room top offset
         → difference ≡ near_difference value → result ≡ near_offset offset value }
 {
     offset.wrapping_add(difference)
 }
 
-/// Appends the samples for which eight near values are coded, and tells the offset of the last. Takes no memory.
+/// Appends the samples for which eight near values are coded, and tells the offset of the last.
+/// Takes no memory.
 #[inline(always)]
 fn push_near(params: &Params, offset: u32, values: &[u32], samples: &mut Vec<i64>) -> u32
     requires on { params.now.preprocess ≡ true }
@@ -80,8 +83,8 @@ fn push_near(params: &Params, offset: u32, values: &[u32], samples: &mut Vec<i64
     place
 }
 
-/// Appends the samples for which eight values are coded, at once where all are near and else one by one, and tells the
-/// offset of the last. Takes no memory.
+/// Appends the samples for which eight values are coded, at once where all are near and else one by
+/// one, and tells the offset of the last. Takes no memory.
 #[inline(always)]
 fn push_eight(params: &Params, offset: u32, values: &[u32], samples: &mut Vec<i64>) -> u32
     requires on { params.now.preprocess ≡ true }
@@ -101,8 +104,8 @@ fn push_eight(params: &Params, offset: u32, values: &[u32], samples: &mut Vec<i6
     push_each(params, offset, values, samples)
 }
 
-/// Appends the samples of the values in front, eight at a time as long as there are eight, and tells the offset of the
-/// last. Takes no memory.
+/// Appends the samples of the values in front, eight at a time as long as there are eight, and
+/// tells the offset of the last. Takes no memory.
 pub(crate) fn push_eights(
     params: &Params,
     offset: u32,

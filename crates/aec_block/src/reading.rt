@@ -94,8 +94,8 @@ fn single(fit: bool) -> Option<Found>
     if fit { Some(Found::Single) } else { None }
 }
 
-/// What stands behind the identifier and the reference sample, read into the block; none where a value is above the
-/// greatest that the width has.
+/// What stands behind the identifier and the reference sample, read into the block; none where a
+/// value is above the greatest that the width has.
 #[inline(always)]
 pub(crate) fn read_body(
     params: &Params,
@@ -126,7 +126,8 @@ pub(crate) fn read_body(
     }
 }
 
-/// One coded data set, read into the block; none where a value is above the greatest that the width has.
+/// One coded data set, read into the block; none where a value is above the greatest that the width
+/// has.
 #[inline(always)]
 fn read_set(
     params: &Params,
@@ -146,11 +147,12 @@ fn read_set(
     read_body(params, reader, kind, reference, block)
 }
 
-/// Reads the one coded data set that begins at the reader's place, of a block with a reference sample or of another,
-/// and goes behind it. Where it is of one block, that stands in `block` then, whatever stood there before. `Truncated`
-/// where none begins there, and `ValueTooLarge` where the one that does has a value above the greatest that the width
-/// has; the reader is then where it was, and the place of the refusal is that one. What stands in `block` after a run
-/// or a refusal isn't said. Takes no memory.
+/// Reads the one coded data set that begins at the reader's place, of a block with a reference
+/// sample or of another, and goes behind it. Where it is of one block, that stands in `block` then,
+/// whatever stood there before. `Truncated` where none begins there, and `ValueTooLarge` where the
+/// one that does has a value above the greatest that the width has; the reader is then where it
+/// was, and the place of the refusal is that one. What stands in `block` after a run or a refusal
+/// isn't said. Takes no memory.
 pub fn read_into(
     params: &Params,
     reader: &mut BitReader,
@@ -183,10 +185,10 @@ fn cds_found(found: Found, block: Block) -> Cds
     }
 }
 
-/// Reads the one coded data set that begins at the reader's place, of a block with a reference sample or of another,
-/// and goes behind it. `Truncated` where none begins there, and `ValueTooLarge` where the one that does has a value
-/// above the greatest that the width has; the reader is then where it was, and the place of the refusal is that one.
-/// Takes no memory.
+/// Reads the one coded data set that begins at the reader's place, of a block with a reference
+/// sample or of another, and goes behind it. `Truncated` where none begins there, and
+/// `ValueTooLarge` where the one that does has a value above the greatest that the width has; the
+/// reader is then where it was, and the place of the refusal is that one. Takes no memory.
 pub fn read_cds(
     alloc: Global,
     params: &Params,

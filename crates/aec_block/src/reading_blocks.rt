@@ -45,7 +45,8 @@ pub(crate) fn fill_uncompressed(
     read_numbers(reader, params.bits(), values)
 }
 
-/// Fills the block with the next values, split at bit `k`. Whether all are at most the greatest that the width has.
+/// Fills the block with the next values, split at bit `k`. Whether all are at most the greatest
+/// that the width has.
 #[inline(always)]
 pub(crate) fn fill_split(
     params: &Params,
@@ -67,8 +68,9 @@ pub(crate) fn fill_split(
     read_split(params, reader, k, values)
 }
 
-/// Fills the block with the next pairs. Whether all values are at most the greatest that the width has. In a reference
-/// block the first member of the first pair is no value: any number may stand there.
+/// Fills the block with the next pairs. Whether all values are at most the greatest that the width
+/// has. In a reference block the first member of the first pair is no value: any number may stand
+/// there.
 pub(crate) fn fill_pairs(
     params: &Params,
     reader: &mut BitReader,

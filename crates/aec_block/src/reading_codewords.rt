@@ -51,14 +51,15 @@ pub(crate) fn read_numbers(
     reader.read_numbers(width, numbers)
 }
 
-/// Puts the numbers of the fundamental sequences that come next into `numbers`, where all are short. Else false, and
-/// the reader stays.
+/// Puts the numbers of the fundamental sequences that come next into `numbers`, where all are
+/// short. Else false, and the reader stays.
 #[inline(always)]
 pub(crate) fn read_short_sequences(reader: &mut BitReader, numbers: &mut [u32]) -> bool
     requires within { reader.old.pos ≤ length reader.old.list }
     ensures taken { result ≡ true → values_at fs_at (length numbers.old) (bits_at reader.old)
         ≡ taken numbers.new (bits_at reader.new) }
-    ensures gone { result ≡ true → reader.new.pos ≡ reader.old.pos + length (flat_map fs numbers.new) }
+    ensures gone { result ≡ true
+        → reader.new.pos ≡ reader.old.pos + length (flat_map fs numbers.new) }
     ensures stays { result ≡ false → reader.new ≡ reader.old }
     ensures len { length numbers.new ≡ length numbers.old }
     ensures list { reader.new.list ≡ reader.old.list }
@@ -67,8 +68,8 @@ pub(crate) fn read_short_sequences(reader: &mut BitReader, numbers: &mut [u32]) 
     reader.read_sequences(numbers)
 }
 
-/// The two members of the pair with a number. As many steps are made as their sum is, fewer than the bits of the
-/// number's fundamental sequence.
+/// The two members of the pair with a number. As many steps are made as their sum is, fewer than
+/// the bits of the number's fundamental sequence.
 pub(crate) fn pair_of(number: u64) -> (u64, u64)
     ensures first { result.0 ≡ (pair_with_number number).first }
     ensures second { result.1 ≡ (pair_with_number number).second }

@@ -1,4 +1,5 @@
-//! Reads values into a list. A value above the greatest that the width has is noted, and reading goes on behind it.
+//! Reads values into a list. A value above the greatest that the width has is noted, and reading
+//! goes on behind it.
 
 ghost use Rattle.std.specs.Prelude.{◌≡◌, ◌≤◌, ◌<◌, ◌+◌, ◌-◌, ◌*◌, ◌/◌, ◌^◌, nat_lt, if◌then◌else◌, length, slice_set};
 ghost use Rattle.std.specs.List.{flat_map};
@@ -67,8 +68,9 @@ fn kept_member(in_reference_place: bool, member: u64) -> u64
     if in_reference_place { 0 } else { member }
 }
 
-/// Fills `values` with the members of the next pairs. Whether all are at most the greatest that the width has; else
-/// some stay as they are. Where the first value is the reference place it is 0, and any number may stand there.
+/// Fills `values` with the members of the next pairs. Whether all are at most the greatest that the
+/// width has; else some stay as they are. Where the first value is the reference place it is 0, and
+/// any number may stand there.
 pub(crate) fn read_pairs(
     params: &Params,
     reader: &mut BitReader,
@@ -98,7 +100,8 @@ pub(crate) fn read_pairs(
     Ok(fit)
 }
 
-/// Puts the next numbers into `highs`, one by one. Whether all are below `limit`; else some are left out.
+/// Puts the next numbers into `highs`, one by one. Whether all are below `limit`; else some are
+/// left out.
 fn read_long_highs(reader: &mut BitReader, highs: &mut [u32], limit: u64) -> Result<bool, Fault>
     requires within { reader.old.pos ≤ length reader.old.list }
     requires limit { limit ≤ 2 ^ 32 }
@@ -121,8 +124,9 @@ fn read_long_highs(reader: &mut BitReader, highs: &mut [u32], limit: u64) -> Res
     Ok(fit)
 }
 
-/// Whether all values are below `limit`, of which the fundamental sequences are `gone` bits in all. None is above their
-/// sum, which is what these bits are besides the ones; where that isn't below, each is judged.
+/// Whether all values are below `limit`, of which the fundamental sequences are `gone` bits in all.
+/// None is above their sum, which is what these bits are besides the ones; where that isn't below,
+/// each is judged.
 #[inline(always)]
 fn are_short(values: &[u32], gone: u64, limit: u64) -> bool
     requires some { 0 < limit }
@@ -180,8 +184,8 @@ fn join(values: &mut [u32], lows: &[u32], k: u32)
     }
 }
 
-/// Fills `values` with the next values, split at bit `k`. Whether all are at most the greatest that the width has.
-/// Where `k` is at most the width, small high parts make small values.
+/// Fills `values` with the next values, split at bit `k`. Whether all are at most the greatest that
+/// the width has. Where `k` is at most the width, small high parts make small values.
 #[inline(always)]
 pub(crate) fn read_split(
     params: &Params,

@@ -42,8 +42,8 @@ fn skip_numbers(reader: &mut BitReader, width: u32, count: usize) -> Result<(), 
     reader.skip_bits(numbers_len(width, count))
 }
 
-/// Goes over so many high parts. Whether all are below `limit`: none is above their sum, which is what the bits gone
-/// over have besides the ones. Where that isn't below, they are read.
+/// Goes over so many high parts. Whether all are below `limit`: none is above their sum, which is
+/// what the bits gone over have besides the ones. Where that isn't below, they are read.
 fn skip_highs(reader: &mut BitReader, count: usize, limit: u64) -> Result<bool, Fault>
     requires most { count ≤ most_values }
     requires least { 0 < limit }
@@ -81,8 +81,8 @@ pub(crate) fn skip_uncompressed(
     skip_numbers(reader, params.bits(), count_written(params, is_ref))
 }
 
-/// Goes over the next values, split at bit `k`, which is at most the width. Whether all are at most the greatest that
-/// the width has: the high parts alone say so.
+/// Goes over the next values, split at bit `k`, which is at most the width. Whether all are at most
+/// the greatest that the width has: the high parts alone say so.
 pub(crate) fn skip_split(
     params: &Params,
     reader: &mut BitReader,

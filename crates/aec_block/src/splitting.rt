@@ -14,7 +14,9 @@ pub(crate) struct Splitting {
     pub(crate) bits: u64,
 }
 
-/// Whether so many values are shorter with one low bit more each, by the sums without the low bits, this time and next.
+/// Whether so many values are shorter with one low bit more each, by the sums without the low bits,
+/// this time and next.
+#[inline(always)]
 fn is_shorter_next(sum: u64, next: u64, count: u64) -> bool
     requires { next + count < 2 ^ 64 }
     ensures { result ≡ nat_lt (next + count) sum }
@@ -23,6 +25,7 @@ fn is_shorter_next(sum: u64, next: u64, count: u64) -> bool
 }
 
 /// The values that are split with `k`, by their sum without the low bits.
+#[inline(always)]
 fn with_k(sum: u64, count: usize, k: u32) -> Splitting
     requires sum { sum ≤ 2 ^ 39 }
     requires count { count ≤ most_values }
@@ -37,7 +40,9 @@ fn with_k(sum: u64, count: usize, k: u32) -> Splitting
     }
 }
 
-/// Whether the sum of so many values is more than `3 * count * 2^k`; then one low bit more than `k` makes them shorter.
+/// Whether the sum of so many values is more than `3 * count * 2^k`; then one low bit more than `k`
+/// makes them shorter.
+#[inline(always)]
 fn is_past(sum: u64, count: u64, k: u32) -> bool
     requires count { count ≤ most_values }
     requires k { k < 32 }
@@ -47,6 +52,7 @@ fn is_past(sum: u64, count: u64, k: u32) -> bool
 }
 
 /// The k to begin with or the one before it, by the widths of two numbers.
+#[inline(always)]
 #[tactic(auto, using(crate::proofs::SplittingLemmas::widths))]
 fn near_first(sum: u64, count: u64) -> u32
     requires count { count ≤ most_values }
@@ -59,6 +65,7 @@ fn near_first(sum: u64, count: u64) -> u32
 }
 
 /// The k to begin with, by the sum of the values: each one before it is longer than the next.
+#[inline(always)]
 fn first_k(sum: u64, count: u64, last: u32) -> u32
     requires count { count ≤ most_values }
     requires none { count ≡ 0 → sum ≡ 0 }
@@ -92,12 +99,14 @@ fn sum_from(values: &[u32], total: u64, k: u32) -> u64
     shifted_sum(values, k)
 }
 
-/// The best k, where it is `first`, the next or the one behind that: each before is longer than the next, and the values add
-/// up to three times their number or less without `first` low bits.
+/// The best k, where it is `first`, the next or the one behind that: each before is longer than the
+/// next, and the values add up to three times their number or less without `first` low bits.
+#[inline(always)]
 fn best_of_three(values: &[u32], first: u32) -> Splitting
     requires first { first < 30 }
     requires len { length values.now ≤ most_values }
-    requires before { (j : ℕ) → j < first → 3 * length values.now * 2 ^ j < sum_of_shifted 0 values.now }
+    requires before { (j : ℕ) → j < first
+        → 3 * length values.now * 2 ^ j < sum_of_shifted 0 values.now }
     requires there { sum_of_shifted 0 values.now ≤ 3 * length values.now * 2 ^ first }
     ensures best { (options : ℕ) → first + 2 < options → IsBestSplit options result.k values.now }
     ensures bits { result.bits ≡ split_values_length result.k values.now }
@@ -114,10 +123,12 @@ fn best_of_three(values: &[u32], first: u32) -> Splitting
     with_k(sums.third, count, first + 2)
 }
 
-/// The k below `options` with which the values have the fewest bits, and of equal ones the least; 0 where there are no
-/// options. The sums fall by half at least with each k, so what one more low bit gains never grows: at the first k that
-/// one more doesn't make shorter, no later one does. The sum of the values as they are says where to begin, and two further k are enough where it says so
+/// The k below `options` with which the values have the fewest bits, and of equal ones the least; 0
+/// where there are no options. The sums fall by half at least with each k, so what one more low bit
+/// gains never grows: at the first k that one more doesn't make shorter, no later one does. The sum
+/// of the values as they are says where to begin, and two further k are enough where it says so
 /// below the last.
+#[inline(always)]
 pub(crate) fn best_split(values: &[u32], options: u32) -> Splitting
     requires options { options ≤ 32 }
     requires len { length values.now ≤ most_values }

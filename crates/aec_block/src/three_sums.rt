@@ -1,5 +1,5 @@
-//! The values of a block without some low bits and without one and two more, added up in one pass, where the sums fit
-//! eight lanes of 32 bits.
+//! The values of a block without some low bits and without one and two more, added up in one pass,
+//! where the sums fit eight lanes of 32 bits.
 
 ghost use Rattle.std.specs.Prelude.{◌≡◌, ◌+◌, ◌*◌, ◌/◌, ◌^◌, ◌<◌, ◌≤◌, length, take};
 ghost use Rattle.std.specs.Simd.Lanes.{sum_l};
@@ -53,12 +53,16 @@ fn small_sum(sums: u32x8) -> u64
 }
 
 /// The sums of the values that fill lanes: of all but the last few, fewer than eight.
+#[inline(always)]
 fn three_by_eights(values: &[u32], k: u32) -> ThreeSums
     requires k { k < 30 }
     requires small { sum_of_shifted k values.now < 2 ^ 32 }
-    ensures first { result.first ≡ sum_of_shifted k (take (8 * (length values.now / 8)) values.now) }
-    ensures second { result.second ≡ sum_of_shifted (k + 1) (take (8 * (length values.now / 8)) values.now) }
-    ensures third { result.third ≡ sum_of_shifted (k + 2) (take (8 * (length values.now / 8)) values.now) }
+    ensures first { result.first
+        ≡ sum_of_shifted k (take (8 * (length values.now / 8)) values.now) }
+    ensures second { result.second
+        ≡ sum_of_shifted (k + 1) (take (8 * (length values.now / 8)) values.now) }
+    ensures third { result.third
+        ≡ sum_of_shifted (k + 2) (take (8 * (length values.now / 8)) values.now) }
     ensures bounds { (result.first < 2 ^ 32) × (result.second < 2 ^ 32) × (result.third < 2 ^ 32) }
 {
     let mut first = u32x8::splat(0);
@@ -78,6 +82,7 @@ fn three_by_eights(values: &[u32], k: u32) -> ThreeSums
 }
 
 /// The sums of values without `k` low bits, without one more, and without two more.
+#[inline(always)]
 pub(crate) fn three_sums(values: &[u32], k: u32) -> ThreeSums
     requires k { k < 30 }
     requires len { length values.now ≤ most_values }

@@ -22,6 +22,7 @@ use aec_bits::BitBuf;
 use aec_params::{Fault, Params};
 
 /// Gathers the reference sample, where there is one.
+#[inline(always)]
 fn put_reference(
     params: &Params,
     reference: Option<u32>,
@@ -42,6 +43,7 @@ fn put_reference(
 }
 
 /// Gathers an identifier of so many bits and the reference sample, where there is one.
+#[inline(always)]
 #[tactic(auto, using(crate::proofs::WritingLemmas::parts))]
 fn put_head(
     params: &Params,
@@ -83,8 +85,8 @@ fn put_each_low_part(
     gathered
 }
 
-/// Gathers the lowest `width` bits of each value: of `N` values at a time, and one by one of the last few, fewer than
-/// `N`.
+/// Gathers the lowest `width` bits of each value: of `N` values at a time, and one by one of the
+/// last few, fewer than `N`.
 #[tactic(auto, using(crate::proofs::WritingLemmas::behind))]
 #[inline(always)]
 fn put_low_groups<const N: usize>(
@@ -111,8 +113,8 @@ fn put_low_groups<const N: usize>(
     put_each_low_part(&values[whole..], width, gathered, out)
 }
 
-/// Gathers the lowest `width` bits of each value, as many values at a time as fit a word with those of two, four or
-/// eight.
+/// Gathers the lowest `width` bits of each value, as many values at a time as fit a word with those
+/// of two, four or eight.
 #[inline(always)]
 fn put_low_parts(values: &[u32], width: u32, gathered: Gathered, out: &mut BitBuf) -> Gathered
     requires width { width ≤ 32 }
@@ -134,8 +136,9 @@ fn put_low_parts(values: &[u32], width: u32, gathered: Gathered, out: &mut BitBu
     put_each_low_part(values, width, gathered, out)
 }
 
-/// Gathers the values split at bit `k`: each without its `k` low bits, which are `len` bits in all, and then the low
-/// bits.
+/// Gathers the values split at bit `k`: each without its `k` low bits, which are `len` bits in all,
+/// and then the low bits.
+#[inline(always)]
 #[tactic(auto, using(crate::proofs::WritingLemmas::both))]
 fn put_split_values(
     values: &[u32],
@@ -172,8 +175,10 @@ fn put_pairs(values: &[u32], mut gathered: Gathered, out: &mut BitBuf) -> Gather
 
 /// Appends a block as it is, for which there is room.
 #[tactic(auto, using(crate::proofs::WritingLemmas::parts))]
-fn put_uncompressed(params: &Params, block: &Block, out: &mut BitBuf)
+#[inline(always)]
+fn put_uncompressed(params: &Params, block: &Block, values: &[u32], out: &mut BitBuf)
     requires full { IsFull params.now block.now }
+    requires values { values.now ≡ written_values block.now }
     requires room { length (cds_bits params.now (uncompressed block.now)) ≤ out.old.room }
     ensures list { out.new.list ≡ out.old.list ++ cds_bits params.now (uncompressed block.now) }
     ensures room { out.old.room
@@ -181,7 +186,7 @@ fn put_uncompressed(params: &Params, block: &Block, out: &mut BitBuf)
 {
     let width = params.id_len();
     let head = put_head(params, block.reference(), (1 << width) - 1, width, out);
-    put_low_parts(block.written(), params.bits(), head, out).append_to(out);
+    put_low_parts(values, params.bits(), head, out).append_to(out);
 }
 
 /// Appends a block by the second extension, for which there is room.
@@ -197,21 +202,28 @@ fn put_paired(params: &Params, block: &Block, out: &mut BitBuf)
     put_pairs(block.values(), head, out).append_to(out);
 }
 
-/// How many of the bits of a block that is split with `k` are those of its values without their low bits.
-fn high_len(params: &Params, id_len: u32, block: &Block, k: u32, bits: u64) -> u64
+/// How many of the bits of a block that is split with `k` are those of its values without their low
+/// bits.
+#[inline(always)]
+fn high_len(params: &Params, id_len: u32, block: &Block, values: &[u32], k: u32, bits: u64) -> u64
     requires id_len { id_len ≡ identifier_len params.now }
+    requires values { values.now ≡ written_values block.now }
+    requires few { length values.now ≤ most_values }
     requires k { k < 32 }
     requires bits { bits ≡ length (cds_bits params.now (split block.now k)) }
     ensures { result ≡ length (high_parts k (written_values block.now)) }
 {
     let head = u64::from(head_len(params, id_len, block.reference()));
-    bits - head - block.written().len() as u64 * u64::from(k)
+    bits - head - values.len() as u64 * u64::from(k)
 }
 
 /// Appends a block by splitting with `k`, for which there is room, in so many bits.
 #[tactic(auto, using(crate::proofs::WritingLemmas::parts))]
-fn put_split(params: &Params, block: &Block, k: u32, bits: u64, out: &mut BitBuf)
+#[inline(always)]
+fn put_split(params: &Params, block: &Block, values: &[u32], k: u32, bits: u64, out: &mut BitBuf)
     requires full { IsFull params.now block.now }
+    requires values { values.now ≡ written_values block.now }
+    requires few { length values.now ≤ most_values }
     requires k { k < split_count params.now }
     requires bits { bits ≡ length (cds_bits params.now (split block.now k)) }
     requires room { length (cds_bits params.now (split block.now k)) ≤ out.old.room }
@@ -219,13 +231,44 @@ fn put_split(params: &Params, block: &Block, k: u32, bits: u64, out: &mut BitBuf
     ensures room { out.old.room ≤ out.new.room + length (cds_bits params.now (split block.now k)) }
 {
     let width = params.id_len();
-    let len = high_len(params, width, block, k, bits);
+    let len = high_len(params, width, block, values, k, bits);
     let head = put_head(params, block.reference(), k + 1, width, out);
-    put_split_values(block.written(), k, len, head, out).append_to(out);
+    put_split_values(values, k, len, head, out).append_to(out);
 }
 
-/// Appends the coded data set of a block that is in no run, by the option of `choose`. `Memory` where a growth was
-/// refused, and nothing has changed then; it is not where there is room for the coded data set.
+/// Appends the coded data set of a block whose values behind the reference place are given too, by
+/// the option of `choose`. `Memory` where a growth was refused.
+#[inline(always)]
+pub(crate) fn write_values(
+    params: &Params,
+    block: &Block,
+    values: &[u32],
+    choice: Choice,
+    out: &mut BitBuf,
+) -> Result<(), Fault>
+    requires full { IsFull params.now block.now }
+    requires values { values.now ≡ written_values block.now }
+    requires few { length values.now ≤ most_values }
+    requires choice { IsChoice params.now block.now choice }
+    ensures ok { OnOk result (out.new.list ≡ out.old.list ++ shortest_bits params.now block.now) }
+    ensures room { OnOk result
+        (out.old.room ≤ out.new.room + length (shortest_bits params.now block.now)) }
+    ensures err { OnErr result (out.new ≡ out.old) }
+    ensures full { OnErr result (out.old.room < length (shortest_bits params.now block.now)) }
+    ensures fault { IfErr result (λ e. e ≡ Memory) }
+{
+    out.reserve(choice.bits)?;
+    match choice.coding {
+        Coding::NoCompression => put_uncompressed(params, block, values, out),
+        Coding::SecondExtension => put_paired(params, block, out),
+        Coding::Split(k) => put_split(params, block, values, k, choice.bits, out),
+    }
+    Ok(())
+}
+
+/// Appends the coded data set of a block that is in no run, by the option of `choose`. `Memory`
+/// where a growth was refused, and nothing has changed then; it is not where there is room for the
+/// coded data set.
 pub fn write_block(
     params: &Params,
     block: &Block,
@@ -241,13 +284,7 @@ pub fn write_block(
     ensures full { OnErr result (out.old.room < length (shortest_bits params.now block.now)) }
     ensures fault { IfErr result (λ e. e ≡ Memory) }
 {
-    out.reserve(choice.bits)?;
-    match choice.coding {
-        Coding::NoCompression => put_uncompressed(params, block, out),
-        Coding::SecondExtension => put_paired(params, block, out),
-        Coding::Split(k) => put_split(params, block, k, choice.bits, out),
-    }
-    Ok(())
+    write_values(params, block, block.written(), choice, out)
 }
 
 /// The number that the code of a run of `z` blocks spells.
@@ -264,9 +301,9 @@ fn code_of_run(z: u32, to_end: bool) -> u32
     }
 }
 
-/// Appends the coded data set of a run of `z` zero blocks, of which the first has the reference where there is one, and
-/// which ends its segment or not. `Memory` where a growth was refused, and nothing has changed then; it is not where
-/// there is room for the coded data set.
+/// Appends the coded data set of a run of `z` zero blocks, of which the first has the reference
+/// where there is one, and which ends its segment or not. `Memory` where a growth was refused, and
+/// nothing has changed then; it is not where there is room for the coded data set.
 #[tactic(auto, using(crate::proofs::WritingLemmas::parts))]
 pub fn write_run(
     params: &Params,

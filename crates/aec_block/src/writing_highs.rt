@@ -22,8 +22,8 @@ fn put_each_high_part(values: &[u32], k: u32, mut gathered: Gathered, out: &mut 
     gathered
 }
 
-/// Gathers each of a few values without its `k` low bits: as one number where these are fewer than 64 bits, else one by
-/// one.
+/// Gathers each of a few values without its `k` low bits: as one number where these are fewer than
+/// 64 bits, else one by one.
 fn put_high_group(values: &[u32], k: u32, gathered: Gathered, out: &mut BitBuf) -> Gathered
     requires k { k < 32 }
     requires len { length values.now ≤ most_values }
@@ -39,7 +39,8 @@ fn put_high_group(values: &[u32], k: u32, gathered: Gathered, out: &mut BitBuf) 
     put_each_high_part(values, k, gathered, out)
 }
 
-/// Gathers each value without its `k` low bits: of eight values at a time, and one by one of the last few.
+/// Gathers each value without its `k` low bits: of eight values at a time, and one by one of the
+/// last few.
 fn put_high_groups(values: &[u32], k: u32, mut gathered: Gathered, out: &mut BitBuf) -> Gathered
     requires k { k < 32 }
     requires room { length (gathered ++ high_parts k values.now) ≤ out.old.room }
@@ -55,6 +56,7 @@ fn put_high_groups(values: &[u32], k: u32, mut gathered: Gathered, out: &mut Bit
 }
 
 /// Gathers each value without its `k` low bits, which are `len` bits in all.
+#[inline(always)]
 pub(crate) fn put_high_parts(
     values: &[u32],
     k: u32,

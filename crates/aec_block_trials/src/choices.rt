@@ -8,7 +8,9 @@ ghost use Rattle.aec_block.specs.Choices.{FitsReference, IsFull};
 use crate::asserts::{fails, holds, same, same_at};
 use crate::shared::expect_bits;
 use aec_bits::{BitBuf, BitReader};
-use aec_block::{Block, Cds, Choice, Coding, choose, map, read_cds, unmap, write_block};
+use aec_block::{
+    Block, Cds, Choice, Coding, choose, map, read_cds, unmap, write_block, write_shortest,
+};
 use aec_params::{Params, Settings};
 use std::alloc::Global;
 use std::process::Abort;
@@ -66,7 +68,8 @@ fn maps_by_the_table(rt: HostRuntime) -> Result<(), Fail> {
     Ok(())
 }
 
-/// The choice for the block of these values behind the reference sample 0, and what is written by it.
+/// The choice for the block of these values behind the reference sample 0, and what is written by
+/// it.
 fn expect_written(
     rt: &impl Abort,
     alloc: Global,
@@ -83,6 +86,9 @@ fn expect_written(
     let mut out = BitBuf::new(alloc);
     write_block(&params, &block, choice, &mut out)?;
     expect_bits(rt, &out, wanted.bits, bytes);
+    let mut shortest = BitBuf::new(alloc);
+    write_shortest(&params, &block, &mut shortest)?;
+    expect_bits(rt, &shortest, wanted.bits, bytes);
     Ok(())
 }
 

@@ -8,7 +8,8 @@ use std::alloc::Global;
 use std::process::Abort;
 use std::test::Fail;
 
-/// A block without a reference sample, or with this one, stands at the bits' start and ends at `end`.
+/// A block without a reference sample, or with this one, stands at the bits' start and ends at
+/// `end`.
 fn expect_block(
     rt: &impl Abort,
     alloc: Global,
@@ -283,7 +284,8 @@ fn refuses_each_cut(rt: HostRuntime) -> Result<(), Fail> {
     Ok(())
 }
 
-/// Bits per sample, whether the set is restricted, the bits of an identifier, and how many splitting options there are.
+/// Bits per sample, whether the set is restricted, the bits of an identifier, and how many
+/// splitting options there are.
 const CODE_SETS: [(u32, bool, u32, u32); 5] = [
     (1, true, 1, 0),
     (3, true, 2, 2),

@@ -34,7 +34,8 @@ fn writes_runs(rt: HostRuntime) -> Result<(), Fail> {
 
 #[test]
 fn writes_the_zero_block_of_each_code_set(rt: HostRuntime) -> Result<(), Fail> {
-    // The identifier is zeros, one more than the others have bits, and a run of one block is a single one.
+    // The identifier is zeros, one more than the others have bits, and a run of one block is a
+    // single one.
     for (bits, restricted, len, byte) in [
         (1, true, 3, 0x20),
         (3, true, 4, 0x10),

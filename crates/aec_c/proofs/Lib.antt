@@ -1,3 +1,10 @@
 pub mod TextLemmas
 pub mod AnswerLemmas
+pub mod ReplyLemmas
 pub mod BoundLemmas
+pub mod CodeLengthLemmas
+pub mod SufficesLemmas
+pub mod HandleSteps
+pub mod BoxedWork
+pub mod HandleLemmas
+pub mod HandleLoadLemmas

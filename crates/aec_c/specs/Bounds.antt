@@ -1,8 +1,9 @@
 -- A length in bytes that a code never passes.
-use Rattle.std.specs.Prelude.{ℕ, ◌+◌, ◌*◌, ◌^◌, ◌&&◌, nat_le, if◌then◌else◌, is_none}
+use Rattle.std.specs.Prelude.{◌≡◌, ℕ, ◌+◌, ◌*◌, ◌/◌, ◌^◌, ◌≤◌, ◌&&◌, nat_le, if◌then◌else◌, is_none, Ok, List, length}
 use Rattle.std.specs.Int.{div_ceil}
 use Rattle.aec_params.specs.declared.settings.Settings.{Settings}
-use Rattle.aec_params.specs.Params.{settings_fault}
+use Rattle.aec_params.specs.Params.{settings_fault, storage_len}
+use Rattle.aec_c.specs.Calls.{IsCoding}
 
 -- the blocks of so many samples
 abbrev pub blocks_of : Settings → ℕ → ℕ
@@ -15,3 +16,8 @@ most_bytes s samples = div_ceil (blocks_of s samples * (5 + s.block_size * s.bit
 -- the same where samples are coded at all
 abbrev pub bound_of : Settings → ℕ → ℕ
 bound_of s samples = if is_none (settings_fault s) && nat_le samples (2 ^ 32) then most_bytes s samples else 0
+
+-- so many bytes are enough for the answer to any stored bytes that hold so many whole samples,
+-- where it is their code
+abbrev pub Suffices : Settings → ℕ → ℕ → Type 0
+Suffices s samples bytes = (stored code : List ℕ) → length stored / storage_len s ≡ samples → IsCoding s stored (Ok code) → length code ≤ bytes

@@ -39,18 +39,18 @@ pub data IsCoding (s : Settings) (samples : List ℕ) : Result (List ℕ) Fault 
   -- the settings are judged first
   not_allowed : (fault : Fault) → settings_fault s ≡ Some fault → IsCoding s samples (Err fault)
   not_coded : (fault : Fault) → IsAllowed s → bytes_refusal s most.samples samples ≡ Some fault → IsCoding s samples (Err fault)
-  lacks_memory : IsCoding s samples (Err Memory)
+  lacks_memory : IsAllowed s → IsCoding s samples (Err Memory)
 
 -- what decoding answers to coded bytes
 pub data IsDecoding (s : Settings) (count : Option ℕ) (coded : List ℕ) : Result (List ℕ) Fault → Type 0 where
   decoded : (samples : List ℕ) → IsAllowed s → IsStoredReadingOf s most count coded samples → IsDecoding s count coded (Ok samples)
   bad_settings : (fault : Fault) → settings_fault s ≡ Some fault → IsDecoding s count coded (Err fault)
   not_decoded : (fault : Fault) → IsAllowed s → RefusesCoded s most count coded fault → IsDecoding s count coded (Err fault)
-  no_memory : IsDecoding s count coded (Err Memory)
+  no_memory : IsAllowed s → IsDecoding s count coded (Err Memory)
 
 -- what cutting out a range answers to coded bytes
 pub data IsRanging (s : Settings) (count : Option ℕ) (first len : ℕ) (coded : List ℕ) : Result (List ℕ) Fault → Type 0 where
   ranged : (answer : Result (List ℕ) Fault) → IsAllowed s → IsRanged s most count first len (input_of coded false) answer
       → IsRanging s count first len coded answer
   no_settings : (fault : Fault) → settings_fault s ≡ Some fault → IsRanging s count first len coded (Err fault)
-  no_room : IsRanging s count first len coded (Err Memory)
+  no_room : IsAllowed s → IsRanging s count first len coded (Err Memory)

@@ -2,6 +2,7 @@
 use Rattle.std.specs.Prelude.{◌≡◌, ℕ, nat_le, if◌then◌else◌, Result, Ok, Err, List, ◌++◌, length, drop}
 use Rattle.aec_params.specs.declared.fault.Fault.{Fault}
 use Rattle.aec_params.specs.declared.fault.Fault.TheVariants.{BitsPerSample, BlockSize, Interval, RestrictedWidth, SampleRange, Truncated, ValueTooLarge, RunTooLong, TooManySamples, OutOfRange, Spent, Memory, Read, Write, Script, StreamTooLong, EvenBlockSize}
+use Rattle.aec_engine.specs.Buffers.{left_of}
 use Rattle.aec_c.specs.declared.reply.Reply.{Reply}
 
 -- the number of a refusal
@@ -54,23 +55,23 @@ wants_room len = record { fault = 18; place = 0; len = len }
 abbrev pub refused_for : Fault → Reply
 refused_for fault = record { fault = number_of fault; place = place_of fault; len = 0 }
 
--- the reply to an answer, by the room there is
-abbrev pub reply_to : Result (List ℕ) Fault → ℕ → Reply
+-- the reply to an answer of so many bytes, or to a refusal, by the room there is
+abbrev pub reply_of : Result ℕ Fault → ℕ → Reply
+reply_of (Ok len) room = if nat_le len room then done len else wants_room len
+reply_of (Err fault) room = refused_for fault
+
+-- the reply to an answer
+abbrev pub reply_to : {X : Type 0} → Result (List X) Fault → ℕ → Reply
 reply_to (Ok answer) room = if nat_le (length answer) room then done (length answer) else wants_room (length answer)
 reply_to (Err fault) room = refused_for fault
 
 -- bytes in the place of as many at the front, the rest as it was
-abbrev pub over_front : List ℕ → List ℕ → List ℕ
+abbrev pub over_front : {X : Type 0} → List X → List X → List X
 over_front answer before = answer ++ drop (length answer) before
-
--- what an answer leaves of a buffer: itself at the front where there is room for all of it, else the buffer as it was
-abbrev pub left_by : Result (List ℕ) Fault → List ℕ → List ℕ
-left_by (Ok answer) before = if nat_le (length answer) (length before) then over_front answer before else before
-left_by (Err fault) before = before
 
 -- a call gave one of these answers
 pub record Replies (answers : Result (List ℕ) Fault → Type 0) (before after : List ℕ) (reply : Reply) : Type 0 where
   pub answer : Result (List ℕ) Fault
   pub answered : answers answer
-  pub left : after ≡ left_by answer before
+  pub left : after ≡ left_of answer before
   pub replied : reply ≡ reply_to answer (length before)

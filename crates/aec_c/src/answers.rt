@@ -3,10 +3,11 @@
 ghost use Rattle.std.specs.Prelude.{◌≡◌, Ok, Err, IfOk, IfErr};
 ghost use Rattle.aec_params.specs.Params.{IsAllowed, settings_fault};
 ghost use Rattle.std.specs.Result.{result_err};
+ghost use Rattle.aec_engine.specs.Buffers.{FillsOne};
 ghost use Rattle.aec_c.specs.Calls.{settings_of, count_of, most, IsCoding, IsDecoding, IsRanging};
 
 use crate::options::{Options, asked, counted};
-use aec_engine::{decode_bytes, encode_bytes, range_bytes};
+use aec_engine::{decode_into, encode_bytes, range_into};
 use aec_params::{Fault, Limits, Params};
 use std::alloc::Global;
 
@@ -28,8 +29,10 @@ fn params_of(options: &Options) -> Result<Params, Fault>
 
 /// The code of stored samples.
 pub(crate) fn coded(alloc: Global, options: &Options, samples: &[u8]) -> Result<Vec<u8>, Fault>
-    ensures ok { IfOk result (λ bytes. IsCoding (settings_of options.now) samples.now (Ok bytes.items)) }
-    ensures refuses { IfErr result (λ fault. IsCoding (settings_of options.now) samples.now (Err fault)) }
+    ensures ok { IfOk result (λ bytes. IsCoding (settings_of options.now) samples.now
+        (Ok bytes.items)) }
+    ensures refuses { IfErr result
+        (λ fault. IsCoding (settings_of options.now) samples.now (Err fault)) }
 {
     match params_of(options) {
         Ok(params) => encode_bytes(alloc, &params, limits(), samples),
@@ -37,23 +40,25 @@ pub(crate) fn coded(alloc: Global, options: &Options, samples: &[u8]) -> Result<
     }
 }
 
-/// The stored samples of coded bytes.
+/// Puts the stored samples of coded bytes into a buffer, where there is room for all of them. How
+/// many bytes they are.
 pub(crate) fn decoded(
     alloc: Global,
     options: &Options,
     count: u64,
     bytes: &[u8],
-) -> Result<Vec<u8>, Fault>
-    ensures ok { IfOk result (λ samples. IsDecoding (settings_of options.now) (count_of count) bytes.now (Ok samples.items)) }
-    ensures refuses { IfErr result (λ fault. IsDecoding (settings_of options.now) (count_of count) bytes.now (Err fault)) }
+    out: &mut [u8],
+) -> Result<u64, Fault>
+    ensures { FillsOne (IsDecoding (settings_of options.now) (count_of count) bytes.now) out.old
+        out.new result }
 {
     match params_of(options) {
-        Ok(params) => decode_bytes(alloc, &params, limits(), counted(count), bytes),
+        Ok(params) => decode_into(alloc, &params, limits(), counted(count), bytes, out),
         Err(fault) => Err(fault),
     }
 }
 
-/// A range of the stored samples of coded bytes.
+/// The same with a range of the stored samples.
 pub(crate) fn ranged(
     alloc: Global,
     options: &Options,
@@ -61,12 +66,14 @@ pub(crate) fn ranged(
     first: u64,
     len: u64,
     bytes: &[u8],
-) -> Result<Vec<u8>, Fault>
-    ensures ok { IfOk result (λ samples. IsRanging (settings_of options.now) (count_of count) first len bytes.now (Ok samples.items)) }
-    ensures refuses { IfErr result (λ fault. IsRanging (settings_of options.now) (count_of count) first len bytes.now (Err fault)) }
+    out: &mut [u8],
+) -> Result<u64, Fault>
+    ensures { FillsOne (IsRanging (settings_of options.now) (count_of count) first len bytes.now)
+        out.old out.new result }
 {
+    let count = counted(count);
     match params_of(options) {
-        Ok(params) => range_bytes(alloc, &params, limits(), counted(count), first, len, bytes),
+        Ok(params) => range_into(alloc, &params, limits(), count, first, len, bytes, out),
         Err(fault) => Err(fault),
     }
 }

@@ -7,7 +7,8 @@ ghost use Rattle.aec_c.specs.Bounds.{bound_of, most_bytes};
 use crate::options::{Options, asked};
 use aec_params::Params;
 
-/// Of settings that the format has: five bits and the plain samples for each block, and a byte for each interval.
+/// Of settings that the format has: five bits and the plain samples for each block, and a byte for
+/// each interval.
 fn bound_within(params: &Params, samples: u64) -> u64
     requires { samples ≤ 2 ^ 32 }
     ensures { result ≡ most_bytes params.now samples }

@@ -3,13 +3,13 @@
 ghost use Rattle.std.specs.Prelude.{◌≡◌};
 ghost use Rattle.aec_c.specs.Calls.{settings_of, count_of, IsCoding, IsDecoding, IsRanging};
 ghost use Rattle.aec_c.specs.Replies.{Replies};
-ghost use Rattle.aec_c.specs.Bounds.{bound_of};
+ghost use Rattle.aec_c.specs.Bounds.{bound_of, Suffices};
 ghost use Rattle.aec_c.specs.Texts.{PutsText};
 
 use crate::answers::{coded, decoded, ranged};
 use crate::bound::bound;
 use crate::options::Options;
-use crate::reply::Reply;
+use crate::reply::{Reply, told};
 use crate::settling::settle;
 use crate::text::{put_text, text_of};
 use std::alloc::Global;
@@ -23,7 +23,8 @@ pub extern "C" fn aecp_encode(
     out: &mut [u8],
     reply: &mut Reply,
 ) -> u32
-    ensures replies { Replies (IsCoding (settings_of options.now) samples.now) out.old out.new reply.new }
+    ensures replies { Replies (IsCoding (settings_of options.now) samples.now) out.old out.new
+        reply.new }
     ensures number { result ≡ reply.new.fault }
 {
     let answer = coded(alloc, options, samples);
@@ -31,7 +32,9 @@ pub extern "C" fn aecp_encode(
     reply.fault
 }
 
-/// Decodes coded bytes: the first `count` samples, or all where `count` is the greatest number of 64 bits.
+/// Decodes coded bytes: the first `count` samples, or all where `count` is the greatest number of
+/// 64 bits.
+#[tactic(auto, using(crate::proofs::ReplyLemmas::replied))]
 #[unsafe(no_mangle)]
 pub extern "C" fn aecp_decode(
     alloc: Global,
@@ -41,15 +44,18 @@ pub extern "C" fn aecp_decode(
     out: &mut [u8],
     reply: &mut Reply,
 ) -> u32
-    ensures replies { Replies (IsDecoding (settings_of options.now) (count_of count) bytes.now) out.old out.new reply.new }
+    ensures replies { Replies (IsDecoding (settings_of options.now) (count_of count) bytes.now)
+        out.old out.new reply.new }
     ensures number { result ≡ reply.new.fault }
 {
-    let answer = decoded(alloc, options, count, bytes);
-    *reply = settle(answer, out);
+    let room = out.len();
+    let answer = decoded(alloc, options, count, bytes, out);
+    *reply = told(answer, room);
     reply.fault
 }
 
 /// Decodes `len` samples from place `first` on.
+#[tactic(auto, using(crate::proofs::ReplyLemmas::replied))]
 #[unsafe(no_mangle)]
 pub extern "C" fn aecp_range(
     alloc: Global,
@@ -61,18 +67,23 @@ pub extern "C" fn aecp_range(
     out: &mut [u8],
     reply: &mut Reply,
 ) -> u32
-    ensures replies { Replies (IsRanging (settings_of options.now) (count_of count) first len bytes.now) out.old out.new reply.new }
+    ensures replies { Replies
+        (IsRanging (settings_of options.now) (count_of count) first len bytes.now) out.old out.new
+        reply.new }
     ensures number { result ≡ reply.new.fault }
 {
-    let answer = ranged(alloc, options, count, first, len, bytes);
-    *reply = settle(answer, out);
+    let room = out.len();
+    let answer = ranged(alloc, options, count, first, len, bytes, out);
+    *reply = told(answer, room);
     reply.fault
 }
 
-/// How many bytes always suffice for the code of so many samples; 0 where no samples, these options or so many samples are coded.
+/// How many bytes always suffice for the code of so many samples; 0 where no samples, these options
+/// or so many samples are coded.
 #[unsafe(no_mangle)]
 pub extern "C" fn aecp_bound(options: &Options, samples: u64) -> u64
-    ensures { result ≡ bound_of (settings_of options.now) samples }
+    ensures number { result ≡ bound_of (settings_of options.now) samples }
+    ensures suffices { Suffices (settings_of options.now) samples result }
 {
     bound(options, samples)
 }

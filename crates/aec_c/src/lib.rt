@@ -1,9 +1,15 @@
-//! The library for C: coding, decoding and ranges from buffer to buffer, with a number for each refusal.
+//! The library for C: coding, decoding and ranges from buffer to buffer, with a number for each
+//! refusal.
 #![tactic(auto)]
 
 mod answers;
 mod bound;
 mod exports;
+mod handle;
+mod handle_calls;
+mod handle_edits;
+mod handle_loads;
+mod handle_reads;
 mod options;
 mod reply;
 mod settling;

@@ -1,12 +1,12 @@
 //! What C is told.
 
 ghost use Rattle.std.specs.Prelude.{◌≡◌};
-ghost use Rattle.aec_c.specs.Replies.{done, wants_room, refused_for};
+ghost use Rattle.aec_c.specs.Replies.{done, wants_room, refused_for, reply_of};
 
 use aec_params::Fault;
 
-/// How a call ended. `fault` is 0 where `len` bytes of `out` are the answer; 18 where it takes `len` bytes, which are more than `out`
-/// has; else the number of a refusal, with its place.
+/// How a call ended. `fault` is 0 where `len` bytes of `out` are the answer; 18 where it takes
+/// `len` bytes, which are more than `out` has; else the number of a refusal, with its place.
 #[repr(C)]
 #[derive(Clone, Copy)]
 pub struct Reply {
@@ -65,5 +65,16 @@ pub(crate) fn refused(fault: Fault) -> Reply
         fault,
         place,
         len: 0,
+    }
+}
+
+/// The reply to an answer of so many bytes, or to a refusal, by the room there is.
+pub(crate) fn told(answer: Result<u64, Fault>, room: usize) -> Reply
+    ensures { result ≡ reply_of answer room }
+{
+    match answer {
+        Ok(len) if len <= room as u64 => answered(len),
+        Ok(len) => too_long(len),
+        Err(fault) => refused(fault),
     }
 }

@@ -2,7 +2,8 @@
 
 ghost use Rattle.std.specs.Prelude.{◌≡◌, ◌≤◌, Ok, length};
 ghost use Rattle.aec_engine.specs.Transfers.{answer_of};
-ghost use Rattle.aec_c.specs.Replies.{over_front, left_by, reply_to};
+ghost use Rattle.aec_engine.specs.Buffers.{left_of};
+ghost use Rattle.aec_c.specs.Replies.{over_front, reply_to};
 
 use crate::reply::{Reply, answered, refused, too_long};
 use aec_params::Fault;
@@ -15,9 +16,10 @@ fn put_front(answer: &[u8], out: &mut [u8])
     out[..answer.len()].copy_from_slice(answer);
 }
 
-/// Puts an answer at the front of a buffer, where there is room for all of it, and says how that ended.
+/// Puts an answer at the front of a buffer, where there is room for all of it, and says how that
+/// ended.
 fn settle_bytes(answer: &[u8], out: &mut [u8]) -> Reply
-    ensures left { out.new ≡ left_by (Ok answer.now) out.old }
+    ensures left { out.new ≡ left_of (Ok answer.now) out.old }
     ensures reply { result ≡ reply_to (Ok answer.now) (length out.old) }
 {
     let len = answer.len();
@@ -31,7 +33,7 @@ fn settle_bytes(answer: &[u8], out: &mut [u8]) -> Reply
 
 /// The same for an answer or a refusal, which leaves the buffer as it was.
 pub(crate) fn settle(answer: Result<Vec<u8>, Fault>, out: &mut [u8]) -> Reply
-    ensures left { out.new ≡ left_by (answer_of (λ bytes. bytes.items) answer) out.old }
+    ensures left { out.new ≡ left_of (answer_of (λ bytes. bytes.items) answer) out.old }
     ensures reply { result ≡ reply_to (answer_of (λ bytes. bytes.items) answer) (length out.old) }
 {
     match answer {

@@ -4,6 +4,7 @@ ghost use Rattle.std.specs.Prelude.{◌≡◌, IfSome, length};
 ghost use Rattle.aec_c.specs.Replies.{number_of};
 ghost use Rattle.aec_c.specs.Texts.{PutsText, text_in};
 
+use crate::handle_edits::NOT_OPEN;
 use crate::reply::{NO_ROOM, Reply};
 use aec_params::Fault;
 use std::alloc::{AllocError, Global};
@@ -46,11 +47,13 @@ pub(crate) fn text_of(alloc: Global, reply: &Reply) -> Result<String, AllocError
                 reply.len
             )
         }
+        None if reply.fault == NOT_OPEN => format!(in alloc; "the handle holds no workspace"),
         None => format!(in alloc; "no fault has the number {}", reply.fault),
     }
 }
 
-/// Puts as much of a text into a buffer as fits before a zero, and the zero behind it. The length of the text.
+/// Puts as much of a text into a buffer as fits before a zero, and the zero behind it. The length
+/// of the text.
 pub(crate) fn put_text(text: &[u8], out: &mut [u8]) -> usize
     ensures { PutsText out.old out.new result }
 {

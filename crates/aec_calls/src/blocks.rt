@@ -7,7 +7,7 @@ ghost use Rattle.aec_block.specs.Choices.{FitsReference, IsFull};
 
 use crate::trial::{Trial, print_bits, try_calls};
 use aec_bits::BitBuf;
-use aec_block::{Block, choose, write_block, write_run};
+use aec_block::{Block, choose, write_block, write_run, write_shortest};
 use aec_params::{Fault, Params, Settings};
 use std::alloc::Global;
 
@@ -55,6 +55,9 @@ impl Trial for Written {
         if !is_full(&self.params, &self.block) {
             return Ok(());
         }
+        if number == 2 {
+            return write_shortest(&self.params, &self.block, &mut self.bits);
+        }
         let choice = choose(&self.params, &self.block);
         write_block(&self.params, &self.block, choice, &mut self.bits)
     }
@@ -77,7 +80,7 @@ fn ramp(alloc: Global) -> Block {
 
 /// Each of them into a list with no room.
 pub fn try_blocks<R: Print + Eprint>(rt: &R, alloc: Global) -> Result<(), Fault> {
-    for call in [(0, "write_block"), (1, "write_run")] {
+    for call in [(0, "write_block"), (1, "write_run"), (2, "write_shortest")] {
         let mut written = Written {
             params: Params::new(Settings::USUAL)?,
             block: ramp(alloc),

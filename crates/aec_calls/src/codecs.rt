@@ -61,7 +61,8 @@ fn code<R: Print + Eprint, C: Codec>(
     bits: &mut BitBuf,
 ) -> Result<(), Fault>
     requires { IsInterval (C.format codec.old) samples.now }
-    ensures bits { OnOk result (bits.new.list ≡ bits.old.list ++ (C.format codec.old).bits_of samples.now) }
+    ensures bits { OnOk result
+        (bits.new.list ≡ bits.old.list ++ (C.format codec.old).bits_of samples.now) }
     ensures format { C.format codec.new ≡ C.format codec.old }
 {
     refuse(rt);

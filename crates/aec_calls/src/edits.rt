@@ -26,7 +26,8 @@ fn print_work<R: Print>(rt: &R, alloc: Global, work: &Workspace<AecCodec>) {
     let _ = print!(rt; ", calls {}, reads {},", work.calls(), work.reads());
 }
 
-// A workspace, edits of it, how many intervals the last one coded, and the range of places 19 to 21.
+// A workspace, edits of it, how many intervals the last one coded, and the range of places 19 to
+// 21.
 #[derive(Drop)]
 struct Edits {
     work: Workspace<AecCodec>,
@@ -162,8 +163,8 @@ overwrite 48
 append 0
 overwrite 20 1";
 
-// Forty-eight zeros and sixteen more between these; one zero, so that four intervals are coded; then a removal of whole intervals,
-// and one of less.
+// Forty-eight zeros and sixteen more between these; one zero, so that four intervals are coded;
+// then a removal of whole intervals, and one of less.
 const MOVED_ZEROS: &str = "\
 append 0 0 0 0 0 0 0 0 0 0 0 0 0 0 0 0 0 0 0 0 0 0 0 0 0 0 0 0 0 0 0 0 0 0 0 0 0 0 0 0 0 0 0 0 0 0 0 0
 insert 16 0 0 0 0 0 0 0 0 0 0 0 0 0 0 0 0

@@ -1,4 +1,5 @@
-//! Makes calls of the libraries that can lack memory, and prints what it answers and what it leaves.
+//! Makes calls of the libraries that can lack memory, and prints what it answers and what it
+//! leaves.
 #![tactic(auto)]
 
 mod bits;

@@ -6,7 +6,8 @@ use aec_interval::StreamCoder;
 use aec_params::{Fault, Params, Settings};
 use std::alloc::Global;
 
-// A coder that takes at most 17 samples, none where it has finished, the bits of what it was fed, and all that it is fed.
+// A coder that takes at most 17 samples, none where it has finished, the bits of what it was fed,
+// and all that it is fed.
 #[derive(Drop)]
 struct Pieces {
     all: &'static [u8],

@@ -1,4 +1,5 @@
-//! Calls that are made one after the other. On standard error stands where growths may be refused: within the calls alone.
+//! Calls that are made one after the other. On standard error stands where growths may be refused:
+//! within the calls alone.
 
 use aec_bits::BitBuf;
 use aec_params::Fault;
@@ -31,8 +32,8 @@ pub fn print_answer<R: Print>(rt: &R, name: &str, answer: Result<(), Fault>) {
     };
 }
 
-/// Prints what is there at first, and then for each call its answer and what is there after it. A call that lacked memory is
-/// made once more, with all growths granted.
+/// Prints what is there at first, and then for each call its answer and what is there after it. A
+/// call that lacked memory is made once more, with all growths granted.
 pub fn try_calls<R: Print + Eprint, T: Trial>(rt: &R, calls: &[(usize, &str)], trial: &mut T) {
     print_line(rt, "new", Ok(()), trial);
     for (number, name) in calls {

@@ -20,7 +20,8 @@ IsAnswerOf (Decode count) s caps = IsDecoded s caps count
 IsAnswerOf (Range first len count) s caps = IsRanged s caps count first len
 IsAnswerOf (Edit script count) s caps = λ _ _. ⊥
 
--- bytes of a source that are enough for its answer, whatever follows them: with a sample that is refused, or past the limit
+-- bytes of a source that are enough for its answer, whatever follows them: with a sample that is
+-- refused, or past the limit
 abbrev pub are_enough : Action → Settings → Caps → List ℕ → Bool
 are_enough Encode s caps = are_refused s caps.samples
 are_enough (Decode count) s caps = are_past caps.bytes

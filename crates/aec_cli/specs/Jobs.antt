@@ -16,7 +16,8 @@ use Rattle.aec_cli.specs.declared.job.Action.TheVariants as action
 use Rattle.aec_cli.specs.declared.job.Job.{Job}
 use Rattle.aec_engine.specs.Numerals.{number_in, range_in}
 
--- what is done: samples are coded; coded data are decoded, cut to a range, or edited by the script in a file
+-- what is done: samples are coded; coded data are decoded, cut to a range, or edited by the script
+-- in a file
 pub data Work : Type 0 where
   coding : Work
   decoding : Option ℕ → Work
@@ -55,7 +56,8 @@ count_of f = option_and_then (number_in 64) (one_text f (codes "count"))
 unfoldable pub file_of : Text → Found → Text
 file_of id f = unwrap_or (first_value f id) []
 
--- the settings, with 8 bits per sample, blocks of 8 and intervals of 2 where nothing else is asked for
+-- the settings, with 8 bits per sample, blocks of 8 and intervals of 2 where nothing else is asked
+-- for
 unfoldable pub settings_of : Found → Settings
 settings_of f = record {
   bits = word_of 8 (codes "bits") f;
@@ -86,8 +88,8 @@ range_of f = option_and_then range_in (first_value f (codes "range"))
 abbrev pub refused_where : Bool → Usage → Option Usage
 refused_where holds usage = if holds then Some usage else None
 
--- Why no action is asked for, the first that holds: more than one; a sample count and none that reads coded data; a range
--- whose text is none.
+-- Why no action is asked for, the first that holds: more than one; a sample count and none that
+-- reads coded data; a range whose text is none.
 unfoldable pub action_refusal : Found → Option Usage
 action_refusal f =
     option_or (refused_where (nat_lt 1 (actions_given f)) Jobs)
@@ -110,7 +112,8 @@ asked_task f = record {
   dest = file_of (codes "DEST") f;
 }
 
--- why there is no job: the refusal of its action, and else the first rule of the format that its settings break
+-- why there is no job: the refusal of its action, and else the first rule of the format that its
+-- settings break
 abbrev pub job_refusal : Found → Option Usage
 job_refusal f = option_or (action_refusal f) (option_map (λ fault. Setting fault) (settings_fault (settings_of f)))
 

@@ -3,12 +3,14 @@ use Rattle.std.specs.Prelude.{◌≡◌, ℕ, Bool, true, false, List, Option, N
 use Rattle.aec_cli.specs.declared.files.Opening.{Opening}
 use Rattle.aec_cli.specs.declared.files.Opening.TheVariants.{Unopened, Open, Failed}
 
--- a device has failed where its file has, or couldn't be opened; `failed` counts the failures of an open file
+-- a device has failed where its file has, or couldn't be opened; `failed` counts the failures of an
+-- open file
 abbrev pub failures_of : {T : Type 0} → (T → ℕ) → Opening T → ℕ
 failures_of failed Unopened = 0
 failures_of failed (Open file) = failed file
 failures_of failed Failed = 1
 
+-- a file was opened and nothing has failed so far
 abbrev pub is_open : {T : Type 0} → Opening T → Bool
 is_open Unopened = false
 is_open (Open file) = true

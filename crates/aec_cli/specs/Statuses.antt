@@ -53,7 +53,8 @@ abbrev pub IsStatusAmong : ℕ → Kinds → Type 0
 IsStatusAmong status [] = ⊥
 IsStatusAmong status (k ∷ ks) = (status ≡ parse_status k) ⊎ IsStatusAmong status ks
 
--- where the words have mistakes of these kinds, the status is that of one of them, or 1 for want of memory
+-- where the words have mistakes of these kinds, the status is that of one of them, or 1 for want of
+-- memory
 abbrev pub EndsByMistake : Kinds → ℕ → Type 0
 EndsByMistake [] status = Unit {0}
 EndsByMistake (k ∷ ks) status = (status ≡ 1) ⊎ IsStatusAmong status (k ∷ ks)
@@ -64,12 +65,13 @@ EndsByMistake (k ∷ ks) status = (status ≡ 1) ⊎ IsStatusAmong status (k ∷
 abbrev pub IsFoundIn : List Text → Found → Type 0
 IsFoundIn words found = rows_of found ≡ matches_of aec_app words
 
--- the status of a refused job; where there is a job, it is done or refused, and its words are in order
+-- the status of a refused job; where there is a job, it is done or refused, and its words are in
+-- order
 abbrev pub EndsByRefusal : Result Task Usage → ℕ → Type 0
 EndsByRefusal (Ok task) status = status ≤ 1
 EndsByRefusal (Err usage) status = status ≡ usage_status usage
 
--- Words without a mistake end with the status of the first refusal of their job, where it has one; where it has none with 0 or 1;
--- or with 1 for want of memory.
+-- Words without a mistake end with the status of the first refusal of their job, where it has one;
+-- where it has none with 0 or 1; or with 1 for want of memory.
 abbrev pub EndsByWords : List Text → ℕ → Type 0
 EndsByWords words status = (status ≡ 1) ⊎ ((found : Found) × IsFoundIn words found × EndsByRefusal (job_of found) status)

@@ -23,7 +23,8 @@ fn too_many_tries() -> Error
     Error::from(ErrorKind::TimedOut)
 }
 
-/// A file, each call of which is made again as long as a signal interrupts it. What it answers is what the last call did.
+/// A file, each call of which is made again as long as a signal interrupts it, at most `u64::MAX`
+/// times. What it answers is what the last call did; after so many, that they were too many.
 #[derive(Drop)]
 pub(crate) struct Again<T> {
     file: T,

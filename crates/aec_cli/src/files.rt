@@ -1,4 +1,5 @@
-//! Files as devices: a source that is opened by its first call, and a sink that is created by `begin`.
+//! Files as devices: a source that is opened by its first call, and a sink that is created by
+//! `begin`.
 
 ghost use Rattle.std.specs.Prelude.{◌≡◌, ◌≤◌, ◌<◌, false, IfOk, IfErr, IsOk, IsErr, length};
 ghost use Rattle.std.specs.Io.KnownBytes.{WriteAppends};
@@ -55,8 +56,9 @@ fn synced<T: OpenFile>(file: &Again<T>) -> Result<(), Fault>
     }
 }
 
-/// The bytes of a file. The first `take` opens it. A file that can't be opened, and any error of a read, is a failure; a read
-/// that a signal interrupts is made again. Contracts see how often the source has failed, 0 or 1.
+/// The bytes of a file. The first `take` opens it. A file that can't be opened, and any error of a
+/// read, is a failure; a read that a signal interrupts is made again. Contracts see how often the
+/// source has failed, 0 or 1.
 #[derive(Drop)]
 pub struct FileSource<'a, F: Files> {
     rt: &'a F,
@@ -103,9 +105,10 @@ impl<'a, F: Files> Source for FileSource<'a, F> {
     }
 }
 
-/// A file that is written. `begin` creates it, or empties it where it is there; a `put` before that is a failure, and
-/// so is any error, and a write that takes nothing of a piece. A write that a signal interrupts is made again, and so is the
-/// sync at the end. Contracts see how often the sink has failed, 0 or 1, and how often it was begun.
+/// A file that is written. `begin` creates it, or empties it where it is there; a `put` before that
+/// is a failure, and so is any error, and a write that takes nothing of a piece. A write that a
+/// signal interrupts is made again, and so is the sync at the end. Contracts see how often the sink
+/// has failed, 0 or 1, and how often it was begun.
 #[derive(Drop)]
 pub struct DestSink<'a, F: Files> {
     rt: &'a F,
@@ -129,12 +132,13 @@ impl<'a, F: Files> DestSink<'a, F> {
         }
     }
 
-    /// Has the system write out what the file was given, and ends the sink. `Write` where that fails, and where the
-    /// sink has failed. A file that can't be synced, as a pipe or a terminal, is done as it is, and so is a sink that
-    /// neither was begun nor has failed.
+    /// Has the system write out what the file was given, and ends the sink. `Write` where that
+    /// fails, and where the sink has failed. A file that can't be synced, as a pipe or a terminal,
+    /// is done as it is, and so is a sink that neither was begun nor has failed.
     pub fn finish(self) -> Result<(), Fault>
         ensures failed { ⟦<DestSink<'a, F> as Sink>⟧.failed self.entry ≡ 1 → IsErr result }
-        ensures unbegun { ⟦<DestSink<'a, F> as Sink>⟧.begun self.entry ≡ 0 → ⟦<DestSink<'a, F> as Sink>⟧.failed self.entry ≡ 0
+        ensures unbegun { ⟦<DestSink<'a, F> as Sink>⟧.begun self.entry ≡ 0
+            → ⟦<DestSink<'a, F> as Sink>⟧.failed self.entry ≡ 0
             → IsOk result }
         ensures fault { IfErr result (λ e. e ≡ WriteFault) }
     {
@@ -170,10 +174,14 @@ impl<'a, F: Files> Sink for DestSink<'a, F> {
     fn put(&mut self, piece: &[u8]) -> Result<usize, Fault>
         ensures bound { IfOk result (λ k. k ≤ length piece.now) }
         ensures progress { IfOk result (λ k. 0 < length piece.now → 0 < k) }
-        ensures bytes { WriteAppends (⟦<DestSink<'a, F> as Sink>⟧.taken self.old) (⟦<DestSink<'a, F> as Sink>⟧.taken self.new) result piece.now }
-        ensures count { ⟦<DestSink<'a, F> as Sink>⟧.begun self.new ≡ ⟦<DestSink<'a, F> as Sink>⟧.begun self.old }
-        ensures order { ⟦<DestSink<'a, F> as Sink>⟧.mark self.new ≡ ⟦<DestSink<'a, F> as Sink>⟧.mark self.old }
-        ensures failure { FailsOnce WriteFault (⟦<DestSink<'a, F> as Sink>⟧.failed self.old) (⟦<DestSink<'a, F> as Sink>⟧.failed self.new) result }
+        ensures bytes { WriteAppends (⟦<DestSink<'a, F> as Sink>⟧.taken self.old)
+            (⟦<DestSink<'a, F> as Sink>⟧.taken self.new) result piece.now }
+        ensures count { ⟦<DestSink<'a, F> as Sink>⟧.begun self.new
+            ≡ ⟦<DestSink<'a, F> as Sink>⟧.begun self.old }
+        ensures order { ⟦<DestSink<'a, F> as Sink>⟧.mark self.new
+            ≡ ⟦<DestSink<'a, F> as Sink>⟧.mark self.old }
+        ensures failure { FailsOnce WriteFault (⟦<DestSink<'a, F> as Sink>⟧.failed self.old)
+            (⟦<DestSink<'a, F> as Sink>⟧.failed self.new) result }
         ensures unbegun { ⟦<DestSink<'a, F> as Sink>⟧.begun self.old ≡ 0 → IsErr result }
     {
         match &mut self.file {

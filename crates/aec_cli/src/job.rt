@@ -54,7 +54,8 @@ enum Asked<'a> {
     },
 }
 
-/// One run: the parameters, what is done, and the names of the file that is read and of the file that is written.
+/// One run: the parameters, what is done, and the names of the file that is read and of the file
+/// that is written.
 #[derive(Debug, Drop)]
 pub struct Job {
     pub params: Params,
@@ -63,12 +64,13 @@ pub struct Job {
     pub dest: String,
 }
 
-/// The job that the matches of a parse ask for. The refusals in their order: `Jobs`, `Count` and `Range`, which concern
-/// the action; `Setting`; and `Memory` only where no other comes.
+/// The job that the matches of a parse ask for. The refusals in their order: `Jobs`, `Count` and
+/// `Range`, which concern the action; `Setting`; and `Memory` only where no other comes.
 pub fn settings(alloc: Global, matches: &ArgMatches<'_>) -> Result<Job, Usage>
     ensures ok { IfOk result (λ job. job_of (found_of matches.now) ≡ Ok (task_of job)) }
     ensures refuses { IfErr (job_of (found_of matches.now)) (λ usage. result ≡ Err usage) }
-    ensures memory { IfErr result (λ usage. IsOk (job_of (found_of matches.now)) → usage ≡ Usage.Memory) }
+    ensures memory { IfErr result
+        (λ usage. IsOk (job_of (found_of matches.now)) → usage ≡ Usage.Memory) }
 {
     let asked = asked_action(matches)?;
     let params = Params::new(asked_settings(matches)).map_err(Usage::Setting)?;

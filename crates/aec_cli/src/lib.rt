@@ -1,4 +1,5 @@
-//! The command `aec`: its process, its words, its job, the files that it reads and writes, and one whole run.
+//! The command `aec`: its process, its words, its job, the files that it reads and writes, and one
+//! whole run.
 #![tactic(auto)]
 
 mod again;

@@ -24,9 +24,9 @@ use std::alloc::Global;
 use std::io::Write;
 use std::rt::Files;
 
-/// Runs the program on its words, of which the first is the program's name, and answers its status: 0, 1 or 2. What
-/// belongs on standard output is written to `out`, what belongs on standard error to `err`; a fault of either changes
-/// nothing.
+/// Runs the program on its words, of which the first is the program's name, and answers its status:
+/// 0, 1 or 2. What belongs on standard output is written to `out`, what belongs on standard error
+/// to `err`; a fault of either changes nothing.
 pub fn perform<F: Files, O: Write, E: Write>(
     rt: &F,
     alloc: Global,
@@ -60,7 +60,8 @@ fn limits() -> Limits
     }
 }
 
-// Does with a source what is asked for without a script, within the limits of the program, and leaves its answer in a sink.
+// Does with a source what is asked for without a script, within the limits of the program, and
+// leaves its answer in a sink.
 fn act<R: Source, W: Sink>(
     alloc: Global,
     params: &Params,
@@ -127,7 +128,8 @@ fn run<F: Files>(rt: &F, alloc: Global, job: Job) -> Result<(), Failure>
     sink.finish().map_err(Failure::Fault)
 }
 
-// Does a job, and answers the status: 0 where it was done, and 1 where it was refused and its failure printed.
+// Does a job, and answers the status: 0 where it was done, and 1 where it was refused and its
+// failure printed.
 fn finish<F: Files, E: Write>(rt: &F, alloc: Global, job: Job, err: &mut E) -> u8
     ensures { result ≤ 1 }
 {
@@ -145,7 +147,8 @@ fn report<E: Write>(failure: Failure, err: &mut E) -> u8
     status(&failure)
 }
 
-// Prints what a parse says in place of matches, help or a fault of the words, and answers the status.
+// Prints what a parse says in place of matches, help or a fault of the words, and answers the
+// status.
 fn answer<O: Write, E: Write>(error: &clap::Error, out: &mut O, err: &mut E) -> u8
     ensures { result ≡ parse_status (kind_of error.now) }
 {

@@ -1,4 +1,5 @@
-//! What the process of the program does before a run: it sees to its standard streams, and reads its words.
+//! What the process of the program does before a run: it sees to its standard streams, and reads
+//! its words.
 
 ghost use Rattle.std.specs.Prelude.{◌≡◌, IfErr};
 ghost use Rattle.aec_cli.specs.declared.start.StartFault.TheVariants.{Stream};
@@ -41,7 +42,8 @@ impl StartFault {
 // What the system answers to a call with a descriptor that isn't open (EBADF).
 const BAD_DESCRIPTOR: i32 = 9;
 
-// Whether the descriptor of a stream isn't open. One that is, and can't be duplicated, as where no number is free, isn't closed.
+// Whether the descriptor of a stream isn't open. One that is, and can't be duplicated, as where no
+// number is free, isn't closed.
 fn is_closed<S: AsFd>(stream: &S) -> bool {
     match stream.as_fd().try_clone_to_owned() {
         Ok(_) => false,
@@ -49,9 +51,10 @@ fn is_closed<S: AsFd>(stream: &S) -> bool {
     }
 }
 
-/// Opens `/dev/null`, for reading and writing, in the place of a standard stream that is closed, and leaves it open to the
-/// end of the process. The system gives a file the least number that is free. So call this for the three streams in the
-/// order of their numbers, before any file is opened: then no file gets the number of one.
+/// Opens `/dev/null`, for reading and writing, in the place of a standard stream that is closed,
+/// and leaves it open to the end of the process. The system gives a file the least number that is
+/// free. So call this for the three streams in the order of their numbers, before any file is
+/// opened: then no file gets the number of one.
 pub fn fill_if_closed<F: Files, S: AsFd>(rt: &F, stream: &S) -> Result<(), StartFault>
 where
     F::File: IntoRawFd,
@@ -66,7 +69,8 @@ where
     Ok(())
 }
 
-/// The words of the process, the program's name first. `Words` where one is no UTF-8 text, a name of a file too.
+/// The words of the process, the program's name first. `Words` where one is no UTF-8 text, a name
+/// of a file too.
 pub fn process_words<R: Env + Alloc<A = Global>>(rt: &R) -> Result<Vec<String>, StartFault>
     ensures { IfErr result (λ fault. ConcernsWords fault) }
 {

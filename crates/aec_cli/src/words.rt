@@ -33,8 +33,8 @@ pub fn command<'a>(alloc: Global) -> Result<Command<'a>, Usage>
     Ok(with_files(alloc, command)?)
 }
 
-/// What the words say to the command, the first of them the program's name. The entries are those that the words
-/// state; an error has the kind of the first mistake, or is want of memory.
+/// What the words say to the command, the first of them the program's name. The entries are those
+/// that the words state; an error has the kind of the first mistake, or is want of memory.
 pub fn parse<'a>(alloc: Global, words: &'a [String]) -> Result<ArgMatches<'a>, Error>
     ensures entries { IfOk result (λ m.
         rows_of (found_of m) ≡ matches_of aec_app (map string_bytes words.entry.now)) }

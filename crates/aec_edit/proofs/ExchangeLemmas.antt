@@ -1,4 +1,5 @@
--- Places exchanged for values: the samples of the touched intervals, and how many intervals they fill.
+-- Places exchanged for values: the samples of the touched intervals, and how many intervals they
+-- fill.
 use Rattle.std.proofs.Common.{◌≡◌, ℕ, ◌+◌, ◌-◌, ◌*◌, ◌/◌, ◌%◌, ◌<◌, ◌≤◌, min, List}
 use Rattle.std.proofs.Common.{◌++◌, length, take, ℤ, sym, ap, ◌∙◌, inl, inr, arith, length-append}
 use Rattle.std.specs.Int.{div_ceil}

@@ -87,7 +87,8 @@ unmoved start end at xs same within low =
 
 -- ---- a part replaced by numbers of another length
 
--- what stands after numbers were moved on to number to, from number from on, those in between written over, and the rest changed
+-- what stands after numbers were moved on to number to, from number from on, those in between
+-- written over, and the rest changed
 pub replaced : (add move : ℕ → ℕ) (olds with moved written shifted : List ℕ) (from to : ℕ) → from ≤ to → to ≤ length olds
     → moved ≡ take (from + length with) (olds ++ replicate (from + length with - to) 0) ++ drop to olds
     → written ≡ take from moved ++ (map add with ++ drop (from + length with) moved)

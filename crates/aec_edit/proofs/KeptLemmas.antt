@@ -103,7 +103,8 @@ begins_there f s i lawful held within =
       stands = (code_of f (drop f.most rest), drop-code_of f i s lawful.some ∙ code_of_first f rest lawful.some (omega arith));
     }
 
--- the same where an interval is to be decoded: g is the format of the codec itself, f that of the codec as callers see it
+-- the same where an interval is to be decoded: g is the format of the codec itself, f that of the
+-- codec as callers see it
 pub begins_for : (f g : Format) {count : ℕ} {bits : List Bool} {starts : List ℕ} {s : List ℤ} (i start len : ℕ) → g ≡ f → IsLawful f
     → IsKept f count bits starts s → i < interval_count f s → start ≡ start_of f s i → len ≡ min f.most (count - i * f.most)
     → BeginsAt g bits start len (take f.most (drop (i * f.most) s))

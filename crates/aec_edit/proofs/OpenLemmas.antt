@@ -158,7 +158,8 @@ module _ (n first stop : ℕ) (s : List ℤ) (some : 0 < n) (order : first ≤ s
 pub touched_end : (count size m n to stop r : ℕ) → count ≡ size → m ≡ n → to ≡ div_ceil stop m → r ≡ min count (to * m) → r ≡ min size (div_ceil stop n * n)
 touched_end count size m n to stop r count_is m_is to_is r_is = cc
 
--- values between what the end intervals keep: the samples of the touched intervals after the exchange
+-- values between what the end intervals keep: the samples of the touched intervals after the
+-- exchange
 pub fresh_is : (n first stop head tail : ℕ) (s values ends fresh : List ℤ) → 0 < n → first ≤ stop → stop ≤ length s → ends ≡ end_samples n first stop s
     → head ≡ first % n → tail ≡ min (length s) (div_ceil stop n * n) - stop → fresh ≡ take head ends ++ (values ++ drop (length ends - tail) ends)
     → fresh ≡ head_of n first s ++ (values ++ tail_of n stop s)

@@ -50,7 +50,8 @@ module _ (f : Format) (limit from to : ℕ) (s fresh : List ℤ) (lawful : IsLaw
       ∙ ap (λ n. starts_of f 0 (take (from * f.most) s) ++ starts_of f n (fresh ++ drop (to * f.most) s)) e
       ∙ ap (λ l. starts_of f 0 (take (from * f.most) s) ++ l) (fresh_starts (start_of f s from))
 
-  -- what stands after the bits and the starts of the intervals were replaced by those of the fresh samples
+  -- what stands after the bits and the starts of the intervals were replaced by those of the fresh
+  -- samples
   pub recoded_kept : {count : ℕ} {bits : List Bool} {starts : List ℕ} (count' fresh_count i j start stop : ℕ) (bits' fresh_bits : List Bool)
       (starts' fresh_starts : List ℕ)
       → IsKept f count bits starts s → fresh_bits ≡ code_of f fresh → fresh_starts ≡ starts_of f 0 fresh

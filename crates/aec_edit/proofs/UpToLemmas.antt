@@ -1,4 +1,5 @@
--- An exchange of which the intervals up to a number are coded anew: the samples that it codes, and how many intervals they fill.
+-- An exchange of which the intervals up to a number are coded anew: the samples that it codes, and
+-- how many intervals they fill.
 use Rattle.std.proofs.Common.{◌≡◌, ℕ, ◌+◌, ◌-◌, ◌*◌, ◌/◌, ◌%◌, ◌<◌, ◌≤◌, min, List}
 use Rattle.std.proofs.Common.{◌^◌, ◌++◌, length, take, drop, ℤ, Bool, Result, refl, sym, ap, ◌∙◌, inl, inr, arith, append_assoc, length-append}
 use Rattle.std.specs.Int.{div_ceil}

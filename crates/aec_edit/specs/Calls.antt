@@ -1,4 +1,5 @@
--- Why an edit or a range is refused where there is memory, and how many intervals are decoded for it.
+-- Why an edit or a range is refused where there is memory, and how many intervals are decoded for
+-- it.
 use Rattle.std.specs.Prelude.{◌≡◌, ℕ, ◌+◌, ◌-◌, ◌^◌, ◌≤◌, nat_lt, if◌then◌else◌, Option, Some, None, List, ℤ, length, is_some}
 use Rattle.std.specs.Option.{option_or}
 use Rattle.aec_params.specs.declared.fault.Fault.{Fault}
@@ -12,7 +13,8 @@ use Rattle.aec_bits.specs.Refusals.{refusal_of}
 abbrev pub want_of_calls : ℕ → ℕ → Option Fault
 want_of_calls calls needed = if nat_lt (2 ^ 64 - 1 - calls) needed then Some Spent else None
 
--- what an edit of the samples s is refused for where there is memory: it does not fit, or too few calls are left
+-- what an edit of the samples s is refused for where there is memory: it does not fit, or too few
+-- calls are left
 abbrev pub due_refusal : Format → ℕ → List ℤ → ℕ → Edit → Option Fault
 due_refusal f limit s calls e = option_or (refusal_of f limit s e) (want_of_calls calls (needed_calls f.most (length s) e))
 

@@ -1,4 +1,5 @@
--- What the private functions do to the samples: places are exchanged for values, and for that intervals for fresh samples.
+-- What the private functions do to the samples: places are exchanged for values, and for that
+-- intervals for fresh samples.
 use Rattle.std.specs.Prelude.{◌≡◌, ℕ, ◌+◌, ◌-◌, ◌*◌, ◌/◌, ◌%◌, ◌≤◌, ◌⊎◌, min, Bool, ◌||◌, ◌&&◌}
 use Rattle.std.specs.Prelude.{nat_lt, ◌==◌, if◌then◌else◌, None, MatchOption, is_some, List, [], ◌++◌, length, take, drop, ℤ}
 use Rattle.std.specs.Int.{div_ceil}
@@ -30,7 +31,8 @@ exchange_calls n first len = div_ceil (first + len) n - first / n
 abbrev pub recoded : Format → ℕ → ℕ → List ℤ → List ℤ → List ℤ
 recoded f from to fresh s = exchanged (from * f.most) (to * f.most) fresh s
 
--- intervals that can be exchanged: the fresh samples fill whole intervals, as many as they like, or reach the end
+-- intervals that can be exchanged: the fresh samples fill whole intervals, as many as they like, or
+-- reach the end
 pub record IsRecoding (f : Format) (limit : ℕ) (s : List ℤ) (from to : ℕ) (fresh : List ℤ) : Type 0 where
   pub order : from ≤ to
   pub within : to ≤ interval_count f s
@@ -47,7 +49,8 @@ head_of n first s = drop (first / n * n) (take first s)
 abbrev pub tail_of : ℕ → ℕ → List ℤ → List ℤ
 tail_of n stop s = drop stop (take (div_ceil stop n * n) s)
 
--- whether the first touched interval keeps a sample: in front of the places, or behind them where it is the last one too
+-- whether the first touched interval keeps a sample: in front of the places, or behind them where
+-- it is the last one too
 abbrev pub opens_first : ℕ → ℕ → ℕ → ℕ → Bool
 opens_first n count first stop =
     nat_lt (first / n * n) first || (nat_lt stop (min count (div_ceil stop n * n)) && (first / n + 1 == div_ceil stop n))
@@ -120,13 +123,15 @@ pub record IsExchangeUpTo (f : Format) (limit : ℕ) (s : List ℤ) (first stop 
   pub fitting : (length s ≤ to * f.most) ⊎ ((k : ℕ) × (fresh_total f.most (length s) first stop to (length values) ≡ k * f.most))
   pub few : first + length values + (length s - stop) ≤ limit
 
--- bits, starts and a count that are the code of fresh samples for the intervals from number from up to number to
+-- bits, starts and a count that are the code of fresh samples for the intervals from number from up
+-- to number to
 pub record IsCodeFor (f : Format) (limit : ℕ) (s : List ℤ) (from to : ℕ) (bits : List Bool) (starts : List ℕ) (count : ℕ) (fresh : List ℤ) : Type 0 where
   pub recoding : IsRecoding f limit s from to fresh
   pub bits_are : bits ≡ code_of f fresh
   pub starts_are : starts ≡ starts_of f 0 fresh
   pub count_is : count ≡ length fresh
 
--- where the intervals end that an insertion of len samples codes: at the end of the one that is cut where they are whole intervals
+-- where the intervals end that an insertion of len samples codes: at the end of the one that is cut
+-- where they are whole intervals
 abbrev pub recoded_end : ℕ → ℕ → ℕ → ℕ → ℕ
 recoded_end n count first len = if len % n == 0 then div_ceil first n else div_ceil count n

@@ -1,4 +1,5 @@
--- How a workspace is kept: the code of its samples, the places where the intervals begin in it, and the number of samples.
+-- How a workspace is kept: the code of its samples, the places where the intervals begin in it, and
+-- the number of samples.
 use Rattle.std.specs.Prelude.{◌≡◌, ℕ, ◌+◌, Bool, List, [], ◌∷◌, length, ℤ}
 use Rattle.aec_params.specs.Cutting.{pieces_of}
 use Rattle.std.proofs.Common.{sym, ◌∙◌}

@@ -1,4 +1,5 @@
--- What the definitions of edits and runs were meant to say, each the contract of a function of laws.rt.
+-- What the definitions of edits and runs were meant to say, each the contract of a function of
+-- laws.rt.
 use Rattle.std.specs.Prelude.{◌≡◌, ◌≢◌, ℕ, ◌+◌, ◌-◌, ◌*◌, ◌^◌, ◌<◌, ◌≤◌, None, List, [], ◌∷◌, ◌++◌, length, ℤ}
 use Rattle.std.specs.List.{AllByRecursion}
 use Rattle.aec_params.specs.declared.fault.Fault.{Fault}
@@ -27,8 +28,8 @@ abbrev pub RefusedEditsChangeNothing : Type 0
 RefusedEditsChangeNothing = (f : Format) (limit : ℕ) (s : List ℤ) (calls : ℕ) (e : Edit) (fault : Fault) (after : ℕ)
     → Answers f limit s calls e (Refused fault) after → (samples_left s e (Refused fault) ≡ s) × (fault ≢ Memory → after ≡ calls)
 
--- edits that code nothing: those of no values or no places, a cut to the samples that are there or to whole intervals, and a removal
--- of whole intervals or from the beginning of one to the end
+-- edits that code nothing: those of no values or no places, a cut to the samples that are there or
+-- to whole intervals, and a removal of whole intervals or from the beginning of one to the end
 pub record CodesNothing (n old : ℕ) : Type 0 where
   pub overwrite : (first : ℕ) → needed_calls n old (Overwrite first []) ≡ 0
   pub append : needed_calls n old (Append []) ≡ 0
@@ -55,7 +56,8 @@ pub record EditsThatCodeNothingAreMade : Type 0 where
 abbrev pub HadMemory : List Outcome → Type 0
 HadMemory outcomes = AllByRecursion (λ outcome. outcome ≢ Refused Memory) outcomes
 
--- over a run the calls rise by what the edits that were made have coded, or by more where memory was wanting
+-- over a run the calls rise by what the edits that were made have coded, or by more where memory
+-- was wanting
 abbrev pub RunsCountTheirCalls : Type 0
 RunsCountTheirCalls = (f : Format) (limit : ℕ) (s : List ℤ) (calls : ℕ) (edits : List Edit) (done : List Outcome) (after : ℕ)
     → AnswersAll f limit s calls edits done after

@@ -15,7 +15,8 @@ all_left s [] outcomes = s
 all_left s (e ∷ edits) [] = s
 all_left s (e ∷ edits) (outcome ∷ outcomes) = all_left (samples_left s e outcome) edits outcomes
 
--- the outcomes of edits, one for each, every one from the samples and the calls that those before it have left
+-- the outcomes of edits, one for each, every one from the samples and the calls that those before
+-- it have left
 abbrev pub AnswersAll : Format → ℕ → List ℤ → ℕ → List Edit → List Outcome → ℕ → Type 0
 AnswersAll f limit s calls [] [] after = after ≡ calls
 AnswersAll f limit s calls [] (outcome ∷ outcomes) after = ⊥
@@ -29,7 +30,8 @@ all_coded [] = 0
 all_coded (Done coded ∷ outcomes) = coded + all_coded outcomes
 all_coded (Refused fault ∷ outcomes) = all_coded outcomes
 
--- how many intervals an edit may decode that has this outcome: none where it is refused for more than want of memory
+-- how many intervals an edit may decode that has this outcome: none where it is refused for more
+-- than want of memory
 abbrev pub opened_for : ℕ → ℕ → Edit → Outcome → ℕ
 opened_for n old e (Done coded) = opened_intervals n old e
 opened_for n old e (Refused Memory) = opened_intervals n old e
@@ -41,8 +43,8 @@ all_opened n s [] outcomes = 0
 all_opened n s (e ∷ edits) [] = 0
 all_opened n s (e ∷ edits) (outcome ∷ outcomes) = opened_for n (length s) e outcome + all_opened n (samples_left s e outcome) edits outcomes
 
--- what a run of edits has done, from the samples s and the codec's counts of calls and reads: its outcomes, the samples that
--- are left, and the counts after it
+-- what a run of edits has done, from the samples s and the codec's counts of calls and reads: its
+-- outcomes, the samples that are left, and the counts after it
 pub record HasRun (f : Format) (limit : ℕ) (s : List ℤ) (calls reads : ℕ) (edits : List Edit) (done : List Outcome) (left : List ℤ)
     (calls_after reads_after : ℕ) : Type 0 where
   pub answers : AnswersAll f limit s calls edits done calls_after

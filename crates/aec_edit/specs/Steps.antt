@@ -9,27 +9,31 @@ use Rattle.aec_edit.specs.declared.outcome.Outcome.{Outcome}
 use Rattle.aec_edit.specs.declared.outcome.Outcome.TheVariants.{Done, Refused}
 use Rattle.aec_edit.specs.Calls.{due_refusal, opened_at_most, RisesAtMost}
 
--- an edit of the samples s that is made: nothing is against it, and the coder is called once for each interval that it codes
+-- an edit of the samples s that is made: nothing is against it, and the coder is called once for
+-- each interval that it codes
 pub record IsAccepted (f : Format) (limit : ℕ) (s : List ℤ) (calls : ℕ) (e : Edit) (coded after : ℕ) : Type 0 where
   pub fits : due_refusal f limit s calls e ≡ None
   pub coded_is : coded ≡ needed_calls f.most (length s) e
   pub calls_are : after ≡ calls + coded
 
--- an edit that fits, refused for want of memory: it codes some interval, and the coder may have been called for it
+-- an edit that fits, refused for want of memory: it codes some interval, and the coder may have
+-- been called for it
 pub record LacksMemory (needed calls : ℕ) (fault : Fault) (after : ℕ) : Type 0 where
   pub fault_is : fault ≡ Memory
   pub some : 0 < needed
   pub stays : calls ≤ after
   pub few : after ≤ calls + needed
 
--- an edit of the samples s that is refused: for what is due, with no call, or else for want of memory
+-- an edit of the samples s that is refused: for what is due, with no call, or else for want of
+-- memory
 abbrev pub IsRefused : Format → ℕ → List ℤ → ℕ → Edit → Fault → ℕ → Type 0
 IsRefused f limit s calls e fault after =
     MatchOption (due_refusal f limit s calls e)
     (LacksMemory (needed_calls f.most (length s) e) calls fault after)
     (λ due. (fault ≡ due) × (after ≡ calls))
 
--- the outcome of an edit of the samples s under a limit, after calls of the coder, and the calls after it
+-- the outcome of an edit of the samples s under a limit, after calls of the coder, and the calls
+-- after it
 abbrev pub Answers : Format → ℕ → List ℤ → ℕ → Edit → Outcome → ℕ → Type 0
 Answers f limit s calls e (Done coded) after = IsAccepted f limit s calls e coded after
 Answers f limit s calls e (Refused fault) after = IsRefused f limit s calls e fault after
@@ -44,7 +48,8 @@ abbrev pub outcome_of : Result ℕ Fault → Outcome
 outcome_of (Ok coded) = Done coded
 outcome_of (Err fault) = Refused fault
 
--- an edit and all that it does: its answer, the samples s' that it leaves, and the calls of the coder and the decoder after it
+-- an edit and all that it does: its answer, the samples s' that it leaves, and the calls of the
+-- coder and the decoder after it
 pub record Applies (f : Format) (limit : ℕ) (s : List ℤ) (calls reads : ℕ) (e : Edit) (r : Result ℕ Fault) (s' : List ℤ) (calls' reads' : ℕ) : Type 0 where
   pub answer : Answers f limit s calls e (outcome_of r) calls'
   pub samples : s' ≡ samples_left s e (outcome_of r)

@@ -18,8 +18,8 @@ interval_count f s = div_ceil (length s) f.most
 abbrev pub start_of : Format → List ℤ → ℕ → ℕ
 start_of f s i = length (code_of f (take (i * f.most) s))
 
--- bytes have one reading with so many samples: their bits begin with the code of these held samples, whatever follows, and with that of
--- no other held list of so many
+-- bytes have one reading with so many samples: their bits begin with the code of these held
+-- samples, whatever follows, and with that of no other held list of so many
 pub record HasOneReading (f : Format) (bytes : List ℕ) (samples : List ℤ) : Type 0 where
   pub held : AreHeld f samples
   pub begins : (rest : List Bool) × (bits_of_bytes bytes ≡ code_of f samples ++ rest)

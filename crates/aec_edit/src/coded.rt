@@ -42,7 +42,8 @@ impl Coded {
         ensures bits { self.new.bits.list ≡ self.old.bits.list }
         ensures starts { self.new.starts.items ≡ self.old.starts.items }
         ensures count { self.new.count ≡ self.old.count }
-        ensures fault { IfErr result (λ e. e ≡ Memory) }
+        ensures room { OnOk result (bits ≤ self.new.bits.room) }
+        ensures fault { IfErr result (λ e. (e ≡ Memory) × (0 < bits + intervals)) }
     {
         self.bits.reserve(bits)?;
         let intervals = usize::try_from(intervals).map_err(|_| Fault::Memory)?;
@@ -50,7 +51,8 @@ impl Coded {
         Ok(())
     }
 
-    /// The code of no samples, in the same room; where this is the code of more than `most` samples, its room is let go.
+    /// The code of no samples, in the same room; where this is the code of more than `most`
+    /// samples, its room is let go.
     pub fn emptied(mut self, alloc: Global, most: u64) -> Coded
         ensures bits { result.bits.list ≡ [] }
         ensures starts { result.starts.items ≡ [] }
@@ -65,21 +67,26 @@ impl Coded {
         self
     }
 
-    /// Replaces the intervals between two cuts by those of other code, moves the starts after them, and notes the new number of
-    /// samples. All memory is taken first, so that nothing has changed where it is refused.
+    /// Replaces the intervals between two cuts by those of other code, moves the starts after them,
+    /// and notes the new number of samples. All memory is taken first, so that nothing has changed
+    /// where it is refused.
     pub fn replace(&mut self, from: Cut, to: Cut, with: &Coded, count: u64) -> Result<(), Fault>
         requires intervals { from.interval ≤ to.interval }
         requires intervals_within { to.interval ≤ length self.old.starts.items }
         requires bits { from.bit ≤ to.bit }
         requires bits_within { to.bit ≤ length self.old.bits.list }
-        requires short { (k : ℕ) → k < length with.now.starts.items → slice_index with.now.starts.items k ≤ length with.now.bits.list }
+        requires short { (k : ℕ) → k < length with.now.starts.items
+            → slice_index with.now.starts.items k ≤ length with.now.bits.list }
         requires later { (k : ℕ) → to.interval ≤ k → k < length self.old.starts.items
-            → (to.bit ≤ slice_index self.old.starts.items k) × (slice_index self.old.starts.items k ≤ length self.old.bits.list) }
+            → (to.bit ≤ slice_index self.old.starts.items k)
+            × (slice_index self.old.starts.items k ≤ length self.old.bits.list) }
         ensures bits { OnOk result (self.new.bits.list ≡ take from.bit self.old.bits.list
             ++ (with.now.bits.list ++ drop to.bit self.old.bits.list)) }
-        ensures starts { OnOk result (self.new.starts.items ≡ take from.interval self.old.starts.items
+        ensures starts { OnOk result
+            (self.new.starts.items ≡ take from.interval self.old.starts.items
             ++ (map (λ x. from.bit + x) with.now.starts.items
-            ++ map (λ x. x - to.bit + (from.bit + length with.now.bits.list)) (drop to.interval self.old.starts.items))) }
+            ++ map (λ x. x - to.bit + (from.bit + length with.now.bits.list))
+            (drop to.interval self.old.starts.items))) }
         ensures count { OnOk result (self.new.count ≡ count) }
         ensures same_bits { OnErr result (self.new.bits.list ≡ self.old.bits.list) }
         ensures same_starts { OnErr result (self.new.starts.items ≡ self.old.starts.items) }

@@ -31,11 +31,11 @@ pub struct Edited {
 
 /// Makes edits, from no samples on, and writes the stream that they leave.
 ///
-/// Each edit is answered as the definition says for the samples and the calls that those before it have left. What is
-/// written is, bit for bit, the code of the samples that the accepted edits leave; read with its count it gives these
-/// samples and no others. `Memory` where there is no room for the outcomes or for the samples that are read, but not for no edits; nothing was
-/// written then.
-/// `Write` where the sink fails, which has then taken the front of the stream.
+/// Each edit is answered as the definition says for the samples and the calls that those before it
+/// have left. What is written is, bit for bit, the code of the samples that the accepted edits
+/// leave; read with its count it gives these samples and no others. `Memory` where there is no room
+/// for the outcomes or for the samples that are read, but not for no edits; nothing was written
+/// then. `Write` where the sink fails, which has then taken the front of the stream.
 pub fn write_edited<C: Codec + Drop, W: Sink>(
     alloc: Global,
     codec: C,
@@ -46,16 +46,22 @@ pub fn write_edited<C: Codec + Drop, W: Sink>(
     requires { limit ≤ 2 ^ 32 }
     ensures answers { IfOk result (λ edited. AnswersAll (C.format codec) limit [] (C.called codec)
         edits.now edited.outcomes.items edited.calls) }
-    ensures stream { IfOk result (λ edited. let left = all_left [] edits.now edited.outcomes.items in
+    ensures stream { IfOk result
+        (λ edited. let left = all_left [] edits.now edited.outcomes.items in
         Appends (W.taken sink.old) (W.taken sink.new) (bytes_of (code_of (C.format codec) left))) }
     ensures bits { IfOk result (λ edited. let left = all_left [] edits.now edited.outcomes.items in
         edited.bits ≡ length (code_of (C.format codec) left)) }
-    ensures samples { IfOk result (λ edited. edited.samples.items ≡ all_left [] edits.now edited.outcomes.items) }
-    ensures reading { IfOk result (λ edited. let left = all_left [] edits.now edited.outcomes.items in
-        HasOneReading (C.format codec) (bytes_of (code_of (C.format codec) left)) edited.samples.items) }
+    ensures samples { IfOk result
+        (λ edited. edited.samples.items ≡ all_left [] edits.now edited.outcomes.items) }
+    ensures reading { IfOk result
+        (λ edited. let left = all_left [] edits.now edited.outcomes.items in
+        HasOneReading (C.format codec) (bytes_of (code_of (C.format codec) left))
+        edited.samples.items) }
     ensures refuses { IfErr result (λ fault. (fault ≡ Memory) ⊎ (fault ≡ WriteFault)) }
-    ensures memory { result ≡ Err Memory → (0 < length edits.now) × Keeps (W.taken sink.old) (W.taken sink.new) }
-    ensures front { result ≡ Err WriteFault → (W.failed sink.new ≡ 1) × ((done : List OutcomeOf) × (calls : ℕ)
+    ensures memory { result ≡ Err Memory
+        → (0 < length edits.now) × Keeps (W.taken sink.old) (W.taken sink.new) }
+    ensures front { result ≡ Err WriteFault
+        → (W.failed sink.new ≡ 1) × ((done : List OutcomeOf) × (calls : ℕ)
         × AnswersAll (C.format codec) limit [] (C.called codec) edits.now done calls
         × AppendsFront (W.taken sink.old) (W.taken sink.new)
         (bytes_of (code_of (C.format codec) (all_left [] edits.now done)))) }
@@ -67,7 +73,8 @@ pub fn write_edited<C: Codec + Drop, W: Sink>(
     write_left(&workspace, outcomes, samples, sink)
 }
 
-/// Makes edits in an empty workspace, and adds what became of each to `outcomes`. `Memory` where there is no room for so many.
+/// Makes edits in an empty workspace, and adds what became of each to `outcomes`. `Memory` where
+/// there is no room for so many.
 fn edit_from_nothing<C: Codec + Drop>(
     alloc: Global,
     codec: C,
@@ -77,9 +84,11 @@ fn edit_from_nothing<C: Codec + Drop>(
 ) -> Result<Workspace<C>, Fault>
     requires limit { limit ≤ 2 ^ 32 }
     requires none { outcomes.old.items ≡ [] }
-    ensures answers { IfOk result (λ workspace. AnswersAll (C.format codec) limit [] (C.called codec)
+    ensures answers { IfOk result
+        (λ workspace. AnswersAll (C.format codec) limit [] (C.called codec)
         edits.now outcomes.new.items (C.called workspace.codec)) }
-    ensures samples { IfOk result (λ workspace. workspace.samples ≡ all_left [] edits.now outcomes.new.items) }
+    ensures samples { IfOk result
+        (λ workspace. workspace.samples ≡ all_left [] edits.now outcomes.new.items) }
     ensures format { IfOk result (λ workspace. C.format workspace.codec ≡ C.format codec) }
     ensures full { OnErr result (vec_capacity outcomes.old < length edits.now) }
     ensures fault { IfErr result (λ e. e ≡ Memory) }
@@ -89,7 +98,8 @@ fn edit_from_nothing<C: Codec + Drop>(
     Ok(workspace)
 }
 
-/// All samples of a workspace, read back out of their code. `Memory` where a growth was refused, but not for no samples.
+/// All samples of a workspace, read back out of their code. `Memory` where a growth was refused,
+/// but not for no samples.
 fn read_back<C: Codec>(alloc: Global, workspace: &mut Workspace<C>) -> Result<Vec<i64>, Fault>
     ensures ok { IfOk result (λ samples. samples.items ≡ workspace.old.samples) }
     ensures reading { IfOk result (λ samples. HasOneReading (C.format workspace.old.codec)
@@ -112,7 +122,9 @@ fn write_left<C: Codec, W: Sink>(
 ) -> Result<Edited, Fault>
     ensures outcomes { IfOk result (λ edited. edited.outcomes.items ≡ outcomes.items) }
     ensures samples { IfOk result (λ edited. edited.samples.items ≡ samples.items) }
-    ensures bits { IfOk result (λ edited. edited.bits ≡ length (code_of (C.format workspace.now.codec) workspace.now.samples)) }
+    ensures bits { IfOk result
+        (λ edited. edited.bits ≡ length
+        (code_of (C.format workspace.now.codec) workspace.now.samples)) }
     ensures calls { IfOk result (λ edited. edited.calls ≡ C.called workspace.now.codec) }
     ensures stream { OnOk result (Appends (W.taken sink.old) (W.taken sink.new)
         (bytes_of (code_of (C.format workspace.now.codec) workspace.now.samples))) }
@@ -133,7 +145,8 @@ fn summed_up<C: Codec>(
 ) -> Edited
     ensures outcomes { result.outcomes.items ≡ outcomes.items }
     ensures samples { result.samples.items ≡ samples.items }
-    ensures bits { result.bits ≡ length (code_of (C.format workspace.now.codec) workspace.now.samples) }
+    ensures bits { result.bits
+        ≡ length (code_of (C.format workspace.now.codec) workspace.now.samples) }
     ensures calls { result.calls ≡ C.called workspace.now.codec }
 {
     Edited {

@@ -11,18 +11,21 @@ impl<C: Codec> Workspace<C> {
     ghost use Rattle.aec_edit.specs.Changes.{recoded_end};
     ghost use Rattle.aec_edit.specs.Steps.{Answers, Applies, samples_left, outcome_of};
 
-    /// Makes an edit, and answers how many intervals it has coded: the number that is defined. It decodes at most as many as hold a
-    /// sample that is kept and coded anew.
+    /// Makes an edit, and answers how many intervals it has coded: the number that is defined. It
+    /// decodes at most as many as hold a sample that is kept and coded anew.
     ///
-    /// A refused edit changes no sample: one that doesn't fit is refused for that, then one that codes more intervals than the
-    /// codec has calls left with `Spent`, and one that fits with `Memory` where a growth was refused. An edit that codes no
-    /// interval takes no memory.
+    /// A refused edit changes no sample: one that doesn't fit is refused for that, then one that
+    /// codes more intervals than the codec has calls left with `Spent`, and one that fits with
+    /// `Memory` where a growth was refused. An edit that codes no interval takes no memory.
     pub fn apply(&mut self, edit: &Edit) -> Result<u64, Fault>
-        ensures answer { Answers (C.format self.old.codec) self.old.limit self.old.samples (C.called self.old.codec)
+        ensures answer { Answers (C.format self.old.codec) self.old.limit self.old.samples
+            (C.called self.old.codec)
             edit.now (outcome_of result) (C.called self.new.codec) }
-        ensures samples { self.new.samples ≡ samples_left self.old.samples edit.now (outcome_of result) }
+        ensures samples { self.new.samples
+            ≡ samples_left self.old.samples edit.now (outcome_of result) }
         ensures reads { RisesAtMost
-            (opened_at_most (C.format self.old.codec) self.old.limit self.old.samples (C.called self.old.codec) edit.now)
+            (opened_at_most (C.format self.old.codec) self.old.limit self.old.samples
+            (C.called self.old.codec) edit.now)
             (C.read self.old.codec) (C.read self.new.codec) }
         ensures limit { self.new.limit ≡ self.old.limit }
         ensures format { C.format self.new.codec ≡ C.format self.old.codec }
@@ -38,8 +41,10 @@ impl<C: Codec> Workspace<C> {
 
     /// Replaces the samples from place `first` on by as many values.
     fn overwrite(&mut self, first: u64, values: &[i64]) -> Result<u64, Fault>
-        ensures applies { Applies (C.format self.old.codec) self.old.limit self.old.samples (C.called self.old.codec)
-            (C.read self.old.codec) (Overwrite first values.now) result self.new.samples (C.called self.new.codec) (C.read self.new.codec) }
+        ensures applies { Applies (C.format self.old.codec) self.old.limit self.old.samples
+            (C.called self.old.codec)
+            (C.read self.old.codec) (Overwrite first values.now) result self.new.samples
+            (C.called self.new.codec) (C.read self.new.codec) }
         ensures limit { self.new.limit ≡ self.old.limit }
         ensures format { C.format self.new.codec ≡ C.format self.old.codec }
     {
@@ -52,10 +57,13 @@ impl<C: Codec> Workspace<C> {
         self.exchange(first, first + len, values)
     }
 
-    /// Adds the values behind the last sample, as `apply` does with an `Append` of them, and answers what it answers.
+    /// Adds the values behind the last sample, as `apply` does with an `Append` of them, and
+    /// answers what it answers.
     pub fn append(&mut self, values: &[i64]) -> Result<u64, Fault>
-        ensures applies { Applies (C.format self.old.codec) self.old.limit self.old.samples (C.called self.old.codec)
-            (C.read self.old.codec) (Append values.now) result self.new.samples (C.called self.new.codec) (C.read self.new.codec) }
+        ensures applies { Applies (C.format self.old.codec) self.old.limit self.old.samples
+            (C.called self.old.codec)
+            (C.read self.old.codec) (Append values.now) result self.new.samples
+            (C.called self.new.codec) (C.read self.new.codec) }
         ensures limit { self.new.limit ≡ self.old.limit }
         ensures format { C.format self.new.codec ≡ C.format self.old.codec }
     {
@@ -69,8 +77,10 @@ impl<C: Codec> Workspace<C> {
 
     /// Keeps the first samples, up to place `stop`.
     fn truncate(&mut self, stop: u64) -> Result<u64, Fault>
-        ensures applies { Applies (C.format self.old.codec) self.old.limit self.old.samples (C.called self.old.codec)
-            (C.read self.old.codec) (Truncate stop) result self.new.samples (C.called self.new.codec) (C.read self.new.codec) }
+        ensures applies { Applies (C.format self.old.codec) self.old.limit self.old.samples
+            (C.called self.old.codec)
+            (C.read self.old.codec) (Truncate stop) result self.new.samples
+            (C.called self.new.codec) (C.read self.new.codec) }
         ensures limit { self.new.limit ≡ self.old.limit }
         ensures format { C.format self.new.codec ≡ C.format self.old.codec }
     {
@@ -86,8 +96,10 @@ impl<C: Codec> Workspace<C> {
 
     /// Puts the values in front of the sample at place `first`, or behind the last one.
     fn insert(&mut self, first: u64, values: &[i64]) -> Result<u64, Fault>
-        ensures applies { Applies (C.format self.old.codec) self.old.limit self.old.samples (C.called self.old.codec)
-            (C.read self.old.codec) (Insert first values.now) result self.new.samples (C.called self.new.codec) (C.read self.new.codec) }
+        ensures applies { Applies (C.format self.old.codec) self.old.limit self.old.samples
+            (C.called self.old.codec)
+            (C.read self.old.codec) (Insert first values.now) result self.new.samples
+            (C.called self.new.codec) (C.read self.new.codec) }
         ensures limit { self.new.limit ≡ self.old.limit }
         ensures format { C.format self.new.codec ≡ C.format self.old.codec }
     {
@@ -105,8 +117,10 @@ impl<C: Codec> Workspace<C> {
 
     /// Takes out the `len` samples from place `first` on.
     fn remove(&mut self, first: u64, len: u64) -> Result<u64, Fault>
-        ensures applies { Applies (C.format self.old.codec) self.old.limit self.old.samples (C.called self.old.codec)
-            (C.read self.old.codec) (Remove first len) result self.new.samples (C.called self.new.codec) (C.read self.new.codec) }
+        ensures applies { Applies (C.format self.old.codec) self.old.limit self.old.samples
+            (C.called self.old.codec)
+            (C.read self.old.codec) (Remove first len) result self.new.samples
+            (C.called self.new.codec) (C.read self.new.codec) }
         ensures limit { self.new.limit ≡ self.old.limit }
         ensures format { C.format self.new.codec ≡ C.format self.old.codec }
     {
@@ -119,9 +133,11 @@ impl<C: Codec> Workspace<C> {
         self.exchange_up_to(first, stop, to, &[])
     }
 
-    /// Where the intervals end that are coded anew where `len` samples come or go in front of place `place`.
+    /// Where the intervals end that are coded anew where `len` samples come or go in front of place
+    /// `place`.
     fn recoded_end(&self, place: u64, len: u64) -> u64
-        ensures { result ≡ recoded_end (C.format self.now.codec).most (length self.now.samples) place len }
+        ensures { result ≡ recoded_end (C.format self.now.codec).most (length self.now.samples)
+            place len }
     {
         let most = self.interval_len();
         if len % most == 0 {

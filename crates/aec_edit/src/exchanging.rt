@@ -12,18 +12,23 @@ impl<C: Codec> Workspace<C> {
     ghost use Rattle.aec_edit.specs.Calls.{RisesAtMost};
     ghost use Rattle.aec_edit.specs.Changes.{IsExchange, IsExchanged, IsNotExchanged, exchanged, exchange_calls, head_of, tail_of, opens_first, opens_last, one_if, first_samples, last_samples, end_samples, opened_ends, opened_by, recoding_calls, recoding_openings, IsExchangeUpTo};
 
-    /// Exchanges the samples from place `first` up to place `stop` for values, as many, or at the end, and answers how many
-    /// intervals it has coded.
+    /// Exchanges the samples from place `first` up to place `stop` for values, as many, or at the
+    /// end, and answers how many intervals it has coded.
     pub(crate) fn exchange(&mut self, first: u64, stop: u64, values: &[i64]) -> Result<u64, Fault>
-        requires { IsExchange (C.format self.old.codec) self.old.limit self.old.samples first stop values.now }
-        ensures answer { let needed = exchange_calls (C.format self.old.codec).most first (length values.now) in
+        requires { IsExchange (C.format self.old.codec) self.old.limit self.old.samples first stop
+            values.now }
+        ensures answer { let needed
+            = exchange_calls (C.format self.old.codec).most first (length values.now) in
             MatchResult result
             (λ coded. IsExchanged needed (C.called self.old.codec) coded (C.called self.new.codec))
-            (λ fault. IsNotExchanged needed (C.called self.old.codec) fault (C.called self.new.codec)) }
-        ensures ok { OnOk result (self.new.samples ≡ exchanged first stop values.now self.old.samples) }
+            (λ fault. IsNotExchanged needed (C.called self.old.codec) fault
+            (C.called self.new.codec)) }
+        ensures ok { OnOk result (self.new.samples
+            ≡ exchanged first stop values.now self.old.samples) }
         ensures err { OnErr result (self.new.samples ≡ self.old.samples) }
         ensures reads { RisesAtMost
-            (opened_by (exchange_calls (C.format self.old.codec).most first (length values.now)) (C.called self.old.codec)
+            (opened_by (exchange_calls (C.format self.old.codec).most first (length values.now))
+            (C.called self.old.codec)
             (opened_ends (C.format self.old.codec).most (length self.old.samples) first stop))
             (C.read self.old.codec) (C.read self.new.codec) }
         ensures limit { self.new.limit ≡ self.old.limit }
@@ -33,8 +38,9 @@ impl<C: Codec> Workspace<C> {
         self.exchange_up_to(first, stop, stop.div_ceil(most), values)
     }
 
-    /// Exchanges the samples from place `first` up to place `stop` for values, and answers how many intervals it has coded: those
-    /// from that of the first place up to number `to`, as they are then.
+    /// Exchanges the samples from place `first` up to place `stop` for values, and answers how many
+    /// intervals it has coded: those from that of the first place up to number `to`, as they are
+    /// then.
     pub(crate) fn exchange_up_to(
         &mut self,
         first: u64,
@@ -42,16 +48,24 @@ impl<C: Codec> Workspace<C> {
         to: u64,
         values: &[i64],
     ) -> Result<u64, Fault>
-        requires { IsExchangeUpTo (C.format self.old.codec) self.old.limit self.old.samples first stop to values.now }
-        ensures answer { let needed = recoding_calls (C.format self.old.codec).most (length self.old.samples) first stop to (length values.now) in
+        requires { IsExchangeUpTo (C.format self.old.codec) self.old.limit self.old.samples first
+            stop to values.now }
+        ensures answer { let needed
+            = recoding_calls (C.format self.old.codec).most (length self.old.samples) first stop to
+            (length values.now) in
             MatchResult result
             (λ coded. IsExchanged needed (C.called self.old.codec) coded (C.called self.new.codec))
-            (λ fault. IsNotExchanged needed (C.called self.old.codec) fault (C.called self.new.codec)) }
-        ensures ok { OnOk result (self.new.samples ≡ exchanged first stop values.now self.old.samples) }
+            (λ fault. IsNotExchanged needed (C.called self.old.codec) fault
+            (C.called self.new.codec)) }
+        ensures ok { OnOk result (self.new.samples
+            ≡ exchanged first stop values.now self.old.samples) }
         ensures err { OnErr result (self.new.samples ≡ self.old.samples) }
         ensures reads { RisesAtMost
-            (opened_by (recoding_calls (C.format self.old.codec).most (length self.old.samples) first stop to (length values.now))
-            (C.called self.old.codec) (recoding_openings (C.format self.old.codec).most (length self.old.samples) first stop to))
+            (opened_by (recoding_calls (C.format self.old.codec).most (length self.old.samples)
+            first stop to (length values.now))
+            (C.called self.old.codec)
+            (recoding_openings (C.format self.old.codec).most (length self.old.samples) first stop
+            to))
             (C.read self.old.codec) (C.read self.new.codec) }
         ensures limit { self.new.limit ≡ self.old.limit }
         ensures format { C.format self.new.codec ≡ C.format self.old.codec }
@@ -78,18 +92,26 @@ impl<C: Codec> Workspace<C> {
         to: u64,
         values: &'a [i64],
     ) -> Result<Fresh<'a>, Fault>
-        requires { IsExchangeUpTo (C.format self.old.codec) self.old.limit self.old.samples first stop to values.now }
-        ensures front { IfOk result (λ fresh. fresh.front.items ≡ head_of (C.format self.old.codec).most first self.old.samples) }
+        requires { IsExchangeUpTo (C.format self.old.codec) self.old.limit self.old.samples first
+            stop to values.now }
+        ensures front { IfOk result
+            (λ fresh. fresh.front.items
+            ≡ head_of (C.format self.old.codec).most first self.old.samples) }
         ensures values { IfOk result (λ fresh. fresh.values.now ≡ values.now) }
-        ensures back { IfOk result (λ fresh. fresh.back.items ≡ tail_of (C.format self.old.codec).most stop self.old.samples) }
-        ensures next { IfOk result (λ fresh. fresh.next ≡ div_ceil stop (C.format self.old.codec).most) }
+        ensures back { IfOk result
+            (λ fresh. fresh.back.items
+            ≡ tail_of (C.format self.old.codec).most stop self.old.samples) }
+        ensures next { IfOk result
+            (λ fresh. fresh.next ≡ div_ceil stop (C.format self.old.codec).most) }
         ensures end { IfOk result (λ fresh. fresh.end ≡ to) }
         ensures fault { IfErr result (λ e. (e ≡ Memory)
-            × (0 < recoding_calls (C.format self.old.codec).most (length self.old.samples) first stop to (length values.now))) }
+            × (0 < recoding_calls (C.format self.old.codec).most (length self.old.samples) first
+            stop to (length values.now))) }
         ensures samples { self.new.samples ≡ self.old.samples }
         ensures limit { self.new.limit ≡ self.old.limit }
         ensures calls { C.called self.new.codec ≡ C.called self.old.codec }
-        ensures reads { RisesAtMost (opened_ends (C.format self.old.codec).most (length self.old.samples) first stop)
+        ensures reads { RisesAtMost
+            (opened_ends (C.format self.old.codec).most (length self.old.samples) first stop)
             (C.read self.old.codec) (C.read self.new.codec) }
         ensures format { C.format self.new.codec ≡ C.format self.old.codec }
     {
@@ -109,8 +131,8 @@ impl<C: Codec> Workspace<C> {
         })
     }
 
-    /// Puts the first and the last interval that an exchange touches into `ends`, where they keep a sample; the last one by way of
-    /// `spare`.
+    /// Puts the first and the last interval that an exchange touches into `ends`, where they keep a
+    /// sample; the last one by way of `spare`.
     fn open_ends(
         &mut self,
         first: u64,
@@ -122,14 +144,17 @@ impl<C: Codec> Workspace<C> {
         requires within { stop ≤ length self.old.samples }
         requires ends { ends.old.items ≡ [] }
         requires spare { spare.old.items ≡ [] }
-        ensures ok { OnOk result (ends.new.items ≡ end_samples (C.format self.old.codec).most first stop self.old.samples) }
+        ensures ok { OnOk result (ends.new.items
+            ≡ end_samples (C.format self.old.codec).most first stop self.old.samples) }
         ensures spare { OnOk result (spare.new.items ≡ []) }
         ensures fault { IfErr result (λ e. (e ≡ Memory)
-            × (0 < opened_ends (C.format self.old.codec).most (length self.old.samples) first stop)) }
+            × (0 < opened_ends (C.format self.old.codec).most (length self.old.samples) first
+            stop)) }
         ensures samples { self.new.samples ≡ self.old.samples }
         ensures limit { self.new.limit ≡ self.old.limit }
         ensures calls { C.called self.new.codec ≡ C.called self.old.codec }
-        ensures reads { RisesAtMost (opened_ends (C.format self.old.codec).most (length self.old.samples) first stop)
+        ensures reads { RisesAtMost
+            (opened_ends (C.format self.old.codec).most (length self.old.samples) first stop)
             (C.read self.old.codec) (C.read self.new.codec) }
         ensures format { C.format self.new.codec ≡ C.format self.old.codec }
     {
@@ -140,19 +165,22 @@ impl<C: Codec> Workspace<C> {
         Ok(())
     }
 
-    /// Decodes the first touched interval where it keeps a sample in front of the places, or is the last one too and keeps one
-    /// behind them.
+    /// Decodes the first touched interval where it keeps a sample in front of the places, or is the
+    /// last one too and keeps one behind them.
     fn open_first(&mut self, first: u64, stop: u64, ends: &mut Vec<i64>) -> Result<(), Fault>
         requires order { first ≤ stop }
         requires within { stop ≤ length self.old.samples }
         ensures ok { OnOk result (ends.new.items ≡ ends.old.items
             ++ first_samples (C.format self.old.codec).most first stop self.old.samples) }
         ensures fault { IfErr result (λ e. (e ≡ Memory)
-            × (opens_first (C.format self.old.codec).most (length self.old.samples) first stop ≡ true)) }
+            × (opens_first (C.format self.old.codec).most (length self.old.samples) first stop
+            ≡ true)) }
         ensures samples { self.new.samples ≡ self.old.samples }
         ensures limit { self.new.limit ≡ self.old.limit }
         ensures calls { C.called self.new.codec ≡ C.called self.old.codec }
-        ensures reads { RisesAtMost (one_if (opens_first (C.format self.old.codec).most (length self.old.samples) first stop))
+        ensures reads { RisesAtMost
+            (one_if (opens_first (C.format self.old.codec).most (length self.old.samples) first
+            stop))
             (C.read self.old.codec) (C.read self.new.codec) }
         ensures format { C.format self.new.codec ≡ C.format self.old.codec }
     {
@@ -165,18 +193,22 @@ impl<C: Codec> Workspace<C> {
         Ok(())
     }
 
-    /// Decodes the last touched interval where it isn't the first and keeps a sample behind the places.
+    /// Decodes the last touched interval where it isn't the first and keeps a sample behind the
+    /// places.
     fn open_last(&mut self, first: u64, stop: u64, ends: &mut Vec<i64>) -> Result<(), Fault>
         requires order { first ≤ stop }
         requires within { stop ≤ length self.old.samples }
         ensures ok { OnOk result (ends.new.items ≡ ends.old.items
             ++ last_samples (C.format self.old.codec).most first stop self.old.samples) }
         ensures fault { IfErr result (λ e. (e ≡ Memory)
-            × (opens_last (C.format self.old.codec).most (length self.old.samples) first stop ≡ true)) }
+            × (opens_last (C.format self.old.codec).most (length self.old.samples) first stop
+            ≡ true)) }
         ensures samples { self.new.samples ≡ self.old.samples }
         ensures limit { self.new.limit ≡ self.old.limit }
         ensures calls { C.called self.new.codec ≡ C.called self.old.codec }
-        ensures reads { RisesAtMost (one_if (opens_last (C.format self.old.codec).most (length self.old.samples) first stop))
+        ensures reads { RisesAtMost
+            (one_if (opens_last (C.format self.old.codec).most (length self.old.samples) first
+            stop))
             (C.read self.old.codec) (C.read self.new.codec) }
         ensures format { C.format self.new.codec ≡ C.format self.old.codec }
     {
@@ -192,7 +224,8 @@ impl<C: Codec> Workspace<C> {
 ghost use Rattle.std.specs.Prelude.{◌≡◌, ◌-◌, ◌<◌, ◌≤◌, [], length, take, drop, OnOk, IfErr};
 ghost use Rattle.aec_params.specs.declared.fault.Fault.TheVariants.{Memory};
 
-/// Keeps the first `head` items, and puts the last `tail` into another list. `Memory` where a growth was refused.
+/// Keeps the first `head` items, and puts the last `tail` into another list. `Memory` where a
+/// growth was refused.
 fn head_and_tail(
     items: &mut Vec<i64>,
     last: &mut Vec<i64>,
@@ -202,7 +235,8 @@ fn head_and_tail(
     requires tail { tail ≤ length items.old.items }
     requires empty { last.old.items ≡ [] }
     ensures head { OnOk result (items.new.items ≡ take head items.old.items) }
-    ensures tail { OnOk result (last.new.items ≡ drop (length items.old.items - tail) items.old.items) }
+    ensures tail { OnOk result
+        (last.new.items ≡ drop (length items.old.items - tail) items.old.items) }
     ensures fault { IfErr result (λ e. (e ≡ Memory) × (0 < tail)) }
 {
     last.extend_from_slice(&items[items.len() - tail..])?;

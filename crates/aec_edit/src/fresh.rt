@@ -5,8 +5,8 @@ ghost use Rattle.aec_params.specs.declared.fault.Fault.TheVariants.{Memory};
 
 use aec_params::Fault;
 
-/// Samples that are to be coded: those in front, the values, those behind them, and those of the old intervals from number
-/// `next` up to number `end`, which are still to be decoded.
+/// Samples that are to be coded: those in front, the values, those behind them, and those of the
+/// old intervals from number `next` up to number `end`, which are still to be decoded.
 #[derive(Debug, Drop)]
 pub(crate) struct Fresh<'a> {
     pub front: Vec<i64>,
@@ -17,11 +17,15 @@ pub(crate) struct Fresh<'a> {
 }
 
 impl<'a> Fresh<'a> {
-    /// Moves values and what is behind them to the front, until it holds a whole interval. `Memory` where a growth was refused.
+    /// Moves values and what is behind them to the front, until it holds a whole interval. `Memory`
+    /// where a growth was refused.
     pub fn gather_held(&mut self, most: usize) -> Result<(), Fault>
-        ensures ok { OnOk result (self.new.front.items ++ (self.new.values.now ++ self.new.back.items)
+        ensures ok { OnOk result (self.new.front.items
+            ++ (self.new.values.now ++ self.new.back.items)
             ≡ self.old.front.items ++ (self.old.values.now ++ self.old.back.items)) }
-        ensures full { OnOk result ((most ≤ length self.new.front.items) ⊎ ((self.new.values.now ≡ []) × (self.new.back.items ≡ []))) }
+        ensures full { OnOk result
+            ((most ≤ length self.new.front.items)
+            ⊎ ((self.new.values.now ≡ []) × (self.new.back.items ≡ []))) }
         ensures fault { IfErr result (λ e. e ≡ Memory) }
         ensures next { self.new.next ≡ self.old.next }
         ensures end { self.new.end ≡ self.old.end }

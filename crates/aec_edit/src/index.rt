@@ -2,8 +2,8 @@
 
 ghost use Rattle.std.specs.Prelude.{◌≡◌, ℕ, ◌+◌, ◌-◌, ◌^◌, ◌<◌, ◌≤◌, ◌++◌, length, map, take, drop, replicate, vec_len, vec_capacity, slice_index};
 
-/// Replaces the starts from number `from` up to number `to` by others, each moved on by `base`, and moves those after them from
-/// `old_end` on to `new_end` on. There is room for the new starts.
+/// Replaces the starts from number `from` up to number `to` by others, each moved on by `base`, and
+/// moves those after them from `old_end` on to `new_end` on. There is room for the new starts.
 pub fn replace_starts(
     starts: &mut Vec<u64>,
     from: usize,
@@ -22,19 +22,21 @@ pub fn replace_starts(
     requires later { (k : ℕ) → to ≤ k → k < vec_len starts.old
         → (old_end ≤ slice_index starts.old.items k) × (slice_index starts.old.items k ≤ 2 ^ 62) }
     ensures { starts.new.items ≡ take from starts.old.items
-        ++ (map (λ x. base + x) with.now ++ map (λ x. x - old_end + new_end) (drop to starts.old.items)) }
+        ++ (map (λ x. base + x) with.now
+        ++ map (λ x. x - old_end + new_end) (drop to starts.old.items)) }
 {
     move_later(starts, to, from + with.len());
     write_starts(starts.as_mut_slice(), from, with, base);
     shift_starts(starts.as_mut_slice(), from + with.len(), old_end, new_end);
 }
 
-/// Moves the starts from number `from` on to number `to`, and makes the list longer or shorter by the difference; it has room
-/// for that. Zeros and old starts stand in between.
+/// Moves the starts from number `from` on to number `to`, and makes the list longer or shorter by
+/// the difference; it has room for that. Zeros and old starts stand in between.
 fn move_later(starts: &mut Vec<u64>, from: usize, to: usize)
     requires within { from ≤ vec_len starts.old }
     requires room { to + (vec_len starts.old - from) ≤ vec_capacity starts.old }
-    ensures items { starts.new.items ≡ take to (starts.old.items ++ replicate (to - from) 0) ++ drop from starts.old.items }
+    ensures items { starts.new.items
+        ≡ take to (starts.old.items ++ replicate (to - from) 0) ++ drop from starts.old.items }
     ensures len { vec_len starts.new ≡ to + (vec_len starts.old - from) }
 {
     if from == to {
@@ -51,20 +53,23 @@ fn write_starts(starts: &mut [u64], at: usize, with: &[u64], base: u64)
     requires within { at + length with.now ≤ length starts.old }
     requires base { base ≤ 2 ^ 62 }
     requires short { (k : ℕ) → k < length with.now → slice_index with.now k ≤ 2 ^ 62 }
-    ensures { starts.new ≡ take at starts.old ++ (map (λ x. base + x) with.now ++ drop (at + length with.now) starts.old) }
+    ensures { starts.new ≡ take at starts.old
+        ++ (map (λ x. base + x) with.now ++ drop (at + length with.now) starts.old) }
 {
     for (k, start) in with.iter().enumerate() {
         starts[at + k] = base + *start;
     }
 }
 
-/// Moves the starts from number `at` on, which are at `old_end` or after it, to as far after `new_end`.
+/// Moves the starts from number `at` on, which are at `old_end` or after it, to as far after
+/// `new_end`.
 fn shift_starts(starts: &mut [u64], at: usize, old_end: u64, new_end: u64)
     requires within { at ≤ length starts.old }
     requires end { new_end ≤ 2 ^ 63 }
     requires later { (k : ℕ) → at ≤ k → k < length starts.old
         → (old_end ≤ slice_index starts.old k) × (slice_index starts.old k ≤ 2 ^ 62) }
-    ensures { starts.new ≡ take at starts.old ++ map (λ x. x - old_end + new_end) (drop at starts.old) }
+    ensures { starts.new ≡ take at starts.old
+        ++ map (λ x. x - old_end + new_end) (drop at starts.old) }
 {
     if old_end != new_end {
         add_difference(starts, at, old_end, new_end);
@@ -77,7 +82,8 @@ fn add_difference(starts: &mut [u64], at: usize, old_end: u64, new_end: u64)
     requires end { new_end ≤ 2 ^ 63 }
     requires later { (k : ℕ) → at ≤ k → k < length starts.old
         → (old_end ≤ slice_index starts.old k) × (slice_index starts.old k ≤ 2 ^ 62) }
-    ensures { starts.new ≡ take at starts.old ++ map (λ x. x - old_end + new_end) (drop at starts.old) }
+    ensures { starts.new ≡ take at starts.old
+        ++ map (λ x. x - old_end + new_end) (drop at starts.old) }
 {
     for k in at..starts.len() {
         starts[k] = starts[k] - old_end + new_end;

@@ -15,7 +15,9 @@ impl<C: Codec> Workspace<C> {
         ensures ok { OnOk result (first + len ≤ length self.now.samples) }
         ensures few { length self.now.samples ≤ self.now.limit }
         ensures bound { self.now.limit ≤ 2 ^ 32 }
-        ensures refuses { IfErr result (λ e. (length self.now.samples < first + len) × (e ≡ OutOfRange (length self.now.samples))) }
+        ensures refuses { IfErr result
+            (λ e. (length self.now.samples < first + len)
+            × (e ≡ OutOfRange (length self.now.samples))) }
     {
         let count = self.count();
         if len > count || first > count - len {
@@ -26,11 +28,13 @@ impl<C: Codec> Workspace<C> {
 
     /// Whether values can come: the limit has room for them, and they are samples.
     pub(crate) fn check_growth(&self, values: &[i64]) -> Result<(), Fault>
-        ensures ok { OnOk result (growth_refusal (C.format self.now.codec) self.now.limit self.now.samples values.now ≡ None) }
+        ensures ok { OnOk result (growth_refusal (C.format self.now.codec) self.now.limit
+            self.now.samples values.now ≡ None) }
         ensures few { OnOk result (length self.now.samples + length values.now ≤ self.now.limit) }
         ensures held { OnOk result (AreHeld (C.format self.now.codec) values.now) }
         ensures refuses { IfErr result (λ e.
-            growth_refusal (C.format self.now.codec) self.now.limit self.now.samples values.now ≡ Some e) }
+            growth_refusal (C.format self.now.codec) self.now.limit self.now.samples values.now
+            ≡ Some e) }
     {
         let limit = self.limit();
         if values.len() as u64 > limit - self.count() {
@@ -43,7 +47,8 @@ impl<C: Codec> Workspace<C> {
     pub(crate) fn check_values(&self, values: &[i64]) -> Result<(), Fault>
         ensures ok { OnOk result (values_refusal (C.format self.now.codec) values.now ≡ None) }
         ensures held { OnOk result (AreHeld (C.format self.now.codec) values.now) }
-        ensures refuses { IfErr result (λ e. values_refusal (C.format self.now.codec) values.now ≡ Some e) }
+        ensures refuses { IfErr result
+            (λ e. values_refusal (C.format self.now.codec) values.now ≡ Some e) }
     {
         match self.first_unheld(values) {
             Some(index) => Err(Fault::SampleRange { index }),

@@ -15,7 +15,8 @@ pub fn overwrites_code_what_they_touch()
     ensures { OverwritesCodeWhatTheyTouch }
 {}
 
-/// A refused edit leaves the samples, and with them their code; and but for want of memory the calls.
+/// A refused edit leaves the samples, and with them their code; and but for want of memory the
+/// calls.
 pub fn refused_edits_change_nothing()
     ensures { RefusedEditsChangeNothing }
 {}
@@ -25,7 +26,8 @@ pub fn edits_that_code_nothing_are_made()
     ensures { EditsThatCodeNothingAreMade }
 {}
 
-/// Over a run the calls rise by what the edits that were made have coded, or by more where memory was wanting.
+/// Over a run the calls rise by what the edits that were made have coded, or by more where memory
+/// was wanting.
 pub fn runs_count_their_calls()
     ensures { RunsCountTheirCalls }
 {}

@@ -12,20 +12,24 @@ impl<C: Codec> Workspace<C> {
     ghost use Rattle.aec_edit.specs.Workspace.{interval_count};
     ghost use Rattle.aec_edit.specs.Calls.{RisesAtMost, range_refusal, IsDue};
 
-    /// The `len` samples from place `first` on. `OutOfRange` exactly where one of them is past the samples, then `Memory`
-    /// where a growth was refused; a range of no samples takes no memory. Only the intervals that hold one of them are decoded,
-    /// none where the range is refused for its place.
+    /// The `len` samples from place `first` on. `OutOfRange` exactly where one of them is past the
+    /// samples, then `Memory` where a growth was refused; a range of no samples takes no memory.
+    /// Only the intervals that hold one of them are decoded, none where the range is refused for
+    /// its place.
     pub fn range(&mut self, alloc: Global, first: u64, len: u64) -> Result<Vec<i64>, Fault>
         ensures ok { IfOk result (λ v. v.items ≡ take len (drop first self.old.samples)) }
         ensures within { OnOk result (range_refusal (length self.old.samples) first len ≡ None) }
-        ensures refuses { IfErr result (λ e. IsDue (range_refusal (length self.old.samples) first len) e) }
+        ensures refuses { IfErr result
+            (λ e. IsDue (range_refusal (length self.old.samples) first len) e) }
         ensures memory { result ≡ Err Memory → 0 < len }
         ensures samples { self.new.samples ≡ self.old.samples }
         ensures limit { self.new.limit ≡ self.old.limit }
         ensures calls { C.called self.new.codec ≡ C.called self.old.codec }
-        ensures reads { RisesAtMost (length (touched_intervals (C.format self.old.codec).most first len))
+        ensures reads { RisesAtMost
+            (length (touched_intervals (C.format self.old.codec).most first len))
             (C.read self.old.codec) (C.read self.new.codec) }
-        ensures unread { length self.old.samples < first + len → C.read self.new.codec ≡ C.read self.old.codec }
+        ensures unread { length self.old.samples < first + len
+            → C.read self.new.codec ≡ C.read self.old.codec }
         ensures format { C.format self.new.codec ≡ C.format self.old.codec }
     {
         let count = self.count();
@@ -48,7 +52,8 @@ impl<C: Codec> Workspace<C> {
         requires order { from ≤ to }
         requires within { to ≤ interval_count (C.format self.old.codec) self.old.samples }
         ensures ok { OnOk result (out.new.items ≡ out.old.items
-            ++ drop (from * (C.format self.old.codec).most) (take (to * (C.format self.old.codec).most) self.old.samples)) }
+            ++ drop (from * (C.format self.old.codec).most)
+            (take (to * (C.format self.old.codec).most) self.old.samples)) }
         ensures fault { IfErr result (λ e. e ≡ Memory) }
         ensures samples { self.new.samples ≡ self.old.samples }
         ensures limit { self.new.limit ≡ self.old.limit }

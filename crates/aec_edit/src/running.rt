@@ -12,19 +12,22 @@ use aec_bits::Codec;
 use aec_params::{Edit, Fault};
 
 impl<C: Codec> Workspace<C> {
-    /// Applies edits in their order, and adds what became of each to `outcomes`: one outcome an edit. An edit that is
-    /// refused leaves samples and stream, and those after it are applied to them. `Memory` where there is no room for so
-    /// many outcomes; then nothing has been done.
+    /// Applies edits in their order, and adds what became of each to `outcomes`: one outcome an
+    /// edit. An edit that is refused leaves samples and stream, and those after it are applied to
+    /// them. `Memory` where there is no room for so many outcomes; then nothing has been done.
     #[tactic(auto, using(crate::proofs::RunLemmas::run_goes_on))]
     pub fn run(&mut self, edits: &[Edit], outcomes: &mut Vec<Outcome>) -> Result<(), Fault>
-        ensures ok { OnOk result ((done : List OutcomeOf) × (outcomes.new.items ≡ outcomes.old.items ++ done)
-            × HasRun (C.format self.old.codec) self.old.limit self.old.samples (C.called self.old.codec) (C.read self.old.codec)
+        ensures ok { OnOk result ((done : List OutcomeOf)
+            × (outcomes.new.items ≡ outcomes.old.items ++ done)
+            × HasRun (C.format self.old.codec) self.old.limit self.old.samples
+            (C.called self.old.codec) (C.read self.old.codec)
             edits.now done self.new.samples (C.called self.new.codec) (C.read self.new.codec)) }
         ensures limit { self.new.limit ≡ self.old.limit }
         ensures format { C.format self.new.codec ≡ C.format self.old.codec }
         ensures err { OnErr result (self.new ≡ self.old) }
         ensures outcomes_err { OnErr result (outcomes.new.items ≡ outcomes.old.items) }
-        ensures full { OnErr result (vec_capacity outcomes.old < vec_len outcomes.old + length edits.now) }
+        ensures full { OnErr result
+            (vec_capacity outcomes.old < vec_len outcomes.old + length edits.now) }
         ensures fault { IfErr result (λ e. e ≡ Memory) }
     {
         outcomes.reserve(edits.len())?;

@@ -1,11 +1,13 @@
-//! Lists that edits fill one after the other, so that an edit of the size of the one before asks for no memory for them.
+//! Lists that edits fill one after the other, so that an edit of the size of the one before asks
+//! for no memory for them.
 
 ghost use Rattle.std.specs.Prelude.{◌≡◌, ◌*◌, ◌≤◌, [], vec_capacity};
 
 use crate::coded::Coded;
 use std::alloc::Global;
 
-/// Empty lists with the room that the edit before has left: for fresh samples in front and behind, and for their code.
+/// Empty lists, after an accepted edit with the room that it has left: for fresh samples in front
+/// and behind, and for their code.
 #[derive(Debug, Drop)]
 pub(crate) struct Scratch {
     pub front: Vec<i64>,
@@ -28,7 +30,8 @@ impl Scratch {
         }
     }
 
-    /// These lists, emptied. Those that are longer than edits of two intervals of `most` samples need are let go.
+    /// These lists, emptied. Those that are longer than edits of two intervals of `most` samples
+    /// need are let go.
     pub fn of(alloc: Global, front: Vec<i64>, back: Vec<i64>, coded: Coded, most: usize) -> Scratch
         requires { most ≤ 262144 }
         ensures front { vec_capacity result.front ≤ 2 * most }

@@ -17,10 +17,11 @@ pub struct Stop {
 }
 
 impl<C: Codec> Workspace<C> {
-    /// Applies edits in their order, and ends with the first that is refused: those before it are made, and those behind it are not
-    /// tried. Edits that code no interval take no memory.
+    /// Applies edits in their order, and ends with the first that is refused: those before it are
+    /// made, and those behind it are not tried. Edits that code no interval take no memory.
     pub fn run_until_refused(&mut self, edits: &[Edit]) -> Result<(), Stop>
-        ensures run { StopsAtRefusal (C.format self.old.codec) self.old.limit self.old.samples (C.called self.old.codec) (C.read self.old.codec)
+        ensures run { StopsAtRefusal (C.format self.old.codec) self.old.limit self.old.samples
+            (C.called self.old.codec) (C.read self.old.codec)
             edits.now result self.new.samples (C.called self.new.codec) (C.read self.new.codec) }
         ensures limit { self.new.limit ≡ self.old.limit }
         ensures format { C.format self.new.codec ≡ C.format self.old.codec }

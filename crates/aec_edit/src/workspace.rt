@@ -14,8 +14,8 @@ use aec_params::Fault;
 use std::alloc::Global;
 use std::marker::Model;
 
-/// Samples, kept as their code and the places where its intervals begin. The samples themselves aren't kept: between edits the scratch
-/// is empty, and keeps its room alone.
+/// Samples, kept as their code and the places where its intervals begin. The samples themselves
+/// aren't kept: between edits the scratch is empty, and keeps its room alone.
 #[derive(Debug, Drop)]
 pub struct Workspace<C: Codec> {
     coded: Coded,
@@ -33,13 +33,15 @@ impl<C: Codec> Model for Workspace<C> {
 
     ghost Value = { Contents C };
 
-    ghost view = { λ w. record { samples = kept_samples w.written; limit = w.limit; codec = w.codec } };
+    ghost view = { λ w.
+        record { samples = kept_samples w.written; limit = w.limit; codec = w.codec } };
 
-    ghost invariant = { λ w. (w.coded.count ≤ w.limit) × (w.limit ≤ 2 ^ 32) × (C.read w.codec ≤ 2 ^ 64 - 1) };
+    ghost invariant = { λ w.
+        (w.coded.count ≤ w.limit) × (w.limit ≤ 2 ^ 32) × (C.read w.codec ≤ 2 ^ 64 - 1) };
 }
 
 impl<C: Codec> Workspace<C> {
-    ghost use Rattle.std.specs.Prelude.{◌≡◌, ◌<◌, ◌≤◌, ◌^◌, [], length, MatchOption, OnOk, OnErr, IfErr};
+    ghost use Rattle.std.specs.Prelude.{◌≡◌, ◌+◌, ◌<◌, ◌≤◌, ◌^◌, [], length, MatchOption, OnOk, OnErr, IfErr};
     ghost use Rattle.std.specs.Io.KnownBytes.{Appends};
     ghost use Rattle.aec_params.specs.declared.fault.Fault.TheVariants.{Memory, Write as WriteFault};
     ghost use Rattle.aec_params.specs.Codewords.{bytes_of};
@@ -64,11 +66,11 @@ impl<C: Codec> Workspace<C> {
         }
     }
 
-    /// Takes room for so many more bits of code, and for the starts of so many more intervals. `Memory` where it is refused. Nothing
-    /// that is kept changes.
+    /// Takes room for so many more bits of code, and for the starts of so many more intervals.
+    /// `Memory` where it is refused. Nothing that is kept changes.
     pub fn reserve(&mut self, bits: u64, intervals: u64) -> Result<(), Fault>
         ensures same { self.new ≡ self.old }
-        ensures fault { IfErr result (λ e. e ≡ Memory) }
+        ensures fault { IfErr result (λ e. (e ≡ Memory) × (0 < bits + intervals)) }
     {
         self.coded.reserve(bits, intervals)
     }
@@ -97,8 +99,8 @@ impl<C: Codec> Workspace<C> {
         self.coded.bits.len()
     }
 
-    /// The bit where interval `i` begins in the code, which is the number of bits in the code of the samples before it. `None`
-    /// where there is no such interval.
+    /// The bit where interval `i` begins in the code, which is the number of bits in the code of
+    /// the samples before it. `None` where there is no such interval.
     pub fn offset(&self, i: u64) -> Option<u64>
         ensures { MatchOption result
             (interval_count (C.format self.now.codec) self.now.samples ≤ i)
@@ -126,8 +128,9 @@ impl<C: Codec> Workspace<C> {
         self.codec.reads()
     }
 
-    /// Appends the bytes that the code of the samples fills to what the sink has taken; zeros fill the last one. `Write` where
-    /// the sink fails, which has then taken the front of these bytes. Takes no memory, and doesn't call `begin`.
+    /// Appends the bytes that the code of the samples fills to what the sink has taken; zeros fill
+    /// the last one. `Write` where the sink fails, which has then taken the front of these bytes.
+    /// Takes no memory, and doesn't call `begin`.
     pub fn write_to<W: Sink>(&self, out: &mut W) -> Result<(), Fault>
         ensures ok { OnOk result (Appends (W.taken out.old) (W.taken out.new)
             (bytes_of (code_of (C.format self.now.codec) self.now.samples))) }
@@ -138,7 +141,8 @@ impl<C: Codec> Workspace<C> {
         ensures fault { IfErr result (λ e. (e ≡ WriteFault) × (W.failed out.new ≡ 1)) }
         ensures failures { OnOk result (W.failed out.new ≡ W.failed out.old) }
         ensures refuses { OnOk result
-            (0 < length (code_of (C.format self.now.codec) self.now.samples) → W.failed out.old ≡ 0) }
+            (0 < length (code_of (C.format self.now.codec) self.now.samples)
+            → W.failed out.old ≡ 0) }
     {
         self.coded.bits.write_to(out)
     }

@@ -1,7 +1,6 @@
 -- How often an append calls the coder at most, and that each edit of a script has a line.
-use Rattle.std.proofs.Common.{◌≡◌, ℕ, zero, suc, ◌+◌, ◌-◌, ◌*◌, ◌/◌, ◌%◌, ◌<◌, ◌≤◌, ◌==◌, ◌↔◌, eqb, min, cond, ℤ, List, [], ◌∷◌, ◌++◌, length, refl, ap, ◌∙◌, arith}
+use Rattle.std.proofs.Common.{◌≡◌, ℕ, zero, suc, ◌+◌, ◌-◌, ◌*◌, ◌/◌, ◌%◌, ◌<◌, ◌≤◌, ◌↔◌, eqb, min, cond, ℤ, List, ◌++◌, length, ap, ◌∙◌, arith}
 use Rattle.std.specs.Int.{div_ceil}
-use Rattle.std.specs.List.{slice_split}
 use Rattle.std.proofs.lemmas.Bool.{cond-false, ne_eqb}
 use Rattle.std.proofs.lemmas.List.{length-append}
 use Rattle.std.proofs.lemmas.Nat.{le-div}
@@ -9,8 +8,6 @@ use Rattle.std.proofs.Math.Nat.{div-lt_iff_lt-mul, lt-div-mul-add, div-mul-le_se
 use Rattle.aec_params.specs.declared.edit.Edit.TheVariants.{Append}
 use Rattle.aec_params.specs.Edits.{touched_intervals, needed_calls}
 use Rattle.aec_params.proofs.EditLaws.{length-touched_intervals, needed_calls-append}
-use Rattle.aec_engine.specs.Numerals.{Text}
-use Rattle.aec_engine.specs.Scripts.{Meaning, nothing, change, unknown, meaning_of, Listing, listed, listing_from, listing_of}
 
 -- ---- calls of an append
 
@@ -62,23 +59,9 @@ lengths-joined n old (suc a) (suc b) some whole =
     let same : old + suc a + suc b ≡ old + (suc a + suc b) = omega arith in
     omega (arith, both, first, second, ap (λ k. div_ceil k n) same, ap (min 1) whole)
 
--- two appends call the coder as often as one of all values, where the first one ends where an interval does
+-- two appends call the coder as often as one of all values, where the first one ends where an
+-- interval does
 pub append_calls-joined : (n old : ℕ) (a b : List ℤ) → 0 < n → (old + length a) % n ≡ 0
     → needed_calls n old (Append (a ++ b)) ≡ needed_calls n old (Append a) + needed_calls n (old + length a) (Append b)
 append_calls-joined n old a b some whole =
     ap (λ len. cond (eqb len 0) 0 (div_ceil (old + len) n - old / n)) (length-append a b) ∙ lengths-joined n old (length a) (length b) some whole
-
--- ---- lines
-
-same-listed : (n : ℕ) (m : Meaning) (rest : Listing) → length rest.edits ≡ length rest.lines → length (listed n m rest).edits ≡ length (listed n m rest).lines
-same-listed n nothing rest same = same
-same-listed n (change e) rest same = omega (arith, same)
-same-listed n unknown rest same = refl
-
-same-lines : (n : ℕ) (lines : List Text) → length (listing_from n lines).edits ≡ length (listing_from n lines).lines
-same-lines n [] = refl
-same-lines n (line ∷ lines) = same-listed n (meaning_of line) (listing_from (n + 1) lines) (same-lines (n + 1) lines)
-
--- each edit has a line
-pub script-lines : (text : Text) → length (listing_of text).edits ≡ length (listing_of text).lines
-script-lines text = same-lines 1 (slice_split (λ byte. byte == 10) text)

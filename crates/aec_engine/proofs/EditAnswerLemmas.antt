@@ -15,7 +15,7 @@ use Rattle.aec_engine.specs.declared.scripts.EditFault.TheVariants.{Plain}
 use Rattle.aec_engine.specs.Transfers as transfers
 use Rattle.aec_engine.specs.Transfers.{Input, Taking, are_past, IsTakenWhole, RefusesIntake, Putting, IsBegunFirst, answer_of, GivesAnswer, given}
 use Rattle.aec_engine.specs.Output.{IsDecoded, GaveSamples}
-use Rattle.aec_engine.specs.Scripts.{listing_of}
+use Rattle.aec_engine.specs.Scripts.{Listing, listing_of}
 use Rattle.aec_engine.specs.Editing.{Left, edits_left, first_calls, Recoded, not_decoded, not_edited, edited, GaveBoth, GivesEdited, script_refused, answered, lacks_memory, lacks_memory_on, LeavesRecoded, written, refused, not_written}
 use Rattle.aec_engine.specs.EditingSteps as steps
 use Rattle.aec_engine.specs.EditingSteps.{GaveScript, RefusesScript, no_memory, no_edits, StopsEditing, misfit, recoded_of, SettlesRecoded, settled, not_begun, stopped}
@@ -46,32 +46,31 @@ gives_no_script view r e f s caps count from left failed is same refuses =
     gives_err view r e (Plain f) s caps count from (taking left left failed) is same
     (no_script_answer s caps count from (taking left left failed) f (Keeps-same left) refuses)
 
-no_source_answer : (s : Settings) (caps : Caps) (count : Option ℕ) (from source : Taking) (edits : List Edit) (lines : List ℕ) (answer : Result
+no_source_answer : (s : Settings) (caps : Caps) (count : Option ℕ) (from source : Taking) (read : Listing) (answer : Result
     (List ℕ) Fault) (fault : Fault)
-    → answer ≡ Err fault → GaveScript from caps.bytes edits lines → GivesAnswer (IsDecoded s caps count) source (are_past caps.bytes) answer
+    → answer ≡ Err fault → GaveScript from caps.bytes read → GivesAnswer (IsDecoded s caps count) source (are_past caps.bytes) answer
     → GivesEdited s caps count from source (Err (Plain fault))
-no_source_answer s caps count from source edits lines answer fault is script (given input a gave is_answer) =
+no_source_answer s caps count from source read answer fault is script (given input a gave is_answer) =
     answered script.script input (Err (Plain fault)) (record { gave_script = script.gave; sound = script.sound; gave_input = gave })
     (not_decoded fault script.sound (subst (IsDecoded s caps count input) is is_answer))
-no_source_answer s caps count from source edits lines answer fault is script transfers.lacks_memory =
+no_source_answer s caps count from source read answer fault is script transfers.lacks_memory =
     let memory : Memory ≡ fault = cc in subst (λ fault. GivesEdited s caps count from source (Err (Plain fault))) memory lacks_memory
 
 gives_no_source : {X : Type 0} (view : X → Recoded) (r : Result X EditFault) (e : EditFault) (f : Fault) (s : Settings) (caps : Caps)
     (count : Option ℕ) (from source : Taking)
-    (edits : List Edit) (lines : List ℕ) → r ≡ Err e → e ≡ Plain f → GaveScript from caps.bytes edits lines
+    (read : Listing) → r ≡ Err e → e ≡ Plain f → GaveScript from caps.bytes read
     → GivesAnswer (IsDecoded s caps count) source (are_past caps.bytes) (Err f) → GivesEdited s caps count from source (answer_of view r)
-gives_no_source view r e f s caps count from source edits lines is same script gives =
-    gives_err view r e (Plain f) s caps count from source is same (no_source_answer s caps count from source edits lines (Err f) f refl script gives)
+gives_no_source view r e f s caps count from source read is same script gives =
+    gives_err view r e (Plain f) s caps count from source is same (no_source_answer s caps count from source read (Err f) f refl script gives)
 
 -- ---- the edits
 
-stopped_answer : (s : Settings) (caps : Caps) (count : Option ℕ) (from source : Taking) (edits : List Edit) (lines : List ℕ) (samples : List ℤ)
-    (fault : EditFault) → GaveScript from caps.bytes edits lines → GaveSamples s caps count source samples
-    → StopsEditing (interval_format s) caps.samples (first_calls (interval_format s) samples) samples edits lines fault
+stopped_answer : (s : Settings) (caps : Caps) (count : Option ℕ) (from source : Taking) (read : Listing) (samples : List ℤ)
+    (fault : EditFault) → GaveScript from caps.bytes read → GaveSamples s caps count source samples
+    → StopsEditing (interval_format s) caps.samples (first_calls (interval_format s) samples) samples read.edits read.lines fault
     → GivesEdited s caps count from source (Err fault)
-stopped_answer s caps count from source edits lines samples fault script gave stops =
-    by_why fault (subst (λ es. Stops es (listing_of script.script.bytes).lines fault) script.edits_are
-    (subst (λ ns. Stops edits ns fault) script.lines_are stops))
+stopped_answer s caps count from source read samples fault script gave stops =
+    by_why fault (subst (λ (read : Listing). Stops read.edits read.lines fault) script.read_is stops)
   where
     Stops : List Edit → List ℕ → EditFault → Type 0
     Stops es ns why = StopsEditing (interval_format s) caps.samples (first_calls (interval_format s) samples) samples es ns why
@@ -84,16 +83,15 @@ stopped_answer s caps count from source edits lines samples fault script gave st
     by_why why (misfit f is) = answered script.script gave.input (Err f) both (not_edited samples f script.sound gave.read is)
     by_why why (steps.lacks_memory line lacks) = lacks_memory_on script.script gave.input samples line both gave.read lacks
 
-edited_answer : (s : Settings) (caps : Caps) (count : Option ℕ) (from source : Taking) (edits : List Edit) (lines : List ℕ) (samples : List ℤ)
-    (left : Left) → GaveScript from caps.bytes edits lines → GaveSamples s caps count source samples
-    → edits_left (interval_format s) caps.samples (first_calls (interval_format s) samples) samples edits lines ≡ Ok left
+edited_answer : (s : Settings) (caps : Caps) (count : Option ℕ) (from source : Taking) (read : Listing) (samples : List ℤ)
+    (left : Left) → GaveScript from caps.bytes read → GaveSamples s caps count source samples
+    → edits_left (interval_format s) caps.samples (first_calls (interval_format s) samples) samples read.edits read.lines ≡ Ok left
     → GivesEdited s caps count from source (Ok (recoded_of (interval_format s) left.samples left.calls))
-edited_answer s caps count from source edits lines samples left script gave is =
+edited_answer s caps count from source read samples left script gave is =
     answered script.script gave.input (Ok (recoded_of (interval_format s) left.samples left.calls))
     (record { gave_script = script.gave; sound = script.sound; gave_input = gave.gave })
     (edited samples left script.sound gave.read
-    (subst (λ es. edits_left f caps.samples first samples es (listing_of script.script.bytes).lines ≡ Ok left) script.edits_are
-    (subst (λ ns. edits_left f caps.samples first samples edits ns ≡ Ok left) script.lines_are is)))
+    (subst (λ (read : Listing). edits_left f caps.samples first samples read.edits read.lines ≡ Ok left) script.read_is is))
   where
     f : Format
     f = interval_format s
@@ -104,35 +102,36 @@ edited_answer s caps count from source edits lines samples left script gave is =
 -- ---- bits
 
 gives_taken : (s : Settings) (caps : Caps) (count : Option ℕ) (from : Taking) (before after : Option (List ℕ)) (failures : ℕ) (bytes : List ℕ)
-    (edits : List Edit) (lines : List ℕ) (answer : Result Recoded EditFault) → GaveScript from caps.bytes edits lines
-    → IsTakenWhole before after failures caps.bytes bytes → EditsBits s caps count (bits_of_bytes bytes) edits lines answer
+    (read : Listing) (answer : Result Recoded EditFault) → GaveScript from caps.bytes read
+    → IsTakenWhole before after failures caps.bytes bytes → EditsBits s caps count (bits_of_bytes bytes) read answer
     → GivesEdited s caps count from (taking before after failures) answer
-gives_taken s caps count from before after failures bytes edits lines answer script taken (not_read fault refuses) =
-    no_source_answer s caps count from (taking before after failures) edits lines (Err fault) fault refl script
+gives_taken s caps count from before after failures bytes read answer script taken (not_read fault refuses) =
+    no_source_answer s caps count from (taking before after failures) read (Err fault) fault refl script
     (refused_decoding s caps count before after failures bytes fault taken refuses)
-gives_taken s caps count from before after failures bytes edits lines answer script taken lacks_room = lacks_memory
-gives_taken s caps count from before after failures bytes edits lines answer script taken (early.stopped samples fault none reading stops) =
-    stopped_answer s caps count from (taking before after failures) edits lines samples fault script
+gives_taken s caps count from before after failures bytes read answer script taken lacks_room = lacks_memory
+gives_taken s caps count from before after failures bytes read answer script taken (early.stopped samples fault none reading stops) =
+    stopped_answer s caps count from (taking before after failures) read samples fault script
     (read_samples s caps count before after failures bytes samples taken none reading) stops
-gives_taken s caps count from before after failures bytes edits lines answer script taken (early.made samples left none reading is) =
-    edited_answer s caps count from (taking before after failures) edits lines samples left script
+gives_taken s caps count from before after failures bytes read answer script taken (early.made samples left none reading is) =
+    edited_answer s caps count from (taking before after failures) read samples left script
     (read_samples s caps count before after failures bytes samples taken none reading) is
 
 pub gives_bits : (s : Settings) (caps : Caps) (count : Option ℕ) (from : Taking) (before after : Option (List ℕ)) (failures limit : ℕ) (bits : List Bool)
-    (edits : List Edit) (lines : List ℕ) (answer : Result Recoded EditFault) → limit ≡ caps.bytes → GaveScript from caps.bytes edits lines
-    → GaveWhole before after failures limit bits → EditsBits s caps count bits edits lines answer
+    (text read : List ℕ) (answer : Result Recoded EditFault) → limit ≡ caps.bytes → read ≡ text → GaveScript from caps.bytes (listing_of text)
+    → GaveWhole before after failures limit bits → EditsBits s caps count bits (listing_of read) answer
     → GivesEdited s caps count from (taking before after failures) answer
-gives_bits s caps count from before after failures limit bits edits lines answer limited script gave answers =
-    gives_taken s caps count from before after failures gave.bytes edits lines answer script
+gives_bits s caps count from before after failures limit bits text read answer limited same script gave answers =
+    gives_taken s caps count from before after failures gave.bytes (listing_of text) answer script
     (subst (λ limit. IsTakenWhole before after failures limit gave.bytes) limited gave.taken)
-    (subst (λ bits. EditsBits s caps count bits edits lines answer) gave.spelled answers)
+    (subst (λ bits. EditsBits s caps count bits (listing_of text) answer) gave.spelled
+    (subst (λ text. EditsBits s caps count bits (listing_of text) answer) same answers))
 
 pub gives_no_bits : {X : Type 0} (view : X → Recoded) (r : Result X EditFault) (e : EditFault) (f : Fault) (s : Settings) (caps : Caps)
-    (count : Option ℕ) (from : Taking) (before after : Option (List ℕ)) (failures limit : ℕ) (edits : List Edit) (lines : List ℕ)
-    → r ≡ Err e → e ≡ Plain f → limit ≡ caps.bytes → GaveScript from caps.bytes edits lines → RefusesIntake before after failures limit f
+    (count : Option ℕ) (from : Taking) (before after : Option (List ℕ)) (failures limit : ℕ) (read : Listing)
+    → r ≡ Err e → e ≡ Plain f → limit ≡ caps.bytes → GaveScript from caps.bytes read → RefusesIntake before after failures limit f
     → GivesEdited s caps count from (taking before after failures) (answer_of view r)
-gives_no_bits view r e f s caps count from before after failures limit edits lines is same limited script refuses =
-    gives_no_source view r e f s caps count from (taking before after failures) edits lines is same script
+gives_no_bits view r e f s caps count from before after failures limit read is same limited script refuses =
+    gives_no_source view r e f s caps count from (taking before after failures) read is same script
     (refused_intake s caps count before after failures f (subst (λ limit. RefusesIntake before after failures limit f) limited refuses))
 
 -- ---- what is left in the sink

@@ -1,8 +1,8 @@
 -- Edits of a script that were made one after the other, up to the first that is refused.
-use Rattle.std.proofs.Common.{◌≡◌, ℕ, ◌+◌, ◌-◌, ◌<◌, ◌≤◌, inl, inr, Option, Some, None, Result, Ok, Err, ℤ, List, [], ◌∷◌, ◌++◌, length, take, drop, slice_index, refl, sym, ap, ◌∙◌, subst, arith}
+use Rattle.std.proofs.Common.{◌≡◌, ℕ, ◌+◌, ◌<◌, ◌≤◌, inl, inr, Option, Some, None, Result, Ok, Err, ℤ, List, [], ◌∷◌, ◌++◌, length, slice_index, refl, sym, ap, ◌∙◌, subst, arith}
 use Rattle.std.specs.Prelude.{MatchOption}
 use Rattle.std.specs.Option.{option_map_or}
-use Rattle.std.proofs.lemmas.List.{length-append, length-drop, take_all}
+use Rattle.std.proofs.lemmas.List.{length-append}
 use Rattle.aec_params.specs.declared.fault.Fault.{Fault}
 use Rattle.aec_params.specs.declared.edit.Edit.{Edit}
 use Rattle.aec_params.specs.Edits.{samples_after, needed_calls}
@@ -123,10 +123,6 @@ carried-stops f limit calls reads after reads_after s left given edits lines r s
 
     inside : length before < length lines
     inside = omega (arith, ap length split, ap length same, length-append before (e ∷ behind), enough)
-
--- what is behind a place
-pub rest_is : {X : Type 0} (place : ℕ) (given items : List X) → given ≡ items → take (length given - place) (drop place given) ≡ drop place items
-rest_is place given items same = take_all (length given - place) (drop place given) (omega (arith, length-drop place given)) ∙ ap (drop place) same
 
 -- the edit that is refused stands among those that were given
 pub stop-within : (f : Format) (limit calls reads after reads_after : ℕ) (s left : List ℤ) (given : List Edit) (r : Result (Unit {0}) Stop) (stop : Stop)

@@ -110,7 +110,7 @@ short_enough limit bytes sound = by_length (nat_lt limit (length bytes)) refl so
     by_length true e why = absurd (cc)
     by_length false e why = ltb-false limit (length bytes) e
 
-reading_of : (s : Settings) (caps : Caps) (count : Option ℕ) (coded bytes : List ℕ) (answer : Result (List ℕ) Fault) → answer ≡ Ok bytes
+pub reading_of : (s : Settings) (caps : Caps) (count : Option ℕ) (coded bytes : List ℕ) (answer : Result (List ℕ) Fault) → answer ≡ Ok bytes
     → IsDecoded s caps count (input_of coded false) answer → IsStoredReadingOf s caps count coded bytes
 reading_of s caps count coded bytes answer is (not_taken fault why) = absurd (cc)
 reading_of s caps count coded bytes answer is (output.not_counted fault taken above) = absurd (cc)
@@ -123,7 +123,7 @@ reading_of s caps count coded bytes answer is (decoded samples read) = record {
 }
 reading_of s caps count coded bytes answer is (output.faulty fault taken within wrong) = absurd (cc)
 
-refusal_of : (s : Settings) (caps : Caps) (count : Option ℕ) (coded : List ℕ) (answer : Result (List ℕ) Fault) (fault : Fault) → answer ≡ Err fault
+pub refusal_of : (s : Settings) (caps : Caps) (count : Option ℕ) (coded : List ℕ) (answer : Result (List ℕ) Fault) (fault : Fault) → answer ≡ Err fault
     → IsDecoded s caps count (input_of coded false) answer → RefusesCoded s caps count coded fault
 refusal_of s caps count coded answer fault is (not_taken f why) = by_length (nat_lt caps.bytes (length coded)) refl why
   where

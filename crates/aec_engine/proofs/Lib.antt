@@ -26,3 +26,6 @@ pub mod EditAnswerLemmas
 pub mod OneEditLemmas
 pub mod EditFrontLemmas
 pub mod EditedStreamLemmas
+pub mod FillLemmas
+pub mod BufferLemmas
+pub mod RangeBufferLemmas

@@ -1,5 +1,6 @@
--- Samples of coded bits that are appended to a workspace interval by interval, with edits made meanwhile.
-use Rattle.std.proofs.Common.{◌≡◌, ◌⊎◌, inl, inr, ℕ, ◌+◌, ◌-◌, ◌*◌, ◌/◌, ◌%◌, ◌^◌, ◌<◌, ◌≤◌, Bool, true, false, if◌then◌else◌, IsTrue, Option, Some, None, Result, Ok, Err, IfErr, ℤ, List, [], ◌∷◌, ◌++◌, length, drop, refl, sym, ap, ap₂, ◌∙◌, subst, arith, append_assoc}
+-- Samples of coded bits that are appended to a workspace interval by interval, with edits made
+-- meanwhile.
+use Rattle.std.proofs.Common.{◌≡◌, ◌⊎◌, inl, inr, ℕ, ◌+◌, ◌-◌, ◌*◌, ◌/◌, ◌%◌, ◌^◌, ◌<◌, ◌≤◌, Bool, true, false, if◌then◌else◌, IsTrue, Option, Some, None, Result, Ok, Err, IfErr, ℤ, List, [], ◌∷◌, ◌++◌, length, refl, sym, ap, ap₂, ◌∙◌, subst, arith, append_assoc}
 use Rattle.std.specs.Prelude.{MatchOption, nat_lt, ◌&&◌}
 use Rattle.std.specs.List.{AllByRecursion, list_all}
 use Rattle.std.specs.Option.{option_or}
@@ -9,7 +10,6 @@ use Rattle.std.proofs.Math.Nat.{mul-mod_left, zero-mod}
 use Rattle.aec_params.specs.declared.settings.Settings.{Settings}
 use Rattle.aec_params.specs.declared.fault.Fault.{Fault}
 use Rattle.aec_params.specs.declared.fault.Fault.TheVariants.{Memory, Spent, TooManySamples}
-use Rattle.aec_params.specs.declared.edit.Edit.{Edit}
 use Rattle.aec_params.specs.declared.edit.Edit.TheVariants.{Append}
 use Rattle.aec_params.specs.Limits.{Caps}
 use Rattle.aec_params.specs.Params.{IsAllowed, IsHeld, is_held, interval_len}
@@ -28,6 +28,7 @@ use Rattle.aec_interval.proofs.PieceReadingLemmas.{has_read_nothing, has_read_mo
 use Rattle.aec_engine.specs.declared.scripts.EditFault.{EditFault}
 use Rattle.aec_engine.specs.declared.scripts.EditFault.TheVariants.{Plain}
 use Rattle.aec_engine.specs.Transfers.{answer_of}
+use Rattle.aec_engine.specs.Scripts.{Listing}
 use Rattle.aec_engine.specs.Editing.{left_of, edits_left, first_calls, Recoded}
 use Rattle.aec_engine.specs.EditingSteps.{StopsEditing, recoded_of}
 use Rattle.aec_engine.specs.EarlyEdits as early
@@ -53,7 +54,7 @@ kept-within s limit bits i b (c ∷ sets) j e leads within =
     kept-within s limit bits (next_block s i c) (next_begin s bits i b c) sets j e leads.4 (leb-true (next_block s i c * s.block_size) limit leads.3)
 
 -- no more samples are read than the limit allows
-read-within : (s : Settings) (limit : ℕ) (bits : List Bool) (count : Option ℕ) (samples : List ℤ) → IsAllowed s → count_refusal limit count ≡ None
+pub read-within : (s : Settings) (limit : ℕ) (bits : List Bool) (count : Option ℕ) (samples : List ℤ) → IsAllowed s → count_refusal limit count ≡ None
     → IsReading s count limit bits samples → length samples ≤ limit
 read-within s limit bits (Some n) samples allowed within reading =
     omega (arith, (readings_are_samples s limit bits allowed).counted n samples reading, below (nat_lt limit n) refl within)
@@ -73,10 +74,9 @@ read-within s limit bits None samples allowed within reading =
 same_reading : (start p : Place) (xs : List ℤ) → p ≡ place_from start p.block p.bit → AreSamplesOf start xs → IsReading p.settings p.count p.limit p.bits xs
 same_reading start p xs same given = subst (λ (p : Place). IsReading p.settings p.count p.limit p.bits xs) (sym same) given.reading
 
--- The samples up to a place were appended, and edits made meanwhile: the front is what was read, and `made` is how often these edits
--- called the coder.
-pub record LoadsSoFar (start p : Place) (f : Format) (limit : ℕ) (edits : List Edit) (lines : List ℕ) (next : ℕ) (w : List ℤ) (called : ℕ)
-    : Type 0 where
+-- The samples up to a place were appended, and edits made meanwhile: the front is what was read,
+-- and `made` is how often these edits called the coder.
+pub record LoadsSoFar (start p : Place) (f : Format) (limit : ℕ) (script ahead : Listing) (w : List ℤ) (called : ℕ) : Type 0 where
   pub front : List ℤ
   pub made : ℕ
   pub read : HasRead p front
@@ -87,11 +87,11 @@ pub record LoadsSoFar (start p : Place) (f : Format) (limit : ℕ) (edits : List
   pub counted : called ≡ first_calls f front + made
   pub spare : made ≤ 2 ^ 62 + 2 ^ 32
   pub leads : (xs rest : List ℤ) → xs ≡ front ++ rest → first_calls f xs ≤ 2 ^ 32
-      → LeadsToEdits f limit (left_of xs (first_calls f xs)) edits lines (left_of (w ++ rest) (first_calls f xs + made)) (drop next edits) (drop next lines)
+      → LeadsToEdits f limit (left_of xs (first_calls f xs)) script (left_of (w ++ rest) (first_calls f xs + made)) ahead
 
-pub loads_none : (start : Place) (f : Format) (limit : ℕ) (edits : List Edit) (lines : List ℕ) (w : List ℤ) (called : ℕ) → w ≡ [] → called ≡ 0
-    → start.block ≡ 0 → start.bit ≡ 0 → LoadsSoFar start start f limit edits lines 0 w called
-loads_none start f limit edits lines w called none uncalled block bit = record {
+pub loads_none : (start : Place) (f : Format) (limit : ℕ) (script : Listing) (w : List ℤ) (called : ℕ) → w ≡ [] → called ≡ 0
+    → start.block ≡ 0 → start.bit ≡ 0 → LoadsSoFar start start f limit script script w called
+loads_none start f limit script w called none uncalled block bit = record {
   front = [];
   made = 0;
   read = subst (λ p. HasRead p []) (sym at_start) (has_read_nothing start.settings start.count start.limit start.bits);
@@ -101,8 +101,8 @@ loads_none start f limit edits lines w called none uncalled block bit = record {
   len = ap length none;
   counted = uncalled;
   spare = omega arith;
-  leads = λ xs rest is low. subst (λ to. LeadsToEdits f limit (left_of xs (first_calls f xs)) edits lines to edits lines)
-      (ap₂ left_of (is ∙ ap (λ w. w ++ rest) (sym none)) (omega arith)) (leads-nowhere f limit (left_of xs (first_calls f xs)) edits lines);
+  leads = λ xs rest is low. subst (λ to. LeadsToEdits f limit (left_of xs (first_calls f xs)) script to script)
+      (ap₂ left_of (is ∙ ap (λ w. w ++ rest) (sym none)) (omega arith)) (leads-nowhere f limit (left_of xs (first_calls f xs)) script);
 }
   where
     at_start : start ≡ place_from start 0 0
@@ -116,13 +116,13 @@ whole n k len is = ap (λ m. m % n) zero_more ∙ mul-mod_left k n
     zero_more = omega (arith, is)
 
 -- the samples of one more interval, and more edits
-pub loads_more : (start p q : Place) (f g h : Format) (limit most more : ℕ) (edits : List Edit) (lines : List ℕ) (next last : ℕ)
+pub loads_more : (start p q : Place) (f g h : Format) (limit most more : ℕ) (script ahead last : Listing)
     (w ys zs mid left : List ℤ) (called coded between after : ℕ) → IsAllowed start.settings → g ≡ f → h ≡ f → more ≡ limit
-    → f ≡ interval_format start.settings → LoadsSoFar start p f limit edits lines next w called → ReadsInterval p ys q → q.block < 2 ^ 34
+    → f ≡ interval_format start.settings → LoadsSoFar start p f limit script ahead w called → ReadsInterval p ys q → q.block < 2 ^ 34
     → (is_wanted_at q ≡ true → q.block % q.settings.interval ≡ 0) → 0 < g.most → zs ≡ ys → mid ≡ w ++ zs
-    → IsAccepted g most w called (Append zs) coded between → CarriesEarly h more edits lines next mid between last left after
-    → LoadsSoFar start q f limit edits lines last left after
-loads_more start p q f g h limit most more edits lines next last w ys zs mid left called coded between after a format still limited is so_far step few begins some same appended accepted carries =
+    → IsAccepted g most w called (Append zs) coded between → CarriesEarly h more ahead mid between last left after
+    → LoadsSoFar start q f limit script last left after
+loads_more start p q f g h limit most more script ahead last w ys zs mid left called coded between after a format still limited is so_far step few begins some same appended accepted carries =
     record {
       front = so_far.front ++ ys;
       made = so_far.made + carried.made;
@@ -134,12 +134,11 @@ loads_more start p q f g h limit most more edits lines next last w ys zs mid lef
       counted = omega (arith, carried.counted, taken);
       spare = spare carried.few;
       leads = λ xs rest split low.
-          leads-on f limit (left_of xs (first_calls f xs)) (left_of (mid ++ rest) (first_calls f xs + so_far.made)) _ edits (drop next edits) (drop last edits)
-          lines (drop next lines) (drop last lines) (subst (λ s. LeadsToEdits f limit (left_of xs (first_calls f xs)) edits lines
-          (left_of s (first_calls f xs + so_far.made)) (drop next edits) (drop next lines)) (behind rest)
+          leads-on f limit (left_of xs (first_calls f xs)) (left_of (mid ++ rest) (first_calls f xs + so_far.made)) _ script ahead last
+          (subst (λ s. LeadsToEdits f limit (left_of xs (first_calls f xs)) script (left_of s (first_calls f xs + so_far.made)) ahead) (behind rest)
           (so_far.leads xs (ys ++ rest) (split ∙ append_assoc so_far.front ys rest) low))
-          (subst (λ k. LeadsToEdits f limit (left_of (mid ++ rest) (first_calls f xs + so_far.made)) (drop next edits) (drop next lines)
-          (left_of (left ++ rest) k) (drop last edits) (drop last lines)) (omega arith)
+          (subst (λ k. LeadsToEdits f limit (left_of (mid ++ rest) (first_calls f xs + so_far.made)) ahead
+          (left_of (left ++ rest) k) last) (omega arith)
           (carried.leads rest (first_calls f xs + so_far.made) (omega (arith, low, so_far.spare))));
     }
   where
@@ -149,9 +148,9 @@ loads_more start p q f g h limit most more edits lines next last w ys zs mid lef
     allowed : IsAllowed p.settings
     allowed = subst IsAllowed (sym settings) a
 
-    carried : CarriesEarly f limit edits lines next mid between last left after
-    carried = subst (λ h. CarriesEarly h limit edits lines next mid between last left after) still
-        (subst (λ limit. CarriesEarly h limit edits lines next mid between last left after) limited carries)
+    carried : CarriesEarly f limit ahead mid between last left after
+    carried = subst (λ h. CarriesEarly h limit ahead mid between last left after) still
+        (subst (λ limit. CarriesEarly h limit ahead mid between last left after) limited carries)
 
     all : mid ≡ w ++ ys
     all = appended ∙ ap (λ zs. w ++ zs) same
@@ -183,11 +182,11 @@ loads_more start p q f g h limit most more edits lines next last w ys zs mid lef
     spare (inr far) = omega (arith, far, carried.counted, taken)
 
 -- all samples were appended
-pub loads_all : (start p : Place) (f : Format) (limit : ℕ) (edits : List Edit) (lines : List ℕ) (next : ℕ) (w : List ℤ) (called : ℕ)
+pub loads_all : (start p : Place) (f : Format) (limit : ℕ) (script ahead : Listing) (w : List ℤ) (called : ℕ)
     → IsAllowed start.settings → 0 < f.most → count_refusal start.limit start.count ≡ None → start.limit ≤ 2 ^ 32
-    → LoadsSoFar start p f limit edits lines next w called → is_wanted_at p ≡ false → LoadsAll f limit edits lines start next w called
-loads_all start p f limit edits lines next w called a some counted low so_far done xs given =
-    subst (λ to. LeadsToEdits f limit (left_of xs (first_calls f xs)) edits lines to (drop next edits) (drop next lines))
+    → LoadsSoFar start p f limit script ahead w called → is_wanted_at p ≡ false → LoadsAll f limit script start ahead w called
+loads_all start p f limit script ahead w called a some counted low so_far done xs given =
+    subst (λ to. LeadsToEdits f limit (left_of xs (first_calls f xs)) script to ahead)
     (ap₂ left_of (append-nil w) (ap (λ xs. first_calls f xs + so_far.made) is ∙ sym so_far.counted))
     (so_far.leads xs [] (is ∙ sym (append-nil so_far.front)) (omega (arith, append_calls-le f.most 0 xs some, few, low)))
   where
@@ -202,16 +201,16 @@ loads_all start p f limit edits lines next w called a some counted low so_far do
     few = read-within start.settings start.limit start.bits start.count xs a counted given.reading
 
 -- an edit was refused before all samples were there
-pub loads_stops : (start p q : Place) (f g h : Format) (limit more : ℕ) (edits : List Edit) (lines : List ℕ) (next : ℕ) (w ys zs mid xs : List ℤ)
+pub loads_stops : (start p q : Place) (f g h : Format) (limit more : ℕ) (script ahead : Listing) (w ys zs mid xs : List ℤ)
     (called : ℕ) (fault : EditFault) → IsAllowed start.settings → g ≡ f → h ≡ f → more ≡ limit → 0 < f.most
     → count_refusal start.limit start.count ≡ None → start.limit ≤ 2 ^ 32
-    → LoadsSoFar start p f limit edits lines next w called → ReadsInterval p ys q → (is_wanted_at q ≡ true → q.block % q.settings.interval ≡ 0)
-    → zs ≡ ys → mid ≡ w ++ zs → StopsEarly h more edits lines next mid fault → AreSamplesOf start xs
-    → StopsEditing f limit (first_calls f xs) xs edits lines fault
-loads_stops start p q f g h limit more edits lines next w ys zs mid xs called fault a format still limited some counted low so_far step begins same appended stops given =
-    leads-stop f limit (left_of xs (first_calls f xs)) (left_of (w ++ (ys ++ rest.0)) (first_calls f xs + so_far.made)) edits (drop next edits)
-    lines (drop next lines) fault (so_far.leads xs (ys ++ rest.0) (rest.1 ∙ append_assoc so_far.front ys rest.0) few)
-    (subst (λ s. StopsEditing f limit (first_calls f xs + so_far.made) s (drop next edits) (drop next lines) fault) (sym behind)
+    → LoadsSoFar start p f limit script ahead w called → ReadsInterval p ys q → (is_wanted_at q ≡ true → q.block % q.settings.interval ≡ 0)
+    → zs ≡ ys → mid ≡ w ++ zs → StopsEarly h more ahead mid fault → AreSamplesOf start xs
+    → StopsEditing f limit (first_calls f xs) xs script.edits script.lines fault
+loads_stops start p q f g h limit more script ahead w ys zs mid xs called fault a format still limited some counted low so_far step begins same appended stops given =
+    leads-stop f limit (left_of xs (first_calls f xs)) (left_of (w ++ (ys ++ rest.0)) (first_calls f xs + so_far.made)) script ahead
+    fault (so_far.leads xs (ys ++ rest.0) (rest.1 ∙ append_assoc so_far.front ys rest.0) few)
+    (subst (λ s. StopsEditing f limit (first_calls f xs + so_far.made) s ahead.edits ahead.lines fault) (sym behind)
     (refused rest.0 (first_calls f xs + so_far.made) (omega (arith, few, so_far.spare))))
   where
     later : q ≡ place_from start q.block q.bit
@@ -233,15 +232,15 @@ loads_stops start p q f g h limit more edits lines next w ys zs mid xs called fa
       low,
     )
 
-    refused : StopsEarly f limit edits lines next mid fault
-    refused = subst (λ h. StopsEarly h limit edits lines next mid fault) still (subst (λ limit. StopsEarly h limit edits lines next mid fault) limited stops)
+    refused : StopsEarly f limit ahead mid fault
+    refused = subst (λ h. StopsEarly h limit ahead mid fault) still (subst (λ limit. StopsEarly h limit ahead mid fault) limited stops)
 
 -- ---- refusals
 
 -- a second reading can only lack memory
-pub loads_memory : (start p : Place) (f : Format) (limit : ℕ) (edits : List Edit) (lines : List ℕ) (next : ℕ) (w xs : List ℤ) (called : ℕ) (fault : Fault)
-    → IsAllowed start.settings → LoadsSoFar start p f limit edits lines next w called → AreSamplesOf start xs → RefusesAt p fault → fault ≡ Memory
-loads_memory start p f limit edits lines next w xs called fault a so_far given refuses =
+pub loads_memory : (start p : Place) (f : Format) (limit : ℕ) (script ahead : Listing) (w xs : List ℤ) (called : ℕ) (fault : Fault)
+    → IsAllowed start.settings → LoadsSoFar start p f limit script ahead w called → AreSamplesOf start xs → RefusesAt p fault → fault ≡ Memory
+loads_memory start p f limit script ahead w xs called fault a so_far given refuses =
     lacks_memory_only p so_far.front xs fault (subst IsAllowed (sym (settings-same start p so_far.same)) a) so_far.read
     (same_reading start p xs so_far.same given) refuses
 
@@ -263,12 +262,12 @@ append_memory f limit s ys calls after fault some held few room refused =
     due : due_refusal f limit s calls (Append ys) ≡ None
     due = ap₂ option_or (append_fits f limit s ys held few) enough
 
-pub append_lacks : (start p q : Place) (f g : Format) (limit most : ℕ) (edits : List Edit) (lines : List ℕ) (next : ℕ) (w ys zs xs : List ℤ)
+pub append_lacks : (start p q : Place) (f g : Format) (limit most : ℕ) (script ahead : Listing) (w ys zs xs : List ℤ)
     (called after : ℕ) (fault : Fault) → IsAllowed start.settings
     → g ≡ f → f ≡ interval_format start.settings → most ≡ start.limit → most ≤ 2 ^ 32 → count_refusal start.limit start.count ≡ None
-    → LoadsSoFar start p f limit edits lines next w called → ReadsInterval p ys q → (is_wanted_at q ≡ true → q.block % q.settings.interval ≡ 0)
+    → LoadsSoFar start p f limit script ahead w called → ReadsInterval p ys q → (is_wanted_at q ≡ true → q.block % q.settings.interval ≡ 0)
     → AreSamplesOf start xs → zs ≡ ys → 0 < g.most → IsRefused g most w called (Append zs) fault after → fault ≡ Memory
-append_lacks start p q f g limit most edits lines next w ys zs xs called after fault a format is limited low counted so_far step begins given same some refused =
+append_lacks start p q f g limit most script ahead w ys zs xs called after fault a format is limited low counted so_far step begins given same some refused =
     append_memory g most w zs called after fault some held
     (omega (arith, within, ap length same, limited, few))
     (omega (arith, within, ap length same, so_far.counted, so_far.spare, so_far.len, calls, few, low, limited)) refused
@@ -297,9 +296,18 @@ append_lacks start p q f g limit most edits lines next w ys zs xs called after f
 
 -- ---- in the form in which the code has the facts
 
-pub stops_err : {X : Type 0} (r : Result X EditFault) (e : EditFault) (f : Format) (limit : ℕ) (edits : List Edit) (lines : List ℕ) (start : Place)
-    → r ≡ Err e → StopsLoading f limit edits lines start e → IfErr r (λ fault. StopsLoading f limit edits lines start fault)
-stops_err r e f limit edits lines start is stops = subst (λ r. IfErr r (λ fault. StopsLoading f limit edits lines start fault)) (sym is) stops
+pub stops_err : {X : Type 0} (r : Result X EditFault) (e : EditFault) (f : Format) (limit : ℕ) (script : Listing) (start : Place)
+    → r ≡ Err e → StopsLoading f limit script start e → IfErr r (λ fault. StopsLoading f limit script start fault)
+stops_err r e f limit script start is stops = subst (λ r. IfErr r (λ fault. StopsLoading f limit script start fault)) (sym is) stops
+
+-- an edit that was to be made meanwhile was refused, or there was no memory to read it
+pub early_err : {X : Type 0} (r : Result X EditFault) (e fault : EditFault) (f : Format) (limit : ℕ) (script : Listing) (start : Place) (Stops : Type 0)
+    → r ≡ Err e → e ≡ fault → (fault ≡ Plain Memory) ⊎ Stops
+    → (Stops → (xs : List ℤ) → AreSamplesOf start xs → StopsEditing f limit (first_calls f xs) xs script.edits script.lines fault)
+    → IfErr r (λ fault. StopsLoading f limit script start fault)
+early_err r e fault f limit script start Stops is same (inl memory) stops = stops_err r fault f limit script start (is ∙ ap Err same) (inl memory)
+early_err r e fault f limit script start Stops is same (inr refused) stops =
+    stops_err r fault f limit script start (is ∙ ap Err same) (inr (stops refused))
 
 pub refuses_err : {X : Type 0} (r : Result X Fault) (fault : Fault) (P : Fault → Type 0) → r ≡ Err fault → P fault → IfErr r P
 refuses_err r fault P is holds = subst (λ r. IfErr r P) (sym is) holds
@@ -307,65 +315,72 @@ refuses_err r fault P is holds = subst (λ r. IfErr r P) (sym is) holds
 -- ---- what comes of edits on samples
 
 pub no_room_err : {X : Type 0} (view : X → Recoded) (r : Result X EditFault) (e : EditFault) (f : Fault) (s : Settings) (limit : ℕ) (start : Place)
-    (edits : List Edit) (lines : List ℕ) → r ≡ Err e → e ≡ Plain f → f ≡ Memory → EditsSamples s limit start edits lines (answer_of view r)
-no_room_err view r e f s limit start edits lines is same memory =
-    subst (λ r. EditsSamples s limit start edits lines (answer_of view r)) (sym (is ∙ ap Err (same ∙ ap Plain memory))) no_room
+    (script : Listing) → r ≡ Err e → e ≡ Plain f → f ≡ Memory → EditsSamples s limit start script (answer_of view r)
+no_room_err view r e f s limit start script is same memory =
+    subst (λ r. EditsSamples s limit start script (answer_of view r)) (sym (is ∙ ap Err (same ∙ ap Plain memory))) no_room
 
 -- an edit was refused while samples were taken over
 pub loading_err : {X : Type 0} (view : X → Recoded) (r : Result X EditFault) (e fault : EditFault) (s : Settings) (f : Format) (limit most : ℕ) (start : Place)
-    (edits : List Edit) (lines : List ℕ) → r ≡ Err e → e ≡ fault → f ≡ interval_format s → most ≡ limit → StopsLoading f most edits lines start fault
-    → EditsSamples s limit start edits lines (answer_of view r)
-loading_err view r e fault s f limit most start edits lines is same format limited stops =
-    subst (λ r. EditsSamples s limit start edits lines (answer_of view r)) (sym (is ∙ ap Err same)) (by_why
-    (subst (λ limit. StopsLoading (interval_format s) limit edits lines start fault) limited
-    (subst (λ f. StopsLoading f most edits lines start fault) format stops)))
+    (given script : Listing) → r ≡ Err e → e ≡ fault → f ≡ interval_format s → most ≡ limit → given ≡ script → StopsLoading f most given start fault
+    → EditsSamples s limit start script (answer_of view r)
+loading_err view r e fault s f limit most start given script is same format limited read stops =
+    subst (λ r. EditsSamples s limit start script (answer_of view r)) (sym (is ∙ ap Err same))
+    (by_why (subst (λ given. StopsLoading (interval_format s) limit given start fault) read
+    (subst (λ limit. StopsLoading (interval_format s) limit given start fault) limited
+    (subst (λ f. StopsLoading f most given start fault) format stops))))
   where
-    by_why : StopsLoading (interval_format s) limit edits lines start fault → EditsSamples s limit start edits lines (Err fault)
-    by_why (inl memory) = subst (λ fault. EditsSamples s limit start edits lines (Err fault)) (sym memory) no_room
+    by_why : StopsLoading (interval_format s) limit script start fault → EditsSamples s limit start script (Err fault)
+    by_why (inl memory) = subst (λ fault. EditsSamples s limit start script (Err fault)) (sym memory) no_room
     by_why (inr refused) = early.stops fault refused
 
 -- all were taken over
-same_loads : (s : Settings) (f : Format) (limit most : ℕ) (start : Place) (edits : List Edit) (lines : List ℕ) (j : ℕ) (left : List ℤ) (calls : ℕ)
-    → f ≡ interval_format s → most ≡ limit → LoadsAll f most edits lines start j left calls → LoadsAll (interval_format s) limit edits lines start j left calls
-same_loads s f limit most start edits lines j left calls format limited loads =
-    subst (λ limit. LoadsAll (interval_format s) limit edits lines start j left calls) limited
-    (subst (λ f. LoadsAll f most edits lines start j left calls) format loads)
+same_loads : (s : Settings) (f : Format) (limit most : ℕ) (start : Place) (given script ahead : Listing) (left : List ℤ) (calls : ℕ)
+    → f ≡ interval_format s → most ≡ limit → given ≡ script → LoadsAll f most given start ahead left calls
+    → LoadsAll (interval_format s) limit script start ahead left calls
+same_loads s f limit most start given script ahead left calls format limited read loads =
+    subst (λ given. LoadsAll (interval_format s) limit given start ahead left calls) read
+    (subst (λ limit. LoadsAll (interval_format s) limit given start ahead left calls) limited
+    (subst (λ f. LoadsAll f most given start ahead left calls) format loads))
 
--- and then an edit was refused
+-- and then an edit was refused, or there was no memory to read it
 pub rest_err : {X : Type 0} (view : X → Recoded) (r : Result X EditFault) (e fault : EditFault) (s : Settings) (f g : Format) (limit most more : ℕ)
-    (start : Place) (edits : List Edit) (lines : List ℕ) (j : ℕ) (left : List ℤ) (calls : ℕ) → r ≡ Err e → e ≡ fault → f ≡ interval_format s → g ≡ f
-    → most ≡ limit → more ≡ most → LoadsAll f most edits lines start j left calls → StopsEditing g more calls left (drop j edits) (drop j lines) fault
-    → EditsSamples s limit start edits lines (answer_of view r)
-rest_err view r e fault s f g limit most more start edits lines j left calls is same format still limited kept loads refused =
-    subst (λ r. EditsSamples s limit start edits lines (answer_of view r)) (sym (is ∙ ap Err same)) (early.stops fault (λ xs given.
-    leads-stop (interval_format s) limit (left_of xs (first_calls (interval_format s) xs)) (left_of left calls) edits (drop j edits) lines (drop j lines) fault
-    (same_loads s f limit most start edits lines j left calls format limited loads xs given)
-    (subst (λ limit. StopsEditing (interval_format s) limit calls left (drop j edits) (drop j lines) fault) (kept ∙ limited)
-    (subst (λ f. StopsEditing f more calls left (drop j edits) (drop j lines) fault) (still ∙ format) refused))))
+    (start : Place) (given script ahead : Listing) (left : List ℤ) (calls : ℕ) → r ≡ Err e → e ≡ fault → f ≡ interval_format s → g ≡ f
+    → most ≡ limit → more ≡ most → given ≡ script → LoadsAll f most given start ahead left calls
+    → (fault ≡ Plain Memory) ⊎ StopsEditing g more calls left ahead.edits ahead.lines fault → EditsSamples s limit start script (answer_of view r)
+rest_err view r e fault s f g limit most more start given script ahead left calls is same format still limited kept read loads refused =
+    subst (λ r. EditsSamples s limit start script (answer_of view r)) (sym (is ∙ ap Err same)) (by_why refused)
+  where
+    by_why : (fault ≡ Plain Memory) ⊎ StopsEditing g more calls left ahead.edits ahead.lines fault → EditsSamples s limit start script (Err fault)
+    by_why (inl memory) = subst (λ fault. EditsSamples s limit start script (Err fault)) (sym memory) no_room
+    by_why (inr stops) = early.stops fault (λ xs at.
+        leads-stop (interval_format s) limit (left_of xs (first_calls (interval_format s) xs)) (left_of left calls) script ahead fault
+        (same_loads s f limit most start given script ahead left calls format limited read loads xs at)
+        (subst (λ limit. StopsEditing (interval_format s) limit calls left ahead.edits ahead.lines fault) (kept ∙ limited)
+        (subst (λ f. StopsEditing f more calls left ahead.edits ahead.lines fault) (still ∙ format) stops)))
 
 -- or all edits were made
-pub rest_made : (s : Settings) (f g h : Format) (limit most more : ℕ) (start : Place) (edits : List Edit) (lines : List ℕ) (j : ℕ) (left last : List ℤ)
-    (calls after : ℕ) → f ≡ interval_format s → g ≡ f → h ≡ g → most ≡ limit → more ≡ most → LoadsAll f most edits lines start j left calls
-    → edits_left g more calls left (drop j edits) (drop j lines) ≡ Ok (left_of last after)
-    → EditsSamples s limit start edits lines (Ok (recoded_of h last after))
-rest_made s f g h limit most more start edits lines j left last calls after format still again limited kept loads is =
-    subst (λ h. EditsSamples s limit start edits lines (Ok (recoded_of h last after))) (sym (again ∙ still ∙ format))
-    (makes (left_of last after) (λ xs given. (same_loads s f limit most start edits lines j left calls format limited loads xs given).same
-    ∙ subst (λ limit. edits_left (interval_format s) limit calls left (drop j edits) (drop j lines) ≡ Ok (left_of last after)) (kept ∙ limited)
-    (subst (λ f. edits_left f more calls left (drop j edits) (drop j lines) ≡ Ok (left_of last after)) (still ∙ format) is)))
+pub rest_made : (s : Settings) (f g h : Format) (limit most more : ℕ) (start : Place) (given script ahead : Listing) (left last : List ℤ)
+    (calls after : ℕ) → f ≡ interval_format s → g ≡ f → h ≡ g → most ≡ limit → more ≡ most → given ≡ script
+    → LoadsAll f most given start ahead left calls → edits_left g more calls left ahead.edits ahead.lines ≡ Ok (left_of last after)
+    → EditsSamples s limit start script (Ok (recoded_of h last after))
+rest_made s f g h limit most more start given script ahead left last calls after format still again limited kept read loads is =
+    subst (λ h. EditsSamples s limit start script (Ok (recoded_of h last after))) (sym (again ∙ still ∙ format))
+    (makes (left_of last after) (λ xs at. (same_loads s f limit most start given script ahead left calls format limited read loads xs at).same
+    ∙ subst (λ limit. edits_left (interval_format s) limit calls left ahead.edits ahead.lines ≡ Ok (left_of last after)) (kept ∙ limited)
+    (subst (λ f. edits_left f more calls left ahead.edits ahead.lines ≡ Ok (left_of last after)) (still ∙ format) is)))
 
 -- ---- what comes of edits on bits
 
 pub unread_err : {X : Type 0} (view : X → Recoded) (r : Result X EditFault) (e : EditFault) (f : Fault) (s : Settings) (caps : Caps) (count : Option ℕ)
-    (bits : List Bool) (edits : List Edit) (lines : List ℕ) → r ≡ Err e → e ≡ Plain f → RefusesDecoding s count caps.samples bits f
-    → EditsBits s caps count bits edits lines (answer_of view r)
-unread_err view r e f s caps count bits edits lines is same refuses =
-    subst (λ r. EditsBits s caps count bits edits lines (answer_of view r)) (sym (is ∙ ap Err same)) (not_read f refuses)
+    (bits : List Bool) (script : Listing) → r ≡ Err e → e ≡ Plain f → RefusesDecoding s count caps.samples bits f
+    → EditsBits s caps count bits script (answer_of view r)
+unread_err view r e f s caps count bits script is same refuses =
+    subst (λ r. EditsBits s caps count bits script (answer_of view r)) (sym (is ∙ ap Err same)) (not_read f refuses)
 
-pub edits_bits : (s : Settings) (caps : Caps) (count : Option ℕ) (bits : List Bool) (start : Place) (edits : List Edit) (lines : List ℕ)
+pub edits_bits : (s : Settings) (caps : Caps) (count : Option ℕ) (bits : List Bool) (start : Place) (script : Listing)
     (answer : Result Recoded EditFault) → (xs : List ℤ) → AreSamplesOf start xs
     → ((xs : List ℤ) → AreSamplesOf start xs → IsReading s count caps.samples bits xs) → count_refusal caps.samples count ≡ None
-    → EditsSamples s caps.samples start edits lines answer → EditsBits s caps count bits edits lines answer
-edits_bits s caps count bits start edits lines answer xs given reading none no_room = lacks_room
-edits_bits s caps count bits start edits lines answer xs given reading none (early.stops fault refused) = stopped xs fault none (reading xs given) (refused xs given)
-edits_bits s caps count bits start edits lines answer xs given reading none (makes left is) = early.made xs left none (reading xs given) (is xs given)
+    → EditsSamples s caps.samples start script answer → EditsBits s caps count bits script answer
+edits_bits s caps count bits start script answer xs given reading none no_room = lacks_room
+edits_bits s caps count bits start script answer xs given reading none (early.stops fault refused) = stopped xs fault none (reading xs given) (refused xs given)
+edits_bits s caps count bits start script answer xs given reading none (makes left is) = early.made xs left none (reading xs given) (is xs given)

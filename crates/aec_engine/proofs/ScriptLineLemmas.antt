@@ -1,5 +1,5 @@
 -- How the lines of scripts are read.
-use Rattle.std.proofs.Common.{◌≡◌, ap, sym, ◌∙◌, true, false, List, [], ◌∷◌, ◌++◌, ℕ, ℤ, refl, Some, None, Option, append_assoc, is_some, ◌<◌, ◌+◌, ◌==◌, length, take, drop, get_or, arith, inl, inr, length-append}
+use Rattle.std.proofs.Common.{◌≡◌, ◌≢◌, ap, sym, ◌∙◌, true, false, List, [], ◌∷◌, ◌++◌, ℕ, ℤ, refl, Some, None, Option, append_assoc, is_some, ◌<◌, ◌+◌, ◌==◌, length, take, drop, get_or, arith, inl, inr, length-append}
 use Rattle.std.specs.Prelude.{option_map, option_and_then}
 use Rattle.std.specs.List.{position_or_len}
 use Rattle.std.proofs.lemmas.List.Elements.{All-from_get_or}
@@ -55,3 +55,9 @@ refused_line (change x) n e edits lines (inl (is, fault)) rest = absurd (cc)
 refused_line unknown n e edits lines (inr (memory, (some, known))) rest = absurd (known refl)
 refused_line nothing n e edits lines (inr (memory, (some, known))) rest = absurd (some refl)
 refused_line (change x) n e edits lines (inr (memory, (some, known))) rest = inr (memory, omega (arith, length-append edits (x ∷ rest.edits)))
+
+-- a line that is an edit or says nothing leaves the first bad line of a listing
+pub listed_known : (n : ℕ) (m : Meaning) (rest : Listing) → m ≢ unknown → (listed n m rest).bad ≡ rest.bad
+listed_known n nothing rest known = refl
+listed_known n (change e) rest known = refl
+listed_known n unknown rest known = absurd (known refl)

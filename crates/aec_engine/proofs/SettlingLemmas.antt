@@ -122,7 +122,7 @@ leaves_refused_intake answers caps source r fault f before mark begun failures i
     let one = settles_refusal (λ a. GivesAnswer answers source (are_past caps.bytes) a) r fault f before mark begun failures is same gives in
     leaves_settled answers source (are_past caps.bytes) _ one.answer r one.answered one.settles
 
-gives_decoded : (s : Settings) (caps : Caps) (count : Option ℕ) (before after : Option (List ℕ)) (failures : ℕ) (bytes : List ℕ) (answer : Result (List ℕ) Fault)
+pub gives_decoded : (s : Settings) (caps : Caps) (count : Option ℕ) (before after : Option (List ℕ)) (failures : ℕ) (bytes : List ℕ) (answer : Result (List ℕ) Fault)
     → IsTakenWhole before after failures caps.bytes bytes → DecodesBits s count caps.samples (bits_of_bytes bytes) answer
     → GivesAnswer (IsDecoded s caps count) (record { before = before; after = after; failures = failures }) (are_past caps.bytes) answer
 gives_decoded s caps count before after failures bytes answer taken (twice.read xs none reading) =
@@ -141,7 +141,7 @@ leaves_decoded s caps count before after failures limit most bits sink r limited
     (subst (λ bits. DecodesBits s count caps.samples bits one.answer) gave.spelled (subst (λ most. DecodesBits s count most bits one.answer) counted one.answered)))
     one.settles
 
-gives_ranged : (s : Settings) (caps : Caps) (count : Option ℕ) (first len : ℕ) (before after : Option (List ℕ)) (failures : ℕ) (bytes : List ℕ)
+pub gives_ranged : (s : Settings) (caps : Caps) (count : Option ℕ) (first len : ℕ) (before after : Option (List ℕ)) (failures : ℕ) (bytes : List ℕ)
     (answer : Result (List ℕ) Fault) → IsTakenWhole before after failures caps.bytes bytes → CutsBits s count caps.samples first len (bits_of_bytes bytes) answer
     → GivesAnswer (IsRanged s caps count first len) (record { before = before; after = after; failures = failures }) (are_past caps.bytes) answer
 gives_ranged s caps count first len before after failures bytes answer taken (twice.cut xs none reading within) =

@@ -9,7 +9,8 @@ use Rattle.aec_interval.specs.Feeding.{Coding, new_coding, Feeds}
 use Rattle.aec_engine.specs.Transfers.{Input, input_of, Taking, Gave}
 use Rattle.aec_engine.specs.Output.{are_refused, coding_refusal}
 
--- a new coder was fed what a source gave so far, in any pieces: what it is then, and the bits that it made
+-- a new coder was fed what a source gave so far, in any pieces: what it is then, and the bits that
+-- it made
 pub record IsFedSoFar (s : Settings) (limit : ℕ) (before after : Option (List ℕ)) (bits : List Bool) (coder : Coding) : Type 0 where
   pub allowed : IsAllowed s
   pub bytes : List ℕ

@@ -1,9 +1,8 @@
 -- Edits of a script that are made before all samples are there.
-use Rattle.std.specs.Prelude.{◌≡◌, ℕ, ◌+◌, ◌^◌, ◌≤◌, ◌⊎◌, Bool, Option, None, Result, Ok, Err, ℤ, List, ◌++◌, length, drop}
+use Rattle.std.specs.Prelude.{◌≡◌, ℕ, ◌+◌, ◌^◌, ◌≤◌, ◌⊎◌, Bool, Option, None, Result, Ok, Err, ℤ, List, ◌++◌, length}
 use Rattle.aec_params.specs.declared.settings.Settings.{Settings}
 use Rattle.aec_params.specs.declared.fault.Fault.{Fault}
 use Rattle.aec_params.specs.declared.fault.Fault.TheVariants.{Memory}
-use Rattle.aec_params.specs.declared.edit.Edit.{Edit}
 use Rattle.aec_params.specs.Limits.{Caps}
 use Rattle.aec_params.specs.Reading.{IsReading}
 use Rattle.aec_bits.specs.Codec.{Format}
@@ -13,62 +12,63 @@ use Rattle.aec_interval.specs.Pieces.{Place}
 use Rattle.aec_engine.specs.declared.scripts.EditFault.{EditFault}
 use Rattle.aec_engine.specs.declared.scripts.EditFault.TheVariants.{Plain}
 use Rattle.aec_engine.specs.ReadingTwice.{AreSamplesOf}
+use Rattle.aec_engine.specs.Scripts.{Listing}
 use Rattle.aec_engine.specs.Editing.{Left, left_of, edits_left, first_calls, LacksMemoryOn, Recoded}
 use Rattle.aec_engine.specs.EditingSteps.{StopsEditing, recoded_of}
 
--- Edits lead to others, which are made on what is left then: what the former leave is what the latter do, and where the latter lack
--- memory the former do.
-pub record LeadsToEdits (f : Format) (limit : ℕ) (from : Left) (edits : List Edit) (lines : List ℕ)
-    (to : Left) (edits_then : List Edit) (lines_then : List ℕ) : Type 0 where
-  pub same : edits_left f limit from.calls from.samples edits lines ≡ edits_left f limit to.calls to.samples edits_then lines_then
-  pub lacks : (line : ℕ) → LacksMemoryOn f limit to.calls to.samples edits_then lines_then line
-      → LacksMemoryOn f limit from.calls from.samples edits lines line
+-- Edits lead to others, which are made on what is left then: what the former leave is what the
+-- latter do, and where the latter lack memory the former do.
+pub record LeadsToEdits (f : Format) (limit : ℕ) (from : Left) (script : Listing) (to : Left) (ahead : Listing) : Type 0 where
+  pub same : edits_left f limit from.calls from.samples script.edits script.lines ≡ edits_left f limit to.calls to.samples ahead.edits ahead.lines
+  pub lacks : (line : ℕ) → LacksMemoryOn f limit to.calls to.samples ahead.edits ahead.lines line
+      → LacksMemoryOn f limit from.calls from.samples script.edits script.lines line
 
--- Of samples that are there, the edits from number i up to number j were made. Whatever samples stand behind them, and however often
--- the coder has been called before (far from the most that it can be), the edits from i on lead to those from j on.
-pub record CarriesEarly (f : Format) (limit : ℕ) (edits : List Edit) (lines : List ℕ) (i : ℕ) (s : List ℤ) (calls j : ℕ) (left : List ℤ)
+-- Of samples that are there, the edits of a script were made up to those ahead. Whatever samples
+-- stand behind them, and however often the coder has been called before (far from the most that it
+-- can be), the edits of the script lead to those ahead.
+pub record CarriesEarly (f : Format) (limit : ℕ) (script : Listing) (s : List ℤ) (calls : ℕ) (ahead : Listing) (left : List ℤ)
     (calls_after : ℕ) : Type 0 where
   pub made : ℕ
   pub counted : calls_after ≡ calls + made
   pub few : (made ≡ 0) ⊎ (calls_after ≤ 2 ^ 62 + 2 ^ 32)
   pub len : length left ≡ length s
   pub leads : (rest : List ℤ) (due : ℕ) → due ≤ 2 ^ 63
-      → LeadsToEdits f limit (left_of (s ++ rest) due) (drop i edits) (drop i lines) (left_of (left ++ rest) (due + made)) (drop j edits) (drop j lines)
+      → LeadsToEdits f limit (left_of (s ++ rest) due) script (left_of (left ++ rest) (due + made)) ahead
 
--- one of the edits from number i on was refused, whatever samples stand behind those that are there
-abbrev pub StopsEarly : Format → ℕ → List Edit → List ℕ → ℕ → List ℤ → EditFault → Type 0
-StopsEarly f limit edits lines i s fault =
-    (rest : List ℤ) (due : ℕ) → due ≤ 2 ^ 63 → StopsEditing f limit due (s ++ rest) (drop i edits) (drop i lines) fault
+-- one of the edits was refused, whatever samples stand behind those that are there
+abbrev pub StopsEarly : Format → ℕ → Listing → List ℤ → EditFault → Type 0
+StopsEarly f limit script s fault =
+    (rest : List ℤ) (due : ℕ) → due ≤ 2 ^ 63 → StopsEditing f limit due (s ++ rest) script.edits script.lines fault
 
--- all samples that bits are read as were taken over, and the edits up to number j were made meanwhile
-abbrev pub LoadsAll : Format → ℕ → List Edit → List ℕ → Place → ℕ → List ℤ → ℕ → Type 0
-LoadsAll f limit edits lines start j left calls =
-    (xs : List ℤ) → AreSamplesOf start xs
-    → LeadsToEdits f limit (left_of xs (first_calls f xs)) edits lines (left_of left calls) (drop j edits) (drop j lines)
+-- all samples that bits are read as were taken over, and the edits up to those ahead were made
+-- meanwhile
+abbrev pub LoadsAll : Format → ℕ → Listing → Place → Listing → List ℤ → ℕ → Type 0
+LoadsAll f limit script start ahead left calls =
+    (xs : List ℤ) → AreSamplesOf start xs → LeadsToEdits f limit (left_of xs (first_calls f xs)) script (left_of left calls) ahead
 
 -- samples were not all taken over: there was no memory, or an edit was refused
-abbrev pub StopsLoading : Format → ℕ → List Edit → List ℕ → Place → EditFault → Type 0
-StopsLoading f limit edits lines start fault =
-    (fault ≡ Plain Memory) ⊎ ((xs : List ℤ) → AreSamplesOf start xs → StopsEditing f limit (first_calls f xs) xs edits lines fault)
+abbrev pub StopsLoading : Format → ℕ → Listing → Place → EditFault → Type 0
+StopsLoading f limit script start fault =
+    (fault ≡ Plain Memory) ⊎ ((xs : List ℤ) → AreSamplesOf start xs → StopsEditing f limit (first_calls f xs) xs script.edits script.lines fault)
 
 -- what making edits on samples answers, all of which can be read
-pub data EditsSamples (s : Settings) (limit : ℕ) (start : Place) (edits : List Edit) (lines : List ℕ) : Result Recoded EditFault → Type 0 where
-  no_room : EditsSamples s limit start edits lines (Err (Plain Memory))
+pub data EditsSamples (s : Settings) (limit : ℕ) (start : Place) (script : Listing) : Result Recoded EditFault → Type 0 where
+  no_room : EditsSamples s limit start script (Err (Plain Memory))
   stops : (fault : EditFault) → ((xs : List ℤ) → AreSamplesOf start xs
-      → StopsEditing (interval_format s) limit (first_calls (interval_format s) xs) xs edits lines fault)
-      → EditsSamples s limit start edits lines (Err fault)
+      → StopsEditing (interval_format s) limit (first_calls (interval_format s) xs) xs script.edits script.lines fault)
+      → EditsSamples s limit start script (Err fault)
   makes : (left : Left) → ((xs : List ℤ) → AreSamplesOf start xs
-      → edits_left (interval_format s) limit (first_calls (interval_format s) xs) xs edits lines ≡ Ok left)
-      → EditsSamples s limit start edits lines (Ok (recoded_of (interval_format s) left.samples left.calls))
+      → edits_left (interval_format s) limit (first_calls (interval_format s) xs) xs script.edits script.lines ≡ Ok left)
+      → EditsSamples s limit start script (Ok (recoded_of (interval_format s) left.samples left.calls))
 
 -- what making edits on the samples that bits are read as answers
-pub data EditsBits (s : Settings) (caps : Caps) (count : Option ℕ) (bits : List Bool) (edits : List Edit) (lines : List ℕ)
+pub data EditsBits (s : Settings) (caps : Caps) (count : Option ℕ) (bits : List Bool) (script : Listing)
     : Result Recoded EditFault → Type 0 where
-  not_read : (fault : Fault) → RefusesDecoding s count caps.samples bits fault → EditsBits s caps count bits edits lines (Err (Plain fault))
-  lacks_room : EditsBits s caps count bits edits lines (Err (Plain Memory))
+  not_read : (fault : Fault) → RefusesDecoding s count caps.samples bits fault → EditsBits s caps count bits script (Err (Plain fault))
+  lacks_room : EditsBits s caps count bits script (Err (Plain Memory))
   stopped : (samples : List ℤ) (fault : EditFault) → count_refusal caps.samples count ≡ None → IsReading s count caps.samples bits samples
-      → StopsEditing (interval_format s) caps.samples (first_calls (interval_format s) samples) samples edits lines fault
-      → EditsBits s caps count bits edits lines (Err fault)
+      → StopsEditing (interval_format s) caps.samples (first_calls (interval_format s) samples) samples script.edits script.lines fault
+      → EditsBits s caps count bits script (Err fault)
   made : (samples : List ℤ) (left : Left) → count_refusal caps.samples count ≡ None → IsReading s count caps.samples bits samples
-      → edits_left (interval_format s) caps.samples (first_calls (interval_format s) samples) samples edits lines ≡ Ok left
-      → EditsBits s caps count bits edits lines (Ok (recoded_of (interval_format s) left.samples left.calls))
+      → edits_left (interval_format s) caps.samples (first_calls (interval_format s) samples) samples script.edits script.lines ≡ Ok left
+      → EditsBits s caps count bits script (Ok (recoded_of (interval_format s) left.samples left.calls))

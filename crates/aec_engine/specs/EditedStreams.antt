@@ -9,8 +9,8 @@ use Rattle.aec_interval.specs.IntervalFormat.{interval_format}
 use Rattle.aec_edit.specs.declared.outcome.Outcome.{Outcome}
 use Rattle.aec_edit.specs.Runs.{AnswersAll, all_left}
 
--- edits were made from no samples on with these outcomes, and these are the bits of the bytes that their stream fills, and the
--- number of samples
+-- edits were made from no samples on with these outcomes, and these are the bits of the bytes that
+-- their stream fills, and the number of samples
 pub record IsWritten (s : Settings) (limit : ℕ) (edits : List Edit) (done : List Outcome) (calls : ℕ) (bits : List Bool) (count : ℕ) : Type 0 where
   pub allowed : IsAllowed s
   pub answers : AnswersAll (interval_format s) limit [] 0 edits done calls

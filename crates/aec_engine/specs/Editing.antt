@@ -21,7 +21,8 @@ use Rattle.aec_engine.specs.Output.{intake_refusal, IsRead, IsDecoded}
 use Rattle.aec_engine.specs.Scripts.{Listing, listing_of}
 use Rattle.aec_engine.specs.Transfers.{Input, Taking, Putting, are_past, Gave, WroteNothing, IsBegunFirst, answer_of}
 
--- why a script is refused: as an input that is read whole, and else for its first line that is no edit
+-- why a script is refused: as an input that is read whole, and else for its first line that is no
+-- edit
 abbrev pub script_refusal : ℕ → Input → Option Fault
 script_refusal limit script = option_or (intake_refusal limit script) (option_map (λ n. Script n) (listing_of script.bytes).bad)
 
@@ -30,18 +31,21 @@ pub record Left : Type 0 where
   pub samples : List ℤ
   pub calls : ℕ
 
+-- these samples, and so many calls of the coder
 abbrev pub left_of : List ℤ → ℕ → Left
 left_of samples calls = record { samples = samples; calls = calls }
 
--- What is left by edits of the samples s, made one after the other, of which each has its line, after so many calls of the coder: each
--- calls it as often as it needs. Or why the first that is refused is, with its line: it doesn't fit, or too few calls are left for it.
+-- What is left by edits of the samples s, made one after the other, of which each has its line,
+-- after so many calls of the coder: each calls it as often as it needs. Or why the first that is
+-- refused is, with its line: it doesn't fit, or too few calls are left for it.
 abbrev pub edits_left : Format → ℕ → ℕ → List ℤ → List Edit → List ℕ → Result Left EditFault
 edits_left f limit calls s (e ∷ edits) (n ∷ lines) =
     option_map_or (λ fault. Err (Line n fault)) (due_refusal f limit s calls e)
     (edits_left f limit (calls + needed_calls f.most (length s) e) (samples_after s e) edits lines)
 edits_left f limit calls s edits lines = Ok (left_of s calls)
 
--- how often the coder is called for the samples that a script is carried out on: as for an append of all of them to none
+-- how often the coder is called for the samples that a script is carried out on: as for an append
+-- of all of them to none
 abbrev pub first_calls : Format → List ℤ → ℕ
 first_calls f samples = needed_calls f.most 0 (Append samples)
 
@@ -64,18 +68,20 @@ pub data IsEdited (s : Settings) (caps : Caps) (count : Option ℕ) (script inpu
   -- the refusals of decoding: the whole input has to be sound
   not_decoded : (fault : Fault) → script_refusal caps.bytes script ≡ None → IsDecoded s caps count input (Err fault)
       → IsEdited s caps count script input (Err (Plain fault))
-  -- an edit that doesn't fit the samples that the edits before it leave, or for which too few calls are left
+  -- an edit that doesn't fit the samples that the edits before it leave, or for which too few calls
+  -- are left
   not_edited : (samples : List ℤ) (fault : EditFault) → script_refusal caps.bytes script ≡ None → IsRead s caps count input samples
       → script_left s caps script samples ≡ Err fault → IsEdited s caps count script input (Err fault)
-  -- the bytes of the code of the samples that all edits leave, and the calls that the samples and all edits need
+  -- the bytes of the code of the samples that all edits leave, and the calls that the samples and
+  -- all edits need
   edited : (samples : List ℤ) (left : Left) → script_refusal caps.bytes script ≡ None → IsRead s caps count input samples
       → script_left s caps script samples ≡ Ok left
       → IsEdited s caps count script input (Ok (record { bytes = bytes_of (stream_of s left.samples); calls = left.calls }))
 
 -- ---- runs
 
--- On this line stands an edit that codes some interval, and neither it nor one before it is refused where there is memory: of the
--- samples s, after so many calls of the coder.
+-- On this line stands an edit that codes some interval, and neither it nor one before it is refused
+-- where there is memory: of the samples s, after so many calls of the coder.
 abbrev pub LacksMemoryOn : Format → ℕ → ℕ → List ℤ → List Edit → List ℕ → ℕ → Type 0
 LacksMemoryOn f limit calls s (e ∷ edits) (n ∷ lines) line =
     let needed : ℕ = needed_calls f.most (length s) e in
@@ -89,8 +95,9 @@ pub record GaveBoth (caps : Caps) (from source : Taking) (script input : Input) 
   pub sound : script_refusal caps.bytes script ≡ None
   pub gave_input : Gave source (are_past caps.bytes) input
 
--- What a run over the source of a script and that of an input answers before anything is written: the refusal of the script,
--- and then nothing was taken of the input; the answer to both; or want of memory, for no edit or for one.
+-- What a run over the source of a script and that of an input answers before anything is written:
+-- the refusal of the script, and then nothing was taken of the input; the answer to both; or want
+-- of memory, for no edit or for one.
 pub data GivesEdited (s : Settings) (caps : Caps) (count : Option ℕ) (from source : Taking) : Result Recoded EditFault → Type 0 where
   script_refused : (script : Input) (fault : Fault) → Gave from (are_past caps.bytes) script → script_refusal caps.bytes script ≡ Some fault
       → Keeps source.before source.after → GivesEdited s caps count from source (Err (Plain fault))
@@ -102,8 +109,8 @@ pub data GivesEdited (s : Settings) (caps : Caps) (count : Option ℕ) (from sou
       LacksMemoryOn f caps.samples (first_calls f samples) samples read.edits read.lines line)
       → GivesEdited s caps count from source (Err (Line line Memory))
 
--- What the engine leaves: the bytes of its answer written and begun once, and then it answers with the calls; its refusal and nothing
--- written; or a front of the bytes where the sink failed.
+-- What the engine leaves: the bytes of its answer written and begun once, and then it answers with
+-- the calls; its refusal and nothing written; or a front of the bytes where the sink failed.
 pub data LeavesRecoded (s : Settings) (caps : Caps) (count : Option ℕ) (from source : Taking) (sink : Putting) : Result ℕ EditFault → Type 0 where
   written : (made : Recoded) → GivesEdited s caps count from source (Ok made) → Appends sink.before sink.after made.bytes
       → IsBegunFirst sink → sink.failures ≡ 0 → LeavesRecoded s caps count from source sink (Ok made.calls)

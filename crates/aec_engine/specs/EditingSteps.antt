@@ -11,17 +11,16 @@ use Rattle.aec_edit.specs.declared.stopping.Stop.{Stop}
 use Rattle.aec_edit.specs.Stops.{StopsAtRefusal}
 use Rattle.aec_engine.specs.declared.scripts.EditFault.{EditFault}
 use Rattle.aec_engine.specs.declared.scripts.EditFault.TheVariants.{Plain, Line}
-use Rattle.aec_engine.specs.Scripts.{listing_of}
+use Rattle.aec_engine.specs.Scripts.{Listing, listing_of}
 use Rattle.aec_engine.specs.Transfers.{Input, Taking, Putting, are_past, Gave, WroteNothing, IsBegunFirst}
 use Rattle.aec_engine.specs.Editing.{script_refusal, edits_left, LacksMemoryOn, Recoded}
 
--- a source gave a script, with these edits on these lines
-pub record GaveScript (from : Taking) (limit : ℕ) (edits : List Edit) (lines : List ℕ) : Type 0 where
+-- a source gave a script with this listing
+pub record GaveScript (from : Taking) (limit : ℕ) (read : Listing) : Type 0 where
   pub script : Input
   pub gave : Gave from (are_past limit) script
   pub sound : script_refusal limit script ≡ None
-  pub edits_are : edits ≡ (listing_of script.bytes).edits
-  pub lines_are : lines ≡ (listing_of script.bytes).lines
+  pub read_is : read ≡ listing_of script.bytes
 
 -- why no script was read
 pub data RefusesScript (from : Taking) (limit : ℕ) : Fault → Type 0 where
@@ -33,12 +32,14 @@ pub data StopsEditing (f : Format) (limit calls : ℕ) (s : List ℤ) (edits : L
   misfit : (fault : EditFault) → edits_left f limit calls s edits lines ≡ Err fault → StopsEditing f limit calls s edits lines fault
   lacks_memory : (line : ℕ) → LacksMemoryOn f limit calls s edits lines line → StopsEditing f limit calls s edits lines (Line line Memory)
 
--- how edits that were made up to the first that is refused end where each has a line: without a refusal, or with that of the line
+-- how edits that were made up to the first that is refused end where each has a line: without a
+-- refusal, or with that of the line
 abbrev pub named_by : List ℕ → Result (Unit {0}) Stop → Result (Unit {0}) EditFault
 named_by lines (Ok made) = Ok made
 named_by lines (Err stop) = Err (Line (slice_index lines stop.place) stop.fault)
 
--- what carrying out edits on a workspace has done: those before the first that is refused were made, and it is named by its line
+-- what carrying out edits on a workspace has done: those before the first that is refused were
+-- made, and it is named by its line
 pub record CarriesOut (f : Format) (limit : ℕ) (s : List ℤ) (calls reads : ℕ) (edits : List Edit) (lines : List ℕ)
     (result : Result (Unit {0}) EditFault) (left : List ℤ) (calls_after reads_after : ℕ) : Type 0 where
   pub end : Result (Unit {0}) Stop
@@ -49,8 +50,8 @@ pub record CarriesOut (f : Format) (limit : ℕ) (s : List ℤ) (calls reads : �
 abbrev pub recoded_of : Format → List ℤ → ℕ → Recoded
 recoded_of f samples calls = record { bytes = bytes_of (code_of f samples); calls = calls }
 
--- What writing an answer leaves: its bytes, begun once, and its number of calls; nothing for a refusal; or a front of its bytes where
--- the sink failed.
+-- What writing an answer leaves: its bytes, begun once, and its number of calls; nothing for a
+-- refusal; or a front of its bytes where the sink failed.
 pub data SettlesRecoded (sink : Putting) : Result Recoded EditFault → Result ℕ EditFault → Type 0 where
   settled : (made : Recoded) → Appends sink.before sink.after made.bytes → IsBegunFirst sink → sink.failures ≡ 0
       → SettlesRecoded sink (Ok made) (Ok made.calls)

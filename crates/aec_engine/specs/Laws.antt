@@ -31,7 +31,8 @@ abbrev pub EachScriptHasOneAnswer : Type 0
 EachScriptHasOneAnswer = (s : Settings) (caps : Caps) (count : Option ℕ) (script input : Input) → IsAllowed s
     → HasOneAnswer (IsEdited s caps count script) input
 
--- a script that asks for nothing leaves all samples: each input has the code of what it is read as, with one call an interval
+-- a script that asks for nothing leaves all samples: each input has the code of what it is read as,
+-- with one call an interval
 abbrev pub NoEditsKeepTheSamples : Type 0
 NoEditsKeepTheSamples = (s : Settings) (caps : Caps) (count : Option ℕ) (script input : Input) (samples : List ℤ)
     → script_refusal caps.bytes script ≡ None → (listing_of script.bytes).edits ≡ [] → IsRead s caps count input samples
@@ -39,13 +40,15 @@ NoEditsKeepTheSamples = (s : Settings) (caps : Caps) (count : Option ℕ) (scrip
 
 -- ---- inputs of which a front is enough
 
--- the front of an input is enough: both have one answer, the same refusal, whether or not their source failed
+-- the front of an input is enough: both have one answer, the same refusal, whether or not their
+-- source failed
 pub record IsJudgedByFront {A E : Type 0} (answers : Input → Result A E → Type 0) (front rest : List ℕ) : Type 0 where
   pub fault : E
   pub of_front : (failed : Bool) (answer : Result A E) → answers (input_of front failed) answer ↔ (answer ≡ Err fault)
   pub of_whole : (failed : Bool) (answer : Result A E) → answers (input_of (front ++ rest) failed) answer ↔ (answer ≡ Err fault)
 
--- a front is enough that holds a sample which is refused; of coded data and scripts, one that is past the limit
+-- a front is enough that holds a sample which is refused; of coded data and scripts, one that is
+-- past the limit
 pub record RefusedFrontsAreEnough : Type 0 where
   pub coding : (s : Settings) (caps : Caps) (front rest : List ℕ) → IsAllowed s → are_refused s caps.samples front ≡ true
       → IsJudgedByFront (IsEncoded s caps) front rest

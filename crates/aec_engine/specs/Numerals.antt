@@ -17,7 +17,8 @@ abbrev pub fits_i64 : ℤ → Bool
 fits_i64 (pos n) = nat_lt n (2 ^ 63)
 fits_i64 (negsuc n) = nat_lt n (2 ^ 63)
 
--- the whole number below 2^width that a text writes in decimal digits and in nothing else, where it is one
+-- the whole number below 2^width that a text writes in decimal digits and in nothing else, where it
+-- is one
 abbrev pub decimal_in : ℕ → Text → Option ℕ
 decimal_in width text = if is_numeral text && nat_lt (digits_value 10 text) (2 ^ width) then Some (digits_value 10 text) else None
 

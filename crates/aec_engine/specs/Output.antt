@@ -21,7 +21,8 @@ use Rattle.aec_engine.specs.Transfers.{Input, Taking, are_past, Gave}
 abbrev pub are_refused : Settings → ℕ → List ℕ → Bool
 are_refused s limit bytes = is_some (judged_samples limit (samples_of_bytes s bytes))
 
--- why an input is not coded: the first refusal of its samples, and after them the failure of its source
+-- why an input is not coded: the first refusal of its samples, and after them the failure of its
+-- source
 abbrev pub coding_refusal : Settings → ℕ → Input → Option Fault
 coding_refusal s limit input = option_or (judged_samples limit (samples_of_bytes s input.bytes)) (if input.failed then Some Read else None)
 
@@ -42,7 +43,8 @@ all_stored s samples = flat_map (stored_bytes s) samples
 abbrev pub intake_refusal : ℕ → Input → Option Fault
 intake_refusal limit input = if nat_lt limit (length input.bytes) then Some (StreamTooLong limit) else (if input.failed then Some Read else None)
 
--- the samples that an input is read as: it is taken whole, no count is above the limit, and its bits have this reading
+-- the samples that an input is read as: it is taken whole, no count is above the limit, and its
+-- bits have this reading
 pub record IsRead (s : Settings) (caps : Caps) (count : Option ℕ) (input : Input) (samples : List ℤ) : Type 0 where
   pub taken : intake_refusal caps.bytes input ≡ None
   pub within : count_refusal caps.samples count ≡ None

@@ -1,4 +1,5 @@
--- What coding and cutting out a range answer to inputs that are written out. A wrong line here fails the check.
+-- What coding and cutting out a range answer to inputs that are written out. A wrong line here
+-- fails the check.
 use Rattle.std.specs.Prelude.{◌≡◌, ℕ, true, false, Some, None, Ok, Err, pos, [], ◌∷◌, List, Bool, refl}
 use Rattle.aec_params.specs.declared.fault.Fault.TheVariants.{SampleRange, TooManySamples, OutOfRange, Read}
 use Rattle.aec_params.specs.Limits.{Caps}

@@ -29,7 +29,8 @@ pub record GaveWhole (before after : Option (List ℕ)) (failures limit : ℕ) (
 pub record AreSamplesOf (p : Place) (samples : List ℤ) : Type 0 where
   pub reading : IsReading p.settings p.count p.limit p.bits samples
 
--- so many samples were read up to a place where an interval begins or all is read, and no more than `first`
+-- so many samples, at most `first`, were read up to a place where an interval begins or all is
+-- read, in fewer than `2^34` blocks
 pub record IsBegun (p : Place) (before first : ℕ) : Type 0 where
   pub samples : List ℤ
   pub read : HasRead p samples

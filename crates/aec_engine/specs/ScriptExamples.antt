@@ -36,11 +36,13 @@ return_at_the_end : listing_of (codes "append 007 -0" ++ 13 ∷ [])
     ≡ record { edits = Append (pos 7 ∷ pos 0 ∷ []) ∷ []; lines = 1 ∷ []; bad = None }
 return_at_the_end = refl
 
--- of two carriage returns the last alone is no part of the line, and the other is part of its last word
+-- of two carriage returns the last alone is no part of the line, and the other is part of its last
+-- word
 two_returns : (listing_of (codes "append 1" ++ (13 ∷ 13 ∷ 10 ∷ []))).bad ≡ Some 1
 two_returns = refl
 
--- lines that are no edits: no place; a word too many; a capital; a plus; a minus alone; a number too large
+-- lines that are no edits: no place; a word too many; a capital; a plus; a minus alone; a number
+-- too large
 no_place : (listing_of (codes "overwrite")).bad ≡ Some 1
 no_place = refl
 

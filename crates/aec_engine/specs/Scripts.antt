@@ -92,7 +92,8 @@ meaning_of line = meaning_of_words (words_of (strip_carriage_return line))
 
 -- ---- whole scripts
 
--- the edits before the first line that is none, the numbers of their lines, and the number of that line
+-- the edits before the first line that is none, the numbers of their lines, and the number of that
+-- line
 pub record Listing : Type 0 where
   pub edits : List Edit
   pub lines : List ℕ

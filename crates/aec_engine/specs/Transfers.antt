@@ -5,8 +5,8 @@ use Rattle.aec_bits.specs.Devices.{counted, AppendsFront}
 use Rattle.aec_params.specs.declared.fault.Fault.{Fault}
 use Rattle.aec_params.specs.declared.fault.Fault.TheVariants.{StreamTooLong, Memory, Read, Write}
 
--- the bytes of a source up to its end, which are within the limit, from what was left before and after, and from its count of
--- failures after
+-- the bytes of a source up to its end, which are within the limit, from what was left before and
+-- after, and from its count of failures after
 pub record IsTakenWhole (before after : Option (List ℕ)) (failures limit : ℕ) (bytes : List ℕ) : Type 0 where
   pub taken : Consumes before after bytes
   pub at_end : IsAtEnd after
@@ -36,6 +36,7 @@ pub record Input : Type 0 where
   pub bytes : List ℕ
   pub failed : Bool
 
+-- these bytes, and whether the source failed behind them
 abbrev pub input_of : List ℕ → Bool → Input
 input_of bytes failed = record { bytes = bytes; failed = failed }
 
@@ -58,8 +59,8 @@ pub record Putting : Type 0 where
   pub mark : Option (List ℕ)
   pub failures : ℕ
 
--- by what a kind of sink tells: the bytes that it has taken, how often it was begun, what it had taken before it was begun last,
--- and how often it has failed
+-- by what a kind of sink tells: the bytes that it has taken, how often it was begun, what it had
+-- taken before it was begun last, and how often it has failed
 abbrev pub putting_of : {W : Type 0} → (W → Option (List ℕ)) → (W → ℕ) → (W → Option (List ℕ)) → (W → ℕ) → W → W → Putting
 putting_of taken begun mark failed old new =
     record { before = taken old; after = taken new; begun_before = begun old; begun_after = begun new; mark = mark new; failures = failed new }
@@ -68,7 +69,8 @@ putting_of taken begun mark failed old new =
 abbrev pub are_past : ℕ → List ℕ → Bool
 are_past limit bytes = nat_lt limit (length bytes)
 
--- the source gave this input: to its end or its failure, or bytes that are enough for an answer, whatever follows them
+-- the source gave this input: to its end or its failure, or bytes that are enough for an answer,
+-- whatever follows them
 pub record Gave (source : Taking) (enough : List ℕ → Bool) (input : Input) : Type 0 where
   pub taken : Consumes source.before source.after input.bytes
   pub failed : input.failed ≡ true → source.failures ≡ 1
@@ -80,13 +82,15 @@ pub record WroteNothing (sink : Putting) : Type 0 where
   pub kept : Keeps sink.before sink.after
   pub begun : sink.begun_after ≡ sink.begun_before
 
--- begin was called once, before anything was taken: what the sink tells to have held then is what it held before
+-- begin was called once, before anything was taken: what the sink tells to have held then is what
+-- it held before
 pub record IsBegunFirst (sink : Putting) : Type 0 where
   pub once : sink.begun_after ≡ counted sink.begun_before
   pub first : Keeps sink.mark sink.before
 
--- What an engine leaves whose answers are a function of its input: its answer written and begun once; or its refusal and nothing
--- written; want of memory and nothing written; or a front of its answer where the sink failed.
+-- What an engine leaves whose answers are a function of its input: its answer written and begun
+-- once; or its refusal and nothing written; want of memory and nothing written; or a front of its
+-- answer where the sink failed.
 pub data Leaves (answers : Input → Result (List ℕ) Fault → Type 0) (source : Taking) (enough : List ℕ → Bool) (sink : Putting)
     : Result (Unit {0}) Fault → Type 0 where
   written : (input : Input) (bytes : List ℕ) → Gave source enough input → answers input (Ok bytes) → Appends sink.before sink.after bytes
@@ -97,7 +101,8 @@ pub data Leaves (answers : Input → Result (List ℕ) Fault → Type 0) (source
   not_written : (input : Input) (bytes : List ℕ) → Gave source enough input → answers input (Ok bytes) → AppendsFront sink.before sink.after bytes
       → IsBegunFirst sink → sink.failures ≡ 1 → Leaves answers source enough sink (Err Write)
 
--- what a run over a source answers before anything is written: the answer to its input, or want of memory
+-- what a run over a source answers before anything is written: the answer to its input, or want of
+-- memory
 pub data GivesAnswer (answers : Input → Result (List ℕ) Fault → Type 0) (source : Taking) (enough : List ℕ → Bool) : Result (List ℕ) Fault → Type 0 where
   given : (input : Input) (answer : Result (List ℕ) Fault) → Gave source enough input → answers input answer → GivesAnswer answers source enough answer
   lacks_memory : GivesAnswer answers source enough (Err Memory)
@@ -107,7 +112,8 @@ abbrev pub answer_of : {X A E : Type 0} → (X → A) → Result X E → Result 
 answer_of asked (Ok x) = Ok (asked x)
 answer_of asked (Err fault) = Err fault
 
--- what writing an answer leaves: its bytes, begun once; nothing for a refusal; or a front of its bytes where the sink failed
+-- what writing an answer leaves: its bytes, begun once; nothing for a refusal; or a front of its
+-- bytes where the sink failed
 pub data Settles (sink : Putting) : Result (List ℕ) Fault → Result (Unit {0}) Fault → Type 0 where
   settled : (bytes : List ℕ) → Appends sink.before sink.after bytes → IsBegunFirst sink → sink.failures ≡ 0
       → Settles sink (Ok bytes) (Ok tt)

@@ -11,8 +11,8 @@ use aec_bits::WriteSink;
 use aec_params::{Fault, Limits, Params};
 use std::alloc::Global;
 
-/// The stored bytes of `len` of the samples that coded bytes are read as, from place `first` on. The refusals are those of
-/// `decode_bytes`, and then `OutOfRange`.
+/// The stored bytes of `len` of the samples that coded bytes are read as, from place `first` on.
+/// The refusals are those of `decode_bytes`, and then `OutOfRange`.
 pub fn range_bytes(
     alloc: Global,
     params: &Params,
@@ -22,7 +22,8 @@ pub fn range_bytes(
     len: u64,
     coded: &[u8],
 ) -> Result<Vec<u8>, Fault>
-    ensures ok { IfOk result (λ bytes. IsRanged params.now limits count first len (input_of coded.now false) (Ok bytes.items)) }
+    ensures ok { IfOk result (λ bytes. IsRanged params.now limits count first len
+        (input_of coded.now false) (Ok bytes.items)) }
     ensures refuses { IfErr result (λ fault. (fault ≡ Memory)
         ⊎ IsRanged params.now limits count first len (input_of coded.now false) (Err fault)) }
 {

@@ -49,8 +49,11 @@ fn write_stream(
     edits: &[Edit],
 ) -> Result<Written, Fault>
     requires { limit ≤ 2 ^ 32 }
-    ensures written { IfOk result (λ w. IsWritten params.now limit edits.now w.outcomes.items w.calls w.bits.list w.count) }
-    ensures stream { IfOk result (λ w. w.stream.items ≡ bytes_of (stream_of params.now (all_left [] edits.now w.outcomes.items))) }
+    ensures written { IfOk result
+        (λ w. IsWritten params.now limit edits.now w.outcomes.items w.calls w.bits.list w.count) }
+    ensures stream { IfOk result
+        (λ w. w.stream.items ≡ bytes_of
+        (stream_of params.now (all_left [] edits.now w.outcomes.items))) }
     ensures refuses { IfErr result (λ fault. fault ≡ Memory) }
 {
     // What the parameters promise is told by their calls.
@@ -73,11 +76,13 @@ fn write_stream(
     })
 }
 
-/// Makes edits, from no samples on, and decodes the bytes of the stream that they leave with the number of samples.
+/// Makes edits, from no samples on, and decodes the bytes of the stream that they leave with the
+/// number of samples.
 ///
-/// Each edit is answered as the definition says for the samples and the calls that those before it have left. The bytes are
-/// those of the stream of the samples that the accepted edits leave, and these samples are what they are decoded to: the reading
-/// of these bytes with the number of samples. Only want of memory comes in their place.
+/// Each edit is answered as the definition says for the samples and the calls that those before it
+/// have left. The bytes are those of the stream of the samples that the accepted edits leave, and
+/// these samples are what they are decoded to: the reading of these bytes with the number of
+/// samples. Only want of memory comes in their place.
 pub fn decode_edited(
     alloc: Global,
     params: &Params,
@@ -89,8 +94,10 @@ pub fn decode_edited(
         edits.now decoded.outcomes.items decoded.calls) }
     ensures stream { IfOk result (λ decoded. decoded.stream.items
         ≡ bytes_of (stream_of params.now (all_left [] edits.now decoded.outcomes.items))) }
-    ensures samples { IfOk result (λ decoded. decoded.samples.items ≡ all_left [] edits.now decoded.outcomes.items) }
-    ensures reading { IfOk result (λ decoded. IsReading params.now (Some (length decoded.samples.items)) limit
+    ensures samples { IfOk result
+        (λ decoded. decoded.samples.items ≡ all_left [] edits.now decoded.outcomes.items) }
+    ensures reading { IfOk result
+        (λ decoded. IsReading params.now (Some (length decoded.samples.items)) limit
         (bits_of_bytes decoded.stream.items) decoded.samples.items) }
     ensures refuses { IfErr result (λ fault. fault ≡ Memory) }
 {

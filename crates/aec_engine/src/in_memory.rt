@@ -49,8 +49,8 @@ pub(crate) fn refusal(fault: Fault) -> Fault
     }
 }
 
-/// The bytes of the code of stored samples. The refusals in their order: at each sample `TooManySamples`, then
-/// `SampleRange`. `Memory` can come at any time. `limits.bytes` is not used.
+/// The bytes of the code of stored samples. The refusals in their order: at each sample
+/// `TooManySamples`, then `SampleRange`. `Memory` can come at any time. `limits.bytes` is not used.
 #[tactic(auto, using(crate::proofs::InMemoryLemmas::coded))]
 pub fn encode_bytes(
     alloc: Global,
@@ -59,7 +59,9 @@ pub fn encode_bytes(
     bytes: &[u8],
 ) -> Result<Vec<u8>, Fault>
     ensures ok { IfOk result (λ coded. IsCodeOf params.now limits.samples bytes.now coded.items) }
-    ensures refuses { IfErr result (λ fault. (fault ≡ Memory) ⊎ (bytes_refusal params.now limits.samples bytes.now ≡ Some fault)) }
+    ensures refuses { IfErr result
+        (λ fault. (fault ≡ Memory)
+        ⊎ (bytes_refusal params.now limits.samples bytes.now ≡ Some fault)) }
 {
     // What the parameters promise is told by their calls.
     prove!(params.storage() > 0);
@@ -71,7 +73,8 @@ pub fn encode_bytes(
     }
 }
 
-/// The stored bytes of the samples that coded bytes are read as: with a count the first `count`, without one all.
+/// The stored bytes of the samples that coded bytes are read as: with a count the first `count`,
+/// without one all.
 pub fn decode_bytes(
     alloc: Global,
     params: &Params,
@@ -79,8 +82,10 @@ pub fn decode_bytes(
     count: Option<u64>,
     coded: &[u8],
 ) -> Result<Vec<u8>, Fault>
-    ensures ok { IfOk result (λ bytes. IsStoredReadingOf params.now limits count coded.now bytes.items) }
-    ensures refuses { IfErr result (λ fault. (fault ≡ Memory) ⊎ RefusesCoded params.now limits count coded.now fault) }
+    ensures ok { IfOk result (λ bytes. IsStoredReadingOf params.now limits count coded.now
+        bytes.items) }
+    ensures refuses { IfErr result
+        (λ fault. (fault ≡ Memory) ⊎ RefusesCoded params.now limits count coded.now fault) }
 {
     let mut source = SliceSource::new(coded);
     let mut sink = WriteSink::new(Vec::new(alloc));

@@ -12,18 +12,21 @@ pub fn each_script_has_one_answer()
     ensures { EachScriptHasOneAnswer }
 {}
 
-/// A script without edits gives the code of the samples that the input is read as, whatever coder wrote the input.
+/// A script without edits gives the code of the samples that the input is read as, whatever coder
+/// wrote the input.
 pub fn no_edits_keep_the_samples()
     ensures { NoEditsKeepTheSamples }
 {}
 
-/// An input is refused by its front alone, whatever follows: to be coded, where the front holds a sample that is too many or out
-/// of range; to be decoded, where it is past the limit; and so is a script.
+/// An input is refused by its front alone, whatever follows: to be coded, where the front holds a
+/// sample that is too many or out of range; to be decoded, where it is past the limit; and so is a
+/// script.
 pub fn refused_fronts_are_enough()
     ensures { RefusedFrontsAreEnough }
 {}
 
-/// What is answered to the bytes that were taken of a source that did not fail is the answer to all that it had.
+/// What is answered to the bytes that were taken of a source that did not fail is the answer to all
+/// that it had.
 pub fn what_is_taken_is_enough()
     ensures { WhatIsTakenIsEnough }
 {}

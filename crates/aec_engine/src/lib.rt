@@ -1,5 +1,6 @@
-//! What the program does with bytes, without a word of its command line and without a file: the engines over any source and
-//! sink, coding and decoding in memory, edits from nothing, and scripts of edits.
+//! What the program does with bytes, without a word of its command line and without a file: the
+//! engines over any source and sink, coding and decoding in memory, edits from nothing, and scripts
+//! of edits.
 #![tactic(auto)]
 
 mod bytes_range;
@@ -8,6 +9,7 @@ mod engine;
 mod in_memory;
 pub mod laws;
 mod numerals;
+mod script_edits;
 mod script_lines;
 mod script_reading;
 mod script_words;
@@ -15,7 +17,7 @@ mod scripts;
 
 pub use bytes_range::range_bytes;
 pub use edited_streams::{Decoded, decode_edited};
-pub use engine::{carry_out, decode, edit, edit_over, encode, range};
+pub use engine::{carry_out, decode, decode_into, edit, edit_over, encode, range, range_into};
 pub use in_memory::{decode_bytes, encode_bytes};
 pub use numerals::range_in;
 pub use script_reading::script;

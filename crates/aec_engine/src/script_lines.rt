@@ -10,7 +10,8 @@ use crate::script_words::{next_word, number_of, value_of};
 use aec_params::{Edit, Fault, Samples};
 use std::alloc::Global;
 
-/// What a line says, judged before its values are kept: those of an edit are still text, in which each word is a value.
+/// What a line says, judged before its values are kept: those of an edit are still text, in which
+/// each word is a value.
 #[derive(Drop)]
 pub(crate) enum Line<'a> {
     Nothing,

@@ -11,8 +11,9 @@ use aec_params::{Edit, Fault};
 use std::alloc::Global;
 
 /// The first line of a text, and what follows it where a line feed does.
-fn cut_line(text: &[u8]) -> (&[u8], Option<&[u8]>)
-    ensures lines { lines_of text.now ≡ result.0.now ∷ lines_left (option_map (λ rest. rest.now) result.1) }
+pub(crate) fn cut_line(text: &[u8]) -> (&[u8], Option<&[u8]>)
+    ensures lines { lines_of text.now
+        ≡ result.0.now ∷ lines_left (option_map (λ rest. rest.now) result.1) }
     ensures shorter { text_left (option_map (λ rest. rest.now) result.1) ≤ length text.now }
 {
     for (i, byte) in text.iter().enumerate() {
@@ -24,7 +25,7 @@ fn cut_line(text: &[u8]) -> (&[u8], Option<&[u8]>)
 }
 
 /// The edit of a line whose number is given, or that it says nothing.
-fn edit_on_line(alloc: Global, number: u64, text: &[u8]) -> Result<Option<Edit>, Fault>
+pub(crate) fn edit_on_line(alloc: Global, number: u64, text: &[u8]) -> Result<Option<Edit>, Fault>
     ensures ok { IfOk result (λ edit. kept edit ≡ meaning_of text.now) }
     ensures refuses { IfErr result (λ e. RefusesLine (meaning_of text.now) number e) }
 {
@@ -53,27 +54,32 @@ fn put_edit(read: &mut Script, edit: Option<Edit>, number: u64) -> Result<(), Fa
 /// Puts what a line asks for, whose number is given, behind what the lines before it do.
 fn take_line(alloc: Global, number: u64, text: &[u8], read: &mut Script) -> Result<(), Fault>
     ensures ok { IfOk result (λ _. (rest : Listing) →
-        after_listed read.old.edits.items read.old.lines.items (listed number (meaning_of text.now) rest)
+        after_listed read.old.edits.items read.old.lines.items
+        (listed number (meaning_of text.now) rest)
         ≡ after_listed read.new.edits.items read.new.lines.items rest) }
     ensures refuses { let whole : Listing → Listing = λ rest.
-        after_listed read.old.edits.items read.old.lines.items (listed number (meaning_of text.now) rest) in
+        after_listed read.old.edits.items read.old.lines.items
+        (listed number (meaning_of text.now) rest) in
         IfErr result (λ e. (rest : Listing) → RefusesListing (whole rest) number e) }
 {
     let edit = edit_on_line(alloc, number, text)?;
     put_edit(read, edit, number)
 }
 
-/// The edits of a script. A line ends with a line feed, the last one may lack it; one carriage return before it is no part
-/// of the line. Spaces and tabs part words. A line is `overwrite FIRST V..`, `append V..` or `truncate COUNT`; one
-/// without a word, and one whose first word begins with `#`, says nothing.
+/// The edits of a script. A line ends with a line feed, the last one may lack it; one carriage
+/// return before it is no part of the line. Spaces and tabs part words. A line is `overwrite FIRST
+/// V..`, `append V..` or `truncate COUNT`; one without a word, and one whose first word begins with
+/// `#`, says nothing.
 ///
-/// `Script` names the first line that is none of these, counted from 1 among all lines. `Memory` where a growth was refused
-/// for an edit before it. Takes a time linear in the length.
+/// `Script` names the first line that is none of these, counted from 1 among all lines. `Memory`
+/// where a growth was refused for an edit before it. Takes a time linear in the length.
 pub fn script(alloc: Global, bytes: &[u8]) -> Result<Script, Fault>
     ensures ok { let read : Listing = listing_of bytes.now in
-        IfOk result (λ s. (read.bad ≡ None) × (s.edits.items ≡ read.edits) × (s.lines.items ≡ read.lines)) }
+        IfOk result (λ s. (read.bad ≡ None) × (s.edits.items ≡ read.edits)
+        × (s.lines.items ≡ read.lines)) }
     ensures refuses { let read : Listing = listing_of bytes.now in
-        IfErr result (λ e. ((n : ℕ) × (read.bad ≡ Some n) × (e ≡ ScriptFault n)) ⊎ ((e ≡ Memory) × (0 < length read.edits))) }
+        IfErr result (λ e. ((n : ℕ) × (read.bad ≡ Some n) × (e ≡ ScriptFault n))
+        ⊎ ((e ≡ Memory) × (0 < length read.edits))) }
 {
     let mut read = Script {
         edits: Vec::new(alloc),

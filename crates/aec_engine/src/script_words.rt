@@ -44,7 +44,8 @@ fn word_len(line: &[u8]) -> usize
 
 /// The first word of a line and what follows it; `None` where the line has no word.
 pub(crate) fn next_word(line: &[u8]) -> Option<(&[u8], &[u8])>
-    ensures words { MatchOption result (words_of line.now ≡ []) (λ cut. words_of line.now ≡ cut.0.now ∷ words_of cut.1.now) }
+    ensures words { MatchOption result (words_of line.now ≡ [])
+        (λ cut. words_of line.now ≡ cut.0.now ∷ words_of cut.1.now) }
     ensures shorter { IfSome result (λ cut. length cut.1.now < length line.now) }
     ensures some { IfSome result (λ cut. 0 < length cut.0.now) }
 {
@@ -73,7 +74,8 @@ pub(crate) fn number_of(word: &[u8]) -> Option<u64>
     }
 }
 
-/// The number that a word writes in decimal digits after a minus or nothing, of 64 bits with its sign.
+/// The number that a word writes in decimal digits after a minus or nothing, of 64 bits with its
+/// sign.
 #[tactic(auto, using(crate::proofs::ScriptNumberLemmas::no_value))]
 pub(crate) fn value_of(word: &[u8]) -> Option<i64>
     ensures { result ≡ value_in word.now }

@@ -1,4 +1,5 @@
--- Blocks: each has J values below 2^n, and a reference with 0 in its place exactly where one is due.
+-- Blocks: each has J values below 2^n, and a reference with 0 in its place exactly where one is
+-- due.
 use Rattle.std.proofs.Common.{◌≡◌, ℕ, zero, suc, ◌+◌, ◌-◌, ◌*◌, ◌^◌, ◌<◌, false, Option, Some, None, ℤ, pos, List, [], ◌∷◌, ◌++◌, length, replicate, refl, sym, ap, ◌∙◌, subst, arith, ⊎_elim, ◌≤◌, add-one, mod-eq_of_lt, lt_of_mul-lt-mul_right}
 use Rattle.std.specs.Prelude.{⊤, ◌==◌, unwrap_or}
 use Rattle.std.specs.List.{AllByRecursion, last_or}

@@ -1,4 +1,5 @@
--- Samples cut at the end of a block or a segment: the blocks of the front, and those of what is behind it.
+-- Samples cut at the end of a block or a segment: the blocks of the front, and those of what is
+-- behind it.
 use Rattle.std.proofs.Common.{◌≡◌, ℕ, zero, suc, ◌+◌, ◌-◌, ◌*◌, ◌%◌, ◌<◌, ◌≤◌, Bool, Option, Some, None, ℤ, pos, List, [], ◌∷◌, ◌++◌, length, map, take, drop, replicate, refl, sym, ap, ap₂, ◌∙◌, arith}
 use Rattle.std.specs.Prelude.{unwrap_or, if◌then◌else◌}
 use Rattle.std.specs.List.{last_or, flat_map}

@@ -1,4 +1,5 @@
--- An interval's coded data sets cover its blocks: each group is one of them, and only the very last may go past the blocks.
+-- An interval's coded data sets cover its blocks: each group is one of them, and only the very last
+-- may go past the blocks.
 use Rattle.std.proofs.Common.{◌≡◌, ℕ, ◌+◌, ◌-◌, ◌<◌, ◌≤◌, Bool, true, false, Option, Some, None, unwrap_or, List, [], ◌∷◌, ◌++◌, length, take, replicate, refl, sym, ap, ◌∙◌, subst, arith, inl, inr, ◌⊎◌, ⊎_elim}
 use Rattle.std.specs.Prelude.{nat_le, nat_lt, ◌==◌, if◌then◌else◌}
 use Rattle.std.specs.List.{flat_map}
@@ -60,7 +61,8 @@ run_lawful : (s : Settings) (p : ℕ) (reference : Option ℕ) (m : ℕ) → Has
     → IsLawfulAt s p (record { reference = reference; body = zero_blocks m })
 run_lawful s p reference m h k = record { shape = record { reference = h; body = tt }; small = refl; within = le-leb (run_len s p m) (segment_left s p) k }
 
--- the number that is written for a run spells its length, or where it ends its segment all that the segment has left
+-- the number that is written for a run spells its length, or where it ends its segment all that the
+-- segment has left
 abbrev SpellsRun : Settings → ℕ → ℕ → Bool → ℕ → Type 0
 SpellsRun s p z is_last m = (run_len s p m ≡ z) ⊎ ((is_last ≡ true) × (run_len s p m ≡ segment_left s p))
 

@@ -1,4 +1,5 @@
--- Lists cut into pieces: one piece before the others, an induction over the pieces, and whole multiples.
+-- Lists cut into pieces: one piece before the others, an induction over the pieces, and whole
+-- multiples.
 use Rattle.std.proofs.Common.{◌≡◌, ℕ, zero, suc, ◌+◌, ◌-◌, ◌*◌, ◌/◌, ◌%◌, ◌<◌, ◌≤◌, List, [], ◌∷◌, ◌++◌, length, take, drop, refl, ap, ap₂, append-nil, ◌∙◌, subst, arith, ⊎_elim}
 use Rattle.std.proofs.Math.Nat.{mod-eq_of_lt, mod_self, mul-div_cancel, mul-mod_left}
 use Rattle.std.proofs.lemmas.List.{take_at, drop_at, take-append-drop, length-take, length-drop, length-append, take_all, drop_all}

@@ -93,7 +93,8 @@ feeds_both c d e p q b0 b1 b2 a first second =
       coder = next.coder ∙ fed-append c p q a first.taken;
     }
 
--- samples that the second piece completes are among those that both do, and so are those of the first
+-- samples that the second piece completes are among those that both do, and so are those of the
+-- first
 more_samples : (c : Coding) (p q : List ℕ) → IsAllowed c.settings → (taken_of c p).refusal ≡ None → 0 < length (taken_of (fed c p) q).samples
     → 0 < length (taken_of c (p ++ q)).samples
 more_samples c p q a none some =

@@ -9,7 +9,8 @@ use Rattle.aec_params.proofs.CountLaws.{before_end, past_end}
 enough-needed : (blocks product needed count : ℕ) → needed ≤ blocks → count ≤ product → nat_lt product count ≡ nat_lt blocks needed
 enough-needed blocks product needed count enough past = grind (arith, nat_tests)
 
--- a product that stops at the greatest number of 64 bits is below a count exactly where the whole product is
+-- a product that stops at the greatest number of 64 bits is below a count exactly where the whole
+-- product is
 pub fewer-needed : (blocks size count : ℕ) → 0 < size → count < 18446744073709551616
     → nat_lt (min (blocks * size) 18446744073709551615) count ≡ nat_lt blocks (div_ceil count size)
 fewer-needed blocks size count some small =

@@ -25,7 +25,8 @@ use Rattle.aec_interval.proofs.PlaceLemmas.{length-cds_blocks}
 use Rattle.aec_interval.proofs.RunLengthLemmas.{length-run}
 use Rattle.aec_interval.proofs.CostLemmas.{group_cost, block_cost, groups_of-zeros, run_set, run_code-at_end, body_step}
 
--- the bits of the blocks from place p of an interval on: the rest of the segment, and then the other segments
+-- the bits of the blocks from place p of an interval on: the rest of the segment, and then the
+-- other segments
 abbrev room : ℕ → ℕ
 room p = 64 - p % 64
 
@@ -139,7 +140,8 @@ overhang s p reference (zero_blocks m) blocks h l some more e =
 
 -- ---- all coded data sets
 
--- a coded data set that ends within the blocks, if what is behind it costs no more than the others have
+-- a coded data set that ends within the blocks, if what is behind it costs no more than the others
+-- have
 exact_step : (s : Settings) (n p : ℕ) (c : CodedDataSet) (sets : List CodedDataSet) (blocks : List Block) → IsAllowed s → p < s.interval → n ≤ s.interval
     → IsLawfulAt s p c
     → AreDueFrom s p blocks → p + length blocks ≡ n → take (length blocks) (covered_blocks s p (c ∷ sets)) ≡ blocks → block_count s p c ≤ length blocks

@@ -1,4 +1,5 @@
--- A reading or a fault always stands: the walk goes on until no coded data set is wanted or something is wrong.
+-- A reading or a fault always stands: the walk goes on until no coded data set is wanted or
+-- something is wrong.
 use Rattle.std.proofs.Common.{◌≡◌, ℕ, zero, suc, ◌+◌, ◌-◌, ◌^◌, ◌%◌, ◌<◌, ◌≤◌, min, Bool, true, false, Option, List, [], ◌∷◌, ◌++◌, length, drop, refl, sym, ap, ◌∙◌, arith, inl, inr, ◌⊎◌, ⊎_elim}
 use Rattle.std.specs.Prelude.{◌==◌, ◌&&◌}
 use Rattle.std.specs.Int.{next_multiple_of}

@@ -1,4 +1,5 @@
--- Lists cut behind their last whole piece, and groups of bytes and intervals of samples behind one another.
+-- Lists cut behind their last whole piece, and groups of bytes and intervals of samples behind one
+-- another.
 use Rattle.std.proofs.Common.{◌≡◌, ℕ, zero, suc, ◌+◌, ◌*◌, ◌/◌, ◌<◌, List, [], ◌∷◌, ◌++◌, length, take, drop, sym, ap, append-nil, append_assoc, ◌∙◌, arith, ℤ}
 use Rattle.std.proofs.Math.Nat.{add-mul-div_right, div-eq_of_lt}
 use Rattle.std.proofs.lemmas.List.{take_at, drop_at, take-append-drop, length-take, length-drop, length-append, nil_from_length}

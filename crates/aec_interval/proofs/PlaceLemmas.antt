@@ -1,4 +1,5 @@
--- Where coded data sets stand in a stream: those that cover an interval lead through it, with one skip at its end.
+-- Where coded data sets stand in a stream: those that cover an interval lead through it, with one
+-- skip at its end.
 use Rattle.std.proofs.Common.{◌≡◌, ℕ, ◌+◌, ◌*◌, ◌%◌, ◌<◌, ◌≤◌, min, Bool, true, Option, Some, List, [], ◌∷◌, ◌++◌, length, refl, sym, ap, ap₂, ◌∙◌, subst, arith}
 use Rattle.std.specs.Prelude.{◌==◌, ◌&&◌, nat_lt}
 use Rattle.std.specs.List.{flat_map}

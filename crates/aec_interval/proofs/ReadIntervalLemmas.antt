@@ -20,7 +20,8 @@ place-behind s first i aligned after below =
     ap (λ n. n % s.interval) (omega (arith, div-add-mod' first s.interval, aligned, after))
     ∙ mod-mul-add (first / s.interval) s.interval (i - first) (omega (arith, after, below))
 
--- where no room is left for the blocks before the end of an interval, there was none for all of its samples
+-- where no room is left for the blocks before the end of an interval, there was none for all of its
+-- samples
 no_room : (s : Settings) (first i len capacity : ℕ) → first % s.interval ≡ 0 → first ≤ i → i < first + s.interval → len ≤ (i - first) * s.block_size
     → capacity < len + blocks_before_end s i * s.block_size → capacity < interval_len s
 no_room s first i len capacity aligned after below few full =
@@ -32,7 +33,8 @@ no_room s first i len capacity aligned after below few full =
     both_parts : (d e r j : ℕ) → d + e ≡ r → d * j + e * j ≡ j * r
     both_parts d e r j is = omega (arith, ap (λ n. j * n) is)
 
--- an interval that begins at block `first` and ends at block `end` was gone over up to block i at position b, where more is wanted
+-- an interval that begins at block `first` and ends at block `end` was gone over up to block i at
+-- position b, where more is wanted
 pub record IsInside (s : Settings) (count : Option ℕ) (limit : ℕ) (bits : List Bool) (first i b end : ℕ) : Type 0 where
   pub wanted : IsWantedNext s count limit bits first i b
   pub after : first ≤ i
@@ -56,7 +58,8 @@ module _ (s : Settings) (count : Option ℕ) (limit : ℕ) (bits : List Bool) (f
   no_room-refuses len capacity before fault few grown full memory =
       omega (arith, no_room s first i len capacity inside.wanted.aligned inside.after before_end few (full memory), grown)
 
-  -- what holds of the refusal of a coded data set by the end of its interval holds by the end of the interval that is gone over
+  -- what holds of the refusal of a coded data set by the end of its interval holds by the end of
+  -- the interval that is gone over
   pub by_its_end : {X : Type 0} (P : List Bool → ℕ → Fault → Type 0) (r : Result X Fault) (fault : Fault) (list : List Bool) → list ≡ bits
       → IsErrAnd r (λ e. e ≡ fault) → P list (i + blocks_before_end s i) fault → IfErr r (λ fault. P bits (first + s.interval) fault)
   by_its_end P r fault list same exit refuses =

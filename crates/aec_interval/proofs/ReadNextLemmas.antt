@@ -74,8 +74,8 @@ blocks_after s count limit bits first start i b samples allowed reached =
 pub more_room : (kept left capacity len j : ℕ) → kept ≤ left → capacity < len + kept * j → capacity < len + left * j
 more_room kept left capacity len j most full = omega (arith, mul-le-mul_right j most, full)
 
--- a reading has come to block i, where a coded data set is wanted and was read: `due` says whether it has a reference, `len` for how
--- many blocks it stands
+-- a reading has come to block i, where a coded data set is wanted and was read: `due` says whether
+-- it has a reference, `len` for how many blocks it stands
 module _ (s : Settings) (count : Option ℕ) (limit : ℕ) (first start : ℕ) (old new : Cursor) (i : ℕ) (samples : List ℤ) (allowed : IsAllowed s)
     (reached : IsReached s count limit old.list first start i old.pos samples) (wanted : is_wanted s count old.list i old.pos ≡ true)
     (due : Bool) (cds : Cds) (len : RunLen) (due_is : due ≡ is_reference_block s (i % s.interval)) (len_is : len ≡ read_len cds)

@@ -113,7 +113,8 @@ FillBlocks-all_blocks_of s xs a held = record {
   mapped = all_blocks_of-filled s a xs;
 }
 
--- codes that read the intervals of samples one by one, each padded by its own length where the parameters pad, are read as the samples
+-- codes that read the intervals of samples one by one, each padded by its own length where the
+-- parameters pad, are read as the samples
 IsBlockReading-codes : (s : Settings) (limit : ℕ) (xs : List ℤ) (codes : List (List Bool)) (rest : List Bool) → IsAllowed s
     → ReadsEach s codes (intervals_of s xs) → IsBlockReading s (Some (length xs)) limit (flat_map (padded_code s) codes ++ rest) 0 0 (all_blocks_of s xs)
 IsBlockReading-codes s limit xs codes rest a each =

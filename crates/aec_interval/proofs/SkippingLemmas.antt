@@ -1,4 +1,5 @@
--- Coded data sets gone over: there are samples that they stand for, and where one is refused there is a fault.
+-- Coded data sets gone over: there are samples that they stand for, and where one is refused there
+-- is a fault.
 use Rattle.std.proofs.Common.{◌≡◌, ℕ, zero, suc, ◌+◌, ◌-◌, ◌*◌, ◌/◌, ◌%◌, ◌<◌, ◌≤◌, Bool, true, Option, Some, None, ℤ, List, [], length, take, drop, refl, sym, ap, ◌∙◌, subst, arith, min, ⊎_elim}
 use Rattle.std.proofs.Math.Nat.{zero-mul, suc-mul, mul-le-mul_right, mul-sub, mul_comm}
 use Rattle.std.proofs.lemmas.Nat.{div-add-mod'}

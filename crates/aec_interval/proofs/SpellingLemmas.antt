@@ -1,4 +1,5 @@
--- The shortest spelling of a block is one of its spellings: a lawful coded data set that stands for the block.
+-- The shortest spelling of a block is one of its spellings: a lawful coded data set that stands for
+-- the block.
 use Rattle.std.proofs.Common.{◌≡◌, ℕ, zero, suc, ◌+◌, ◌-◌, ◌^◌, ◌<◌, ◌≤◌, Bool, true, false, cond, Option, Some, None, List, [], ◌∷◌, length, map, drop, refl, sym, ap, ◌∙◌, arith}
 use Rattle.std.specs.Prelude.{nat_lt}
 use Rattle.std.specs.List.{AllByRecursion, range_with_len, best_of, list_all}

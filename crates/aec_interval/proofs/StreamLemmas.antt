@@ -122,7 +122,8 @@ IsAligned-code s code pre aligned t =
 
 -- ---- from interval to interval
 
--- a walk through codes of samples, of so many blocks in all, which stands for their blocks, whatever follows the codes
+-- a walk through codes of samples, of so many blocks in all, which stands for their blocks,
+-- whatever follows the codes
 pub record IsWalk (s : Settings) (count limit : ℕ) (bits : List Bool) (i b : ℕ) (xs : List ℤ) : Type 0 where
   pub sets : List CodedDataSet
   pub end_block : ℕ

@@ -1,4 +1,5 @@
--- From one place there is one walk at most: readings are unique, so are faults, and no bits have both.
+-- From one place there is one walk at most: readings are unique, so are faults, and no bits have
+-- both.
 use Rattle.std.proofs.Common.{◌≡◌, ℕ, ◌+◌, ◌%◌, Bool, true, false, Option, List, [], ◌∷◌, length, drop, refl, sym, ap, ap₂, ◌∙◌, subst}
 use Rattle.std.proofs.lemmas.Bool.{both_ways}
 use Rattle.aec_params.specs.declared.settings.Settings.{Settings}

@@ -1,5 +1,5 @@
--- Pieces of input and what they add, computed from the definitions. Each is worked out by hand from the format's rules, so that
--- a wrong definition does not check.
+-- Pieces of input and what they add, computed from the definitions. Each is worked out by hand from
+-- the format's rules, so that a wrong definition does not check.
 use Rattle.std.proofs.Common.{◌≡◌, Some, [], ◌∷◌, length, map, pos, replicate, refl}
 use Rattle.aec_params.specs.declared.settings.Settings.{Settings}
 use Rattle.aec_params.specs.declared.fault.Fault.TheVariants.{SampleRange, TooManySamples}

@@ -1,4 +1,5 @@
--- What a coder that is fed in pieces was meant to say: however its input is cut, it gives the stream of all samples.
+-- What a coder that is fed in pieces was meant to say: however its input is cut, it gives the
+-- stream of all samples.
 use Rattle.std.specs.Prelude.{◌≡◌, ℕ, ◌≤◌, Bool, Ok, ℤ, List, [], ◌++◌, length}
 use Rattle.std.specs.List.{flat_map}
 use Rattle.aec_params.specs.declared.settings.Settings.{Settings}
@@ -13,8 +14,8 @@ use Rattle.aec_interval.specs.Feeding.{Coding, new_coding, taken_of, Feeds, Stop
 abbrev pub all_bytes : List (List ℕ) → List ℕ
 all_bytes pieces = flat_map (λ piece. piece) pieces
 
--- all bytes are samples, as many as were counted and no more than the limit, and what was appended is their stream up to the
--- code of those that are still held
+-- all bytes are samples, as many as were counted and no more than the limit, and what was appended
+-- is their stream up to the code of those that are still held
 pub record IsStreamSoFar (s : Settings) (limit : ℕ) (bytes : List ℕ) (before after : List Bool) (d : Coding) : Type 0 where
   pub samples : List ℤ
   pub taken : samples_of_bytes s bytes ≡ Ok samples
@@ -24,7 +25,8 @@ pub record IsStreamSoFar (s : Settings) (limit : ℕ) (bytes : List ℕ) (before
 
 -- a new coder under any cut of its input
 pub record CutsMakeNoDifference (s : Settings) (limit : ℕ) : Type 0 where
-  -- where all pieces are taken, what was appended and what `finish` appends is the stream of the samples of all bytes
+  -- where all pieces are taken, what was appended and what `finish` appends is the stream of the
+  -- samples of all bytes
   pub stream : (pieces : List (List ℕ)) (before after : List Bool) (d : Coding) → FeedsAll (new_coding s limit) pieces before after d
       → IsStreamSoFar s limit (all_bytes pieces) before after d
   -- the pieces are as one piece of all their bytes
@@ -34,7 +36,8 @@ pub record CutsMakeNoDifference (s : Settings) (limit : ℕ) : Type 0 where
   pub refused : (pieces : List (List ℕ)) (piece rest : List ℕ) (before between after : List Bool) (d : Coding) (fault : Fault)
       → FeedsAll (new_coding s limit) pieces before between d → StopsFeeding d piece between after fault
       → StopsFeeding (new_coding s limit) (all_bytes pieces ++ (piece ++ rest)) before after fault
-  -- which is the one of all samples: the first that is out of range before the limit, or too many of them
+  -- which is the one of all samples: the first that is out of range before the limit, or too many
+  -- of them
   pub judged : (bytes : List ℕ) → (taken_of (new_coding s limit) bytes).refusal ≡ judged_samples limit (samples_of_bytes s bytes)
   -- step by step: nothing is taken at first, and a piece more behind what was taken
   pub begun : (bits : List Bool) → Feeds (new_coding s limit) [] bits bits (new_coding s limit)

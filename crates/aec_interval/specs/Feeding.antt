@@ -8,8 +8,8 @@ use Rattle.aec_params.specs.Stored.{byte_groups}
 use Rattle.aec_params.specs.Streams.{stream_of}
 use Rattle.aec_interval.specs.Taking.{Taken, taken_groups}
 
--- what is kept between pieces: the samples of an interval that isn't complete, the bytes of a sample that isn't complete, how
--- many samples there were so far, and the refusal, if there was one
+-- what is kept between pieces: the samples of an interval that isn't complete, the bytes of a
+-- sample that isn't complete, how many samples there were so far, and the refusal, if there was one
 pub record Coding : Type 0 where
   pub settings : Settings
   pub limit : ℕ
@@ -58,8 +58,9 @@ pub record Feeds (c : Coding) (piece : List ℕ) (before after : List Bool) (d :
   pub bits : after ≡ before ++ fed_bits c piece
   pub coder : d ≡ fed c piece
 
--- a piece is refused: at its first sample that is too many or out of range, after the code of the intervals that were complete
--- before it; or for want of memory at a sample that is neither, after the code of some whole intervals before it, the first ones
+-- a piece is refused: at its first sample that is too many or out of range, after the code of the
+-- intervals that were complete before it; or for want of memory at a sample that is neither, after
+-- the code of some whole intervals before it, the first ones
 pub data StopsFeeding (c : Coding) (piece : List ℕ) (before after : List Bool) : Fault → Type 0 where
   refused : (fault : Fault) → (taken_of c piece).refusal ≡ Some fault → after ≡ before ++ fed_bits c piece → StopsFeeding c piece before after fault
   no_memory : (intervals : ℕ) (front behind : List ℤ) → samples_with c piece ≡ front ++ behind

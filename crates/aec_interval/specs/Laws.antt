@@ -59,15 +59,15 @@ ReadsEach s [] [] = ⊤
 ReadsEach s (code ∷ codes) (v ∷ intervals) = ReadsBlocks s code (blocks_of s v) × ReadsEach s codes intervals
 ReadsEach s codes intervals = ⊥
 
--- such codes for the intervals of samples, one behind the other, are read with the count of the samples as the samples, whatever
--- bits follow, where nothing is padded
+-- such codes for the intervals of samples, one behind the other, are read with the count of the
+-- samples as the samples, whatever bits follow, where nothing is padded
 abbrev pub EachCodeIsRead : Type 0
 EachCodeIsRead = (s : Settings) (limit : ℕ) (samples : List ℤ) (codes : List (List Bool)) (rest : List Bool) → IsAllowed s → s.pad ≡ false
     → AllByRecursion (IsHeld s) samples → ReadsEach s codes (intervals_of s samples)
     → IsReading s (Some (length samples)) limit (flat_map (λ code. code) codes ++ rest) samples
 
--- no coded data sets for the blocks of an interval have fewer bits than its code, and none for those of all intervals than the
--- code of all samples, where nothing is padded
+-- no coded data sets for the blocks of an interval have fewer bits than its code, and none for
+-- those of all intervals than the code of all samples, where nothing is padded
 pub record CodesAreShortest (s : Settings) (samples : List ℤ) : Type 0 where
   pub interval : AreOfInterval s samples → (bits : List Bool) → ReadsBlocks s bits (blocks_of s samples) → length (unpadded_bits s samples) ≤ length bits
   pub stream : AllByRecursion (IsHeld s) samples → s.pad ≡ false → (codes : List (List Bool)) → ReadsEach s codes (intervals_of s samples)

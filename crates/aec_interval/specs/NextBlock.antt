@@ -1,4 +1,5 @@
--- What the private functions of `filling` and `reading_runs` compute: one block more behind whole blocks of samples.
+-- What the private functions of `filling` and `reading_runs` compute: one block more behind whole
+-- blocks of samples.
 use Rattle.std.specs.Prelude.{ℕ, zero, suc, ◌%◌, ◌==◌, ◌&&◌, Bool, true, false, if◌then◌else◌, Option, Some, None, ℤ, pos, List, [], ◌∷◌, ◌++◌, length, replicate, unwrap_or}
 use Rattle.std.specs.List.{last_or}
 use Rattle.aec_params.specs.declared.settings.Settings.{Settings}
@@ -35,8 +36,8 @@ abbrev pub run_blocks : Settings → Option ℕ → ℕ → List Block
 run_blocks s reference zero = []
 run_blocks s reference (suc z) = zero_block s reference ∷ replicate z (zero_block s None)
 
--- the sample that a zero block with this reference repeats behind these: that of its reference, or else the prediction, and 0
--- where nothing is predicted
+-- the sample that a zero block with this reference repeats behind these: that of its reference, or
+-- else the prediction, and 0 where nothing is predicted
 abbrev pub sample_of_zeros : Settings → Option ℕ → List ℤ → ℤ
 sample_of_zeros s (Some r) samples = pattern_value s r
 sample_of_zeros s None samples = if s.preprocess then last_sample samples else pos 0

@@ -1,4 +1,5 @@
--- What the private functions of `reading` compute: what a coded data set that was read stands for behind so many blocks.
+-- What the private functions of `reading` compute: what a coded data set that was read stands for
+-- behind so many blocks.
 use Rattle.std.specs.Prelude.{ℕ, ◌+◌, ◌-◌, ◌%◌, ◌≤◌, min, nat_lt, if◌then◌else◌, Option, Some, None, Result, Ok, Err, ℤ, List, [], ◌∷◌}
 use Rattle.std.specs.Int.{div_ceil}
 use Rattle.aec_params.specs.declared.settings.Settings.{Settings}
@@ -19,14 +20,16 @@ abbrev pub run_count : Settings → ℕ → RunLen → ℕ
 run_count s p (Blocks z) = z
 run_count s p Rest = segment_left s p
 
--- the block behind a coded data set that begins at block i and at this bit and stands for z blocks, or why it may not stand there:
--- its segment has fewer left; else the samples with it pass the limit
+-- the block behind a coded data set that begins at block i and at this bit and stands for z blocks,
+-- or why it may not stand there: its segment has fewer left; else the samples with it pass the
+-- limit
 abbrev pub block_behind : Settings → Option ℕ → ℕ → ℕ → ℕ → ℕ → Result ℕ Fault
 block_behind s count limit i z bit =
     if nat_lt (segment_left s (i % s.interval)) z then Err (RunTooLong bit)
     else (if keeps_limit s count limit (i + z) then Ok (i + z) else Err (TooManySamples limit))
 
--- how many of z blocks are kept from block i on, as a number: it agrees with `kept_blocks` by `length-kept_blocks`
+-- how many of z blocks are kept from block i on, as a number: it agrees with `kept_blocks` by
+-- `length-kept_blocks`
 abbrev pub kept_count : Settings → Option ℕ → ℕ → ℕ → ℕ
 kept_count s None i z = z
 kept_count s (Some count) i z = min z (div_ceil count s.block_size - i)

@@ -1,4 +1,5 @@
--- What the private functions of `writing_runs` and `interval` compute: what is still to be written behind zero blocks that are counted.
+-- What the private functions of `writing_runs` and `interval` compute: what is still to be written
+-- behind zero blocks that are counted.
 use Rattle.std.specs.Prelude.{◌≡◌, ℕ, zero, suc, ◌+◌, ◌==◌, ◌≤◌, Bool, length, take, if◌then◌else◌, Option, List, [], ◌∷◌}
 use Rattle.std.specs.List.{flat_map}
 use Rattle.aec_params.specs.declared.settings.Settings.{Settings}

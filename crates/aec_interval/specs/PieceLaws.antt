@@ -1,4 +1,5 @@
--- What a reading that goes interval by interval was meant to say: its steps together are the reading of all bits.
+-- What a reading that goes interval by interval was meant to say: its steps together are the
+-- reading of all bits.
 use Rattle.std.specs.Prelude.{◌≡◌, ℕ, ◌%◌, Bool, true, false, Option, ℤ, List, [], ◌++◌}
 use Rattle.aec_params.specs.declared.settings.Settings.{Settings}
 use Rattle.aec_params.specs.declared.fault.Fault.{Fault}

@@ -1,4 +1,5 @@
--- A reading that goes interval by interval: where it is, what one step reads, and what the steps were so far.
+-- A reading that goes interval by interval: where it is, what one step reads, and what the steps
+-- were so far.
 use Rattle.std.specs.Prelude.{◌≡◌, ℕ, ◌+◌, ◌-◌, ◌*◌, ◌%◌, ◌<◌, ◌≤◌, ◌^◌, Bool, true, Option, Some, None, IfSome, ℤ, List, length, take}
 use Rattle.aec_params.specs.declared.settings.Settings.{Settings}
 use Rattle.aec_params.specs.declared.fault.Fault.{Fault}
@@ -7,7 +8,8 @@ use Rattle.aec_params.specs.CodedDataSets.{CodedDataSet}
 use Rattle.aec_params.specs.Reading.{is_wanted, LeadsTo, stream_blocks, kept_blocks, FillBlocks}
 use Rattle.aec_interval.specs.Reached.{RefusesUpTo}
 
--- what is read and under which terms, the block that comes next, and the bit where its coded data set begins
+-- what is read and under which terms, the block that comes next, and the bit where its coded data
+-- set begins
 pub record Place : Type 0 where
   pub settings : Settings
   pub count : Option ℕ
@@ -16,6 +18,7 @@ pub record Place : Type 0 where
   pub block : ℕ
   pub bit : ℕ
 
+-- the place with these terms and bits, this next block and this bit
 abbrev pub place_at : Settings → Option ℕ → ℕ → List Bool → ℕ → ℕ → Place
 place_at s count limit bits i b = record { settings = s; count = count; limit = limit; bits = bits; block = i; bit = b }
 
@@ -28,7 +31,8 @@ abbrev pub counted_from : Settings → Option ℕ → ℕ → List ℤ → List 
 counted_from s (Some count) i samples = take (count - i * s.block_size) samples
 counted_from s None i samples = samples
 
--- from one place coded data sets lead to another, and these samples are those of their blocks that are asked for
+-- from one place coded data sets lead to another, and these samples are those of their blocks that
+-- are asked for
 pub record ReadsPiece (p : Place) (samples : List ℤ) (q : Place) : Type 0 where
   pub sets : List CodedDataSet
   pub leads : LeadsTo p.settings p.count p.limit p.bits p.block p.bit sets q.block q.bit
@@ -37,7 +41,8 @@ pub record ReadsPiece (p : Place) (samples : List ℤ) (q : Place) : Type 0 wher
   pub counted : samples ≡ counted_from p.settings p.count p.block all_samples
   pub same : q ≡ place_at p.settings p.count p.limit p.bits q.block q.bit
 
--- one step: more is wanted where an interval begins, and its samples are read, to its end where more is wanted behind them
+-- one step: more is wanted where an interval begins, and its samples are read, to its end where
+-- more is wanted behind them
 pub record ReadsInterval (p : Place) (samples : List ℤ) (q : Place) : Type 0 where
   pub wanted : is_wanted_at p ≡ true
   pub begins : p.block % p.settings.interval ≡ 0
@@ -51,11 +56,14 @@ pub record ReadsInterval (p : Place) (samples : List ℤ) (q : Place) : Type 0 w
 abbrev pub HasRead : Place → List ℤ → Type 0
 HasRead p samples = ReadsPiece (place_at p.settings p.count p.limit p.bits 0 0) samples p
 
--- why the interval that begins at a place is not read: a fault in it, or want of memory for its samples
+-- why the interval that begins at a place is not read: a fault in it, or want of memory for its
+-- samples
 abbrev pub RefusesAt : Place → Fault → Type 0
 RefusesAt p fault = RefusesUpTo p.settings p.count p.limit p.bits p.block p.bit (p.block + p.settings.interval) fault
 
--- a place that a reader comes to: coded data sets lead there from the first bit on
+-- a place between two steps, or where all is read: coded data sets lead there from the first bit
+-- on, and where more is wanted an interval begins. Fewer than `2^34` blocks were read: `2^32`
+-- samples have far fewer
 pub record IsPlace (p : Place) : Type 0 where
   pub few : p.block < 2 ^ 34
   pub limit : p.limit ≤ 2 ^ 32

@@ -1,4 +1,5 @@
--- What the private functions of `joining` keep: a coder that was not refused anything, by its parts.
+-- What the private functions of `joining` keep: a coder that was not refused anything, by its
+-- parts.
 use Rattle.std.specs.Prelude.{◌≡◌, ℕ, ◌+◌, ◌*◌, ◌<◌, ◌≤◌, Bool, Option, None, Result, MatchResult, ℤ, List, [], ◌++◌, length}
 use Rattle.std.specs.List.{AllByRecursion}
 use Rattle.aec_params.specs.declared.settings.Settings.{Settings}

@@ -1,11 +1,12 @@
--- What the steps of a reading need and how far they come, whether they make samples or go over them: for the private functions of
--- `reading` and `skipping`.
+-- What the steps of a reading need and how far they come, whether they make samples or go over
+-- them: for the private functions of `reading` and `skipping`.
 use Rattle.std.specs.Prelude.{◌≡◌, ◌<◌, ◌≤◌, ◌+◌, ◌%◌, ◌^◌, ℕ, Bool, true, Option, IfSome, List}
 use Rattle.aec_params.specs.declared.settings.Settings.{Settings}
 use Rattle.aec_params.specs.Reading.{is_wanted}
 use Rattle.aec_interval.specs.NextSet.{blocks_before_end}
 
--- in a reading that began at block `first`, where an interval begins, block i is wanted, whose coded data set begins at position b
+-- in a reading that began at block `first`, where an interval begins, block i is wanted, whose
+-- coded data set begins at position b
 pub record IsWantedNext (s : Settings) (count : Option ℕ) (limit : ℕ) (bits : List Bool) (first i b : ℕ) : Type 0 where
   pub aligned : first % s.interval ≡ 0
   pub wanted : is_wanted s count bits i b ≡ true
@@ -19,7 +20,8 @@ pub record ComesNext (s : Settings) (i next : ℕ) : Type 0 where
   pub within : next ≤ i + blocks_before_end s i
   pub few : next < 2 ^ 34
 
--- the interval that begins at block `first` was gone over up to block `next` at position b: to its end, where more is wanted there
+-- the interval that begins at block `first` was gone over up to block `next` at position b: to its
+-- end, where more is wanted there
 pub record IsGoneOver (s : Settings) (count : Option ℕ) (bits : List Bool) (first next b : ℕ) : Type 0 where
   pub forward : first < next
   pub within : next ≤ first + s.interval

@@ -1,5 +1,5 @@
--- Stored samples as they are taken one after the other: each is judged by the limit, and then by its range. The first that is
--- refused ends it.
+-- Stored samples as they are taken one after the other: each is judged by the limit, and then by
+-- its range. The first that is refused ends it.
 use Rattle.std.specs.Prelude.{ℕ, ◌+◌, nat_lt, if◌then◌else◌, Option, Some, None, Result, Ok, Err, ℤ, List, [], ◌∷◌, length}
 use Rattle.aec_params.specs.declared.settings.Settings.{Settings}
 use Rattle.aec_params.specs.declared.fault.Fault.{Fault}
@@ -33,8 +33,8 @@ abbrev pub taken_groups : Settings → ℕ → ℕ → List (List ℕ) → Taken
 taken_groups s limit i [] = none_taken None
 taken_groups s limit i (g ∷ gs) = taken_before (judged_sample s limit i g) (taken_groups s limit (i + 1) gs)
 
--- the same refusal by what bytes are as a whole: samples past the limit are too many, whatever they hold; before it the first
--- that is none of the settings is out of range
+-- the same refusal by what bytes are as a whole: samples past the limit are too many, whatever they
+-- hold; before it the first that is none of the settings is out of range
 abbrev pub judged_samples : ℕ → Result (List ℤ) ℕ → Option Fault
 judged_samples limit (Ok samples) = if nat_lt limit (length samples) then Some (TooManySamples limit) else None
 judged_samples limit (Err bad) = Some (if nat_lt bad limit then SampleRange bad else TooManySamples limit)

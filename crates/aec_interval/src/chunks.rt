@@ -11,8 +11,9 @@ use crate::filling::previous_of;
 use aec_block::{Block, map, map_into};
 use aec_params::Params;
 
-/// Makes the block that of samples behind `previous`; at an interval's start the first is the reference sample, where samples are
-/// preprocessed.
+/// Makes the block that of samples behind `previous`; at an interval's start the first is the
+/// reference sample, where samples are preprocessed.
+#[inline(always)]
 fn map_chunk(params: &Params, previous: Option<i64>, samples: &[i64], block: &mut Block)
     requires previous { HoldsPrevious params.now previous }
     requires some { 0 < length samples.now }
@@ -41,7 +42,8 @@ fn fill(params: &Params, last: i64, block: &mut Block)
     requires few { length block.old.values ≤ params.now.block_size }
     ensures { block.new ≡ record block.old {
       values = block.old.values
-          ++ replicate (params.now.block_size - length block.old.values) (mapped_value params.now last last);
+          ++ replicate (params.now.block_size - length block.old.values)
+          (mapped_value params.now last last);
     } }
 {
     let size = params.block_size() as usize;
@@ -54,7 +56,9 @@ fn fill(params: &Params, last: i64, block: &mut Block)
     }
 }
 
-/// Makes the block the one that samples fill behind `previous`, or at an interval's start, whatever stood in it before.
+/// Makes the block the one that samples fill behind `previous`, or at an interval's start, whatever
+/// stood in it before.
+#[inline(always)]
 pub(crate) fn fill_from(params: &Params, previous: Option<i64>, samples: &[i64], block: &mut Block)
     requires allowed { IsAllowed params.now }
     requires some { 0 < length samples.now }

@@ -14,8 +14,9 @@ use aec_bits::{BitBuf, Codec};
 use aec_params::{Fault, Params};
 use std::alloc::Global;
 
-/// A codec of reference sample intervals, each padded by its own length where the parameters pad. It counts how many it
-/// has coded, and how often it was asked to decode. Only `code` and `decode` take memory.
+/// A codec of reference sample intervals, each padded by its own length where the parameters pad.
+/// It counts how many it has coded, and how often it was asked to decode. Only `code` and `decode`
+/// take memory.
 #[derive(Debug, Drop)]
 pub struct AecCodec {
     params: Params,
@@ -92,11 +93,12 @@ impl Codec for AecCodec {
         self.reads
     }
 
-    /// Appends the code of an interval. `Spent` exactly where `calls` is the greatest number of 64 bits, then `Memory`
-    /// where a growth was refused; the bits and `calls` are then as before.
+    /// Appends the code of an interval. `Spent` exactly where `calls` is the greatest number of 64
+    /// bits, then `Memory` where a growth was refused; the bits and `calls` are then as before.
     fn code(&mut self, samples: &[i64], out: &mut BitBuf) -> Result<(), Fault>
         requires { IsInterval (interval_format self.old.params) samples.now }
-        ensures ok { OnOk result (out.new.list ≡ out.old.list ++ interval_bits self.old.params samples.now) }
+        ensures ok { OnOk result (out.new.list
+            ≡ out.old.list ++ interval_bits self.old.params samples.now) }
         ensures counts { OnOk result (self.new.calls ≡ self.old.calls + 1) }
         ensures spent { (result ≡ Err Spent) ↔ (self.old.calls ≡ 2 ^ 64 - 1) }
         ensures fault { IfErr result (λ e. (e ≡ Spent) ⊎ (e ≡ Memory)) }
@@ -113,8 +115,8 @@ impl Codec for AecCodec {
         Ok(())
     }
 
-    /// Appends the `count` samples of the interval whose code begins at bit `pos`. `Memory` where a growth was refused; the
-    /// samples in `out` are then as before.
+    /// Appends the `count` samples of the interval whose code begins at bit `pos`. `Memory` where a
+    /// growth was refused; the samples in `out` are then as before.
     fn decode(
         &mut self,
         stream: &BitBuf,
@@ -122,8 +124,10 @@ impl Codec for AecCodec {
         count: u64,
         out: &mut Vec<i64>,
     ) -> Result<(), Fault>
-        requires { (s : List ℤ) × BeginsAt (interval_format self.old.params) stream.now.list pos count s }
-        ensures ok { (s : List ℤ) → BeginsAt (interval_format self.old.params) stream.now.list pos count s
+        requires { (s : List ℤ) × BeginsAt (interval_format self.old.params) stream.now.list pos
+            count s }
+        ensures ok { (s : List ℤ)
+            → BeginsAt (interval_format self.old.params) stream.now.list pos count s
             → OnOk result (out.new.items ≡ out.old.items ++ s) }
         ensures fault { IfErr result (λ e. e ≡ Memory) }
         ensures err { OnErr result (out.new.items ≡ out.old.items) }
@@ -151,8 +155,8 @@ fn one_read_more(reads: u64) -> u64
     reads.saturating_add(1)
 }
 
-/// Appends the `count` samples of the interval whose code begins at bit `pos`. `Memory` where a growth was refused; the
-/// samples in `out` are then as before.
+/// Appends the `count` samples of the interval whose code begins at bit `pos`. `Memory` where a
+/// growth was refused; the samples in `out` are then as before.
 fn append_decoded(
     alloc: Global,
     params: &Params,
@@ -162,7 +166,8 @@ fn append_decoded(
     out: &mut Vec<i64>,
 ) -> Result<(), Fault>
     requires allowed { IsAllowed params.now }
-    requires begins { (s : List ℤ) × BeginsAt (interval_format params.now) stream.now.list pos count s }
+    requires begins { (s : List ℤ)
+        × BeginsAt (interval_format params.now) stream.now.list pos count s }
     ensures ok { (s : List ℤ) → BeginsAt (interval_format params.now) stream.now.list pos count s
         → OnOk result (out.new.items ≡ out.old.items ++ s) }
     ensures fault { IfErr result (λ e. e ≡ Memory) }
@@ -176,7 +181,8 @@ fn append_decoded(
     append_list(&samples, out)
 }
 
-/// Puts the samples of such an interval into an empty list. `Memory` where a growth was refused; the list is then empty.
+/// Puts the samples of such an interval into an empty list. `Memory` where a growth was refused;
+/// the list is then empty.
 fn fill_empty(
     alloc: Global,
     params: &Params,
@@ -186,9 +192,11 @@ fn fill_empty(
     out: &mut Vec<i64>,
 ) -> Result<(), Fault>
     requires allowed { IsAllowed params.now }
-    requires begins { (s : List ℤ) × BeginsAt (interval_format params.now) stream.now.list pos count s }
+    requires begins { (s : List ℤ)
+        × BeginsAt (interval_format params.now) stream.now.list pos count s }
     requires empty { out.old.items ≡ [] }
-    ensures ok { (s : List ℤ) → BeginsAt (interval_format params.now) stream.now.list pos count s → OnOk result (out.new.items ≡ s) }
+    ensures ok { (s : List ℤ) → BeginsAt (interval_format params.now) stream.now.list pos count s
+        → OnOk result (out.new.items ≡ s) }
     ensures fault { IfErr result (λ e. e ≡ Memory) }
     ensures err { OnErr result (out.new.items ≡ []) }
 {

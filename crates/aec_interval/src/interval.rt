@@ -18,36 +18,38 @@ use std::alloc::Global;
 /// The blocks of a segment; the last of an interval may have fewer.
 pub(crate) const SEGMENT_BLOCKS: u32 = 64;
 
-/// Appends the code of a segment, whose samples stand behind `previous` or at an interval's start. `Memory` where a
-/// growth was refused; the bits from before are then still in front.
+/// Appends the code of a segment, whose samples stand behind `previous` or at an interval's start.
+/// `Memory` where a growth was refused; the bits from before are then still in front.
+#[inline(always)]
 fn write_segment(
-    alloc: Global,
     params: &Params,
     previous: Option<i64>,
     samples: &[i64],
+    block: &mut Block,
     out: &mut BitBuf,
 ) -> Result<(), Fault>
     requires { AreSamplesAfter params.now previous segment_len samples.now }
-    ensures ok { OnOk result (out.new.list ≡ out.old.list ++ segment_bits params.now (blocks_after params.now previous samples.now)) }
+    ensures ok { OnOk result (out.new.list
+        ≡ out.old.list ++ segment_bits params.now (blocks_after params.now previous samples.now)) }
     ensures kept { IsKept out.old.list out.new.list }
     ensures fault { IfErr result (λ e. e ≡ Memory) }
 {
     let mut preceding = previous;
     let mut run = NO_RUN;
-    let mut block = Block::new(alloc, None);
     for chunk in samples.chunks(params.block_size() as usize) {
-        fill_from(params, preceding, chunk, &mut block);
-        run = write_next(params, run, &block, out)?;
+        fill_from(params, preceding, chunk, block);
+        run = write_next(params, run, block, out)?;
         preceding = chunk.last().copied();
     }
     run.write(params, true, out)
 }
 
 /// Appends the code of an interval without padding.
+#[inline(always)]
 fn write_segments(
-    alloc: Global,
     params: &Params,
     samples: &[i64],
+    block: &mut Block,
     out: &mut BitBuf,
 ) -> Result<(), Fault>
     requires { AreOfInterval params.now samples.now }
@@ -57,18 +59,20 @@ fn write_segments(
 {
     let mut preceding = None;
     for segment in samples.chunks((SEGMENT_BLOCKS * params.block_size()) as usize) {
-        write_segment(alloc, params, preceding, segment, out)?;
+        write_segment(params, preceding, segment, block, out)?;
         preceding = segment.last().copied();
     }
     Ok(())
 }
 
-/// Appends the code of an interval, padded by its own length where the parameters pad. `Memory` where a growth was
-/// refused; the bits from before are then still in front.
+/// Appends the code of an interval, padded by its own length where the parameters pad. `Memory`
+/// where a growth was refused; the bits from before are then still in front. The block is filled
+/// again and again, whatever stands in it.
+#[inline(always)]
 pub(crate) fn write_interval(
-    alloc: Global,
     params: &Params,
     samples: &[i64],
+    block: &mut Block,
     out: &mut BitBuf,
 ) -> Result<(), Fault>
     requires { AreOfInterval params.now samples.now }
@@ -77,7 +81,7 @@ pub(crate) fn write_interval(
     ensures fault { IfErr result (λ e. e ≡ Memory) }
 {
     let start = out.len();
-    write_segments(alloc, params, samples, out)?;
+    write_segments(params, samples, block, out)?;
     if params.pad() {
         let missing = (8 - (out.len() - start) % 8) % 8;
         out.push_bits(0, missing as u32)?;
@@ -85,7 +89,28 @@ pub(crate) fn write_interval(
     Ok(())
 }
 
-/// Appends the code of an interval. `Memory` where a growth was refused; the bits are then as before.
+/// Appends the code of an interval, by way of a block that the caller keeps. `Memory` where a
+/// growth was refused; the bits are then as before.
+pub(crate) fn append_interval_in(
+    params: &Params,
+    samples: &[i64],
+    block: &mut Block,
+    out: &mut BitBuf,
+) -> Result<(), Fault>
+    requires { AreOfInterval params.now samples.now }
+    ensures ok { OnOk result (out.new.list ≡ out.old.list ++ interval_bits params.now samples.now) }
+    ensures err { OnErr result (out.new.list ≡ out.old.list) }
+    ensures fault { IfErr result (λ e. e ≡ Memory) }
+{
+    let start = out.len();
+    let written = write_interval(params, samples, block, out);
+    if written.is_err() {
+        out.truncate(start);
+    }
+    written
+}
+
+/// The same, where none is kept.
 pub(crate) fn append_interval(
     alloc: Global,
     params: &Params,
@@ -97,10 +122,5 @@ pub(crate) fn append_interval(
     ensures err { OnErr result (out.new.list ≡ out.old.list) }
     ensures fault { IfErr result (λ e. e ≡ Memory) }
 {
-    let start = out.len();
-    let written = write_interval(alloc, params, samples, out);
-    if written.is_err() {
-        out.truncate(start);
-    }
-    written
+    append_interval_in(params, samples, &mut Block::new(alloc, None), out)
 }

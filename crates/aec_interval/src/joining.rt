@@ -11,9 +11,10 @@ ghost use Rattle.aec_interval.specs.Taking.{judged_sample};
 ghost use Rattle.aec_interval.specs.Feeding.{StopsFeeding, whole_front, left_behind};
 ghost use Rattle.aec_interval.specs.Progress.{IsProgress, AreHeldFew, ArePart, AnswersPiece, Joins, CompletesRest, coding_at};
 
-use crate::interval::append_interval;
+use crate::interval::append_interval_in;
 use crate::rest::Rest;
 use aec_bits::BitBuf;
+use aec_block::Block;
 use aec_params::{Fault, Params, append_samples, first_bad, sample_of};
 use std::alloc::Global;
 
@@ -25,16 +26,23 @@ pub(crate) struct Terms {
     pub(crate) limit: u64,
 }
 
-/// The samples of the interval that is not complete, and how many samples there were so far.
+/// The samples of the interval that is not complete, and how many samples there were so far; beside
+/// these a block that is filled again and again, of which nothing is asked.
 #[derive(Debug, Drop)]
 pub(crate) struct Progress {
     pub(crate) held: Vec<i64>,
     pub(crate) count: u64,
+    pub(crate) block: Block,
 }
 
-/// Appends the code of the samples that are held once they are an interval's, and then none are held. `Memory` where a
-/// growth was refused; nothing is appended then.
-fn code_complete(terms: &Terms, held: &mut Vec<i64>, out: &mut BitBuf) -> Result<(), Fault>
+/// Appends the code of the samples that are held once they are an interval's, and then none are
+/// held. `Memory` where a growth was refused; nothing is appended then.
+fn code_complete(
+    terms: &Terms,
+    held: &mut Vec<i64>,
+    block: &mut Block,
+    out: &mut BitBuf,
+) -> Result<(), Fault>
     requires samples { AllByRecursion (IsHeld terms.now.params) held.old.items }
     requires most { length held.old.items ≤ interval_len terms.now.params }
     ensures ok { OnOk result
@@ -48,14 +56,20 @@ fn code_complete(terms: &Terms, held: &mut Vec<i64>, out: &mut BitBuf) -> Result
     if (held.len() as u64) < terms.params.interval_len() {
         return Ok(());
     }
-    let coded = append_interval(terms.alloc, &terms.params, held, out);
+    let coded = append_interval_in(&terms.params, held, block, out);
     held.clear();
     coded
 }
 
-/// Holds a sample more. With the last sample of an interval its code is appended, and none are held. `Memory` where a
-/// growth was refused; nothing is appended then.
-fn push_sample(terms: &Terms, held: &mut Vec<i64>, x: i64, out: &mut BitBuf) -> Result<(), Fault>
+/// Holds a sample more. With the last sample of an interval its code is appended, and none are
+/// held. `Memory` where a growth was refused; nothing is appended then.
+fn push_sample(
+    terms: &Terms,
+    held: &mut Vec<i64>,
+    x: i64,
+    block: &mut Block,
+    out: &mut BitBuf,
+) -> Result<(), Fault>
     requires few { AreHeldFew terms.now.params held.old.items }
     requires sample { IsHeld terms.now.params x }
     ensures ok { OnOk result
@@ -67,10 +81,11 @@ fn push_sample(terms: &Terms, held: &mut Vec<i64>, x: i64, out: &mut BitBuf) -> 
     ensures fault { IfErr result (λ e. e ≡ Memory) }
 {
     held.push(x)?;
-    code_complete(terms, held, out)
+    code_complete(terms, held, block, out)
 }
 
-/// The sample of the bytes of one, behind `count` others. `TooManySamples` where the limit is reached, then `SampleRange`.
+/// The sample of the bytes of one, behind `count` others. `TooManySamples` where the limit is
+/// reached, then `SampleRange`.
 fn judge(terms: &Terms, count: u64, group: &[u8]) -> Result<i64, Fault>
     requires { length group.now ≡ storage_len terms.now.params }
     ensures value { result ≡ judged_sample terms.now.params terms.now.limit count group.now }
@@ -92,7 +107,7 @@ fn join(terms: &Terms, progress: &mut Progress, group: &[u8], out: &mut BitBuf) 
     ensures progress { IsProgress terms.now progress.new }
 {
     let x = judge(terms, progress.count, group)?;
-    push_sample(terms, &mut progress.held, x, out)?;
+    push_sample(terms, &mut progress.held, x, &mut progress.block, out)?;
     progress.count += 1;
     Ok(())
 }
@@ -116,8 +131,8 @@ fn join_each(
     Ok(())
 }
 
-/// Takes the bytes of some samples, no more than the interval has places, of which none is refused. `Memory` where a growth
-/// was refused.
+/// Takes the bytes of some samples, no more than the interval has places, of which none is refused.
+/// `Memory` where a growth was refused.
 fn join_good(
     terms: &Terms,
     progress: &mut Progress,
@@ -134,13 +149,13 @@ fn join_good(
     ensures progress { IsProgress terms.now progress.new }
 {
     append_samples(&terms.params, part, &mut progress.held)?;
-    code_complete(terms, &mut progress.held, out)?;
+    code_complete(terms, &mut progress.held, &mut progress.block, out)?;
     progress.count += (part.len() / terms.params.storage()) as u64;
     Ok(())
 }
 
-/// Takes the bytes of some samples, no more than the interval has places: at once where none is refused, else up to the
-/// first that is.
+/// Takes the bytes of some samples, no more than the interval has places: at once where none is
+/// refused, else up to the first that is.
 fn join_part(
     terms: &Terms,
     progress: &mut Progress,
@@ -197,8 +212,8 @@ fn join_all(
     Ok(())
 }
 
-/// Completes the sample of which bytes are there, with the front of a piece that is long enough. The bytes of the piece
-/// behind it.
+/// Completes the sample of which bytes are there, with the front of a piece that is long enough.
+/// The bytes of the piece behind it.
 fn complete_rest<'a>(
     terms: &Terms,
     progress: &mut Progress,
@@ -229,7 +244,8 @@ fn complete_rest<'a>(
     Ok(behind)
 }
 
-/// Takes a piece: completes the sample that was begun, takes all whole samples, and keeps the bytes that are left.
+/// Takes a piece: completes the sample that was begun, takes all whole samples, and keeps the bytes
+/// that are left.
 pub(crate) fn take_piece(
     terms: &Terms,
     progress: &mut Progress,

@@ -1,4 +1,5 @@
-//! Laws of intervals, streams and readings. Their functions do nothing: what each one's contract says is proved.
+//! Laws of intervals, streams and readings. Their functions do nothing: what each one's contract
+//! says is proved.
 
 ghost use Rattle.aec_interval.specs.Laws.{
   IntervalsAreRead,
@@ -38,26 +39,27 @@ pub fn readings_are_samples()
     ensures { AllReadingsAreSamples }
 {}
 
-/// No coded data sets for the blocks of an interval have fewer bits than its code, nor for those of all intervals than
-/// the code of all samples where nothing is padded.
+/// No coded data sets for the blocks of an interval have fewer bits than its code, nor for those of
+/// all intervals than the code of all samples where nothing is padded.
 pub fn codes_are_shortest()
     ensures { AllCodesAreShortest }
 {}
 
-/// Coded data sets for the blocks of each interval, one behind the other, are read with the count of the samples as the
-/// samples, whatever bits follow, where nothing is padded. So all that `codes_are_shortest` compares with the code of the
-/// samples is read as these samples.
+/// Coded data sets for the blocks of each interval, one behind the other, are read with the count
+/// of the samples as the samples, whatever bits follow, where nothing is padded. So all that
+/// `codes_are_shortest` compares with the code of the samples is read as these samples.
 pub fn each_code_is_read()
     ensures { EachCodeIsRead }
 {}
 
-/// However the input of a `StreamCoder` is cut into pieces, what its calls append is the stream of the samples of all bytes,
-/// and its refusal is the first one of all bytes.
+/// However the input of a `StreamCoder` is cut into pieces, what its calls append is the stream of
+/// the samples of all bytes, and its refusal is the first one of all bytes.
 pub fn cuts_make_no_difference()
     ensures { AllCutsMakeNoDifference }
 {}
 
-/// What a `StreamReader` hands out step by step is what the bits are read as, and its refusal is that of all bits.
+/// What a `StreamReader` hands out step by step is what the bits are read as, and its refusal is
+/// that of all bits.
 pub fn steps_are_the_reading()
     ensures { AllStepsAreTheReading }
 {}

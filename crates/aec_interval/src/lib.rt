@@ -1,4 +1,5 @@
-//! The coder of reference sample intervals, the reading of whole streams, and the laws that tie them.
+//! The coder of reference sample intervals, the reading of whole streams, and the laws that tie
+//! them.
 #![tactic(auto)]
 
 mod chunks;

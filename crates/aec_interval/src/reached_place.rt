@@ -1,6 +1,7 @@
 //! A place that a reader has come to.
 
-/// Where a `StreamReader` was before a step: the block that came next, and the bit at which its coded data set begins.
+/// Where a `StreamReader` was between two steps, or when all was read: the block that comes next,
+/// and the bit at which its coded data set would begin.
 #[derive(Clone, Copy, Debug)]
 pub struct ReachedPlace {
     pub block: u64,

@@ -23,8 +23,8 @@ use aec_block::{Block, Found, RunLen, read_into};
 use aec_params::{Fault, Params};
 use std::alloc::Global;
 
-/// The block and the bit where an interval begins, how many samples are asked for from block 0 on, if that is said, and how
-/// many may come.
+/// The block and the bit where an interval begins, how many samples are asked for from block 0 on,
+/// if that is said, and how many may come.
 #[derive(Clone, Copy)]
 pub(crate) struct Wanted {
     pub(crate) first: u64,
@@ -40,8 +40,8 @@ fn are_fewer(params: &Params, blocks: u64, count: u64) -> bool
     blocks.saturating_mul(u64::from(params.block_size())) < count
 }
 
-/// Whether a coded data set is wanted at this block: with a count while blocks are needed, without one while the rest is
-/// not all zeros.
+/// Whether a coded data set is wanted at this block: with a count while blocks are needed, without
+/// one while the rest is not all zeros.
 pub(crate) fn wants_more(params: &Params, wanted: Wanted, reader: &BitReader, block: u64) -> bool
     ensures { result ≡ is_wanted params.now wanted.count reader.now.list block reader.now.pos }
 {
@@ -59,7 +59,8 @@ pub(crate) fn goes_on(
     block: u64,
     end: u64,
 ) -> bool
-    ensures { result ≡ (nat_lt block end && is_wanted params.now wanted.count reader.now.list block reader.now.pos) }
+    ensures { result ≡ (nat_lt block end && is_wanted params.now wanted.count reader.now.list block
+        reader.now.pos) }
 {
     block < end && wants_more(params, wanted, reader, block)
 }
@@ -114,8 +115,9 @@ fn block_count(params: &Params, place: u64, len: RunLen) -> u64
     }
 }
 
-/// The number of the block behind a coded data set that begins at this bit, at this place of its interval, and stands for so many
-/// blocks. `RunTooLong` where its segment has fewer left, then `TooManySamples`.
+/// The number of the block behind a coded data set that begins at this bit, at this place of its
+/// interval, and stands for so many blocks. `RunTooLong` where its segment has fewer left, then
+/// `TooManySamples`.
 pub(crate) fn place_next(
     params: &Params,
     wanted: Wanted,
@@ -127,7 +129,8 @@ pub(crate) fn place_next(
     requires few { block < 2 ^ 34 }
     requires place { place ≡ block % params.now.interval }
     ensures value { result
-        ≡ block_behind params.now wanted.count wanted.limit block (run_count params.now (block % params.now.interval) len) bit }
+        ≡ block_behind params.now wanted.count wanted.limit block
+        (run_count params.now (block % params.now.interval) len) bit }
     ensures after { IfOk result (λ next. block ≤ next) }
     ensures within { IfOk result (λ next. next ≤ block + blocks_before_end params.now block) }
 {
@@ -146,7 +149,8 @@ pub(crate) fn place_next(
     Ok(next)
 }
 
-/// How many of the blocks from `block` up to `next` are kept: with a count those that are still needed.
+/// How many of the blocks from `block` up to `next` are kept: with a count those that are still
+/// needed.
 fn blocks_kept(params: &Params, wanted: Wanted, block: u64, next: u64) -> u64
     requires needed { IfSome wanted.count (λ count. block ≤ div_ceil count params.now.block_size) }
     requires forward { block ≤ next }
@@ -161,8 +165,8 @@ fn blocks_kept(params: &Params, wanted: Wanted, block: u64, next: u64) -> u64
     }
 }
 
-/// Appends the samples of the first blocks of a coded data set that come next, behind `block` others; where it is of one
-/// block, that was read into `values`. Takes no memory.
+/// Appends the samples of the first blocks of a coded data set that come next, behind `block`
+/// others; where it is of one block, that was read into `values`. Takes no memory.
 fn push_cds(
     params: &Params,
     found: Found,
@@ -176,7 +180,8 @@ fn push_cds(
     requires filled { AreFilled params.now block samples.old.items }
     requires next { IsNextCds params.now block samples.old.items kept (as_cds found values.now) }
     requires room { vec_len samples.old + kept * params.now.block_size ≤ vec_capacity samples.old }
-    ensures items { FillsNext params.now samples.old.items samples.new.items (cds_front params.now kept (as_cds found values.now)) }
+    ensures items { FillsNext params.now samples.old.items samples.new.items
+        (cds_front params.now kept (as_cds found values.now)) }
     ensures len { vec_len samples.new ≤ vec_len samples.old + kept * params.now.block_size }
     ensures capacity { vec_capacity samples.old ≤ vec_capacity samples.new }
 {
@@ -191,9 +196,11 @@ fn reserve_blocks(params: &Params, blocks: u64, samples: &mut Vec<i64>) -> Resul
     requires { blocks ≤ params.now.interval }
     ensures items { samples.new.items ≡ samples.old.items }
     ensures len { vec_len samples.new ≡ vec_len samples.old }
-    ensures ok { OnOk result (vec_len samples.new + blocks * params.now.block_size ≤ vec_capacity samples.new) }
+    ensures ok { OnOk result (vec_len samples.new + blocks
+        * params.now.block_size ≤ vec_capacity samples.new) }
     ensures capacity { vec_capacity samples.old ≤ vec_capacity samples.new }
-    ensures full { OnErr result (vec_capacity samples.old < vec_len samples.old + blocks * params.now.block_size) }
+    ensures full { OnErr result
+        (vec_capacity samples.old < vec_len samples.old + blocks * params.now.block_size) }
     ensures fault { IfErr result (λ e. e ≡ Memory) }
 {
     let more = blocks * u64::from(params.block_size());
@@ -201,8 +208,9 @@ fn reserve_blocks(params: &Params, blocks: u64, samples: &mut Vec<i64>) -> Resul
     Ok(())
 }
 
-/// Reads the coded data set of a block that is wanted, at this place of its interval, into the block `values`, and appends its
-/// samples. The number of the block that comes then. `Memory` comes only where there was no room for the samples that the interval has left.
+/// Reads the coded data set of a block that is wanted, at this place of its interval, into the
+/// block `values`, and appends its samples. The number of the block that comes then. `Memory` comes
+/// only where there was no room for the samples that the interval has left.
 fn read_next(
     params: &Params,
     wanted: Wanted,
@@ -213,20 +221,27 @@ fn read_next(
     samples: &mut Vec<i64>,
 ) -> Result<u64, Fault>
     requires place { place ≡ block % params.now.interval }
-    requires reached { IsReached params.now wanted.count wanted.limit reader.old.list wanted.first wanted.start block reader.old.pos samples.old.items }
+    requires reached { IsReached params.now wanted.count wanted.limit reader.old.list wanted.first
+        wanted.start block reader.old.pos samples.old.items }
     requires after { wanted.first ≤ block }
     requires wanted { IsWantedNext params.now wanted.count wanted.limit reader.old.list
         wanted.first block reader.old.pos }
     ensures ok { IfOk result (λ next.
-        IsReached params.now wanted.count wanted.limit reader.new.list wanted.first wanted.start next reader.new.pos samples.new.items) }
-    ensures refuses { IfErr result (λ fault. RefusesUpTo params.now wanted.count wanted.limit reader.old.list wanted.first wanted.start
+        IsReached params.now wanted.count wanted.limit reader.new.list wanted.first wanted.start
+        next reader.new.pos samples.new.items) }
+    ensures refuses { IfErr result
+        (λ fault. RefusesUpTo params.now wanted.count wanted.limit reader.old.list wanted.first
+        wanted.start
         (block + blocks_before_end params.now block) fault) }
     ensures list { reader.new.list ≡ reader.old.list }
     ensures next { IfOk result (λ next. ComesNext params.now block next) }
-    ensures len { IfOk result (λ next. vec_len samples.new ≤ vec_len samples.old + (next - block) * params.now.block_size) }
+    ensures len { IfOk result
+        (λ next. vec_len samples.new ≤ vec_len samples.old + (next - block)
+        * params.now.block_size) }
     ensures capacity { vec_capacity samples.old ≤ vec_capacity samples.new }
     ensures full { IfErr result (λ fault. fault ≡ Memory
-        → vec_capacity samples.old < vec_len samples.old + blocks_before_end params.now block * params.now.block_size) }
+        → vec_capacity samples.old < vec_len samples.old + blocks_before_end params.now block
+        * params.now.block_size) }
 {
     let bit = reader.pos();
     let found = read_into(params, reader, has_reference(params, place), values)?;
@@ -238,8 +253,9 @@ fn read_next(
     Ok(next)
 }
 
-/// Reads the interval that begins at a block that is wanted, up to its end or as far as blocks are wanted, and appends its
-/// samples. Each coded data set is read into the block `values`. The number of the block that comes then.
+/// Reads the interval that begins at a block that is wanted, up to its end or as far as blocks are
+/// wanted, and appends its samples. Each coded data set is read into the block `values`. The number
+/// of the block that comes then.
 pub(crate) fn read_interval(
     params: &Params,
     wanted: Wanted,
@@ -252,15 +268,19 @@ pub(crate) fn read_interval(
     requires wanted { IsWantedNext params.now wanted.count wanted.limit reader.old.list
         wanted.first wanted.first reader.old.pos }
     ensures ok { IfOk result (λ next.
-        IsReached params.now wanted.count wanted.limit reader.new.list wanted.first wanted.start next reader.new.pos samples.new.items) }
-    ensures refuses { IfErr result (λ fault. RefusesUpTo params.now wanted.count wanted.limit reader.old.list wanted.first wanted.start
+        IsReached params.now wanted.count wanted.limit reader.new.list wanted.first wanted.start
+        next reader.new.pos samples.new.items) }
+    ensures refuses { IfErr result
+        (λ fault. RefusesUpTo params.now wanted.count wanted.limit reader.old.list wanted.first
+        wanted.start
         (wanted.first + params.now.interval) fault) }
     ensures list { reader.new.list ≡ reader.old.list }
     ensures over { IfOk result (λ next.
         IsGoneOver params.now wanted.count reader.new.list wanted.first next reader.new.pos) }
     ensures len { IfOk result (λ _. vec_len samples.new ≤ interval_len params.now) }
     ensures capacity { vec_capacity samples.old ≤ vec_capacity samples.new }
-    ensures full { IfErr result (λ fault. fault ≡ Memory → vec_capacity samples.old < interval_len params.now) }
+    ensures full { IfErr result
+        (λ fault. fault ≡ Memory → vec_capacity samples.old < interval_len params.now) }
 {
     let end = wanted.first + u64::from(params.interval());
     let mut block = wanted.first;
@@ -276,7 +296,8 @@ pub(crate) fn read_interval(
 /// Keeps of the samples from `wanted.first` on those that are asked for.
 pub(crate) fn cut_to_count(params: &Params, wanted: Wanted, samples: &mut Vec<i64>)
     requires { wanted.first < 2 ^ 34 }
-    ensures items { samples.new.items ≡ counted_from params.now wanted.count wanted.first samples.old.items }
+    ensures items { samples.new.items
+        ≡ counted_from params.now wanted.count wanted.first samples.old.items }
     ensures capacity { vec_capacity samples.new ≡ vec_capacity samples.old }
 {
     if let Some(count) = wanted.count {
@@ -285,8 +306,8 @@ pub(crate) fn cut_to_count(params: &Params, wanted: Wanted, samples: &mut Vec<i6
     }
 }
 
-/// Puts the samples that the bits from `wanted.start` on stand for into an empty list: with a count the first `count`, and without one
-/// all samples of all blocks.
+/// Puts the samples that the bits from `wanted.start` on stand for into an empty list: with a count
+/// the first `count`, and without one all samples of all blocks.
 pub(crate) fn decode_into(
     alloc: Global,
     params: &Params,
@@ -299,8 +320,11 @@ pub(crate) fn decode_into(
     requires counted { IfSome wanted.count (λ count. count ≤ 2 ^ 32) }
     requires first { wanted.first ≡ 0 }
     requires empty { samples.old.items ≡ [] }
-    ensures ok { OnOk result (IsReadFrom params.now wanted.count wanted.limit bits.now.list wanted.start samples.new.items) }
-    ensures refuses { IfErr result (λ fault. RefusesReading params.now wanted.count wanted.limit bits.now.list 0 wanted.start fault) }
+    ensures ok { OnOk result (IsReadFrom params.now wanted.count wanted.limit bits.now.list
+        wanted.start samples.new.items) }
+    ensures refuses { IfErr result
+        (λ fault. RefusesReading params.now wanted.count wanted.limit bits.now.list 0 wanted.start
+        fault) }
 {
     let mut reader = BitReader::new(bits);
     reader.seek(wanted.start);
@@ -322,8 +346,8 @@ pub(crate) fn decode_into(
     Ok(())
 }
 
-/// The samples that the bits from `wanted.start` on stand for: with a count the first `count`, and without one all
-/// samples of all blocks.
+/// The samples that the bits from `wanted.start` on stand for: with a count the first `count`, and
+/// without one all samples of all blocks.
 pub(crate) fn decode_from(
     alloc: Global,
     params: &Params,
@@ -334,8 +358,11 @@ pub(crate) fn decode_from(
     requires limit { wanted.limit ≤ 2 ^ 32 }
     requires counted { IfSome wanted.count (λ count. count ≤ 2 ^ 32) }
     requires first { wanted.first ≡ 0 }
-    ensures ok { IfOk result (λ samples. IsReadFrom params.now wanted.count wanted.limit bits.now.list wanted.start samples.items) }
-    ensures refuses { IfErr result (λ fault. RefusesReading params.now wanted.count wanted.limit bits.now.list 0 wanted.start fault) }
+    ensures ok { IfOk result (λ samples. IsReadFrom params.now wanted.count wanted.limit
+        bits.now.list wanted.start samples.items) }
+    ensures refuses { IfErr result
+        (λ fault. RefusesReading params.now wanted.count wanted.limit bits.now.list 0 wanted.start
+        fault) }
 {
     let mut samples = Vec::new(alloc);
     decode_into(alloc, params, bits, wanted, &mut samples)?;

@@ -10,8 +10,8 @@ ghost use Rattle.aec_interval.specs.Reached.{AreFilled};
 use crate::filling::previous_of;
 use aec_params::Params;
 
-/// The sample that a zero block repeats behind these: that of its reference, or else the prediction, and 0 where nothing
-/// is predicted.
+/// The sample that a zero block repeats behind these: that of its reference, or else the
+/// prediction, and 0 where nothing is predicted.
 #[tactic(auto, using(crate::proofs::ZeroRunLemmas::repeated))]
 fn repeated_sample(params: &Params, reference: Option<u32>, samples: &[i64]) -> i64
     requires { IfSome reference (λ r. r < 2 ^ params.now.bits) }
@@ -24,8 +24,8 @@ fn repeated_sample(params: &Params, reference: Option<u32>, samples: &[i64]) -> 
     }
 }
 
-/// Appends the samples of so many zero blocks that come next, behind `block` others; the first has the reference sample
-/// where there is one. They are all equal. Takes no memory.
+/// Appends the samples of so many zero blocks that come next, behind `block` others; the first has
+/// the reference sample where there is one. They are all equal. Takes no memory.
 pub(crate) fn push_zero_run(
     params: &Params,
     reference: Option<u32>,
@@ -36,10 +36,13 @@ pub(crate) fn push_zero_run(
     requires allowed { IsAllowed params.now }
     requires some { 1 ≤ blocks }
     requires within { block % params.now.interval + blocks ≤ params.now.interval }
-    requires due { HasReference params.now (is_reference_block params.now (block % params.now.interval)) reference }
+    requires due { HasReference params.now
+        (is_reference_block params.now (block % params.now.interval)) reference }
     requires filled { AreFilled params.now block samples.old.items }
-    requires room { vec_len samples.old + blocks * params.now.block_size ≤ vec_capacity samples.old }
-    ensures items { FillsNext params.now samples.old.items samples.new.items (run_blocks params.now reference blocks) }
+    requires room { vec_len samples.old + blocks
+        * params.now.block_size ≤ vec_capacity samples.old }
+    ensures items { FillsNext params.now samples.old.items samples.new.items
+        (run_blocks params.now reference blocks) }
     ensures len { vec_len samples.new ≡ vec_len samples.old + blocks * params.now.block_size }
     ensures capacity { vec_capacity samples.old ≤ vec_capacity samples.new }
 {

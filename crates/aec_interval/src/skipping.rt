@@ -11,8 +11,9 @@ use aec_bits::BitReader;
 use aec_block::{Block, skip_cds};
 use aec_params::{Fault, Params};
 
-/// Goes over the coded data set of a block that is wanted, at this place of its interval, which may be read into the block `values`. The
-/// number of the block that comes then. The refusals are those of `read_next`, but for want of memory. Takes no memory.
+/// Goes over the coded data set of a block that is wanted, at this place of its interval, which may
+/// be read into the block `values`. The number of the block that comes then. The refusals are those
+/// of `read_next`, but for want of memory. Takes no memory.
 fn skip_next(
     params: &Params,
     wanted: Wanted,
@@ -22,12 +23,16 @@ fn skip_next(
     values: &mut Block,
 ) -> Result<u64, Fault>
     requires place { place ≡ block % params.now.interval }
-    requires led { IsLedTo params.now wanted.count wanted.limit reader.old.list wanted.first wanted.start block reader.old.pos }
+    requires led { IsLedTo params.now wanted.count wanted.limit reader.old.list wanted.first
+        wanted.start block reader.old.pos }
     requires wanted { IsWantedNext params.now wanted.count wanted.limit reader.old.list
         wanted.first block reader.old.pos }
     ensures ok { IfOk result (λ next.
-        IsLedTo params.now wanted.count wanted.limit reader.new.list wanted.first wanted.start next reader.new.pos) }
-    ensures refuses { IfErr result (λ fault. IsFaultBefore params.now wanted.count wanted.limit reader.old.list wanted.first wanted.start
+        IsLedTo params.now wanted.count wanted.limit reader.new.list wanted.first wanted.start next
+        reader.new.pos) }
+    ensures refuses { IfErr result
+        (λ fault. IsFaultBefore params.now wanted.count wanted.limit reader.old.list wanted.first
+        wanted.start
         (block + blocks_before_end params.now block) fault) }
     ensures list { reader.new.list ≡ reader.old.list }
     ensures next { IfOk result (λ next. ComesNext params.now block next) }
@@ -39,8 +44,9 @@ fn skip_next(
     Ok(next)
 }
 
-/// Goes over the interval that begins at a block that is wanted, up to its end or as far as blocks are wanted. Each coded data
-/// set may be read into the block `values`. The number of the block that comes then. Takes no memory.
+/// Goes over the interval that begins at a block that is wanted, up to its end or as far as blocks
+/// are wanted. Each coded data set may be read into the block `values`. The number of the block
+/// that comes then. Takes no memory.
 pub(crate) fn skip_interval(
     params: &Params,
     wanted: Wanted,
@@ -51,8 +57,11 @@ pub(crate) fn skip_interval(
     requires wanted { IsWantedNext params.now wanted.count wanted.limit reader.old.list
         wanted.first wanted.first reader.old.pos }
     ensures ok { IfOk result (λ next.
-        IsLedTo params.now wanted.count wanted.limit reader.new.list wanted.first wanted.start next reader.new.pos) }
-    ensures refuses { IfErr result (λ fault. IsFaultBefore params.now wanted.count wanted.limit reader.old.list wanted.first wanted.start
+        IsLedTo params.now wanted.count wanted.limit reader.new.list wanted.first wanted.start next
+        reader.new.pos) }
+    ensures refuses { IfErr result
+        (λ fault. IsFaultBefore params.now wanted.count wanted.limit reader.old.list wanted.first
+        wanted.start
         (wanted.first + params.now.interval) fault) }
     ensures allowed { IsAllowed params.now }
     ensures list { reader.new.list ≡ reader.old.list }

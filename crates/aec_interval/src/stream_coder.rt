@@ -4,13 +4,14 @@ use crate::interval::append_interval;
 use crate::joining::{Progress, Terms, take_piece};
 use crate::rest::Rest;
 use aec_bits::BitBuf;
+use aec_block::Block;
 use aec_params::{Fault, Params};
 use std::alloc::Global;
 use std::marker::Model;
 
-/// Codes stored samples that come in pieces, cut anywhere: each interval as soon as it is complete. Of the input it keeps,
-/// beside the number of samples so far and its refusal, fewer samples than an interval has and fewer bytes than a sample
-/// has. It answers its first refusal for good.
+/// Codes stored samples that come in pieces, cut anywhere: each interval as soon as it is complete.
+/// Of the input it keeps, beside the number of samples so far and its refusal, fewer samples than
+/// an interval has and fewer bytes than a sample has. It answers its first refusal for good.
 #[derive(Debug, Drop)]
 pub struct StreamCoder {
     terms: Terms,
@@ -56,13 +57,15 @@ impl StreamCoder {
             progress: Progress {
                 held: Vec::new(alloc),
                 count: 0,
+                block: Block::new(alloc, None),
             },
             rest: Rest::new(),
             refusal: None,
         }
     }
 
-    /// The number of whole samples that are not coded yet, fewer than an interval has. Takes no memory.
+    /// The number of whole samples that are not coded yet, fewer than an interval has. Takes no
+    /// memory.
     pub fn held(&self) -> u64
         ensures value { result ≡ length self.now.held }
         ensures few { result < interval_len self.now.settings }
@@ -70,15 +73,18 @@ impl StreamCoder {
         self.progress.held.len() as u64
     }
 
-    /// Takes the samples that a piece completes, and appends the code of the intervals that are complete with it.
+    /// Takes the samples that a piece completes, and appends the code of the intervals that are
+    /// complete with it.
     ///
-    /// The refusals, sample by sample: `TooManySamples` past the limit, `SampleRange` with the sample's index counted from
-    /// the first of all pieces, `Memory` at a sample that is neither. What was appended is the code of the intervals that were
-    /// complete before it, for `Memory` of the first ones of them. From then on each call answers that refusal and appends nothing.
+    /// The refusals, sample by sample: `TooManySamples` past the limit, `SampleRange` with the
+    /// sample's index counted from the first of all pieces, `Memory` at a sample that is neither.
+    /// What was appended is the code of the intervals that were complete before it, for `Memory` of
+    /// the first ones of them. From then on each call answers that refusal and appends nothing.
     pub fn feed(&mut self, piece: &[u8], out: &mut BitBuf) -> Result<(), Fault>
         ensures ok { OnOk result (Feeds self.old piece.now out.old.list out.new.list self.new) }
         ensures refuses { MatchOption self.old.refusal
-            (IfErr result (λ fault. StopsFeeding self.old piece.now out.old.list out.new.list fault))
+            (IfErr result (λ fault. StopsFeeding self.old piece.now out.old.list out.new.list
+            fault))
             (λ fault. (result ≡ Err fault) × (out.new.list ≡ out.old.list)) }
         ensures refusal { self.new.refusal ≡ result_err result }
         ensures settings { self.new.settings ≡ self.old.settings }
@@ -93,12 +99,15 @@ impl StreamCoder {
         taken
     }
 
-    /// Appends the code of the samples that are held; the bytes of a sample that is not complete are ignored. The refusal
-    /// that there was, or `Memory` where samples are held; nothing is appended then.
+    /// Appends the code of the samples that are held; the bytes of a sample that is not complete
+    /// are ignored. The refusal that there was, or `Memory` where samples are held; nothing is
+    /// appended then.
     pub fn finish(self, out: &mut BitBuf) -> Result<(), Fault>
-        ensures ok { OnOk result (out.new.list ≡ out.old.list ++ stream_of self.settings self.held) }
+        ensures ok { OnOk result (out.new.list
+            ≡ out.old.list ++ stream_of self.settings self.held) }
         ensures refuses { MatchOption self.refusal
-            (IfErr result (λ e. (e ≡ Memory) × (0 < length self.held))) (λ fault. result ≡ Err fault) }
+            (IfErr result (λ e. (e ≡ Memory) × (0 < length self.held)))
+            (λ fault. result ≡ Err fault) }
         ensures err { OnErr result (out.new.list ≡ out.old.list) }
     {
         if let Some(refusal) = self.refusal {

@@ -10,8 +10,9 @@ use aec_params::{Fault, Params};
 use std::alloc::Global;
 use std::marker::Model;
 
-/// Reads the samples that coded bits stand for, as `decode_all` does, and hands them out interval by interval. It keeps
-/// none of them, but the values of one block. Contracts see the place where it is.
+/// Reads the samples that coded bits stand for, as `decode_all` does, and hands them out interval
+/// by interval. It keeps none of them, but the values of one block. Contracts see the place where
+/// it is.
 #[derive(Debug, Drop)]
 pub struct StreamReader<'a> {
     params: Params,
@@ -29,7 +30,8 @@ impl<'a> Model for StreamReader<'a> {
 
     ghost view = { λ r. place_at r.params r.count r.limit r.reader.list r.block r.reader.pos };
 
-    ghost invariant = { λ r. IsPlace (place_at r.params r.count r.limit r.reader.list r.block r.reader.pos) };
+    ghost invariant = { λ r.
+        IsPlace (place_at r.params r.count r.limit r.reader.list r.block r.reader.pos) };
 }
 
 impl<'a> StreamReader<'a> {
@@ -42,8 +44,8 @@ impl<'a> StreamReader<'a> {
     ghost use Rattle.aec_interval.specs.Pieces.{place_at, is_wanted_at, IsPlace, ReadsInterval, RefusesAt};
     ghost use Rattle.aec_interval.specs.Skipping.{HasInterval, IsFaultAt};
 
-    /// A reader at the first bit, which asks for the first `count` samples, or without a count for all of them.
-    /// `TooManySamples` where a given count is above `limit`. Takes no memory.
+    /// A reader at the first bit, which asks for the first `count` samples, or without a count for
+    /// all of them. `TooManySamples` where a given count is above `limit`. Takes no memory.
     pub fn new(
         alloc: Global,
         params: Params,
@@ -52,7 +54,8 @@ impl<'a> StreamReader<'a> {
         limit: u64,
     ) -> Result<StreamReader<'a>, Fault>
         requires { limit ≤ 2 ^ 32 }
-        ensures ok { IfOk result (λ reader. reader ≡ place_at params count limit bits.now.list 0 0) }
+        ensures ok { IfOk result (λ reader. reader
+            ≡ place_at params count limit bits.now.list 0 0) }
         ensures refuses { result_err result ≡ count_refusal limit count }
     {
         judge_count(count, limit)?;
@@ -68,7 +71,8 @@ impl<'a> StreamReader<'a> {
 
     /// Goes back to the first bit.
     pub fn restart(&mut self)
-        ensures { self.new ≡ place_at self.old.settings self.old.count self.old.limit self.old.bits 0 0 }
+        ensures { self.new ≡ place_at self.old.settings self.old.count self.old.limit self.old.bits
+            0 0 }
     {
         // What the parameters promise is told by their calls.
         let _len = self.params.interval_len();
@@ -101,24 +105,28 @@ impl<'a> StreamReader<'a> {
         self.block = place.block;
     }
 
-    /// Puts the samples of the next interval in the place of those that were handed in, at most as many as an interval has;
-    /// false where none are left.
+    /// Puts the samples of the next interval in the place of those that were handed in, at most as
+    /// many as an interval has; false where none are left.
     ///
-    /// The refusals are those of `decode_all`, each where its interval is met. `Memory` comes only where the vector had no
-    /// room for the samples of a whole interval. After a refusal, and where none are left, the reader is where it was, and the
-    /// vector is empty: a call that lacked memory can be made again.
+    /// The refusals are those of `decode_all`, each where its interval is met. `Memory` comes only
+    /// where the vector had no room for the samples of a whole interval. After a refusal, and where
+    /// none are left, the reader is where it was, and the vector is empty: a call that lacked
+    /// memory can be made again.
     pub fn next(&mut self, samples: &mut Vec<i64>) -> Result<bool, Fault>
         ensures more { IfOk result (λ more. more ≡ is_wanted_at self.old) }
-        ensures read { IfOk result (λ more. more ≡ true → ReadsInterval self.old samples.new.items self.new) }
+        ensures read { IfOk result
+            (λ more. more ≡ true → ReadsInterval self.old samples.new.items self.new) }
         ensures done { IfOk result (λ more. more ≡ false → self.new ≡ self.old) }
         ensures empty { IfOk result (λ more. more ≡ false → samples.new.items ≡ []) }
         ensures refuses { IfErr result (λ fault. RefusesAt self.old fault) }
         ensures err { OnErr result (self.new ≡ self.old) }
         ensures cleared { OnErr result (samples.new.items ≡ []) }
-        ensures full { IfErr result (λ fault. fault ≡ Memory → vec_capacity samples.old < interval_len self.old.settings) }
+        ensures full { IfErr result
+            (λ fault. fault ≡ Memory → vec_capacity samples.old < interval_len self.old.settings) }
         ensures capacity { vec_capacity samples.old ≤ vec_capacity samples.new }
         ensures few { self.new.block < 2 ^ 34 }
-        ensures ends { is_wanted_at self.new ≡ true → self.new.block % self.new.settings.interval ≡ 0 }
+        ensures ends { is_wanted_at self.new ≡ true
+            → self.new.block % self.new.settings.interval ≡ 0 }
     {
         samples.clear();
         let wanted = Wanted {
@@ -145,10 +153,11 @@ impl<'a> StreamReader<'a> {
         }
     }
 
-    /// Goes over the next interval as `next` does, without its samples. How many of them are asked for; `None` where no
-    /// more is wanted.
+    /// Goes over the next interval as `next` does, without its samples. How many of them are asked
+    /// for; `None` where no more is wanted.
     ///
-    /// The refusals are those of `next`, but for want of memory, and the reader is then where it was. Takes no memory.
+    /// The refusals are those of `next`, but for want of memory, and the reader is then where it
+    /// was. Takes no memory.
     pub fn skip(&mut self) -> Result<Option<u64>, Fault>
         ensures more { IfOk result (λ len. is_some len ≡ is_wanted_at self.old) }
         ensures skipped { IfOk result (λ len. IfSome len (λ n. HasInterval self.old n self.new)) }
@@ -156,7 +165,8 @@ impl<'a> StreamReader<'a> {
         ensures refuses { IfErr result (λ fault. IsFaultAt self.old fault) }
         ensures err { OnErr result (self.new ≡ self.old) }
         ensures few { self.new.block < 2 ^ 34 }
-        ensures ends { is_wanted_at self.new ≡ true → self.new.block % self.new.settings.interval ≡ 0 }
+        ensures ends { is_wanted_at self.new ≡ true
+            → self.new.block % self.new.settings.interval ≡ 0 }
     {
         let from = Wanted {
             first: self.block,

@@ -12,6 +12,7 @@ ghost use Rattle.aec_interval.specs.Laws.{ReadsEach};
 
 use crate::interval::write_interval;
 use aec_bits::BitBuf;
+use aec_block::Block;
 use aec_params::{Fault, Params};
 use std::alloc::Global;
 
@@ -35,21 +36,25 @@ fn code_intervals(alloc: Global, params: &Params, samples: &[i64]) -> Result<Bit
     ensures fault { IfErr result (λ e. e ≡ Memory) }
 {
     let mut out = BitBuf::new(alloc);
+    let mut block = Block::new(alloc, None);
     for interval in samples.chunks(params.interval_len() as usize) {
-        write_interval(alloc, params, interval, &mut out)?;
+        write_interval(params, interval, &mut block, &mut out)?;
     }
     Ok(out)
 }
 
-/// The code of samples, without the zeros that fill its last byte. `SampleRange` with the index of the first number that
-/// is no sample of the parameters, judged before any memory is taken; then `Memory` where a growth was refused.
+/// The code of samples, without the zeros that fill its last byte. `SampleRange` with the index of
+/// the first number that is no sample of the parameters, judged before any memory is taken; then
+/// `Memory` where a growth was refused.
 ///
-/// Without padding no coded data sets are shorter: take for each interval any bits that the standard reads as its blocks, by
-/// any options and any runs; joined they have at least as many bits.
+/// Without padding no coded data sets are shorter: take for each interval any bits that the
+/// standard reads as its blocks, by any options and any runs; joined they have at least as many
+/// bits.
 pub fn encode_all(alloc: Global, params: &Params, samples: &[i64]) -> Result<BitBuf, Fault>
     ensures ok { IfOk result (λ b. b.list ≡ stream_of params.now samples.now) }
     ensures shortest { params.now.pad ≡ false → IfOk result (λ b. (codes : List (List Bool))
-        → ReadsEach params.now codes (intervals_of params.now samples.now) → length b.list ≤ length (flat_map (λ code. code) codes)) }
+        → ReadsEach params.now codes (intervals_of params.now samples.now)
+        → length b.list ≤ length (flat_map (λ code. code) codes)) }
     ensures refuses { MatchOption (first_unheld (is_held params.now) 0 samples.now)
         (IfErr result (λ e. e ≡ Memory)) (λ index. result_err result ≡ Some (SampleRange index)) }
 {

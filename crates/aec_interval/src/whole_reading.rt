@@ -22,11 +22,12 @@ pub(crate) fn judge_count(count: Option<u64>, limit: u64) -> Result<(), Fault>
 
 /// The samples that coded bits stand for.
 ///
-/// With a count the first `count` samples: as many blocks are read as hold them, and bits behind the last coded data set
-/// that is needed are ignored. Without one all samples of all blocks, up to a rest of zero bits. `TooManySamples` first
-/// where a given count is above `limit`; then at each coded data set in turn `Truncated`, `ValueTooLarge`, `RunTooLong`
-/// with the bit where it begins, `TooManySamples` without a count where the samples with it pass the limit, and `Memory`.
-/// So memory is refused only behind a coded data set that was read and that no fault refuses.
+/// With a count the first `count` samples: as many blocks are read as hold them, and bits behind
+/// the last coded data set that is needed are ignored. Without one all samples of all blocks, up to
+/// a rest of zero bits. `TooManySamples` first where a given count is above `limit`; then at each
+/// coded data set in turn `Truncated`, `ValueTooLarge`, `RunTooLong` with the bit where it begins,
+/// `TooManySamples` without a count where the samples with it pass the limit, and `Memory`. So
+/// memory is refused only behind a coded data set that was read and that no fault refuses.
 pub fn decode_all(
     alloc: Global,
     params: &Params,
@@ -35,8 +36,10 @@ pub fn decode_all(
     limit: u64,
 ) -> Result<Vec<i64>, Fault>
     requires { limit ≤ 2 ^ 32 }
-    ensures ok { IfOk result (λ samples. (count_refusal limit count ≡ None) × IsReading params.now count limit bits.now.list samples.items) }
-    ensures refuses { IfErr result (λ fault. RefusesDecoding params.now count limit bits.now.list fault) }
+    ensures ok { IfOk result (λ samples. (count_refusal limit count ≡ None)
+        × IsReading params.now count limit bits.now.list samples.items) }
+    ensures refuses { IfErr result
+        (λ fault. RefusesDecoding params.now count limit bits.now.list fault) }
 {
     judge_count(count, limit)?;
     decode_from(

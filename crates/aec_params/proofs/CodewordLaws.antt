@@ -91,7 +91,8 @@ binary-bits_number (false ∷ bits) =
 
 -- ---- codes of many
 
--- A code that tells the key of each element, wherever its codeword stands, tells the keys of a list of known length.
+-- A code that tells the key of each element, wherever its codeword stands, tells the keys of a list
+-- of known length.
 pub flat_map-tells : {X K : Type 0} (P : X → Type 0) (code : X → List Bool) (key : X → K)
     → ((a b : X) (u v : List Bool) → P a → P b → code a ++ u ≡ code b ++ v → (key a ≡ key b) × (u ≡ v))
     → (xs ys : List X) (u v : List Bool) → length xs ≡ length ys → AllByRecursion P xs → AllByRecursion P ys

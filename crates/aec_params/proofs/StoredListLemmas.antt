@@ -123,7 +123,8 @@ low_bits-raised u k t =
     let split : u + k ≡ u / t * t + (u % t + k) = omega (arith, whole) in
     ap (λ (n : ℕ). n % t) split ∙ mul-add-mod_self_right (u / t) t (u % t + k)
 
--- the upper half of t patterns stands for negative numbers: half of them is added before the cut and taken away behind it
+-- the upper half of t patterns stands for negative numbers: half of them is added before the cut
+-- and taken away behind it
 raised-value : (k t p : ℕ) → t ≡ k + k → p < t → pos ((p + k) % t) -ℤ pos k ≡ (if nat_le k p then pos p -ℤ pos t else pos p)
 raised-value k t p halves below = elim (cases_lt p k) [
   | inl low ↦

@@ -1,4 +1,5 @@
--- Readings at the corners: nothing needed, bits skipped unread, choices that this coder wouldn't make, and bits that end.
+-- Readings at the corners: nothing needed, bits skipped unread, choices that this coder wouldn't
+-- make, and bits that end.
 use Rattle.std.proofs.Common.{rules, lit<, ℕ, ℤ, pos, ◌≡◌, Bool, Some, None, List, [], ◌∷◌, ◌++◌, map, replicate, refl, ◌∙◌, append_assoc}
 use Rattle.aec_params.specs.declared.fault.Fault.TheVariants.{Truncated}
 use Rattle.aec_params.specs.Codewords.{bits_of_bytes}
@@ -66,7 +67,8 @@ ones_skipped_between = record {
 
 -- ---- choices of other coders
 
--- the second extension for zeros, its first pair being (1, 0): the 1 stands in the reference place and is no value
+-- the second extension for zeros, its first pair being (1, 0): the 1 stands in the reference place
+-- and is no value
 pub first_member_ignored : IsReading usual (Some 8) 4096 (bits_of_bytes (0x10 ∷ 0x07 ∷ 0x80 ∷ [])) (zeros 8)
 first_member_ignored = record {
   blocks = zero_block usual (Some 0) ∷ [];

@@ -1,4 +1,5 @@
--- Edits on small lists, computed from the definitions: what they leave, and the intervals that they code.
+-- Edits on small lists, computed from the definitions: what they leave, and the intervals that they
+-- code.
 use Rattle.std.proofs.Common.{◌≡◌, ℕ, ◌*◌, ℤ, pos, List, [], ◌∷◌, map, replicate, take, length, refl}
 use Rattle.aec_params.specs.declared.edit.Edit.{Edit}
 use Rattle.aec_params.specs.declared.edit.Edit.TheVariants.{Overwrite, Append, Truncate, Insert, Remove}

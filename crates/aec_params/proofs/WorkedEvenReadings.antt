@@ -1,4 +1,5 @@
--- Blocks of 10 read back, and two faults, worked out against the definitions of a reading and a fault.
+-- Blocks of 10 read back, and two faults, worked out against the definitions of a reading and a
+-- fault.
 use Rattle.std.proofs.Common.{rules, lit<, ℕ, ℤ, pos, Some, None, List, [], ◌∷◌, map, replicate, refl}
 use Rattle.aec_params.specs.declared.fault.Fault.TheVariants.{RunTooLong, TooManySamples}
 use Rattle.aec_params.specs.Codewords.{bits_of_bytes}

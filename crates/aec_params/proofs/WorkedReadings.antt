@@ -1,4 +1,5 @@
--- Small streams read back, and the faults of others, worked out against the definitions of a reading and a fault.
+-- Small streams read back, and the faults of others, worked out against the definitions of a
+-- reading and a fault.
 use Rattle.std.proofs.Common.{rules, lit<, ℕ, ℤ, pos, Some, None, List, [], ◌∷◌, map, replicate, refl}
 use Rattle.aec_params.specs.Codewords.{bits_of_bytes}
 use Rattle.aec_params.specs.CodedDataSets.{CodedDataSet, split_values, zero_blocks}

@@ -12,7 +12,8 @@ use Rattle.aec_params.specs.Reading.{IsReading}
 use Rattle.aec_params.specs.Faults.{IsFault, not_read, too_large, too_long, too_many}
 use Rattle.aec_params.proofs.WorkedSettings.{usual, with_interval, unprocessed}
 
--- ---- the remainder code: all blocks that the segment has left, of which a count takes what it needs
+-- ---- the remainder code: all blocks that the segment has left, of which a count takes what it
+-- needs
 
 abbrev zeros : ℕ → List ℤ
 zeros n = map pos (replicate n 0)

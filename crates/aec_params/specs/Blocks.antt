@@ -6,7 +6,8 @@ use Rattle.aec_params.specs.Params.{interval_len, sample_pattern}
 use Rattle.aec_params.specs.Cutting.{pieces_of, up_to_multiple}
 use Rattle.aec_params.specs.Mapping.{mapped_values}
 
--- a block: the reference sample's pattern where it has one, and its values, with 0 in the reference place
+-- a block: the reference sample's pattern where it has one, and its values, with 0 in the reference
+-- place
 pub record Block : Type 0 where
   pub reference : Option ℕ
   pub values : List ℕ

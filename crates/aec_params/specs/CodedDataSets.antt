@@ -43,7 +43,8 @@ abbrev pub reference_bits : Settings → Option ℕ → List Bool
 reference_bits s None = []
 reference_bits s (Some r) = binary s.bits r
 
--- the bits behind them: values in n bits, codewords of pairs, high parts and then low parts, or a run's number
+-- the bits behind them: values in n bits, codewords of pairs, high parts and then low parts, or a
+-- run's number
 abbrev pub body_bits : Settings → Body → List Bool
 body_bits s (uncompressed_values values) = flat_map (binary s.bits) values
 body_bits s (value_pairs values) = pair_bits values
@@ -65,7 +66,8 @@ HasReference s false None = ⊤
 abbrev pub written_count : Settings → Bool → ℕ
 written_count s is_reference = if is_reference then s.block_size - 1 else s.block_size
 
--- as many values as a block writes, pairs as many as it has; values without compression fit n bits, and k is that of an option
+-- as many values as a block writes, pairs as many as it has; values without compression fit n bits,
+-- and k is that of an option
 abbrev pub HasBody : Settings → Bool → Body → Type 0
 HasBody s is_reference (uncompressed_values values) = (length values ≡ written_count s is_reference) × AllByRecursion (λ v. v < 2 ^ s.bits) values
 HasBody s is_reference (value_pairs values) = length values ≡ s.block_size

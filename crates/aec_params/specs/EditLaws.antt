@@ -14,7 +14,8 @@ MovesNone (Truncate count) = ⊤
 MovesNone (Insert first values) = ⊥
 MovesNone (Remove first len) = ⊥
 
--- the intervals that an edit touches are consecutive, and one that moves no sample opens at most two of those that it codes
+-- the intervals that an edit touches are consecutive, and one that moves no sample opens at most
+-- two of those that it codes
 pub record EditsTouchFew : Type 0 where
   pub touched : (n first len : ℕ) → 0 < n → 0 < len
       → touched_intervals n first len ≡ range_with_len (first / n) ((first + len - 1) / n - first / n + 1)
@@ -24,20 +25,23 @@ pub record EditsTouchFew : Type 0 where
   pub opened : (n old : ℕ) (edit : Edit) → 0 < n → MovesNone edit
       → (opened_intervals n old edit ≤ 2) × (opened_intervals n old edit ≤ needed_calls n old edit)
 
--- an insertion behind the last sample codes as many as the append, and a removal up to the end as many as the truncate
+-- an insertion behind the last sample codes as many as the append, and a removal up to the end as
+-- many as the truncate
 pub record EndsMeet : Type 0 where
   pub inserted : (n old : ℕ) (values : Samples) → 0 < n → needed_calls n old (Insert old values) ≡ needed_calls n old (Append values)
   pub removed : (n old first : ℕ) → 0 < n → first ≤ old
       → needed_calls n old (Remove first (old - first)) ≡ needed_calls n old (Truncate first)
 
--- an insertion opens no more intervals than it codes, and a removal at most two more: the first and the last that it cuts
+-- an insertion opens no more intervals than it codes, and a removal at most two more: the first and
+-- the last that it cuts
 pub record MovesOpenFew : Type 0 where
   pub inserted : (n old first : ℕ) (values : Samples) → 0 < n → first ≤ old
       → opened_intervals n old (Insert first values) ≤ needed_calls n old (Insert first values)
   pub removed : (n old first len : ℕ) → 0 < n → first + len ≤ old
       → opened_intervals n old (Remove first len) ≤ needed_calls n old (Remove first len) + 2
 
--- what moves nothing codes nothing, nor does a removal of whole intervals, or from the beginning of one to the end
+-- what moves nothing codes nothing, nor does a removal of whole intervals, or from the beginning of
+-- one to the end
 pub record MovesCodeNothing : Type 0 where
   pub inserted : (n old first : ℕ) → needed_calls n old (Insert first []) ≡ 0
   pub removed : (n old first : ℕ) → needed_calls n old (Remove first 0) ≡ 0

@@ -17,7 +17,8 @@ samples_after samples (Remove first len) = take first samples ++ drop (first + l
 abbrev pub touched_intervals : ℕ → ℕ → ℕ → List ℕ
 touched_intervals n first len = dedup (λ i k. i == k) (map (λ place. place / n) (range_with_len first len))
 
--- how many intervals a cut to count samples codes: one where the count differs and is no multiple of n
+-- how many intervals a cut to count samples codes: one where the count differs and is no multiple
+-- of n
 abbrev pub cut_calls : ℕ → ℕ → ℕ → ℕ
 cut_calls n old count = if count == old then 0 else (if count % n == 0 then 0 else 1)
 
@@ -25,9 +26,10 @@ cut_calls n old count = if count == old then 0 else (if count % n == 0 then 0 el
 abbrev pub inside_calls : ℕ → ℕ → ℕ
 inside_calls n first = if first % n == 0 then 0 else 1
 
--- how many intervals an insertion or a removal of len samples at place first codes, where new samples are there then: none for no
--- samples; for samples that fill whole intervals as many as come, and one more where the place lies inside of an interval; for any
--- other number all from that of the place on
+-- how many intervals an insertion or a removal of len samples at place first codes, where new
+-- samples are there then: none for no samples; for samples that fill whole intervals as many as
+-- come, and one more where the place lies inside of an interval; for any other number all from that
+-- of the place on
 abbrev pub move_calls : ℕ → ℕ → ℕ → ℕ → ℕ → ℕ
 move_calls n first len come new =
     if len == 0 then 0 else (if len % n == 0 then come + inside_calls n first else div_ceil new n - first / n)
@@ -40,7 +42,8 @@ needed_calls n old (Truncate count) = cut_calls n old count
 needed_calls n old (Insert first values) = move_calls n first (length values) (length values / n) (old + length values)
 needed_calls n old (Remove first len) = move_calls n first len 0 (old - len)
 
--- whether interval k of n samples, of old samples in all, has a sample outside the len places from first on
+-- whether interval k of n samples, of old samples in all, has a sample outside the len places from
+-- first on
 abbrev pub keeps_a_sample : ℕ → ℕ → ℕ → ℕ → ℕ → Bool
 keeps_a_sample n old first len k = nat_lt (k * n) first || nat_lt (first + len) (min (k * n + n) old)
 
@@ -48,9 +51,10 @@ keeps_a_sample n old first len k = nat_lt (k * n) first || nat_lt (first + len) 
 abbrev pub intervals_from : ℕ → ℕ → ℕ → List ℕ
 intervals_from n old first = range_with_len (first / n) (div_ceil old n - first / n)
 
--- how many intervals an insertion or a removal of len samples at place first opens, of old samples, of which it takes gone: none for no
--- samples; for samples that fill whole intervals none where one begins at the place, else as many as are cut; for any other number all
--- from that of the place on that keep a sample
+-- how many intervals an insertion or a removal of len samples at place first opens, of old samples,
+-- of which it takes gone: none for no samples; for samples that fill whole intervals none where one
+-- begins at the place, else as many as are cut; for any other number all from that of the place on
+-- that keep a sample
 abbrev pub move_openings : ℕ → ℕ → ℕ → ℕ → ℕ → ℕ → ℕ
 move_openings n old first len gone cut =
     let kept : List ℕ = filter (keeps_a_sample n old first gone) (intervals_from n old first) in

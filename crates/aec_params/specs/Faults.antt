@@ -30,8 +30,8 @@ pub data IsWrongAt (s : Settings) (count : Option ℕ) (limit : ℕ) (bits : Lis
   too_many : (c : CodedDataSet) → IsSetAt s (is_reference_block s (i % s.interval)) bits b c → IsLawfulAt s (i % s.interval) c
       → keeps_limit s count limit (next_block s i c) ≡ false → IsWrongAt s count limit bits i b (TooManySamples limit)
 
--- the fault of the bits from block i at position b on: lawful coded data sets lead to a place where more is wanted, and there
--- something is wrong
+-- the fault of the bits from block i at position b on: lawful coded data sets lead to a place where
+-- more is wanted, and there something is wrong
 pub record IsFault (s : Settings) (count : Option ℕ) (limit : ℕ) (bits : List Bool) (i b : ℕ) (fault : Fault) : Type 0 where
   pub sets : List CodedDataSet
   pub block : ℕ

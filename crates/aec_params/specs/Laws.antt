@@ -1,4 +1,5 @@
--- What the definitions of the format were meant to say: codewords tell numbers apart, values and pieces give back what they came from.
+-- What the definitions of the format were meant to say: codewords tell numbers apart, values and
+-- pieces give back what they came from.
 use Rattle.std.specs.Prelude.{◌≡◌, ℕ, ◌+◌, ◌^◌, ◌<◌, ◌≤◌, Bool, true, ℤ, Option, ⊤, List, [], ◌∷◌, ◌++◌, length, map}
 use Rattle.std.specs.List.{flat_map, list_all, AllByRecursion}
 use Rattle.aec_params.specs.Codewords.{fs, binary, bits_number, padded_to_byte, bytes_of, bits_of_bytes}

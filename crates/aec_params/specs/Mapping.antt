@@ -8,8 +8,8 @@ use Rattle.aec_params.specs.Params.{x_min, x_max, sample_pattern}
 abbrev pub room_around : Settings → ℤ → ℤ
 room_around s p = int_min (p -ℤ x_min s) (x_max s -ℤ p)
 
--- the prediction error d of a sample as a number without sign, t being the room around the prediction:
--- differences within t count in turn on both sides, those beyond it go on from there
+-- the prediction error d of a sample as a number without sign, t being the room around the
+-- prediction: differences within t count in turn on both sides, those beyond it go on from there
 abbrev pub mapped_error : ℤ → ℤ → ℕ
 mapped_error t d =
     if int_le (pos 0) d && int_le d t then 2 * nat_abs d
@@ -25,7 +25,8 @@ abbrev pub mapped_after : Settings → ℤ → List ℤ → List ℕ
 mapped_after s p [] = []
 mapped_after s p (x ∷ xs) = mapped_value s p x ∷ mapped_after s x xs
 
--- an interval's samples mapped; with preprocessing 0 stands in the place of the first, the reference sample
+-- an interval's samples mapped; with preprocessing 0 stands in the place of the first, the
+-- reference sample
 abbrev pub mapped_values : Settings → List ℤ → List ℕ
 mapped_values s [] = []
 mapped_values s (x ∷ xs) = (if s.preprocess then 0 else sample_pattern s x) ∷ mapped_after s x xs

@@ -1,4 +1,5 @@
--- Coded data sets at their place in an interval: which blocks they stand for, and when they are lawful there.
+-- Coded data sets at their place in an interval: which blocks they stand for, and when they are
+-- lawful there.
 use Rattle.std.specs.Prelude.{◌≡◌, ℕ, ◌+◌, ◌-◌, ◌%◌, min, Bool, true, ◌&&◌, ◌==◌, nat_lt, nat_le, if◌then◌else◌, Option, Some, None, List, [], ◌∷◌, replicate, unwrap_or}
 use Rattle.aec_params.specs.declared.settings.Settings.{Settings}
 use Rattle.aec_params.specs.Blocks.{Block}
@@ -10,7 +11,8 @@ use Rattle.aec_params.specs.CodedDataSets.{Body, uncompressed_values, value_pair
 abbrev pub segment_left : Settings → ℕ → ℕ
 segment_left s p = min (segment_len - p % segment_len) (s.interval - p)
 
--- how many blocks the number of a run's code tells; none by 4, which stands for all that the segment has left
+-- how many blocks the number of a run's code tells; none by 4, which stands for all that the
+-- segment has left
 abbrev pub told_blocks : ℕ → Option ℕ
 told_blocks m = if nat_lt m 4 then Some (m + 1) else (if m == 4 then None else Some m)
 

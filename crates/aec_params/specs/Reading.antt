@@ -1,4 +1,5 @@
--- Reading: which samples a list of bits stands for, with a sample count or without, and else its first fault.
+-- Reading: which samples a list of bits stands for, with a sample count or without, and else its
+-- first fault.
 use Rattle.std.specs.Prelude.{◌≡◌, ℕ, ◌+◌, ◌-◌, ◌*◌, ◌%◌, ◌<◌, min, Bool, true, false, ◌&&◌, ◌==◌, nat_lt, nat_le, if◌then◌else◌, IsTrue, Option, Some, None, ℤ, List, [], ◌∷◌, ◌++◌, length, take, drop}
 use Rattle.std.specs.List.{list_any, AllByRecursion, flat_map}
 use Rattle.std.specs.Int.{div_ceil, next_multiple_of}
@@ -10,7 +11,8 @@ use Rattle.aec_params.specs.Places.{block_count, IsLawfulAt, cds_blocks}
 
 -- ---- one interval
 
--- lawful coded data sets from block p of an interval on that reach block n; the last may go past it in its segment
+-- lawful coded data sets from block p of an interval on that reach block n; the last may go past it
+-- in its segment
 abbrev pub Covers : Settings → ℕ → ℕ → List CodedDataSet → Type 0
 Covers s n p [] = IsTrue (nat_le n p)
 Covers s n p (c ∷ sets) = (p < n) × IsLawfulAt s p c × Covers s n (p + block_count s p c) sets
@@ -33,8 +35,8 @@ pub record ReadsBlocks (s : Settings) (bits : List Bool) (blocks : List Block) :
 abbrev pub StandsAt : Settings → List Bool → ℕ → CodedDataSet → Type 0
 StandsAt s bits b c = drop b bits ≡ cds_bits s c ++ drop (b + length (cds_bits s c)) bits
 
--- where the coded data set of block i begins, b being the end of the one before: with padding, behind a full interval
--- the bits up to the next byte boundary or the end are skipped
+-- where the coded data set of block i begins, b being the end of the one before: with padding,
+-- behind a full interval the bits up to the next byte boundary or the end are skipped
 abbrev pub begin_of : Settings → List Bool → ℕ → ℕ → ℕ
 begin_of s bits i b = if s.pad && (i % s.interval == 0) then min (next_multiple_of b 8) (length bits) else b
 
@@ -46,8 +48,8 @@ next_block s i c = i + block_count s (i % s.interval) c
 abbrev pub next_begin : Settings → List Bool → ℕ → ℕ → CodedDataSet → ℕ
 next_begin s bits i b c = begin_of s bits (next_block s i c) (b + length (cds_bits s c))
 
--- whether a coded data set is wanted at block i and position b: with a count, while blocks are needed; without one, while the
--- rest is not all zeros
+-- whether a coded data set is wanted at block i and position b: with a count, while blocks are
+-- needed; without one, while the rest is not all zeros
 abbrev pub is_wanted : Settings → Option ℕ → List Bool → ℕ → ℕ → Bool
 is_wanted s (Some count) bits i b = nat_lt i (div_ceil count s.block_size)
 is_wanted s None bits i b = list_any (λ bit. bit) (drop b bits)
@@ -57,7 +59,8 @@ abbrev pub keeps_limit : Settings → Option ℕ → ℕ → ℕ → Bool
 keeps_limit s (Some count) limit i = true
 keeps_limit s None limit i = nat_le (i * s.block_size) limit
 
--- from block i at position b, wanted and lawful coded data sets within the limit lead to block j at position e
+-- from block i at position b, wanted and lawful coded data sets within the limit lead to block j at
+-- position e
 abbrev pub LeadsTo : Settings → Option ℕ → ℕ → List Bool → ℕ → ℕ → List CodedDataSet → ℕ → ℕ → Type 0
 LeadsTo s count limit bits i b [] j e = (j ≡ i) × (e ≡ b)
 LeadsTo s count limit bits i b (c ∷ sets) j e =

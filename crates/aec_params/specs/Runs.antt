@@ -1,4 +1,5 @@
--- Runs of zero blocks: how the blocks of a segment are grouped, and the number that a run's code spells.
+-- Runs of zero blocks: how the blocks of a segment are grouped, and the number that a run's code
+-- spells.
 use Rattle.std.specs.Prelude.{ℕ, ◌+◌, ◌-◌, Bool, nat_le, if◌then◌else◌, Option, List, [], ◌∷◌}
 use Rattle.aec_params.specs.Blocks.{Block, is_zero_block}
 use Rattle.aec_params.specs.Cutting.{pieces_of}

@@ -7,7 +7,8 @@ use Rattle.aec_params.specs.declared.fault.Fault.{Fault}
 use Rattle.aec_params.specs.declared.fault.Fault.TheVariants.{SampleRange, Memory}
 use Rattle.aec_params.specs.Params.{storage_len, pattern_value}
 
--- a sample in all bits of its bytes: unsigned with zeros in the unused bits, signed with its sign in them
+-- a sample in all bits of its bytes: unsigned with zeros in the unused bits, signed with its sign
+-- in them
 abbrev pub stored_number : Settings → ℤ → ℕ
 stored_number s (pos m) = m
 stored_number s (negsuc m) = 2 ^ (8 * storage_len s) - (m + 1)
@@ -28,7 +29,8 @@ abbrev pub has_sign_above : Settings → ℕ → Bool
 has_sign_above s u =
     (u / 2 ^ (s.bits - 1) == 2 ^ (8 * storage_len s - (s.bits - 1)) - 1)
 
--- the sample that a stored number is: its unused bits are zero, or where samples are signed copies of its sign
+-- the sample that a stored number is: its unused bits are zero, or where samples are signed copies
+-- of its sign
 abbrev pub sample_of_number : Settings → ℕ → Option ℤ
 sample_of_number s u =
     if nat_lt u (2 ^ s.bits) then Some (pattern_value s u)
@@ -58,8 +60,8 @@ abbrev pub samples_behind : List ℤ → Result (List ℤ) ℕ → Result (List 
 samples_behind xs (Ok ys) = Ok (xs ++ ys)
 samples_behind xs (Err k) = Err k
 
--- What a reading of stored samples answers, seen by view: the samples, or want of memory in their place; where a
--- sample is none of the settings, its index and nothing else.
+-- What a reading of stored samples answers, seen by view: the samples, or want of memory in their
+-- place; where a sample is none of the settings, its index and nothing else.
 abbrev pub AnswersSamples : {X : Type 0} → (X → List ℤ) → Result (List ℤ) ℕ → Result X Fault → Type 0
 AnswersSamples view (Ok xs) (Ok answer) = view answer ≡ xs
 AnswersSamples view (Ok xs) (Err e) = e ≡ Memory

@@ -61,7 +61,8 @@ fn are_all_good(params: &Params, bytes: &[u8]) -> bool
     }
 }
 
-/// True only where the numbers of `width` bytes are all below `low` or from `high` on; false says nothing.
+/// True only where the numbers of `width` bytes are all below `low` or from `high` on; false says
+/// nothing.
 fn are_outside<T: ByteOrder>(bytes: &[u8], width: usize, low: u64, high: u64) -> bool
     requires few { width ≤ 4 }
     requires some { 1 ≤ width }
@@ -93,8 +94,8 @@ fn is_each_outside<T: ByteOrder>(bytes: &[u8], width: usize, low: u64, high: u64
     outside
 }
 
-/// A number no less than any of those of `width` bytes each: the bits that are set in one of them or more. That it is no greater than these
-/// bits isn't said.
+/// A number no less than any of those of `width` bytes each: the bits that are set in one of them
+/// or more. That it is no greater than these bits isn't said.
 fn joined_bits<T: ByteOrder>(bytes: &[u8], width: usize) -> u32
     requires few { width ≤ 4 }
     requires some { 1 ≤ width }

@@ -1,4 +1,5 @@
-//! Laws of the format's definitions. Their functions do nothing: what each one's contract says is proved.
+//! Laws of the format's definitions. Their functions do nothing: what each one's contract says is
+//! proved.
 
 ghost use Rattle.aec_params.specs.Laws.{FundamentalSequencesDiffer, BinaryNumbersDiffer, CodewordLengths, BinaryNumbersAreReadBack, ListsAreTold, EachNumberIsOnePair, SamplesAreValues, PiecesAreTheCut, WholePiecesComeFirst, BytesAreBits, BlocksTellSamples, SamplesAreBlocks, ReadingsHaveSamples};
 ghost use Rattle.aec_params.specs.EditLaws.{EditsTouchFew, EndsMeet, MovesOpenFew, MovesCodeNothing};
@@ -33,7 +34,8 @@ pub fn each_number_is_one_pair()
     ensures { EachNumberIsOnePair }
 {}
 
-/// At each prediction, and without preprocessing, samples and values below 2^n stand for one another.
+/// At each prediction, and without preprocessing, samples and values below 2^n stand for one
+/// another.
 pub fn samples_are_values()
     ensures { SamplesAreValues }
 {}
@@ -68,12 +70,14 @@ pub fn readings_have_samples()
     ensures { ReadingsHaveSamples }
 {}
 
-/// Which intervals an edit touches, and that one that moves no sample opens at most two of those that it codes.
+/// Which intervals an edit touches, and that one that moves no sample opens at most two of those
+/// that it codes.
 pub fn edits_touch_few()
     ensures { EditsTouchFew }
 {}
 
-/// An insertion at the end codes as many intervals as the append does, a removal up to the end as many as the truncate.
+/// An insertion at the end codes as many intervals as the append does, a removal up to the end as
+/// many as the truncate.
 pub fn ends_meet()
     ensures { EndsMeet }
 {}

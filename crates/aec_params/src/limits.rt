@@ -25,9 +25,11 @@ impl Limits {
     ghost use Rattle.std.specs.Prelude.{◌≡◌, ◌≤◌, SomeIff};
     ghost use Rattle.aec_params.specs.Limits.{Caps, AreLimits};
 
-    /// Limits of so many samples and bytes; `None` where there are more than 2^32 samples or 2^40 bytes.
+    /// Limits of so many samples and bytes; `None` where there are more than 2^32 samples or 2^40
+    /// bytes.
     pub fn new(samples: u64, bytes: u64) -> Option<Limits>
-        ensures { let caps : Caps = record { samples = samples; bytes = bytes } in SomeIff result (AreLimits caps) caps }
+        ensures { let caps : Caps = record
+            { samples = samples; bytes = bytes } in SomeIff result (AreLimits caps) caps }
     {
         if samples <= 1 << 32 && bytes <= 1 << 40 {
             Some(Limits { samples, bytes })

@@ -1,4 +1,5 @@
-//! Numbers of one to four bytes in either order. The functions are inlined where the width is known.
+//! Numbers of one to four bytes in either order. The functions are inlined where the width is
+//! known.
 
 ghost use Rattle.std.specs.Prelude.{◌≡◌, ◌<◌, ◌≤◌, ◌^◌, ◌++◌, drop, length};
 

@@ -55,9 +55,9 @@ impl Params {
     ghost use Rattle.std.specs.Result.{result_err};
     ghost use Rattle.aec_params.specs.Params.{IsAllowed, settings_fault, interval_len as samples_in_interval, id_len as identifier_len, k_max as greatest_k, x_min as least_sample, x_max as greatest_sample, storage_len, is_held, IsHeld, sample_pattern, pattern_value};
 
-    /// Parameters for the settings. The rules are judged in this order: bits per sample 1 to 32; block size 8, 16,
-    /// 32 or 64, or with `even_blocks` an even number from 8 to 64; interval 1 to 4096 blocks; the restricted set for
-    /// at most 4 bits. The first that is broken is the refusal.
+    /// Parameters for the settings. The rules are judged in this order: bits per sample 1 to 32;
+    /// block size 8, 16, 32 or 64, or with `even_blocks` an even number from 8 to 64; interval 1 to
+    /// 4096 blocks; the restricted set for at most 4 bits. The first that is broken is the refusal.
     pub fn new(settings: Settings) -> Result<Params, Fault>
         ensures ok { IfOk result (λ p. p ≡ settings) }
         ensures allowed { IfOk result (λ p. IsAllowed p) }
@@ -110,7 +110,8 @@ impl Params {
         u64::from(self.settings.block_size) * u64::from(self.settings.interval)
     }
 
-    /// Bits of an identifier, 1 to 5: the table of identifiers, by the number of bits per sample and the code set.
+    /// Bits of an identifier, 1 to 5: the table of identifiers, by the number of bits per sample
+    /// and the code set.
     pub fn id_len(&self) -> u32
         ensures value { result ≡ identifier_len self.now }
         ensures allowed { IsAllowed self.now }
@@ -124,7 +125,8 @@ impl Params {
         }
     }
 
-    /// The greatest k of a sample-splitting option; `None` where identifiers have one bit and there is none.
+    /// The greatest k of a sample-splitting option; `None` where identifiers have one bit and there
+    /// is none.
     pub fn k_max(&self) -> Option<u32>
         ensures value { result ≡ greatest_k self.now }
         ensures allowed { IsAllowed self.now }

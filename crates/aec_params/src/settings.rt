@@ -5,7 +5,8 @@
 pub struct Settings {
     /// Bits per sample, n.
     pub bits: u32,
-    /// Samples in a block, J: 8, 16, 32 or 64, and with `even_blocks` every even number from 8 to 64.
+    /// Samples in a block, J: 8, 16, 32 or 64, and with `even_blocks` every even number from 8 to
+    /// 64.
     pub block_size: u32,
     /// Blocks in a reference sample interval, r.
     pub interval: u32,
@@ -21,13 +22,14 @@ pub struct Settings {
     pub pad: bool,
     /// Whether the restricted set of code options is used.
     pub restricted: bool,
-    /// Whether blocks may have every even number of samples from 8 to 64. It says nothing of the stream but that.
+    /// Whether blocks may have every even number of samples from 8 to 64. It says nothing of the
+    /// stream but that.
     pub even_blocks: bool,
 }
 
 impl Settings {
-    /// What the command takes where no option says otherwise: 8 bits, unsigned, in blocks of 8 and intervals of 2 blocks,
-    /// preprocessed.
+    /// What the command takes where no option says otherwise: 8 bits, unsigned, in blocks of 8 and
+    /// intervals of 2 blocks, preprocessed.
     pub const USUAL: Settings = Settings {
         bits: 8,
         block_size: 8,

@@ -8,8 +8,8 @@ ghost use Rattle.aec_params.specs.Stored.{stored_bytes, stored_number, has_sign_
 use crate::params::Params;
 use byteorder::{BigEndian, ByteOrder, LittleEndian};
 
-/// The sample that the bytes of one sample are; `None` where its unused bits are not what its width allows. Takes no
-/// memory.
+/// The sample that the bytes of one sample are; `None` where its unused bits are not what its width
+/// allows. Takes no memory.
 pub fn sample_of(params: &Params, group: &[u8]) -> Option<i64>
     requires { length group.now ≡ storage_len params.now }
     ensures value { result ≡ sample_of_number params.now (number_in params.now group.now) }
@@ -93,7 +93,8 @@ fn full_width(params: &Params, x: i64) -> u64
     x.cast_unsigned() % (1u64 << (8 * params.storage()))
 }
 
-/// Writes the bytes of a sample to the front of `out` and leaves the others. The number of them, `storage`.
+/// Writes the bytes of a sample to the front of `out` and leaves the others. The number of them,
+/// `storage`.
 pub fn put_sample(params: &Params, x: i64, out: &mut [u8; 4]) -> usize
     requires { IsHeld params.now x }
     ensures bytes { out.new ≡ stored_bytes params.now x ++ drop (storage_len params.now) out.old }
@@ -109,7 +110,8 @@ pub fn put_sample(params: &Params, x: i64, out: &mut [u8; 4]) -> usize
     width
 }
 
-/// Writes a number to the first one to four bytes, the most significant first, and leaves the others.
+/// Writes a number to the first one to four bytes, the most significant first, and leaves the
+/// others.
 fn put_big(out: &mut [u8; 4], number: u64, width: usize)
     requires few { width ≤ 4 }
     requires some { 1 ≤ width }
@@ -124,7 +126,8 @@ fn put_big(out: &mut [u8; 4], number: u64, width: usize)
     }
 }
 
-/// Writes a number to the first one to four bytes, the least significant first, and leaves the others.
+/// Writes a number to the first one to four bytes, the least significant first, and leaves the
+/// others.
 fn put_little(out: &mut [u8; 4], number: u64, width: usize)
     requires few { width ≤ 4 }
     requires some { 1 ≤ width }

@@ -1,4 +1,5 @@
-//! Lists of samples as they are stored. The width and the order of their bytes are settled once for a list.
+//! Lists of samples as they are stored. The width and the order of their bytes are settled once for
+//! a list.
 
 ghost use Rattle.std.specs.Prelude.{None, Ok, Err, IfOk, IfErr, OnOk, OnErr, ◌≡◌, ◌<◌, ◌≤◌, ◌+◌, ◌*◌, ◌/◌, ◌%◌, ◌^◌, ℕ, ℤ, true, length, get_or, vec_len, vec_capacity};
 ghost use Rattle.std.specs.Int.{w64};
@@ -17,10 +18,12 @@ use crate::stored::low_value;
 use byteorder::{BigEndian, ByteOrder, LittleEndian};
 use std::alloc::Global;
 
-/// The samples that bytes hold, `storage` bytes each; bytes at the end that form no whole sample are ignored.
+/// The samples that bytes hold, `storage` bytes each; bytes at the end that form no whole sample
+/// are ignored.
 ///
-/// `SampleRange` with the index of the first sample whose unused bits are not what its width allows, which is judged
-/// for the whole input before any memory is taken; then `Memory`, which comes only where there is a whole sample.
+/// `SampleRange` with the index of the first sample whose unused bits are not what its width
+/// allows, which is judged for the whole input before any memory is taken; then `Memory`, which
+/// comes only where there is a whole sample.
 pub fn read_samples(alloc: Global, params: &Params, bytes: &[u8]) -> Result<Vec<i64>, Fault>
     ensures answer { AnswersSamples (λ v. v.items) (samples_of_bytes params.now bytes.now) result }
     ensures memory { result ≡ Err Memory → 0 < length bytes.now / storage_len params.now }
@@ -31,8 +34,8 @@ pub fn read_samples(alloc: Global, params: &Params, bytes: &[u8]) -> Result<Vec<
     collect_samples(alloc, params, bytes)
 }
 
-/// The samples of bytes that hold no bad one, as `first_bad` tells; `Memory` where a growth is refused, which no bytes without a
-/// whole sample need.
+/// The samples of bytes that hold no bad one, as `first_bad` tells; `Memory` where a growth is
+/// refused, which no bytes without a whole sample need.
 pub fn collect_samples(alloc: Global, params: &Params, bytes: &[u8]) -> Result<Vec<i64>, Fault>
     requires { result_err (samples_of_bytes params.now bytes.now) ≡ None }
     ensures ok { IfOk result (λ v. samples_of_bytes params.now bytes.now ≡ Ok v.items) }
@@ -44,16 +47,22 @@ pub fn collect_samples(alloc: Global, params: &Params, bytes: &[u8]) -> Result<V
     Ok(samples)
 }
 
-/// Appends the samples of bytes that hold no bad one, as `first_bad` tells. `Memory` where a growth is refused; nothing
-/// is appended then.
+/// Appends the samples of bytes that hold no bad one, as `first_bad` tells. `Memory` where a growth
+/// is refused; nothing is appended then.
 pub fn append_samples(params: &Params, bytes: &[u8], samples: &mut Vec<i64>) -> Result<(), Fault>
     requires { result_err (samples_of_bytes params.now bytes.now) ≡ None }
-    ensures ok { OnOk result (samples_behind samples.old.items (samples_of_bytes params.now bytes.now) ≡ Ok samples.new.items) }
-    ensures len { OnOk result (vec_len samples.new ≡ vec_len samples.old + length bytes.now / storage_len params.now) }
-    ensures held { OnOk result (AllByRecursion (IsHeld params.now) samples.old.items → AllByRecursion (IsHeld params.now) samples.new.items) }
+    ensures ok { OnOk result (samples_behind samples.old.items
+        (samples_of_bytes params.now bytes.now) ≡ Ok samples.new.items) }
+    ensures len { OnOk result
+        (vec_len samples.new ≡ vec_len samples.old + length bytes.now / storage_len params.now) }
+    ensures held { OnOk result
+        (AllByRecursion (IsHeld params.now) samples.old.items
+        → AllByRecursion (IsHeld params.now) samples.new.items) }
     ensures err { OnErr result (samples.new.items ≡ samples.old.items) }
     ensures fault { IfErr result (λ e. e ≡ Memory) }
-    ensures full { OnErr result (vec_capacity samples.old < vec_len samples.old + length bytes.now / storage_len params.now) }
+    ensures full { OnErr result
+        (vec_capacity samples.old < vec_len samples.old + length bytes.now
+        / storage_len params.now) }
     ensures capacity { vec_capacity samples.old ≤ vec_capacity samples.new }
 {
     let start = samples.len();
@@ -77,12 +86,15 @@ fn load_samples(params: &Params, bytes: &[u8], out: &mut [i64])
     }
 }
 
-/// Puts the samples whose patterns are the low n bits of the numbers of `width` bytes in the places of as many.
+/// Puts the samples whose patterns are the low n bits of the numbers of `width` bytes in the places
+/// of as many.
 fn load_numbers<T: ByteOrder>(params: &Params, bytes: &[u8], width: usize, out: &mut [i64])
     requires few { width ≤ 4 }
     requires some { 1 ≤ width }
     requires room { width * length out.old ≤ length bytes.now }
-    ensures samples { IsReadBy (λ g. pattern_value params.now (T.number_of width g % 2 ^ params.now.bits)) width bytes.now out.new }
+    ensures samples { IsReadBy
+        (λ g. pattern_value params.now (T.number_of width g % 2 ^ params.now.bits)) width bytes.now
+        out.new }
     ensures held { (d : ℤ) (k : ℕ) → k < length out.new → IsHeld params.now (get_or out.new k d) }
 {
     match width {
@@ -99,7 +111,9 @@ fn load_each<T: ByteOrder>(params: &Params, bytes: &[u8], width: usize, out: &mu
     requires few { width ≤ 4 }
     requires some { 1 ≤ width }
     requires room { width * length out.old ≤ length bytes.now }
-    ensures samples { IsReadBy (λ g. pattern_value params.now (T.number_of width g % 2 ^ params.now.bits)) width bytes.now out.new }
+    ensures samples { IsReadBy
+        (λ g. pattern_value params.now (T.number_of width g % 2 ^ params.now.bits)) width bytes.now
+        out.new }
     ensures held { (d : ℤ) (k : ℕ) → k < length out.new → IsHeld params.now (get_or out.new k d) }
 {
     let params = *params;
@@ -122,8 +136,8 @@ fn value_of(params: &Params, number: u64) -> i64
     }
 }
 
-/// The same for signed samples, with no choice by the sign: half of the patterns is added before the low bits are taken, and
-/// taken away again.
+/// The same for signed samples, with no choice by the sign: half of the patterns is added before
+/// the low bits are taken, and taken away again.
 #[inline(always)]
 fn signed_value_of(params: &Params, number: u64) -> i64
     requires signed { params.now.signed ≡ true }
@@ -136,8 +150,8 @@ fn signed_value_of(params: &Params, number: u64) -> i64
     raised.cast_signed() - half.cast_signed()
 }
 
-/// Writes the bytes of samples, which the parameters have, one behind the other; `out` is exactly as long as these bytes. Takes no
-/// memory.
+/// Writes the bytes of samples, which the parameters have, one behind the other; `out` is exactly
+/// as long as these bytes. Takes no memory.
 pub fn put_samples(params: &Params, samples: &[i64], out: &mut [u8])
     requires held { AllByRecursion (IsHeld params.now) samples.now }
     requires room { length out.old ≡ storage_len params.now * length samples.now }

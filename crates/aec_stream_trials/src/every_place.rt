@@ -1,4 +1,5 @@
-//! Insertions and removals at each place of short lists, beside a plain list, over octets, four in an interval.
+//! Insertions and removals at each place of short lists, beside a plain list, over octets, four in
+//! an interval.
 
 use crate::asserts::{holds_at, same_at};
 use crate::octets::{are_bytes_of, workspace};
@@ -70,7 +71,8 @@ fn expect_edited<R: Abort>(rt: &R, alloc: Global, count: u64, edit: &Edit) -> Re
     expect_list(rt, alloc, &work, &list, edit)
 }
 
-/// All insertions and removals at a place of a list of so many samples, and one removal that reaches past the end.
+/// All insertions and removals at a place of a list of so many samples, and one removal that
+/// reaches past the end.
 fn expect_edits_at<R: Abort>(rt: &R, alloc: Global, count: u64, first: u64) -> Result<(), Fail> {
     for len in 0..VALUES + 1 {
         let values = Samples::new(rising(alloc, 101, len)?);

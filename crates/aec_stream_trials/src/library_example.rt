@@ -8,7 +8,8 @@ use aec_params::{Edit, Fault, Params, Samples, Settings};
 use std::alloc::Global;
 use std::test::Fail;
 
-/// Forty-eight zeros, of which one is changed; an edit past their end is refused, and the others are made.
+/// Forty-eight zeros, of which one is changed; an edit past their end is refused, and the others
+/// are made.
 fn edited_stream(alloc: Global, outcomes: &mut Vec<Outcome>) -> Result<Vec<u8>, Fault> {
     let params = Params::new(Settings::USUAL)?;
     let mut workspace = Workspace::new(alloc, AecCodec::new(alloc, params), 1 << 32);

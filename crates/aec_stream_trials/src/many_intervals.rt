@@ -1,4 +1,5 @@
-//! A stream of very many intervals by the real coder, each overwritten once. Its length is worked out by hand.
+//! A stream of very many intervals by the real coder, each overwritten once. Its length is worked
+//! out by hand.
 
 use crate::asserts::same;
 use aec_edit::Workspace;
@@ -10,7 +11,8 @@ use std::test::Fail;
 /// How many intervals, of one block of 8 samples each.
 const INTERVALS: u64 = 100_000;
 
-/// The bits of an interval of equal samples: an identifier of 4, the reference sample, and a run of one block.
+/// The bits of an interval of equal samples: an identifier of 4, the reference sample, and a run of
+/// one block.
 const BITS: u64 = 13;
 
 /// A workspace of as many zeros as all intervals have.

@@ -1,5 +1,5 @@
-//! Many edits over the coder itself, by a fixed rule. After each one the stream is the code of the samples that a plain list
-//! holds by then.
+//! Many edits over the coder itself, by a fixed rule. After each one the stream is the code of the
+//! samples that a plain list holds by then.
 
 use crate::asserts::{holds, holds_at, same, same_at};
 use crate::plain_lists::{Row, expect_edit};
@@ -210,7 +210,8 @@ fn some_place(seed: &mut u64, row: &Row, count: u64) -> u64 {
     place
 }
 
-/// How many samples an edit puts in or takes out: any number of some two blocks, or whole intervals where these are short.
+/// How many samples an edit puts in or takes out: any number of some two blocks, or whole intervals
+/// where these are short.
 fn some_len(seed: &mut u64, row: &Row) -> u64 {
     let any = below(seed, row.most.min(80).saturating_mul(2).saturating_add(3));
     if row.most <= 128 && below(seed, 4) == 0 {
@@ -254,7 +255,8 @@ pub(crate) fn some_edit(
     })
 }
 
-/// The code of the first samples of a list: its bits, how many they are, and the bytes that they fill.
+/// The code of the first samples of a list: its bits, how many they are, and the bytes that they
+/// fill.
 fn code_of(
     alloc: Global,
     params: &Params,
@@ -268,7 +270,8 @@ fn code_of(
     Ok((code.len(), sink.into_inner()))
 }
 
-/// The stream is the code of the list, and each interval begins where the code of the samples before it ends.
+/// The stream is the code of the list, and each interval begins where the code of the samples
+/// before it ends.
 fn expect_code<R: Abort>(
     rt: &R,
     alloc: Global,
@@ -290,7 +293,8 @@ fn expect_code<R: Abort>(
     Ok(())
 }
 
-/// Two hundred edits, after a first one, beside a plain list. There are enough of each kind, made and refused.
+/// Two hundred edits, after a first one, beside a plain list. There are enough of each kind, made
+/// and refused.
 fn expect_edits<R: Abort>(rt: &R, alloc: Global, row: &Row) -> Result<(), Fail> {
     let params = Params::new(row.settings)?;
     let mut work = workspace(alloc, params, 0, row.limit);

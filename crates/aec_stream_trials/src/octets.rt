@@ -1,4 +1,5 @@
-//! Workspaces over a coder of octets, four in an interval, so that each stream can be read off its samples.
+//! Workspaces over a coder of octets, four in an interval, so that each stream can be read off its
+//! samples.
 
 use crate::asserts::{holds_at, same};
 use crate::mixed_edits::some_edit;
@@ -138,7 +139,8 @@ range 12 0 | position outside the 11 samples | 00 01 02 03 04 05 06 07 08 09 0A 
 range 18446744073709551615 2 | position outside the 11 samples | 00 01 02 03 04 05 06 07 08 09 0A | 88 0 32 64 | 0
 range 2 18446744073709551615 | position outside the 11 samples | 00 01 02 03 04 05 06 07 08 09 0A | 88 0 32 64 | 0",
     ),
-    // Insertions and removals of whole intervals and of less, between intervals, within them, and up to the end.
+    // Insertions and removals of whole intervals and of less, between intervals, within them, and
+    // up to the end.
     (
         0,
         18,
@@ -158,7 +160,8 @@ insert 0 6   | 2 | 06 01 02 03 04 05 | 48 0 32 | 2
 remove 0 4   | 0 | 04 05 | 16 0 | 0
 remove 0 2   | 0 | | 0 | 0",
     ),
-    // Three calls are left, then one, then none: places come before the limit, that before values, and these before calls.
+    // Three calls are left, then one, then none: places come before the limit, that before values,
+    // and these before calls.
     (
         18446744073709551612,
         16,

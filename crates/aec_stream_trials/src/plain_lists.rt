@@ -1,4 +1,5 @@
-//! Edits of a workspace beside those of a plain list: what they leave, why they are refused, and what they cost.
+//! Edits of a workspace beside those of a plain list: what they leave, why they are refused, and
+//! what they cost.
 
 use crate::asserts::same_at;
 use crate::steps::{apply, calls, reads};
@@ -50,7 +51,8 @@ fn values_of(edit: &Edit) -> &[i64] {
     }
 }
 
-/// From which place up to which one an edit of so many samples puts its values in place of what is there.
+/// From which place up to which one an edit of so many samples puts its values in place of what is
+/// there.
 fn places_of(count: u64, edit: &Edit) -> (u64, u64) {
     match edit {
         Edit::Overwrite { first, values } => (
@@ -133,7 +135,8 @@ fn needed(row: &Row, count: u64, edit: &Edit) -> u64 {
     }
 }
 
-/// The same where the samples behind a place move by so many, with the count after it, and the number of whole intervals that come.
+/// The same where the samples behind a place move by so many, with the count after it, and the
+/// number of whole intervals that come.
 fn needed_to_move(row: &Row, first: u64, moved: u64, after: u64, come: u64) -> u64 {
     if moved == 0 {
         return 0;
@@ -201,8 +204,9 @@ fn keeping(row: &Row, count: u64, edit: &Edit, intervals: u64) -> u64 {
     kept
 }
 
-/// Makes an edit of both, and answers a number with a one in the byte of what became of it: made, as an overwrite, an append, a
-/// truncate, an insertion or a removal; or refused as out of range, as too many, as no samples. The byte of overwrites is the last.
+/// Makes an edit of both, and answers a number with a one in the byte of what became of it: made,
+/// as an overwrite, an append, a truncate, an insertion or a removal; or refused as out of range,
+/// as too many, as no samples. The byte of overwrites is the last.
 pub(crate) fn expect_edit<R: Abort, C: Codec>(
     rt: &R,
     alloc: Global,

@@ -146,8 +146,8 @@ fn places_text<C: Codec>(alloc: Global, work: &Workspace<C>) -> Result<String, F
     Ok(text)
 }
 
-// A row: an edit or a range; its answer; the stream after it; the bits of that, and where its intervals begin; how many
-// intervals the step decodes.
+// A row: an edit or a range; its answer; the stream after it; the bits of that, and where its
+// intervals begin; how many intervals the step decodes.
 fn expect_step<R: Abort, C: Codec>(
     rt: &R,
     alloc: Global,
@@ -247,7 +247,8 @@ pub(crate) fn expect_run<R: Abort, C: Codec>(
     Ok(())
 }
 
-// What became of edits up to the first that was refused: its place among them and why, or that all were made.
+// What became of edits up to the first that was refused: its place among them and why, or that all
+// were made.
 fn stop_text<C: Codec>(
     alloc: Global,
     work: &mut Workspace<C>,

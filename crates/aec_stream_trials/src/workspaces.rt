@@ -20,7 +20,8 @@ pub(crate) fn workspace(
 
 // The calls that a codec counts on from, the limit, and the steps from nothing on.
 const TABLES: [(u64, u64, &str); 9] = [
-    // One of forty-eight zeros is changed; ranges around it, and past the end; all of its interval is zero again.
+    // One of forty-eight zeros is changed; ranges around it, and past the end; all of its interval
+    // is zero again.
     (
         0,
         48,
@@ -61,7 +62,8 @@ append 0*16   | 1 | 00 04 | 14 0 | 0
 overwrite 0 1 | coder calls are spent | 00 04 | 14 0 | 0
 truncate 0    | 0 | | 0 | 0",
     ),
-    // Four calls are left: three for the samples, and one. So an insertion is refused that needs three, but for its place before that.
+    // Four calls are left: three for the samples, and one. So an insertion is refused that needs
+    // three, but for its place before that.
     (
         18446744073709551611,
         65,
@@ -74,7 +76,8 @@ insert 33 1    | position outside the 32 samples | 10 0C 30 80 02 | 39 0 25 | 0
 truncate 16    | 0 | 10 0C 30 80          | 25 0       | 0
 insert 16      | 0 | 10 0C 30 80          | 25 0       | 0",
     ),
-    // What has no place in the list; then lists of one interval and of two, up to a place in them and up to their ends.
+    // What has no place in the list; then lists of one interval and of two, up to a place in them
+    // and up to their ends.
     (
         0,
         40,
@@ -135,7 +138,8 @@ insert 8 0*16  | 2 | 00 04 00 10 00 40 01       | 56 0 14 28 42    | 1
 remove 8 16    | 1 | 00 04 00 10 00 40          | 42 0 14 28       | 2
 range 47 1     | position outside the 47 samples | 00 04 00 10 00 40 | 42 0 14 28 | 0",
     ),
-    // A 1 among zeros, and all intervals behind it; then at the end, and in the one interval that there is.
+    // A 1 among zeros, and all intervals behind it; then at the end, and in the one interval that
+    // there is.
     (
         0,
         65,

@@ -1,6 +1,6 @@
-//! Tables of what an engine answers to bytes in memory. A row: the options, which name the action too; the limits of samples
-//! and of bytes; what the source gives, and `!` where it fails then, `..` where it gives zeros for ever; and what is
-//! written, or the refusal.
+//! Tables of what an engine answers to bytes in memory. A row: the options, which name the action
+//! too; the limits of samples and of bytes; what the source gives, and `!` where it fails then,
+//! `..` where it gives zeros for ever; and what is written, or the refusal.
 
 use crate::asserts::holds_at;
 use crate::devices::{After, Basin, Pieces};

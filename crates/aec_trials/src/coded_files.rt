@@ -3,8 +3,8 @@
 use crate::runs::runs_end_so;
 use std::test::Fail;
 
-// By the usual settings: no samples, and zero bits that are none; a zero block; a ramp; filler; two intervals. The last file
-// is coded into itself.
+// By the usual settings: no samples, and zero bits that are none; a zero block; a ramp; filler; two
+// intervals. The last file is coded into itself.
 const USUAL: &str = "\
          in out |                         | 0 |
       -d in out |                         | 0 |
@@ -27,11 +27,13 @@ fn files_are_coded_and_decoded(rt: HostRuntime) -> Result<(), Fail> {
 
 // Each option in both directions, where the answer is another one without it.
 //
-// -n: two bytes a sample, of which a third byte is none. -m: the same bytes are another sample. -3: samples of 17 bits. -s:
-// the least and the greatest sample of 32 bits in turn, by no compression; samples of 3 bits, read and written with copies
-// of the sign. -N: 0 to 7 by splitting and by no compression; a run of six zero blocks and one by the second extension. -j: a zero block of
-// 16, and 64 of 64. -r: a run to the end of a segment; a run of 64 and one of 1. -t: the second extension where no
-// compression is as long. -p: an interval begins at a byte; two set bits that fill a byte are skipped.
+// -n: two bytes a sample, of which a third byte is none. -m: the same bytes are another sample. -3:
+// samples of 17 bits. -s: the least and the greatest sample of 32 bits in turn, by no compression;
+// samples of 3 bits, read and written with copies of the sign. -N: 0 to 7 by splitting and by no
+// compression; a run of six zero blocks and one by the second extension. -j: a zero block of 16,
+// and 64 of 64. -r: a run to the end of a segment; a run of 64 and one of 1. -t: the second
+// extension where no compression is as long. -p: an interval begins at a byte; two set bits that
+// fill a byte are skipped.
 const OPTIONS: &str = "\
               -n 12 set got | 01 00 02                | 0 | 00 00 C0
            -d -n 12 set got | 00 00 C0                | 0 | 01 00 01 00 01 00 01 00 01 00 01 00 01 00 01 00
@@ -70,15 +72,17 @@ fn each_option_changes_a_run(rt: HostRuntime) -> Result<(), Fail> {
     runs_end_so(&rt, rt.alloc(), OPTIONS)
 }
 
-// Blocks that aren't whole eights, in both directions, one in an interval: a ramp by splitting with k = 0, and read with k = 1; numbers
-// from 128 on by no compression, of 12 bits too; from 8 on by splitting with k = 3; by the second extension, of a reference block and
-// restricted; padded zero blocks. Then two in an interval, the first one zeros, and a run to the end of a segment. Last a block of eight.
+// Blocks that aren't whole eights, in both directions, one in an interval: a ramp by splitting with
+// k = 0, and read with k = 1; numbers from 128 on by no compression, of 12 bits too; from 8 on by
+// splitting with k = 3; by the second extension, of a reference block and restricted; padded zero
+// blocks. Then two in an interval, the first one zeros, and a run to the end of a segment. Last a
+// block of eight.
 const EVEN_BLOCKS: &str = "\
        --even-blocks -j 10 -r 1 ten got | 00 01 02 03 04 05 06 07 08 09 | 0 | 20 09 24 92 48
     --even-blocks -j 10 -r 1 -d ten got | 20 09 24 92 48 | 0 | 00 01 02 03 04 05 06 07 08 09
     --even-blocks -j 10 -r 1 -d ten got | 40 15 55 58 00 | 0 | 00 01 02 03 04 05 06 07 08 09
-    --even-blocks -j 12 -r 1 -N ten got | 80 81 82 83 84 85 86 87 88 89 8A 8B | 0 | F0 10 30 50 70 90 B0 D0 F1 11 31 51 60
- --even-blocks -j 12 -r 1 -N -d ten got | F0 10 30 50 70 90 B0 D0 F1 11 31 51 60 | 0 | 80 81 82 83 84 85 86 87 88 89 8A 8B
+    --even-blocks -j 12 -r 1 -N ten got | E0 E1 E2 E3 E4 E5 E6 E7 E8 E9 EA EB | 0 | FC 1C 3C 5C 7C 9C BC DC FD 1D 3D 5D 60
+ --even-blocks -j 12 -r 1 -N -d ten got | FC 1C 3C 5C 7C 9C BC DC FD 1D 3D 5D 60 | 0 | E0 E1 E2 E3 E4 E5 E6 E7 E8 E9 EA EB
     --even-blocks -j 14 -r 1 -N -n 12 -s ten got | 00 F8 FF 07 FF 07 FF 07 FF 07 FF 07 FF 07 FF 07 FF 07 FF 07 FF 07 FF 07 FF 07 FF FF | 0 | \
 F8 00 7F F7 FF 7F F7 FF 7F F7 FF 7F F7 FF 7F F7 FF 7F F7 FF FF F0
  --even-blocks -j 14 -r 1 -N -n 12 -s -d ten got | F8 00 7F F7 FF 7F F7 FF 7F F7 FF 7F F7 FF 7F F7 FF 7F F7 FF FF F0 | 0 | \

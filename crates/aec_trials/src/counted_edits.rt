@@ -1,4 +1,5 @@
-//! Scripts carried out over a codec that is given: how often it is called, and what is left where its calls don't suffice.
+//! Scripts carried out over a codec that is given: how often it is called, and what is left where
+//! its calls don't suffice.
 
 use crate::asserts::{holds, same, same_at};
 use crate::devices::{After, Marked, Pieces};
@@ -17,8 +18,9 @@ const ZEROS: [u8; 6] = [0x00, 0x04, 0x00, 0x10, 0x00, 0x40];
 
 const ONE_CHANGED: [u8; 7] = [0x00, 0x04, 0x40, 0x30, 0xC2, 0x00, 0x08];
 
-// Behind the bytes `old` of a sink: begun there, and then written. The number of calls of the coder: one for each of the three
-// intervals of 48 zeros, and one for each interval that an edit codes.
+// Behind the bytes `old` of a sink: begun there, and then written. The number of calls of the
+// coder: one for each of the three intervals of 48 zeros, and one for each interval that an edit
+// codes.
 fn counted<R: Abort>(rt: &R, alloc: Global, text: &str, calls: u64) -> Result<Vec<u8>, Fail> {
     let params = Params::new(DEFAULTS)?;
     let limits = Limits::new(1 << 32, 1 << 40).ok_or("limits")?;

@@ -81,7 +81,8 @@ impl<'a> Source for Pieces<'a> {
     }
 }
 
-/// Keeps what it takes: at most `step` bytes a call, and `room` in all; then it fails. One that is shut fails at `begin`.
+/// Keeps what it takes: at most `step` bytes a call, and `room` in all; then it fails. One that is
+/// shut fails at `begin`.
 #[derive(Drop)]
 pub(crate) struct Basin {
     pub(crate) bytes: Vec<u8>,

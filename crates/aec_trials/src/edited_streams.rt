@@ -11,7 +11,8 @@ fn appended(alloc: Global, values: &[i64]) -> Result<Edit, AllocError> {
     })
 }
 
-/// Five samples of 7, four samples more, and back to five; a cut to six in between is made, one to ten refused.
+/// Five samples of 7, four samples more, and back to five; a cut to six in between is made, one to
+/// ten refused.
 #[test]
 fn edited_streams_are_decoded(rt: HostRuntime) -> Result<(), Fail> {
     let alloc = rt.alloc();

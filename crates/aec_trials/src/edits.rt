@@ -1,4 +1,5 @@
-//! Scripts carried out on streams: what is written, what is refused and named by which line, and what is left untaken.
+//! Scripts carried out on streams: what is written, what is refused and named by which line, and
+//! what is left untaken.
 
 use crate::asserts::{holds, holds_at, same, same_at};
 use crate::devices::{After, Basin, Pieces};
@@ -10,8 +11,8 @@ use std::alloc::{Alloc, Global};
 use std::process::Abort;
 use std::test::Fail;
 
-// The streams of 48 zeros, of these with a 1 at place 20, of the bytes 0 to 7, of five samples of 7, of these with 7, 7, 7 and
-// 8 after them, of eight zeros, and of no samples.
+// The streams of 48 zeros, of these with a 1 at place 20, of the bytes 0 to 7, of five samples of
+// 7, of these with 7, 7, 7 and 8 after them, of eight zeros, and of no samples.
 const ZEROS: [u8; 6] = [0x00, 0x04, 0x00, 0x10, 0x00, 0x40];
 
 const ONE_CHANGED: [u8; 7] = [0x00, 0x04, 0x40, 0x30, 0xC2, 0x00, 0x08];
@@ -235,8 +236,8 @@ fn scripts_are_refused_before_streams(rt: HostRuntime) -> Result<(), Fail> {
     refused(&rt, "", &RAMP, Some((1 << 32) + 1), EditFault::Plain(fault))
 }
 
-// What an edit with these devices answers; how often script, source and sink failed; how often the sink was begun, and
-// what it took.
+// What an edit with these devices answers; how often script, source and sink failed; how often the
+// sink was begun, and what it took.
 fn left(
     alloc: Global,
     mut script: Pieces<'_>,
@@ -263,7 +264,8 @@ fn left(
     Ok((answer, counts, sink.bytes))
 }
 
-// A script or a source that fails while it is read: nothing is begun, and these devices have failed.
+// A script or a source that fails while it is read: nothing is begun, and these devices have
+// failed.
 fn expect_unread(
     rt: &impl Abort,
     alloc: Global,
@@ -342,7 +344,8 @@ fn an_empty_edit_needs_a_sink_that_begins(rt: HostRuntime) -> Result<(), Fail> {
     Ok(())
 }
 
-// The limits of samples and of bytes, a script, and the line that is refused, or 0 where the script is.
+// The limits of samples and of bytes, a script, and the line that is refused, or 0 where the script
+// is.
 const LIMITED: [(u64, u64, &str, Fault, u64); 5] = [
     (8, 8, "truncate 0", Fault::StreamTooLong { limit: 8 }, 0),
     (8, 8, "append 1", Fault::TooManySamples { limit: 8 }, 1),

@@ -174,8 +174,8 @@ fn sinks_are_begun_before_they_take(rt: HostRuntime) -> Result<(), Fail> {
     Ok(())
 }
 
-// Samples of 5 bits, of which 32 is none: how often the source is asked, what it gives a call and of which bytes, the limit of
-// samples, and the answer.
+// Samples of 5 bits, of which 32 is none: how often the source is asked, what it gives a call and
+// of which bytes, the limit of samples, and the answer.
 const FED: [(u64, usize, &[u8], u64, Result<(), Fault>); 6] = [
     (
         1,

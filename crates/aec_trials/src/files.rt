@@ -11,9 +11,10 @@ use std::process::Abort;
 use std::rt::Files;
 use std::test::Fail;
 
-// A row: the name of the file; what is asked of the source in turn; how often it has failed then. `4=3:n..e` asks for 4 bytes
-// and gets 3, after which the buffer, that all steps share, holds `n..e`; `4!` asks for 4 and fails; `+abc` writes the file.
-// A file in pieces, then one that is there only after it was missed, and a folder.
+// A row: the name of the file; what is asked of the source in turn; how often it has failed then.
+// `4=3:n..e` asks for 4 bytes and gets 3, after which the buffer, that all steps share, holds
+// `n..e`; `4!` asks for 4 and fails; `+abc` writes the file. A file in pieces, then one that is
+// there only after it was missed, and a folder.
 const SOURCES: &str = "\
 taken | +seven.. 0=0:.... 4=4:seve 4=3:n..e 4=0:n..e | 0
 late  | 4! +here 4! 0! | 1
@@ -59,10 +60,11 @@ fn sources_go_step_by_step(rt: HostRuntime) -> Result<(), Fail> {
     Ok(())
 }
 
-// A row: the name of the file; what is asked of the sink in turn; how often it has failed and begun then; how it ends, or
-// `-`. `abc=3` gives 3 bytes that are taken, `abc!` gives 3 and fails; `+abc` writes the file, and `?abc` is what it holds.
-// A file that is there and is emptied; a second `begin`; bytes before `begin`; a file that can't be created; one that is
-// full; one that can't be synced; a sink that is not begun.
+// A row: the name of the file; what is asked of the sink in turn; how often it has failed and begun
+// then; how it ends, or `-`. `abc=3` gives 3 bytes that are taken, `abc!` gives 3 and fails; `+abc`
+// writes the file, and `?abc` is what it holds. A file that is there and is emptied; a second
+// `begin`; bytes before `begin`; a file that can't be created; one that is full; one that can't be
+// synced; a sink that is not begun.
 const SINKS: &str = "\
 written        | +there-before ?there-before begin ? abc=3 =0 de=2 ?abcde | 0 1 | -
 kept           | begin abc=3 begin ?abc de=2 ?abcde | 0 2 | ends

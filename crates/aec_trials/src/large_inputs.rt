@@ -14,8 +14,8 @@ use std::test::Fail;
 // One sample more than fills 131,072 blocks of 8.
 const SAMPLES: usize = (1 << 20) + 1;
 
-// Samples from 128 to 254. Without preprocessing no block of them is shorter by any option than by no compression: splitting
-// at the greatest k, 5, takes at least 10 bits a sample.
+// Samples from 128 to 254. Without preprocessing no block of them is shorter by any option than by
+// no compression: splitting at the greatest k, 5, takes at least 10 bits a sample.
 fn high_samples(alloc: Global) -> Result<Vec<u8>, Fail> {
     let mut bytes = Vec::new(alloc);
     for index in 0..SAMPLES {
@@ -36,7 +36,8 @@ fn written<R: Abort + Files + Alloc<A = Global>>(
     Ok(fs::read(rt, dest)?)
 }
 
-// The words; how long the code is: of each block an identifier of 3 bits and its samples; how long what is decoded.
+// The words; how long the code is: of each block an identifier of 3 bits and its samples; how long
+// what is decoded.
 const ROUND_TRIPS: [(&str, &str, usize, usize); 3] = [
     (
         "-N much.raw much.aec",

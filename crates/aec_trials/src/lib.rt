@@ -1,5 +1,6 @@
-//! Tests alone: what no clause of `aec_engine` and `aec_cli` says, and values from outside. They stand here because a crate
-//! with tests is proved twice, and its must-fail edits wait for both proofs.
+//! Tests alone: what no clause of `aec_engine` and `aec_cli` says, and values from outside. They
+//! stand here because a crate with tests is proved twice, and its must-fail edits wait for both
+//! proofs.
 #![tactic(auto)]
 
 #[cfg(test)]

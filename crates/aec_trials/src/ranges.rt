@@ -4,9 +4,10 @@ use crate::answers::engines_answer_so;
 use crate::runs::runs_end_so;
 use std::test::Fail;
 
-// Of the ramp from 0 to 7; of five samples of 7, read with a count and without one; of samples of 12 bits. Then counts alone;
-// and the stream of the ramp with set bits after it, a second block by splitting, cut within its values: what comes after
-// the last coded data set that a count needs is never judged.
+// Of the ramp from 0 to 7; of five samples of 7, read with a count and without one; of samples of
+// 12 bits. Then counts alone; and the stream of the ramp with set bits after it, a second block by
+// splitting, cut within its values: what comes after the last coded data set that a count needs is
+// never judged.
 const PARTS: &str = "\
               --range 2:3 part cut | 20 09 24 92       | 0 | 02 03 04
               --range 0:8 part cut | 20 09 24 92       | 0 | 00 01 02 03 04 05 06 07
@@ -31,7 +32,8 @@ const PARTS: &str = "\
     --range 6:2 --count 8 part cut | 20 09 24 92 FF FF | 0 | 06 07
              -d --count 0 part cut | FF                | 0 |";
 
-// The samples of three intervals, of which place 20 alone holds a 1: at the edges of each interval, and over them.
+// The samples of three intervals, of which place 20 alone holds a 1: at the edges of each interval,
+// and over them.
 const EDGES: &str = "\
               --range 0:20 part cut | 00 04 40 30 C2 00 08 | 0 | 00*20
              --range 15:6 part cut | 00 04 40 30 C2 00 08 | 0 | 00*5 01
@@ -55,8 +57,8 @@ fn ranges_and_counts_are_cut_out(rt: HostRuntime) -> Result<(), Fail> {
     runs_end_so(&rt, rt.alloc(), PARTS)
 }
 
-// Places outside the samples; streams that are broken after the range, the first of two blocks of 67 bits; counts that a
-// stream doesn't have, or that no run allows.
+// Places outside the samples; streams that are broken after the range, the first of two blocks of
+// 67 bits; counts that a stream doesn't have, or that no run allows.
 const REFUSED: &str = "\
               --range 6:3 none left | 20 09 24 92 | 1 | aec: position outside the 8 samples
               --range 0:9 none left | 20 09 24 92 | 1 | aec: position outside the 8 samples

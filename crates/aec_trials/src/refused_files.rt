@@ -5,7 +5,8 @@ use crate::runs::runs_end_so;
 use std::fs;
 use std::test::Fail;
 
-// No such file; samples out of range; streams that are cut, or say what none may; no folder for DEST.
+// No such file; samples out of range; streams that are cut, or say what none may; no folder for
+// DEST.
 const REFUSED: &str = "\
                         none kept | - | 1 | aec: read failed
                      -d none kept | - | 1 | aec: read failed
@@ -24,7 +25,8 @@ fn broken_files_are_refused(rt: HostRuntime) -> Result<(), Fail> {
     Ok(())
 }
 
-// The first broken rule of the settings; the action before them; then words that the command doesn't have.
+// The first broken rule of the settings; the action before them; then words that the command
+// doesn't have.
 const WRONG_WORDS: &str = "\
            -n 40 word same | 00 | 2 | aec: bits per sample must be 1 to 32
      -n 33 -j 10 word same | 00 | 2 | aec: bits per sample must be 1 to 32

@@ -1,5 +1,6 @@
-//! Tables of whole runs on files. A row: the words, of which the last two name SOURCE and DEST; what SOURCE holds, or `-`
-//! where it isn't there; the status; what DEST holds then or, with a status above 0, the line that is printed.
+//! Tables of whole runs on files. A row: the words, of which the last two name SOURCE and DEST;
+//! what SOURCE holds, or `-` where it isn't there; the status; what DEST holds then or, with a
+//! status above 0, the line that is printed.
 
 use crate::asserts::same_at;
 use crate::shared::run_of;
@@ -10,8 +11,8 @@ use std::process::Abort;
 use std::rt::Files;
 use std::test::Fail;
 
-// What a run leaves: its status, what it wrote to standard output and to standard error, and what DEST holds, if it is
-// there.
+// What a run leaves: its status, what it wrote to standard output and to standard error, and what
+// DEST holds, if it is there.
 #[derive(Debug, PartialEq, Eq, Drop)]
 struct Ended {
     status: u8,

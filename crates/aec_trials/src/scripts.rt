@@ -104,7 +104,8 @@ const READ: [(&str, &str); 30] = [
     ),
 ];
 
-// What a script has, or why it is refused: `script` without its clauses, which callers would be proved with.
+// What a script has, or why it is refused: `script` without its clauses, which callers would be
+// proved with.
 fn read(alloc: Global, text: &[u8]) -> Result<Script, Fault> {
     script(alloc, text)
 }

@@ -28,7 +28,8 @@ pub(crate) fn job_of(alloc: Global, words: &str) -> Result<Result<Job, Usage>, F
     job_by(alloc, list.as_slice())
 }
 
-/// What an engine leaves: its answer, what was written, how often it began, and how often source and sink failed.
+/// What an engine leaves: its answer, what was written, how often it began, and how often source
+/// and sink failed.
 #[derive(Debug, PartialEq, Eq, Drop)]
 pub(crate) struct Outcome {
     pub(crate) answer: Result<(), Fault>,

@@ -10,8 +10,8 @@ use std::process::Abort;
 use std::test::Fail;
 use std::{fs, io};
 
-// The files of another runtime. Their syncs all fail so, if at all. Where they are interrupted, of the reads, writes and
-// syncs of a file the first is, the third, and so on.
+// The files of another runtime. Their syncs all fail so, if at all. Where they are interrupted, of
+// the reads, writes and syncs of a file the first is, the third, and so on.
 #[derive(Drop)]
 struct Unsynced<'a, F: Files> {
     rt: &'a F,

@@ -50,7 +50,8 @@ fn judges_even_block_sizes(rt: HostRuntime) {
     }
 }
 
-// Bits of an identifier and the greatest k, by the table of identifiers; then the range and the stored bytes.
+// Bits of an identifier and the greatest k, by the table of identifiers; then the range and the
+// stored bytes.
 #[test]
 fn numbers_follow_from_settings(rt: HostRuntime) -> Result<(), Fail> {
     let cases = [

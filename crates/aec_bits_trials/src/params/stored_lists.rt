@@ -5,7 +5,8 @@ use std::alloc::Global;
 use std::process::Abort;
 use std::test::Fail;
 
-// Appends the samples of bytes that hold no bad one to one that is there, and writes those of the bytes over other bytes.
+// Appends the samples of bytes that hold no bad one to one that is there, and writes those of the
+// bytes over other bytes.
 fn goes_both_ways(
     rt: &impl Abort,
     alloc: Global,

@@ -19,16 +19,22 @@ impl<C: Codec> Workspace<C> {
     /// Brings the next interval of fresh samples to the front. `Memory` where a growth was refused.
     fn gather(&mut self, fresh: &mut Fresh<'_>) -> Result<(), Fault>
         requires order { fresh.old.next ≤ fresh.old.end }
-        requires within { fresh.old.end ≤ interval_count (C.format self.old.codec) self.old.samples }
+        requires within { fresh.old.end ≤ interval_count (C.format self.old.codec)
+            self.old.samples }
         ensures coming { let n = (C.format self.old.codec).most in OnOk result (
-            to_come n self.old.samples fresh.new.front.items fresh.new.values.now fresh.new.back.items fresh.new.next fresh.new.end
-            ≡ to_come n self.old.samples fresh.old.front.items fresh.old.values.now fresh.old.back.items fresh.old.next fresh.old.end) }
-        ensures gathered { let n = (C.format self.old.codec).most in OnOk result (IsGathered n fresh.new.front.items
-            (to_come n self.old.samples fresh.new.front.items fresh.new.values.now fresh.new.back.items fresh.new.next fresh.new.end)) }
+            to_come n self.old.samples fresh.new.front.items fresh.new.values.now
+            fresh.new.back.items fresh.new.next fresh.new.end
+            ≡ to_come n self.old.samples fresh.old.front.items fresh.old.values.now
+            fresh.old.back.items fresh.old.next fresh.old.end) }
+        ensures gathered { let n = (C.format self.old.codec).most in OnOk result
+            (IsGathered n fresh.new.front.items
+            (to_come n self.old.samples fresh.new.front.items fresh.new.values.now
+            fresh.new.back.items fresh.new.next fresh.new.end)) }
         ensures fault { IfErr result (λ e. e ≡ Memory) }
         ensures order { fresh.new.next ≤ fresh.new.end }
         ensures end { fresh.new.end ≡ fresh.old.end }
-        ensures opens { OpensAtMost (fresh.old.end - fresh.old.next) (fresh.new.end - fresh.new.next)
+        ensures opens { OpensAtMost (fresh.old.end - fresh.old.next)
+            (fresh.new.end - fresh.new.next)
             (C.read self.old.codec) (C.read self.new.codec) }
         ensures samples { self.new.samples ≡ self.old.samples }
         ensures limit { self.new.limit ≡ self.old.limit }
@@ -45,14 +51,18 @@ impl<C: Codec> Workspace<C> {
         Ok(())
     }
 
-    /// Codes one interval behind others. `Memory` where a growth was refused; the call may have been made then.
+    /// Codes one interval behind others. `Memory` where a growth was refused; the call may have
+    /// been made then.
     fn code_interval(&mut self, interval: &[i64], coded: &mut Coded) -> Result<(), Fault>
         requires some { 1 ≤ length interval.now }
         requires few { length interval.now ≤ (C.format self.old.codec).most }
         requires held { AreHeld (C.format self.old.codec) interval.now }
         requires calls { C.called self.old.codec < 2 ^ 64 - 1 }
-        ensures bits { OnOk result (coded.new.bits.list ≡ coded.old.bits.list ++ (C.format self.old.codec).bits_of interval.now) }
-        ensures starts { OnOk result (coded.new.starts.items ≡ coded.old.starts.items ++ length coded.old.bits.list ∷ []) }
+        ensures bits { OnOk result
+            (coded.new.bits.list ≡ coded.old.bits.list
+            ++ (C.format self.old.codec).bits_of interval.now) }
+        ensures starts { OnOk result
+            (coded.new.starts.items ≡ coded.old.starts.items ++ length coded.old.bits.list ∷ []) }
         ensures calls { OnOk result (C.called self.new.codec ≡ C.called self.old.codec + 1) }
         ensures rises { RisesAtMost 1 (C.called self.old.codec) (C.called self.new.codec) }
         ensures fault { IfErr result (λ e. e ≡ Memory) }
@@ -71,10 +81,13 @@ impl<C: Codec> Workspace<C> {
         requires some { 1 ≤ length front.old.items }
         requires held { AreHeld (C.format self.old.codec) front.old.items }
         requires calls { C.called self.old.codec < 2 ^ 64 - 1 }
-        ensures front { OnOk result (front.new.items ≡ drop (C.format self.old.codec).most front.old.items) }
+        ensures front { OnOk result
+            (front.new.items ≡ drop (C.format self.old.codec).most front.old.items) }
         ensures bits { OnOk result (coded.new.bits.list ≡ coded.old.bits.list
-            ++ (C.format self.old.codec).bits_of (take (C.format self.old.codec).most front.old.items)) }
-        ensures starts { OnOk result (coded.new.starts.items ≡ coded.old.starts.items ++ length coded.old.bits.list ∷ []) }
+            ++ (C.format self.old.codec).bits_of
+            (take (C.format self.old.codec).most front.old.items)) }
+        ensures starts { OnOk result
+            (coded.new.starts.items ≡ coded.old.starts.items ++ length coded.old.bits.list ∷ []) }
         ensures calls { OnOk result (C.called self.new.codec ≡ C.called self.old.codec + 1) }
         ensures rises { RisesAtMost 1 (C.called self.old.codec) (C.called self.new.codec) }
         ensures fault { IfErr result (λ e. e ≡ Memory) }
@@ -90,25 +103,38 @@ impl<C: Codec> Workspace<C> {
         Ok(())
     }
 
-    /// Codes fresh samples, so many as `count` says. `Memory` where a growth was refused; some calls may have been made then.
+    /// Codes fresh samples, so many as `count` says. `Memory` where a growth was refused; some
+    /// calls may have been made then.
     pub(crate) fn code_fresh(&mut self, fresh: &mut Fresh<'_>, count: u64) -> Result<Coded, Fault>
         requires order { fresh.old.next ≤ fresh.old.end }
-        requires within { fresh.old.end ≤ interval_count (C.format self.old.codec) self.old.samples }
-        requires held { AreHeld (C.format self.old.codec) (to_come (C.format self.old.codec).most self.old.samples
-            fresh.old.front.items fresh.old.values.now fresh.old.back.items fresh.old.next fresh.old.end) }
+        requires within { fresh.old.end ≤ interval_count (C.format self.old.codec)
+            self.old.samples }
+        requires held { AreHeld (C.format self.old.codec)
+            (to_come (C.format self.old.codec).most self.old.samples
+            fresh.old.front.items fresh.old.values.now fresh.old.back.items fresh.old.next
+            fresh.old.end) }
         requires count { count ≡ length (to_come (C.format self.old.codec).most self.old.samples
-            fresh.old.front.items fresh.old.values.now fresh.old.back.items fresh.old.next fresh.old.end) }
-        requires calls { C.called self.old.codec + div_ceil count (C.format self.old.codec).most ≤ 2 ^ 64 - 1 }
-        ensures bits { IfOk result (λ coded. coded.bits.list ≡ code_of (C.format self.old.codec) (to_come (C.format self.old.codec).most
-            self.old.samples fresh.old.front.items fresh.old.values.now fresh.old.back.items fresh.old.next fresh.old.end)) }
-        ensures starts { IfOk result (λ coded. coded.starts.items ≡ starts_of (C.format self.old.codec) 0 (to_come (C.format self.old.codec).most
-            self.old.samples fresh.old.front.items fresh.old.values.now fresh.old.back.items fresh.old.next fresh.old.end)) }
+            fresh.old.front.items fresh.old.values.now fresh.old.back.items fresh.old.next
+            fresh.old.end) }
+        requires calls { C.called self.old.codec + div_ceil count (C.format self.old.codec).most ≤ 2
+            ^ 64 - 1 }
+        ensures bits { IfOk result
+            (λ coded. coded.bits.list
+            ≡ code_of (C.format self.old.codec) (to_come (C.format self.old.codec).most
+            self.old.samples fresh.old.front.items fresh.old.values.now fresh.old.back.items
+            fresh.old.next fresh.old.end)) }
+        ensures starts { IfOk result
+            (λ coded. coded.starts.items
+            ≡ starts_of (C.format self.old.codec) 0 (to_come (C.format self.old.codec).most
+            self.old.samples fresh.old.front.items fresh.old.values.now fresh.old.back.items
+            fresh.old.next fresh.old.end)) }
         ensures count { IfOk result (λ coded. coded.count ≡ count) }
         ensures calls { OnOk result (C.called self.new.codec
             ≡ C.called self.old.codec + div_ceil count (C.format self.old.codec).most) }
         ensures rises { RisesAtMost (div_ceil count (C.format self.old.codec).most)
             (C.called self.old.codec) (C.called self.new.codec) }
-        ensures reads { RisesAtMost (fresh.old.end - fresh.old.next) (C.read self.old.codec) (C.read self.new.codec) }
+        ensures reads { RisesAtMost (fresh.old.end - fresh.old.next) (C.read self.old.codec)
+            (C.read self.new.codec) }
         ensures fault { IfErr result (λ e. (e ≡ Memory) × (0 < count)) }
         ensures samples { self.new.samples ≡ self.old.samples }
         ensures limit { self.new.limit ≡ self.old.limit }

@@ -68,11 +68,13 @@ impl<C: Codec> Workspace<C> {
         }
     }
 
-    /// Appends the samples of interval `i`. `Memory` where a growth was refused; `out` is then as before.
+    /// Appends the samples of interval `i`. `Memory` where a growth was refused; `out` is then as
+    /// before.
     pub(crate) fn decode_interval(&mut self, i: u64, out: &mut Vec<i64>) -> Result<(), Fault>
         requires { i < interval_count (C.format self.old.codec) self.old.samples }
         ensures ok { OnOk result (out.new.items ≡ out.old.items
-            ++ take (C.format self.old.codec).most (drop (i * (C.format self.old.codec).most) self.old.samples)) }
+            ++ take (C.format self.old.codec).most
+            (drop (i * (C.format self.old.codec).most) self.old.samples)) }
         ensures err { OnErr result (out.new.items ≡ out.old.items) }
         ensures fault { IfErr result (λ e. e ≡ Memory) }
         ensures samples { self.new.samples ≡ self.old.samples }

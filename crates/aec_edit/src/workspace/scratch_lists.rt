@@ -10,7 +10,8 @@ use std::mem;
 impl<C: Codec> Workspace<C> {
     ghost use Rattle.std.specs.Prelude.{◌≡◌, []};
 
-    /// Empty lists for samples in front of values and behind them, in the room that the edit before has left.
+    /// Empty lists for samples in front of values and behind them, in the room that the edit before
+    /// has left.
     pub(crate) fn take_lists(&mut self) -> (Vec<i64>, Vec<i64>)
         ensures front { result.0.items ≡ [] }
         ensures back { result.1.items ≡ [] }

@@ -10,8 +10,8 @@ use aec_bits::{BitBuf, Source};
 use aec_params::Fault;
 use std::alloc::Global;
 
-/// The bits of the bytes of a source up to its end, up to its failure, or past `limit` bytes, and whether it failed.
-/// `Memory` alone is refused.
+/// The bits of the bytes of a source up to its end, up to its failure, or past `limit` bytes, and
+/// whether it failed. `Memory` alone is refused.
 fn read_bits_past<R: Source>(
     alloc: Global,
     source: &mut R,
@@ -39,8 +39,11 @@ pub(crate) fn read_bits<R: Source>(
     source: &mut R,
     limit: u64,
 ) -> Result<BitBuf, Fault>
-    ensures ok { IfOk result (λ bits. GaveWhole (R.left source.old) (R.left source.new) (R.failed source.new) limit bits.list) }
-    ensures refuses { IfErr result (λ fault. RefusesIntake (R.left source.old) (R.left source.new) (R.failed source.new) limit fault) }
+    ensures ok { IfOk result (λ bits. GaveWhole (R.left source.old) (R.left source.new)
+        (R.failed source.new) limit bits.list) }
+    ensures refuses { IfErr result
+        (λ fault. RefusesIntake (R.left source.old) (R.left source.new) (R.failed source.new) limit
+        fault) }
 {
     let (bits, failed) = read_bits_past(alloc, source, limit)?;
     if failed {

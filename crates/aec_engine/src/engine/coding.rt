@@ -14,8 +14,9 @@ use aec_interval::StreamCoder;
 use aec_params::{Fault, Limits, Params};
 use std::alloc::Global;
 
-/// A coder that was fed all that a source gives, each piece before the next is taken, and the bits of the intervals that are
-/// complete. The refusals as they are met: of samples those of `StreamCoder::feed`, and `Read` where the source fails.
+/// A coder that was fed all that a source gives, each piece before the next is taken, and the bits
+/// of the intervals that are complete. The refusals as they are met: of samples those of
+/// `StreamCoder::feed`, and `Read` where the source fails.
 fn fed<R: Source>(
     alloc: Global,
     params: &Params,
@@ -60,10 +61,12 @@ fn encode_source<R: Source>(
     Ok(bits)
 }
 
-/// Codes the stored samples of a source, each piece before the next is taken, to the source's end, its failure or the first
-/// sample that is refused, and writes the bytes of their code. The refusals are answered as they are met: at each sample
-/// `TooManySamples`, then `SampleRange`; `Read` where the source fails; `Memory`. Nothing has been written then and `begin`
-/// was not called. After `begin` only `Write` can come, and a front of the answer has been written. `limits.bytes` is not used.
+/// Codes the stored samples of a source, each piece before the next is taken, to the source's end,
+/// its failure or the first sample that is refused, and writes the bytes of their code. The
+/// refusals are answered as they are met: at each sample `TooManySamples`, then `SampleRange`;
+/// `Read` where the source fails; `Memory`. Nothing has been written then and `begin` was not
+/// called. After `begin` only `Write` can come, and a front of the answer has been written.
+/// `limits.bytes` is not used.
 #[tactic(auto, using(crate::proofs::OutputLemmas::leaves_settled))]
 pub fn encode<R: Source, W: Sink>(
     alloc: Global,

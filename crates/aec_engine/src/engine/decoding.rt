@@ -15,8 +15,8 @@ use aec_interval::{StreamReader, decode_all};
 use aec_params::{Fault, Limits, Params};
 use std::alloc::Global;
 
-/// Reads coded bits twice: judges them first, then begins and writes the bytes of their samples. The refusals are those of
-/// `decode_all`, and `Memory`; nothing was begun then.
+/// Reads coded bits twice: judges them first, then begins and writes the bytes of their samples.
+/// The refusals are those of `decode_all`, and `Memory`; nothing was begun then.
 fn decode_bits<W: Sink>(
     alloc: Global,
     params: &Params,
@@ -33,14 +33,15 @@ fn decode_bits<W: Sink>(
     write_range(alloc, params, &mut reader, 0, 0, total, sink)
 }
 
-/// Reads the source whole, and writes the bytes of the samples that it codes: with a count the first `count`, without one
-/// all. The refusals in their order: `Read`, `StreamTooLong` and `Memory` as they are met while the source is read; then
-/// those of `decode_all`; then `Memory`, for the room that the second reading takes. That `Memory` comes last is no part of the
-/// contract. Nothing has been written then and `begin` was not called. After `begin` only `Write` can come, and a front of the
-/// answer has been written.
+/// Reads the source whole, and writes the bytes of the samples that it codes: with a count the
+/// first `count`, without one all. The refusals in their order: `Read`, `StreamTooLong` and
+/// `Memory` as they are met while the source is read; then those of `decode_all`; then `Memory`,
+/// for the room that the second reading takes. That `Memory` comes last is no part of the contract.
+/// Nothing has been written then and `begin` was not called. After `begin` only `Write` can come,
+/// and a front of the answer has been written.
 ///
-/// The coded bits are read twice, so that the samples are not kept: memory is taken for the bytes of the source, and for
-/// one interval of samples and their bytes.
+/// The coded bits are read twice, so that the samples are not kept: memory is taken for the bytes
+/// of the source, and for one interval of samples and their bytes.
 pub fn decode<R: Source, W: Sink>(
     alloc: Global,
     params: &Params,

@@ -1,6 +1,6 @@
 //! Coded data edited by a script.
 
-ghost use Rattle.std.specs.Prelude.{◌≡◌, ◌<◌, ◌≤◌, length, Result, Ok, Err, IfOk, IfErr, OnOk, OnErr};
+ghost use Rattle.std.specs.Prelude.{◌≡◌, ◌<◌, ◌≤◌, length, None, Result, Ok, Err, IfOk, IfErr, OnOk, OnErr};
 ghost use Rattle.std.specs.Io.KnownBytes.{Appends, Keeps};
 ghost use Rattle.aec_params.specs.declared.fault.Fault.TheVariants.{Write as WriteFault};
 ghost use Rattle.aec_params.specs.Codewords.{bytes_of};
@@ -8,30 +8,32 @@ ghost use Rattle.aec_bits.specs.Codec.{code_of};
 ghost use Rattle.aec_bits.specs.Devices.{counted, AppendsFront};
 ghost use Rattle.aec_interval.specs.IntervalFormat.{interval_format};
 ghost use Rattle.aec_engine.specs.Transfers.{Taking, taking_of, Putting, putting_of, answer_of};
+ghost use Rattle.aec_engine.specs.Scripts.{listing_of};
 ghost use Rattle.aec_engine.specs.Editing.{GivesEdited, LeavesRecoded, LeavesEdited};
 ghost use Rattle.aec_engine.specs.EditingSteps.{GaveScript, RefusesScript, SettlesRecoded, recoded_of};
 
 use crate::engine::bit_intake::read_bits;
 use crate::engine::intake::read_whole;
 use crate::engine::loading::edit_bits;
-use crate::script_reading::script;
-use crate::scripts::{EditFault, Script};
+use crate::script_edits::judge_script;
+use crate::scripts::EditFault;
 use aec_bits::{Codec, Sink, Source};
 use aec_edit::Workspace;
 use aec_interval::AecCodec;
 use aec_params::{Fault, Limits, Params};
 use std::alloc::Global;
 
-/// The script that a source gives.
-fn read_script<Q: Source>(alloc: Global, limits: Limits, from: &mut Q) -> Result<Script, Fault>
+/// The text of a script that a source gives. Its lines have been judged.
+fn read_script<Q: Source>(alloc: Global, limits: Limits, from: &mut Q) -> Result<Vec<u8>, Fault>
     ensures ok { let took : Taking = taking_of Q.left Q.failed from.old from.new in
-        IfOk result (λ s. GaveScript took limits.bytes s.edits.items s.lines.items) }
-    ensures lines { IfOk result (λ s. length s.edits.items ≤ length s.lines.items) }
+        IfOk result (λ text. GaveScript took limits.bytes (listing_of text.items)) }
+    ensures known { IfOk result (λ text. (listing_of text.items).bad ≡ None) }
     ensures refuses { let took : Taking = taking_of Q.left Q.failed from.old from.new in
         IfErr result (λ fault. RefusesScript took limits.bytes fault) }
 {
     let text = read_whole(alloc, from, limits.bytes())?;
-    script(alloc, &text)
+    judge_script(&text)?;
+    Ok(text)
 }
 
 /// What carrying out a script answers: a workspace with the samples that its edits leave.
@@ -77,10 +79,14 @@ fn settle_code<C: Codec + Drop, W: Sink>(
     answer: Result<Workspace<C>, EditFault>,
     sink: &mut W,
 ) -> Result<Workspace<C>, EditFault>
-    ensures settles { let put : Putting = putting_of W.taken W.begun W.mark W.failed sink.old sink.new in
-        SettlesRecoded put (answer_of (λ w. recoded_of (C.format w.codec) w.samples (C.called w.codec)) answer)
+    ensures settles { let put : Putting
+        = putting_of W.taken W.begun W.mark W.failed sink.old sink.new in
+        SettlesRecoded put (answer_of
+        (λ w. recoded_of (C.format w.codec) w.samples (C.called w.codec)) answer)
         (answer_of (λ w. C.called w.codec) result) }
-    ensures stream { IfOk result (λ w. Appends (W.taken sink.old) (W.taken sink.new) (bytes_of (code_of (C.format w.codec) w.samples))) }
+    ensures stream { IfOk result
+        (λ w. Appends (W.taken sink.old) (W.taken sink.new)
+        (bytes_of (code_of (C.format w.codec) w.samples))) }
     ensures same { IfOk result (λ w. answer ≡ Ok w) }
 {
     let workspace = answer?;
@@ -88,9 +94,10 @@ fn settle_code<C: Codec + Drop, W: Sink>(
     Ok(workspace)
 }
 
-/// Does what `edit` does over a codec of intervals that has coded nothing, and gives the workspace whose stream was written. So it
-/// is seen how often the codec was called: once for each interval of the samples that the source codes, and for each edit once for each
-/// interval that it codes. The refusals are those of `edit`.
+/// Does what `edit` does over a codec of intervals that has coded nothing, and gives the workspace
+/// whose stream was written. So it is seen how often the codec was called: once for each interval
+/// of the samples that the source codes, and for each edit once for each interval that it codes.
+/// The refusals are those of `edit`.
 #[tactic(auto, using(crate::proofs::EditAnswerLemmas::leaves_recoded))]
 pub fn edit_over<C: Codec + Drop, Q: Source, R: Source, W: Sink>(
     alloc: Global,
@@ -107,23 +114,28 @@ pub fn edit_over<C: Codec + Drop, Q: Source, R: Source, W: Sink>(
     ensures leaves { let read : Taking = taking_of Q.left Q.failed from.old from.new in
         let took : Taking = taking_of R.left R.failed source.old source.new in
         let put : Putting = putting_of W.taken W.begun W.mark W.failed sink.old sink.new in
-        LeavesRecoded params.now limits count read took put (answer_of (λ w. C.called w.codec) result) }
-    ensures stream { IfOk result (λ w. Appends (W.taken sink.old) (W.taken sink.new) (bytes_of (code_of (C.format w.codec) w.samples))) }
+        LeavesRecoded params.now limits count read took put
+        (answer_of (λ w. C.called w.codec) result) }
+    ensures stream { IfOk result
+        (λ w. Appends (W.taken sink.old) (W.taken sink.new)
+        (bytes_of (code_of (C.format w.codec) w.samples))) }
     ensures format { IfOk result (λ w. C.format w.codec ≡ interval_format params.now) }
 {
     let answer = edit_source(alloc, codec, params, limits, count, from, source);
     settle_code(answer, sink)
 }
 
-/// Reads a script whole, then the source, makes the edits of the script on the samples that the source codes (with a count
-/// the first `count`, without one all), and writes the bytes of the code of the samples that they leave.
+/// Reads a script whole, then the source, makes the edits of the script on the samples that the
+/// source codes (with a count the first `count`, without one all), and writes the bytes of the code
+/// of the samples that they leave.
 ///
-/// The refusals in their order: `Read`, `StreamTooLong` and `Memory` as they are met while the script is read, then
-/// `Script` (and until then nothing is taken of the source) or `Memory`; those of `decode`; `Memory`. The first edit that is
-/// refused, for its place, the limit, its values, or want of calls or of memory, is named by its line and ends the run; all other
-/// refusals are plain.
-/// Nothing has been written then and `begin` was not called. After `begin` only `Write` can come, and a front of the answer
-/// has been written.
+/// The refusals in their order: `Read`, `StreamTooLong` and `Memory` as they are met while the
+/// script is read, then `Script` (and until then nothing is taken of the source); those of
+/// `decode`; `Memory`, also where there is no room to read a line again when its edit is to be
+/// made. The first edit that is refused, for its place, the limit, its values, or want of calls or
+/// of memory, is named by its line and ends the run; all other refusals are plain. Nothing has been
+/// written then and `begin` was not called. After `begin` only `Write` can come, and a front of the
+/// answer has been written.
 pub fn edit<Q: Source, R: Source, W: Sink>(
     alloc: Global,
     params: &Params,

@@ -11,8 +11,8 @@ use std::alloc::Global;
 /// How many bytes are asked of a source at a time.
 pub(crate) const PIECE: usize = 65536;
 
-/// The bytes of a source up to its end, up to its failure, or past `limit` bytes, and whether it failed. `Memory` alone
-/// is refused.
+/// The bytes of a source up to its end, up to its failure, or past `limit` bytes, and whether it
+/// failed. `Memory` alone is refused.
 pub(crate) fn read_past<R: Source>(
     alloc: Global,
     source: &mut R,
@@ -35,15 +35,18 @@ pub(crate) fn read_past<R: Source>(
     Ok((bytes, false))
 }
 
-/// The bytes of a source up to its end. `StreamTooLong` where there are more than `limit`, `Read` where the source fails
-/// before that, `Memory`.
+/// The bytes of a source up to its end. `StreamTooLong` where there are more than `limit`, `Read`
+/// where the source fails before that, `Memory`.
 pub(crate) fn read_whole<R: Source>(
     alloc: Global,
     source: &mut R,
     limit: u64,
 ) -> Result<Vec<u8>, Fault>
-    ensures ok { IfOk result (λ bytes. IsTakenWhole (R.left source.old) (R.left source.new) (R.failed source.new) limit bytes.items) }
-    ensures refuses { IfErr result (λ fault. RefusesIntake (R.left source.old) (R.left source.new) (R.failed source.new) limit fault) }
+    ensures ok { IfOk result (λ bytes. IsTakenWhole (R.left source.old) (R.left source.new)
+        (R.failed source.new) limit bytes.items) }
+    ensures refuses { IfErr result
+        (λ fault. RefusesIntake (R.left source.old) (R.left source.new) (R.failed source.new) limit
+        fault) }
 {
     let (bytes, failed) = read_past(alloc, source, limit)?;
     if failed {

@@ -1,7 +1,8 @@
-//! The samples of coded bits taken over interval by interval into a workspace, and the edits of a script made on them: those that only
-//! overwrite samples which are there already are made meanwhile, while little of the stream stands behind them.
+//! The samples of coded bits taken over interval by interval into a workspace, and the edits of a
+//! script made on them: those that only overwrite samples which are there already are made
+//! meanwhile, while little of the stream stands behind them.
 
-ghost use Rattle.std.specs.Prelude.{◌≡◌, ◌≤◌, ◌^◌, [], None, List, ℤ, length, IfOk, IfErr, Ok};
+ghost use Rattle.std.specs.Prelude.{◌≡◌, ◌≤◌, ◌^◌, [], None, List, ℤ, IfOk, IfErr, Ok};
 ghost use Rattle.aec_params.specs.declared.fault.Fault.TheVariants.{Memory};
 ghost use Rattle.aec_params.specs.Reading.{IsReading};
 ghost use Rattle.aec_interval.specs.IntervalFormat.{interval_format};
@@ -9,26 +10,30 @@ ghost use Rattle.aec_interval.specs.Reached.{count_refusal, RefusesDecoding};
 ghost use Rattle.aec_engine.specs.Transfers.{answer_of};
 ghost use Rattle.aec_engine.specs.EditingSteps.{recoded_of};
 ghost use Rattle.aec_engine.specs.ReadingTwice.{AreSamplesOf};
+ghost use Rattle.aec_engine.specs.Scripts.{listing_of};
+ghost use Rattle.aec_engine.specs.EditsAhead.{AreKnown, IsReady, left_in};
 ghost use Rattle.aec_engine.specs.EarlyEdits.{LoadsAll, StopsLoading, EditsBits, EditsSamples};
 
 use crate::engine::carrying::{carry_early, carry_rest};
 use crate::engine::two_readings::{Judged, judge_all};
-use crate::scripts::{EditFault, Script};
+use crate::script_edits::EditsAhead;
+use crate::scripts::EditFault;
 use aec_bits::{BitBuf, Codec};
 use aec_edit::Workspace;
 use aec_interval::StreamReader;
 use aec_params::{Fault, Limits, Params};
 use std::alloc::Global;
 
-/// Appends the samples that coded bits stand for to an empty workspace over a codec that has coded nothing, and makes edits of a script
-/// meanwhile. The place of the first that is left.
+/// Appends the samples that coded bits stand for to an empty workspace over a codec that has coded
+/// nothing, and makes edits of a script meanwhile. Those that are left are ahead then.
 fn append_all<C: Codec>(
+    alloc: Global,
     params: &Params,
     reader: &mut StreamReader,
     samples: &mut Vec<i64>,
     workspace: &mut Workspace<C>,
-    script: &Script,
-) -> Result<usize, EditFault>
+    ahead: &mut EditsAhead,
+) -> Result<(), EditFault>
     requires settings { reader.old.settings ≡ params.now }
     requires block { reader.old.block ≡ 0 }
     requires bit { reader.old.bit ≡ 0 }
@@ -39,27 +44,31 @@ fn append_all<C: Codec>(
     requires within { count_refusal reader.old.limit reader.old.count ≡ None }
     requires empty { workspace.old.samples ≡ [] }
     requires fresh { C.called workspace.old.codec ≡ 0 }
-    requires lines { length script.now.edits.items ≤ length script.now.lines.items }
-    ensures ok { IfOk result (λ next. LoadsAll (C.format workspace.old.codec) workspace.old.limit
-        script.now.edits.items script.now.lines.items reader.old next workspace.new.samples (C.called workspace.new.codec)) }
-    ensures place { IfOk result (λ next. next ≤ length script.now.edits.items) }
-    ensures refuses { IfErr result (λ fault. StopsLoading (C.format workspace.old.codec) workspace.old.limit
-        script.now.edits.items script.now.lines.items reader.old fault) }
+    requires known { AreKnown ahead.old }
+    requires ready { IsReady ahead.old }
+    ensures ok { IfOk result (λ _. LoadsAll (C.format workspace.old.codec) workspace.old.limit
+        (left_in ahead.old) reader.old (left_in ahead.new) workspace.new.samples
+        (C.called workspace.new.codec)) }
+    ensures known { IfOk result (λ _. AreKnown ahead.new) }
+    ensures ready { IfOk result (λ _. IsReady ahead.new) }
+    ensures refuses { IfErr result
+        (λ fault. StopsLoading (C.format workspace.old.codec) workspace.old.limit
+        (left_in ahead.old) reader.old fault) }
     ensures limit { workspace.new.limit ≡ workspace.old.limit }
     ensures format { C.format workspace.new.codec ≡ C.format workspace.old.codec }
 {
     // What the parameters promise is told by their calls.
     let _len = params.interval_len();
-    let mut next = 0;
     while reader.next(samples)? {
         workspace.append(samples)?;
-        next = carry_early(workspace, script, next)?;
+        carry_early(alloc, workspace, ahead)?;
     }
-    Ok(next)
+    Ok(())
 }
 
-/// A reader of bits that have been judged whole: it is at the first bit, and the samples can be read; beside it what judging told. Takes
-/// no memory. The refusals are those of `decode_all`, but for want of memory.
+/// A reader of bits that have been judged whole: it is at the first bit, and the samples can be
+/// read; beside it what judging told. Takes no memory. The refusals are those of `decode_all`, but
+/// for want of memory.
 fn judged_reader<'a>(
     alloc: Global,
     params: &Params,
@@ -76,7 +85,8 @@ fn judged_reader<'a>(
     ensures read { IfOk result (λ read. (xs : List ℤ) × AreSamplesOf read.0 xs) }
     ensures samples { IfOk result (λ read. (xs : List ℤ) → AreSamplesOf read.0 xs
         → IsReading params.now count limits.samples bits.now.list xs) }
-    ensures refuses { IfErr result (λ fault. RefusesDecoding params.now count limits.samples bits.now.list fault) }
+    ensures refuses { IfErr result
+        (λ fault. RefusesDecoding params.now count limits.samples bits.now.list fault) }
 {
     let mut reader = StreamReader::new(alloc, *params, bits, count, limits.samples())?;
     let judged = judge_all(params, &mut reader)?;
@@ -125,7 +135,8 @@ fn roomy_workspace<C: Codec + Drop>(
     Ok(workspace)
 }
 
-/// A workspace with the samples that edits of a script leave of those that a reader gives, over a codec that has coded nothing.
+/// A workspace with the samples that edits of a script leave of those that a reader gives, over a
+/// codec that has coded nothing.
 fn edit_samples<C: Codec + Drop>(
     alloc: Global,
     codec: C,
@@ -133,7 +144,7 @@ fn edit_samples<C: Codec + Drop>(
     limits: Limits,
     room: Room,
     reader: &mut StreamReader,
-    script: &Script,
+    script: &[u8],
 ) -> Result<Workspace<C>, EditFault>
     requires settings { reader.old.settings ≡ params.now }
     requires limit { reader.old.limit ≡ limits.samples }
@@ -143,20 +154,29 @@ fn edit_samples<C: Codec + Drop>(
     requires read { (xs : List ℤ) × AreSamplesOf reader.old xs }
     requires format { C.format codec ≡ interval_format params.now }
     requires fresh { C.called codec ≡ 0 }
-    requires lines { length script.now.edits.items ≤ length script.now.lines.items }
-    ensures edits { EditsSamples params.now limits.samples reader.old script.now.edits.items script.now.lines.items
+    requires known { (listing_of script.now).bad ≡ None }
+    ensures edits { EditsSamples params.now limits.samples reader.old (listing_of script.now)
         (answer_of (λ w. recoded_of (C.format w.codec) w.samples (C.called w.codec)) result) }
     ensures format { IfOk result (λ w. C.format w.codec ≡ interval_format params.now) }
 {
     let mut samples = interval_room(alloc, params)?;
     let mut workspace = roomy_workspace(alloc, codec, limits, room)?;
-    let next = append_all(params, reader, &mut samples, &mut workspace, script)?;
-    carry_rest(&mut workspace, script, next)?;
+    let mut ahead = EditsAhead::new(alloc, script)?;
+    append_all(
+        alloc,
+        params,
+        reader,
+        &mut samples,
+        &mut workspace,
+        &mut ahead,
+    )?;
+    carry_rest(alloc, &mut workspace, &mut ahead)?;
     Ok(workspace)
 }
 
-/// A workspace with the samples that edits of a script leave of those that bits are read as, over a codec that has coded nothing. The
-/// bits are judged whole before memory is taken for samples, and before an edit is made.
+/// A workspace with the samples that edits of a script leave of those that bits are read as, over a
+/// codec that has coded nothing. The bits are judged whole before memory is taken for samples, and
+/// before an edit is made. The lines of the script were judged.
 pub(crate) fn edit_bits<C: Codec + Drop>(
     alloc: Global,
     codec: C,
@@ -164,12 +184,12 @@ pub(crate) fn edit_bits<C: Codec + Drop>(
     limits: Limits,
     count: Option<u64>,
     bits: &BitBuf,
-    script: &Script,
+    script: &[u8],
 ) -> Result<Workspace<C>, EditFault>
     requires format { C.format codec ≡ interval_format params.now }
     requires fresh { C.called codec ≡ 0 }
-    requires lines { length script.now.edits.items ≤ length script.now.lines.items }
-    ensures edits { EditsBits params.now limits count bits.now.list script.now.edits.items script.now.lines.items
+    requires known { (listing_of script.now).bad ≡ None }
+    ensures edits { EditsBits params.now limits count bits.now.list (listing_of script.now)
         (answer_of (λ w. recoded_of (C.format w.codec) w.samples (C.called w.codec)) result) }
     ensures format { IfOk result (λ w. C.format w.codec ≡ interval_format params.now) }
 {

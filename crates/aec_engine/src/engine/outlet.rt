@@ -12,8 +12,10 @@ use aec_params::Fault;
 
 /// Begins, and writes the bytes that all bits fill. `Write` where the sink fails.
 fn deliver_bits<W: Sink>(bits: &BitBuf, sink: &mut W) -> Result<(), Fault>
-    ensures ok { OnOk result (Appends (W.taken sink.old) (W.taken sink.new) (bytes_of bits.now.list)) }
-    ensures front { OnErr result (AppendsFront (W.taken sink.old) (W.taken sink.new) (bytes_of bits.now.list)) }
+    ensures ok { OnOk result (Appends (W.taken sink.old) (W.taken sink.new)
+        (bytes_of bits.now.list)) }
+    ensures front { OnErr result
+        (AppendsFront (W.taken sink.old) (W.taken sink.new) (bytes_of bits.now.list)) }
     ensures begun { W.begun sink.new ≡ counted (W.begun sink.old) }
     ensures order { Keeps (W.mark sink.new) (W.taken sink.old) }
     ensures fault { IfErr result (λ e. (e ≡ WriteFault) × (W.failed sink.new ≡ 1)) }

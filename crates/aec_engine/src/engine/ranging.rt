@@ -14,7 +14,7 @@ use aec_params::{Fault, Limits, Params};
 use std::alloc::Global;
 
 /// Refuses places that are outside so many samples.
-fn judge_range(first: u64, len: u64, total: u64) -> Result<(), Fault>
+pub(crate) fn judge_range(first: u64, len: u64, total: u64) -> Result<(), Fault>
     ensures within { OnOk result (first + len ≤ total) }
     ensures refuses { IfErr result (λ fault. (fault ≡ OutOfRange total) × (total < first + len)) }
 {
@@ -46,12 +46,13 @@ fn range_bits<W: Sink>(
     write_range(alloc, params, &mut reader, judged.before, first, len, sink)
 }
 
-/// Reads the source whole, and writes the bytes of `len` of the samples that it codes, from place `first` on. The refusals
-/// in their order: those of `decode`, so that coded data after the range are judged too; then `OutOfRange` where the
-/// range passes the samples, which are `count` where a count is given; then `Memory`, though that it comes last is no part of
-/// the contract. Nothing has been written then and `begin` was not called. After `begin` only `Write` can come, and a front of
-/// the answer has been written. The coded bits are judged
-/// whole and the samples are not kept, as in `decode`; only the intervals that the range lies in are read again.
+/// Reads the source whole, and writes the bytes of `len` of the samples that it codes, from place
+/// `first` on. The refusals in their order: those of `decode`, so that coded data after the range
+/// are judged too; then `OutOfRange` where the range passes the samples, which are `count` where a
+/// count is given; then `Memory`, though that it comes last is no part of the contract. Nothing has
+/// been written then and `begin` was not called. After `begin` only `Write` can come, and a front
+/// of the answer has been written. The coded bits are judged whole and the samples are not kept, as
+/// in `decode`; only the intervals that the range lies in are read again.
 pub fn range<R: Source, W: Sink>(
     alloc: Global,
     params: &Params,
@@ -64,7 +65,8 @@ pub fn range<R: Source, W: Sink>(
 ) -> Result<(), Fault>
     ensures { let took : Taking = taking_of R.left R.failed source.old source.new in
         let put : Putting = putting_of W.taken W.begun W.mark W.failed sink.old sink.new in
-        Leaves (IsRanged params.now limits count first len) took (are_past limits.bytes) put result }
+        Leaves (IsRanged params.now limits count first len) took (are_past limits.bytes) put
+        result }
 {
     let bits = read_bits(alloc, source, limits.bytes())?;
     range_bits(alloc, params, limits, count, first, len, &bits, sink)

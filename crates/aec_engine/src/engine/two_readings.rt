@@ -25,7 +25,8 @@ struct Begin {
     before: u64,
 }
 
-/// Of two places the one from which a range is read: the later one, unless the range begins before it.
+/// Of two places the one from which a range is read: the later one, unless the range begins before
+/// it.
 fn last_begin(noted: Begin, here: Begin, first: u64) -> Begin
     ensures here { here.before ≤ first → result ≡ here }
     ensures noted { first < here.before → result ≡ noted }
@@ -33,8 +34,8 @@ fn last_begin(noted: Begin, here: Begin, first: u64) -> Begin
     if here.before <= first { here } else { noted }
 }
 
-/// What judging tells: how many samples there are, how many of them lie before the place that was gone
-/// back to, and how many bits they were read from.
+/// What judging tells: how many samples there are, how many of them lie before the place that was
+/// gone back to, and how many bits they were read from.
 #[derive(Clone, Copy)]
 pub(crate) struct Judged {
     pub(crate) total: u64,
@@ -42,8 +43,8 @@ pub(crate) struct Judged {
     pub(crate) bits: u64,
 }
 
-/// Goes over all samples from the first bit on, and back to the last interval that begins at or before
-/// sample `first`. Takes no memory.
+/// Goes over all samples from the first bit on, and back to the last interval that begins at or
+/// before sample `first`. Takes no memory.
 pub(crate) fn judge_samples(
     params: &Params,
     reader: &mut StreamReader,
@@ -55,7 +56,8 @@ pub(crate) fn judge_samples(
     ensures ok { IfOk result (λ judged. HaveSamples reader.old judged.total) }
     ensures begun { IfOk result (λ judged. IsBegun reader.new judged.before first) }
     ensures same { OnOk result (let old = reader.old in
-        reader.new ≡ place_at old.settings old.count old.limit old.bits reader.new.block reader.new.bit) }
+        reader.new ≡ place_at old.settings old.count old.limit old.bits reader.new.block
+        reader.new.bit) }
     ensures refuses { IfErr result (λ fault. let old = reader.old in
         RefusesReading old.settings old.count old.limit old.bits 0 0 fault) }
 {
@@ -89,7 +91,9 @@ pub(crate) fn judge_all(params: &Params, reader: &mut StreamReader) -> Result<Ju
     requires block { reader.old.block ≡ 0 }
     requires bit { reader.old.bit ≡ 0 }
     ensures ok { IfOk result (λ judged. HaveSamples reader.old judged.total) }
-    ensures refuses { IfErr result (λ fault. RefusesReading reader.old.settings reader.old.count reader.old.limit reader.old.bits 0 0 fault) }
+    ensures refuses { IfErr result
+        (λ fault. RefusesReading reader.old.settings reader.old.count reader.old.limit
+        reader.old.bits 0 0 fault) }
     ensures same { OnOk result (reader.new ≡ reader.old) }
 {
     let judged = judge_samples(params, reader, 0)?;
@@ -103,14 +107,16 @@ pub(crate) fn count_samples(params: &Params, reader: &mut StreamReader) -> Resul
     requires block { reader.old.block ≡ 0 }
     requires bit { reader.old.bit ≡ 0 }
     ensures ok { IfOk result (λ total. HaveSamples reader.old total) }
-    ensures refuses { IfErr result (λ fault. RefusesReading reader.old.settings reader.old.count reader.old.limit reader.old.bits 0 0 fault) }
+    ensures refuses { IfErr result
+        (λ fault. RefusesReading reader.old.settings reader.old.count reader.old.limit
+        reader.old.bits 0 0 fault) }
     ensures same { OnOk result (reader.new ≡ reader.old) }
 {
     Ok(judge_all(params, reader)?.total)
 }
 
 /// Of samples those behind the first `skip`, at most `left` of them.
-fn part_of(samples: &[i64], skip: u64, left: u64) -> &[i64]
+pub(crate) fn part_of(samples: &[i64], skip: u64, left: u64) -> &[i64]
     ensures { result.now ≡ samples_from skip left samples.now }
 {
     let rest = &samples[(skip as usize).min(samples.len())..];
@@ -135,7 +141,8 @@ fn append_stored(params: &Params, samples: &[i64], bytes: &mut Vec<u8>)
 /// Puts all bytes that wait, and then none do.
 fn put_waiting<W: Sink>(bytes: &mut Vec<u8>, sink: &mut W) -> Result<(), Fault>
     ensures ok { OnOk result (Appends (W.taken sink.old) (W.taken sink.new) bytes.old.items) }
-    ensures front { OnErr result (AppendsFront (W.taken sink.old) (W.taken sink.new) bytes.old.items) }
+    ensures front { OnErr result
+        (AppendsFront (W.taken sink.old) (W.taken sink.new) bytes.old.items) }
     ensures none { OnOk result (bytes.new.items ≡ []) }
     ensures begun { W.begun sink.new ≡ W.begun sink.old }
     ensures order { W.mark sink.new ≡ W.mark sink.old }
@@ -148,7 +155,8 @@ fn put_waiting<W: Sink>(bytes: &mut Vec<u8>, sink: &mut W) -> Result<(), Fault>
     Ok(())
 }
 
-/// Puts the bytes of samples behind those that wait, as soon as they are a piece; else they wait too.
+/// Puts the bytes of samples behind those that wait, as soon as they are a piece; else they wait
+/// too.
 fn put_part<W: Sink>(
     params: &Params,
     samples: &[i64],
@@ -157,8 +165,11 @@ fn put_part<W: Sink>(
 ) -> Result<(), Fault>
     requires held { AllByRecursion (IsHeld params.now) samples.now }
     requires room { vec_len bytes.old + 4 * length samples.now ≤ vec_capacity bytes.old }
-    ensures ok { OnOk result (PutsPart (W.taken sink.old) (W.taken sink.new) bytes.old.items (all_stored params.now samples.now) bytes.new.items) }
-    ensures front { OnErr result (AppendsFront (W.taken sink.old) (W.taken sink.new) (bytes.old.items ++ all_stored params.now samples.now)) }
+    ensures ok { OnOk result (PutsPart (W.taken sink.old) (W.taken sink.new) bytes.old.items
+        (all_stored params.now samples.now) bytes.new.items) }
+    ensures front { OnErr result
+        (AppendsFront (W.taken sink.old) (W.taken sink.new)
+        (bytes.old.items ++ all_stored params.now samples.now)) }
     ensures begun { W.begun sink.new ≡ W.begun sink.old }
     ensures order { W.mark sink.new ≡ W.mark sink.old }
     ensures fault { IfErr result (λ e. (e ≡ WriteFault) × (W.failed sink.new ≡ 1)) }
@@ -173,8 +184,8 @@ fn put_part<W: Sink>(
     Ok(())
 }
 
-/// Reads the samples from where the reader is, with `before` of them behind it, up to the last that is
-/// asked for, and puts the bytes of `len` of them from place `first` on. Takes no memory.
+/// Reads the samples from where the reader is, with `before` of them behind it, up to the last that
+/// is asked for, and puts the bytes of `len` of them from place `first` on. Takes no memory.
 fn put_range<W: Sink>(
     params: &Params,
     reader: &mut StreamReader,
@@ -246,7 +257,8 @@ fn deliver_range<W: Sink>(
 fn buffers(alloc: Global, params: &Params) -> Result<(Vec<i64>, Vec<u8>), Fault>
     ensures room { IfOk result (λ made. interval_len params.now ≤ vec_capacity made.0) }
     ensures empty { IfOk result (λ made. vec_len made.1 ≡ 0) }
-    ensures buffer { IfOk result (λ made. 65536 + 4 * interval_len params.now ≤ vec_capacity made.1) }
+    ensures buffer { IfOk result
+        (λ made. 65536 + 4 * interval_len params.now ≤ vec_capacity made.1) }
     ensures fault { IfErr result (λ e. e ≡ Memory) }
 {
     let len = params.interval_len() as usize;
@@ -255,8 +267,8 @@ fn buffers(alloc: Global, params: &Params) -> Result<(Vec<i64>, Vec<u8>), Fault>
     Ok((samples, bytes))
 }
 
-/// Makes room, begins, and writes the bytes of `len` samples from place `first` on; `before` samples are
-/// behind the reader. `Memory` where the room is refused; nothing was begun then.
+/// Makes room, begins, and writes the bytes of `len` samples from place `first` on; `before`
+/// samples are behind the reader. `Memory` where the room is refused; nothing was begun then.
 pub(crate) fn write_range<W: Sink>(
     alloc: Global,
     params: &Params,
@@ -270,7 +282,8 @@ pub(crate) fn write_range<W: Sink>(
     requires read { (xs : List ℤ) × AreSamplesOf reader.old xs }
     requires begun { IsBegun reader.old before first }
     ensures { let put : Putting = putting_of W.taken W.begun W.mark W.failed sink.old sink.new in
-        (xs : List ℤ) → AreSamplesOf reader.old xs → SettlesOne (StoresPart params.now first len xs) put result }
+        (xs : List ℤ) → AreSamplesOf reader.old xs
+        → SettlesOne (StoresPart params.now first len xs) put result }
 {
     let (mut samples, mut bytes) = buffers(alloc, params)?;
     deliver_range(

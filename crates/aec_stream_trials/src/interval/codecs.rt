@@ -101,8 +101,9 @@ fn codes_intervals_behind_other_bits(rt: HostRuntime) -> Result<(), Fail> {
     expect_interval(&rt, rt.alloc(), Settings::USUAL, &[7; 5], 16, &[0xA0, 0x0F])
 }
 
-// So many samples from 128 to 254 in intervals of 4096 blocks. Without preprocessing each block is coded by no compression, in
-// 3 bits and 8 a sample: splitting at the greatest k, 5, takes at least 10 bits a sample.
+// So many samples from 128 to 254 in intervals of 4096 blocks. Without preprocessing each block is
+// coded by no compression, in 3 bits and 8 a sample: splitting at the greatest k, 5, takes at least
+// 10 bits a sample.
 fn expect_uncompressed(
     rt: &impl Abort,
     alloc: Global,

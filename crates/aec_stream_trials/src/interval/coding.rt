@@ -9,8 +9,8 @@ use std::alloc::Global;
 use std::process::Abort;
 use std::test::Fail;
 
-// Whether samples are preprocessed; samples; how long their code is in bits; and the code. The last sample fills a block up, and a
-// zero block is one of mapped zeros.
+// Whether samples are preprocessed; samples; how long their code is in bits; and the code. The last
+// sample fills a block up, and a zero block is one of mapped zeros.
 const ONE_INTERVAL: [(bool, &[i64], u64, &[u8]); 7] = [
     (true, &[], 0, &[]),
     (true, &[0; 8], 13, &[0x00, 0x08]),
@@ -101,8 +101,8 @@ fn codes_blocks_of_ten(rt: HostRuntime) -> Result<(), Fail> {
     expect_code(&rt, rt.alloc(), even_blocks(10, 1), &ramp, 37, &bytes)
 }
 
-/// Compares the code of so many zero blocks in an interval of 4096 blocks; of other blocks behind them there is one, of
-/// seven zeros and a one, or none.
+/// Compares the code of so many zero blocks in an interval of 4096 blocks; of other blocks behind
+/// them there is one, of seven zeros and a one, or none.
 fn expect_zeros(
     rt: &impl Abort,
     alloc: Global,

@@ -13,7 +13,8 @@ use std::alloc::Global;
 use std::process::Abort;
 use std::test::Fail;
 
-/// A piece that is fed, the answer, the samples that are held then where that is said, and the bits so far.
+/// A piece that is fed, the answer, the samples that are held then where that is said, and the bits
+/// so far.
 #[derive(Clone, Copy)]
 struct Call<'a> {
     piece: &'a [u8],
@@ -146,8 +147,9 @@ fn answers_a_refusal_for_good(rt: HostRuntime) -> Result<(), Fail> {
     )
 }
 
-// A bad sample in each place of two pieces of 10 bytes. The code of the 16 samples of an interval in front of it is the
-// zero block's identifier, the reference sample and a run of two blocks: 4, 5 and 2 bits.
+// A bad sample in each place of two pieces of 10 bytes. The code of the 16 samples of an interval
+// in front of it is the zero block's identifier, the reference sample and a run of two blocks: 4, 5
+// and 2 bits.
 #[test]
 fn names_the_bad_sample_of_all_pieces(rt: HostRuntime) -> Result<(), Fail> {
     let alloc = rt.alloc();

@@ -7,7 +7,8 @@ use aec_interval::StreamReader;
 use aec_params::{Fault, Params, Settings};
 use std::test::Fail;
 
-/// Goes over the next interval, back to where it begins, and reads it. How many samples were gone over.
+/// Goes over the next interval, back to where it begins, and reads it. How many samples were gone
+/// over.
 fn read_again(reader: &mut StreamReader, samples: &mut Vec<i64>) -> Result<Option<u64>, Fault> {
     let place = reader.place();
     let len = reader.skip()?;

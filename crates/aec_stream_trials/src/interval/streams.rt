@@ -49,7 +49,8 @@ fn len_by_steps(reader: &mut StreamReader) -> Result<u64, Fault> {
     Ok(all)
 }
 
-/// Reads bytes with a count or without one, at once, twice in steps and without the samples, and compares.
+/// Reads bytes with a count or without one, at once, twice in steps and without the samples, and
+/// compares.
 pub(crate) fn expect_read(
     rt: &impl Abort,
     alloc: Global,
@@ -85,7 +86,8 @@ pub(crate) fn expect_zeros(
     expect_read(rt, alloc, settings, bytes, count, &zeros)
 }
 
-/// The samples of bits that are read in steps, or their refusal, which comes again where the step is made again.
+/// The samples of bits that are read in steps, or their refusal, which comes again where the step
+/// is made again.
 fn samples_by_steps(
     alloc: Global,
     params: Params,
@@ -102,7 +104,8 @@ fn samples_by_steps(
     }
 }
 
-/// How many samples bits have that are gone over in steps, or their refusal, which comes again where the step is made again.
+/// How many samples bits have that are gone over in steps, or their refusal, which comes again
+/// where the step is made again.
 fn len_without_samples(
     alloc: Global,
     params: Params,

@@ -10,9 +10,9 @@ overflow_sub-result c =
 pub overflow_sub-result-2 : goal.overflow_sub-result-2
 overflow_sub-result-2 c =
     (high_rest c.args.params.now c.args.block.now c.args.k c.args.bits _ _ c.requires.bits (c.from-head.ensures ∙ (c.head_len.ensures.len ∙ ap (head_length c.args.params.now) c.reference.ensures.value))
-    (ap₂ ◌*◌ (ap (length {A = ℕ}) c.written.ensures.value) c.from.ensures)).low_within
+    (ap₂ ◌*◌ (ap (length {A = ℕ}) c.requires.values) c.from.ensures)).low_within
 
 pub returns : goal.returns
 returns c =
     (high_rest c.args.params.now c.args.block.now c.args.k c.args.bits _ _ c.requires.bits (c.from-head.ensures ∙ (c.head_len.ensures.len ∙ ap (head_length c.args.params.now) c.reference.ensures.value))
-    (ap₂ ◌*◌ (ap (length {A = ℕ}) c.written.ensures.value) c.from.ensures)).rest
+    (ap₂ ◌*◌ (ap (length {A = ℕ}) c.requires.values) c.from.ensures)).rest

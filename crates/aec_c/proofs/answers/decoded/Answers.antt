@@ -1,17 +1,14 @@
-use Rattle.std.proofs.Common.{sym}
+use Rattle.std.proofs.Common.{sym, refl}
+use Rattle.aec_engine.proofs.BufferLemmas.{fills_refusal}
 use Rattle.aec_c.specs.Calls.{bad_settings}
-use Rattle.aec_c.proofs.AnswerLemmas.{decoding_ok, decoding_err}
+use Rattle.aec_c.proofs.AnswerLemmas.{decoding_into}
 use Rattle.aec_c.proofs.answers.decoded.Goals as goal
 
-pub returns-in-Ok-clause-ok : goal.returns-in-Ok-clause-ok
-returns-in-Ok-clause-ok c =
-    decoding_ok _ c.in-Ok.params c.limits.result _ c.counted.result c.args.bytes.now (λ v. v.items) c.decode_bytes.result c.in-Ok.ensures.ok
-    c.limits.ensures c.counted.ensures c.in-Ok.ensures.allowed c.decode_bytes.ensures.ok
+pub returns-in-Ok : goal.returns-in-Ok
+returns-in-Ok c =
+    decoding_into _ c.in-Ok.params c.limits.result _ c.counted.result c.args.bytes.now c.args.out.now _ c.decode_into.result c.in-Ok.ensures.ok
+    c.limits.ensures c.counted.ensures c.in-Ok.ensures.allowed c.decode_into.ensures
 
-pub returns-in-Ok-clause-refuses : goal.returns-in-Ok-clause-refuses
-returns-in-Ok-clause-refuses c =
-    decoding_err _ c.in-Ok.params c.limits.result _ c.counted.result c.args.bytes.now c.decode_bytes.result c.in-Ok.ensures.ok
-    c.limits.ensures c.counted.ensures c.in-Ok.ensures.allowed c.decode_bytes.ensures.refuses
-
-pub returns-in-Err-clause-refuses : goal.returns-in-Err-clause-refuses
-returns-in-Err-clause-refuses c = bad_settings c.in-Err.fault (sym c.in-Err.ensures.refuses)
+pub returns-in-Err : goal.returns-in-Err
+returns-in-Err c =
+    fills_refusal _ c.args.out.now _ c.in-Err.fault c.in-Err.fault refl refl (bad_settings c.in-Err.fault (sym c.in-Err.ensures.refuses))

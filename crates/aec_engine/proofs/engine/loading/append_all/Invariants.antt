@@ -1,14 +1,16 @@
-use Rattle.std.proofs.Common.{◌≡◌, ◌-◌, ◌^◌, ◌≤◌, length}
+use Rattle.std.proofs.Common.{◌≡◌, ◌-◌, ◌^◌}
+use Rattle.aec_engine.specs.EditsAhead.{AreKnown, IsReady, left_in}
 use Rattle.aec_engine.proofs.LoadingLemmas.{LoadsSoFar}
 use Rattle.aec_engine.proofs.engine.loading.append_all.Given as goal
 
 abbrev pub invariant-loop-workspace : goal.invariant-loop-workspace
 invariant-loop-workspace g l = record {
-  loads : LoadsSoFar l.fn.reader l.reader (g.C.Codec.format l.fn.workspace.codec) l.fn.workspace.limit l.script.edits.items l.script.lines.items
-      l.next l.workspace.samples (g.C.Codec.called l.workspace.codec);
+  loads : LoadsSoFar l.fn.reader l.reader (g.C.Codec.format l.fn.workspace.codec) l.fn.workspace.limit (left_in l.fn.ahead) (left_in l.ahead)
+      l.workspace.samples (g.C.Codec.called l.workspace.codec);
   limit : l.workspace.limit ≡ l.fn.workspace.limit;
   format : g.C.Codec.format l.workspace.codec ≡ g.C.Codec.format l.fn.workspace.codec;
-  within : l.next ≤ length l.script.edits.items;
+  known : AreKnown l.ahead;
+  ready : IsReady l.ahead;
 }
 
 abbrev pub decreases-loop-workspace : goal.decreases-loop-workspace

@@ -3,18 +3,18 @@ use Rattle.std.specs.Prelude.{nat_lt, nat_le, ◌&&◌, ◌||◌}
 use Rattle.std.proofs.lemmas.Bool.Decides.{nat_tests}
 use Rattle.aec_block.specs.Lengths.{paired_length, split_values_length, IsBestSplit}
 use Rattle.aec_block.proofs.ChoiceLemmas.{names-first, names-split, names-unsplit, names-unpaired}
-use Rattle.aec_block.proofs.choice.choose.Goals as goal
+use Rattle.aec_block.proofs.choice.choose_among.Goals as goal
 
 pub returns-then-pairs_are_longer : goal.returns-then-pairs_are_longer
 returns-then-pairs_are_longer c =
     let s = c.args.params.now in
     let options = c.split_options-options.result in
     let split = c.best_split-split in
-    let is = c.written-values.ensures.value in
+    let is = c.requires.values in
     let test = subst (λ v. (nat_lt 0 options && (nat_lt 0 split.result.k || nat_le (2 * length v) split.result.bits)) ≡ true) is
     (sym c.pairs_are_longer.ensures ∙ c.if-pairs_are_longer.true) in
     names-unpaired s c.args.block.now options split.result.k split.result.bits c.uncompressed_len.result c.shorter_of_split.result
-    c.id_len-width.ensures.allowed c.requires c.uncompressed_len.ensures.len c.split_options-options.ensures.count
+    c.id_len-width.ensures.allowed c.requires.full c.uncompressed_len.ensures.len c.split_options-options.ensures.count
     (subst (λ v. 0 < options → IsBestSplit options split.result.k v) is split.ensures.best)
     (subst (λ v. split.result.bits ≡ split_values_length split.result.k v) is split.ensures.bits) test c.shorter_of_split.ensures
 
@@ -28,7 +28,7 @@ returns-then-options-eq0 c =
 pub returns : goal.returns
 returns c =
     let some : 0 < c.split_options-options.result = grind (arith, nat_tests) in
-    let best = subst (λ v. IsBestSplit c.split_options-options.result c.best_split-split.result.k v) c.written-values.ensures.value
+    let best = subst (λ v. IsBestSplit c.split_options-options.result c.best_split-split.result.k v) c.requires.values
     (c.best_split-split.ensures.best some) in
     names-split c.args.params.now c.args.block.now c.split_options-options.result c.best_split-split.result.k c.shorter_of_pairs-best.result
     c.shorter_of_split-2.result (names-first c.args.params.now c.args.block.now c.uncompressed_len.result

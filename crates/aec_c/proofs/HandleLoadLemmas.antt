@@ -1,0 +1,40 @@
+-- What loading a handle does, from what its steps say.
+use Rattle.std.proofs.Common.{◌≡◌, ℕ, ◌⊎◌, inl, inr, Option, None, Some, Err, List, [], ap, sym, ◌∙◌, ◌^◌}
+use Rattle.std.specs.Prelude.{ℤ, MatchOption}
+use Rattle.aec_params.specs.declared.settings.Settings.{Settings}
+use Rattle.aec_params.specs.declared.fault.Fault.{Fault}
+use Rattle.aec_params.specs.declared.fault.Fault.TheVariants.{Memory}
+use Rattle.aec_params.specs.declared.edit.Edit.TheVariants.{Append}
+use Rattle.aec_bits.specs.Codec.{Format}
+use Rattle.aec_interval.specs.IntervalFormat.{interval_format}
+use Rattle.aec_edit.specs.Calls.{due_refusal}
+use Rattle.aec_edit.specs.Steps.{Applies, LacksMemory}
+use Rattle.aec_c.specs.declared.handle.Work.{Work}
+use Rattle.aec_c.specs.HandleCalls.{format_of}
+use Rattle.aec_c.specs.HandleReads.{IsFresh}
+use Rattle.aec_c.specs.HandleLoads.{CannotHold}
+
+why : (due : Option Fault) (needed calls after : ℕ) (fault : Fault)
+    → MatchOption due (LacksMemory needed calls fault after) (λ d. (fault ≡ d) × (after ≡ calls)) → (fault ≡ Memory) ⊎ (due ≡ Some fault)
+why None needed calls after fault lacks = inl lacks.fault_is
+why (Some d) needed calls after fault is = inr (ap Some (sym is.0))
+
+module _ (s : Settings) (first w w' : Work) (xs : List ℤ) (fault : Fault) (fresh : IsFresh s first) (same : w ≡ first) where
+  abbrev due : Format → ℕ → List ℤ → ℕ → Option Fault
+  due f limit samples calls = due_refusal f limit samples calls (Append xs)
+
+  due_is : due (format_of w) w.workspace.limit w.workspace.samples w.workspace.codec.calls ≡ due (interval_format s) (2 ^ 32) [] 0
+  due_is =
+      ap (λ w. due (format_of w) w.workspace.limit w.workspace.samples w.workspace.codec.calls) same
+      ∙ (ap (λ f. due f first.workspace.limit first.workspace.samples first.workspace.codec.calls) fresh.format
+      ∙ (ap (λ l. due (interval_format s) l first.workspace.samples first.workspace.codec.calls) fresh.limit
+      ∙ (ap (λ l. due (interval_format s) (2 ^ 32) l first.workspace.codec.calls) fresh.samples ∙ ap (due (interval_format s) (2 ^ 32) []) fresh.calls)))
+
+  told : (fault ≡ Memory) ⊎ (due (format_of w) w.workspace.limit w.workspace.samples w.workspace.codec.calls ≡ Some fault) → CannotHold s xs fault
+  told (inl lacks) = inl lacks
+  told (inr is) = inr (inr (sym due_is ∙ is))
+
+  -- why an append to a fresh workspace is refused
+  pub filled_refuses : Applies (format_of w) w.workspace.limit w.workspace.samples w.workspace.codec.calls w.workspace.codec.reads (Append xs)
+      (Err fault) w'.workspace.samples w'.workspace.codec.calls w'.workspace.codec.reads → CannotHold s xs fault
+  filled_refuses applies = told (why _ _ _ _ fault applies.answer)

@@ -1,0 +1,47 @@
+-- What a handle is loaded with.
+use Rattle.std.specs.Prelude.{◌≡◌, ℕ, ◌^◌, ◌⊎◌, Option, Some, [], List, ℤ, length}
+use Rattle.aec_params.specs.declared.settings.Settings.{Settings}
+use Rattle.aec_params.specs.declared.fault.Fault.{Fault}
+use Rattle.aec_params.specs.declared.fault.Fault.TheVariants.{Memory}
+use Rattle.aec_params.specs.declared.edit.Edit.TheVariants.{Append}
+use Rattle.aec_params.specs.Params.{settings_fault}
+use Rattle.aec_params.specs.Codewords.{bits_of_bytes}
+use Rattle.aec_params.specs.Reading.{IsReading}
+use Rattle.aec_interval.specs.IntervalFormat.{interval_format}
+use Rattle.aec_interval.specs.Reached.{RefusesDecoding}
+use Rattle.aec_edit.specs.Calls.{due_refusal}
+use Rattle.aec_c.specs.declared.handle.Work.{Work}
+use Rattle.aec_c.specs.declared.reply.Reply.{Reply}
+use Rattle.aec_c.specs.Replies.{done, refused_for}
+use Rattle.aec_c.specs.HandleCalls.{format_of}
+
+-- bytes are read as samples, of which there are at most 2^32
+abbrev pub AreRead : Settings → Option ℕ → List ℕ → List ℤ → Type 0
+AreRead s count bytes samples = IsReading s count (2 ^ 32) (bits_of_bytes bytes) samples
+
+-- why bytes aren't read
+pub data CannotRead (s : Settings) (count : Option ℕ) (bytes : List ℕ) (fault : Fault) : Type 0 where
+  bad_options : settings_fault s ≡ Some fault → CannotRead s count bytes fault
+  not_read : RefusesDecoding s count (2 ^ 32) (bits_of_bytes bytes) fault → CannotRead s count bytes fault
+  no_memory : fault ≡ Memory → CannotRead s count bytes fault
+
+-- a workspace with these samples
+pub record Holds (s : Settings) (samples : List ℤ) (w : Work) : Type 0 where
+  pub samples_are : w.workspace.samples ≡ samples
+  pub limit : w.workspace.limit ≡ 2 ^ 32
+  pub format : format_of w ≡ interval_format s
+
+-- why samples aren't taken into an empty workspace: the options, what refuses an append of them, or
+-- want of memory
+abbrev pub CannotHold : Settings → List ℤ → Fault → Type 0
+CannotHold s samples fault =
+    (fault ≡ Memory) ⊎ ((settings_fault s ≡ Some fault) ⊎ (due_refusal (interval_format s) (2 ^ 32) [] 0 (Append samples) ≡ Some fault))
+
+-- loading: a workspace with the samples that bytes are read as in the place of what was held, or a
+-- refusal that changes nothing
+pub data Loads (s : Settings) (count : Option ℕ) (bytes : List ℕ) (old new : Option Work) (reply : Reply) : Type 0 where
+  loaded : (samples : List ℤ) (w : Work) → AreRead s count bytes samples → new ≡ Some w → Holds s samples w → reply ≡ done (length samples)
+      → Loads s count bytes old new reply
+  unread : (fault : Fault) → CannotRead s count bytes fault → new ≡ old → reply ≡ refused_for fault → Loads s count bytes old new reply
+  not_held : (samples : List ℤ) (fault : Fault) → AreRead s count bytes samples → CannotHold s samples fault → new ≡ old
+      → reply ≡ refused_for fault → Loads s count bytes old new reply

@@ -1,0 +1,19 @@
+-- What a handle owns.
+use Rattle.std.specs.Prelude.{Bool, true, false, Option, Some, None}
+use base.Fml.{Fml, ftrue, ffalse}
+use denote.RawPtr.{Ptr}
+use Rattle.std.specs.contracts.impls.GlobalAllocator.TheImpl.{ghosts}
+use Rattle.std.specs.Global.{Global}
+use Rattle.std.specs.Box.Ownership.{box_owns}
+use Rattle.aec_c.specs.contracts.handle.Work.{the_row}
+
+-- the allocator of all programs, which has no data
+abbrev pub heap : Global
+heap = record { memory = record { seal = record {} } }
+
+-- the block at p with a workspace, or nothing
+abbrev pub handle_owns : Bool → Ptr → Option the_row.Denot → Fml
+handle_owns true p (Some work) = box_owns (ghosts.dealloc_token heap) the_row p work
+handle_owns true p None = ffalse
+handle_owns false p (Some work) = ffalse
+handle_owns false p None = ftrue

@@ -1,0 +1,86 @@
+//! What C holds: a workspace in a block of memory, or none.
+
+mod loose;
+
+ghost use Rattle.std.specs.Prelude.{◌≡◌, Option, None, Some};
+ghost use Rattle.std.specs.Option.{option_map};
+ghost use Rattle.aec_c.specs.Handles.{handle_owns};
+ghost use Rattle.aec_c.specs.declared.handle.Work.{Work};
+
+use aec_edit::Workspace;
+use aec_interval::AecCodec;
+use loose::Loose;
+use std::alloc::Global;
+use std::marker::Model;
+use std::ptr;
+
+/// A workspace over the coder of intervals.
+#[derive(Drop)]
+pub struct Work {
+    pub workspace: Workspace<AecCodec>,
+}
+
+/// A pointer to a workspace, whose type C doesn't see. Zeros are a handle that holds none.
+#[repr(C)]
+#[derive(Drop)]
+pub struct Handle {
+    at: *mut u8,
+    full: bool,
+    pub ghost value: { Option Work },
+}
+
+impl Model for Handle {
+    ghost also_owns = { λ h. handle_owns h.full h.at h.value };
+}
+
+impl Handle {
+    pub(crate) fn empty() -> Handle
+        ensures { result.value ≡ None }
+    {
+        Handle {
+            at: ptr::null_mut(),
+            full: false,
+        }
+    }
+
+    fn of_loose(loose: Loose<Work, Global>) -> Handle
+        ensures { result.value ≡ Some loose.value }
+    {
+        let Loose { at, alloc: _ } = loose;
+        Handle {
+            at: at as *mut u8,
+            full: true,
+        }
+    }
+
+    fn into_loose(self, alloc: Global) -> Option<Loose<Work, Global>>
+        ensures { self.value ≡ option_map (λ loose. loose.value) result }
+    {
+        let Handle { at, full } = self;
+        if full {
+            Some(Loose {
+                at: at as *mut Work,
+                alloc,
+            })
+        } else {
+            None
+        }
+    }
+
+    /// The handle of a workspace. Takes no memory.
+    pub(crate) fn of(work: Box<Work>) -> Handle
+        ensures { result.value ≡ Some work.value }
+    {
+        Handle::of_loose(Loose::of(work))
+    }
+
+    /// The workspace that a handle holds.
+    pub(crate) fn into_box(self, alloc: Global) -> Option<Box<Work>>
+        ensures { self.value ≡ option_map (λ work. work.value) result }
+    {
+        match self.into_loose(alloc) {
+            Some(loose) => Some(loose.into_box()),
+            None => None,
+        }
+    }
+}

@@ -1,0 +1,191 @@
+//! The calls from C on a workspace that a handle holds.
+
+ghost use Rattle.std.specs.Prelude.{◌≡◌, None};
+ghost use Rattle.aec_params.specs.declared.edit.Edit.TheVariants.{Overwrite, Append, Truncate, Insert, Remove};
+ghost use Rattle.aec_c.specs.HandleCalls.{OnHandle, MakesEdit, MakesCopiedEdit};
+ghost use Rattle.aec_c.specs.Calls.{settings_of, count_of};
+ghost use Rattle.aec_c.specs.HandleLoads.{Loads};
+ghost use Rattle.aec_c.specs.HandleReads.{Opens, size_in, calls_in, WritesOut, ReadsOut};
+
+use crate::handle::Handle;
+use crate::handle_edits::{appended, edited, inserted, overwritten};
+use crate::handle_loads::loaded;
+use crate::handle_reads::{called, closed, counted, opened, read, written};
+use crate::options::Options;
+use crate::reply::Reply;
+use aec_params::Edit;
+use std::alloc::Global;
+
+/// Adds values behind the last sample.
+#[unsafe(no_mangle)]
+pub extern "C" fn aecp_append(
+    alloc: Global,
+    handle: &mut Handle,
+    values: &[i64],
+    reply: &mut Reply,
+) -> u32
+    ensures edits { OnHandle (MakesEdit (Append values.now))
+        handle.old.value handle.new.value reply.new }
+    ensures number { result ≡ reply.new.fault }
+{
+    *reply = appended(alloc, handle, values);
+    reply.fault
+}
+
+/// Keeps the first samples, up to place `count`.
+#[unsafe(no_mangle)]
+pub extern "C" fn aecp_truncate(
+    alloc: Global,
+    handle: &mut Handle,
+    count: u64,
+    reply: &mut Reply,
+) -> u32
+    ensures edits { OnHandle (MakesEdit (Truncate count))
+        handle.old.value handle.new.value reply.new }
+    ensures number { result ≡ reply.new.fault }
+{
+    *reply = edited(alloc, handle, &Edit::Truncate { count });
+    reply.fault
+}
+
+/// Takes out the `len` samples from place `first` on.
+#[unsafe(no_mangle)]
+pub extern "C" fn aecp_remove(
+    alloc: Global,
+    handle: &mut Handle,
+    first: u64,
+    len: u64,
+    reply: &mut Reply,
+) -> u32
+    ensures edits { OnHandle (MakesEdit (Remove first len))
+        handle.old.value handle.new.value reply.new }
+    ensures number { result ≡ reply.new.fault }
+{
+    *reply = edited(alloc, handle, &Edit::Remove { first, len });
+    reply.fault
+}
+
+/// Replaces the samples from place `first` on by as many values.
+#[unsafe(no_mangle)]
+pub extern "C" fn aecp_overwrite(
+    alloc: Global,
+    handle: &mut Handle,
+    first: u64,
+    values: &[i64],
+    reply: &mut Reply,
+) -> u32
+    ensures edits { MakesCopiedEdit (Overwrite first values.now)
+        handle.old.value handle.new.value reply.new }
+    ensures number { result ≡ reply.new.fault }
+{
+    *reply = overwritten(alloc, handle, first, values);
+    reply.fault
+}
+
+/// Puts values in front of the sample at place `first`, or behind the last one.
+#[unsafe(no_mangle)]
+pub extern "C" fn aecp_insert(
+    alloc: Global,
+    handle: &mut Handle,
+    first: u64,
+    values: &[i64],
+    reply: &mut Reply,
+) -> u32
+    ensures edits { MakesCopiedEdit (Insert first values.now)
+        handle.old.value handle.new.value reply.new }
+    ensures number { result ≡ reply.new.fault }
+{
+    *reply = inserted(alloc, handle, first, values);
+    reply.fault
+}
+
+/// Makes an empty workspace. What the handle held is freed.
+#[unsafe(no_mangle)]
+pub extern "C" fn aecp_open(
+    alloc: Global,
+    options: &Options,
+    handle: &mut Handle,
+    reply: &mut Reply,
+) -> u32
+    ensures opens { Opens (settings_of options.now) handle.old.value handle.new.value reply.new }
+    ensures number { result ≡ reply.new.fault }
+{
+    *reply = opened(alloc, options, handle);
+    reply.fault
+}
+
+/// Makes a workspace with the samples that a stream is read as. What the handle held is freed.
+#[unsafe(no_mangle)]
+pub extern "C" fn aecp_load(
+    alloc: Global,
+    options: &Options,
+    count: u64,
+    bytes: &[u8],
+    handle: &mut Handle,
+    reply: &mut Reply,
+) -> u32
+    ensures loads { Loads (settings_of options.now) (count_of count) bytes.now
+        handle.old.value handle.new.value reply.new }
+    ensures number { result ≡ reply.new.fault }
+{
+    *reply = loaded(alloc, options, count, bytes, handle);
+    reply.fault
+}
+
+/// Frees the workspace that a handle holds.
+#[unsafe(no_mangle)]
+pub extern "C" fn aecp_close(alloc: Global, handle: &mut Handle)
+    ensures { handle.new.value ≡ None }
+{
+    closed(alloc, handle);
+}
+
+/// The number of samples.
+#[unsafe(no_mangle)]
+pub extern "C" fn aecp_size(alloc: Global, handle: &mut Handle) -> u64
+    ensures size { result ≡ size_in handle.old.value }
+    ensures same { handle.new.value ≡ handle.old.value }
+{
+    counted(alloc, handle)
+}
+
+/// How many intervals the coder has coded.
+#[unsafe(no_mangle)]
+pub extern "C" fn aecp_calls(alloc: Global, handle: &mut Handle) -> u64
+    ensures calls { result ≡ calls_in handle.old.value }
+    ensures same { handle.new.value ≡ handle.old.value }
+{
+    called(alloc, handle)
+}
+
+/// Puts the bytes of the code of all samples into a buffer.
+#[unsafe(no_mangle)]
+pub extern "C" fn aecp_write(
+    alloc: Global,
+    handle: &mut Handle,
+    out: &mut [u8],
+    reply: &mut Reply,
+) -> u32
+    ensures writes { WritesOut handle.old.value handle.new.value out.old out.new reply.new }
+    ensures number { result ≡ reply.new.fault }
+{
+    *reply = written(alloc, handle, out);
+    reply.fault
+}
+
+/// Puts the `len` samples from place `first` on into a buffer.
+#[unsafe(no_mangle)]
+pub extern "C" fn aecp_read(
+    alloc: Global,
+    handle: &mut Handle,
+    first: u64,
+    len: u64,
+    out: &mut [i64],
+    reply: &mut Reply,
+) -> u32
+    ensures reads { ReadsOut first len handle.old.value handle.new.value out.old out.new reply.new }
+    ensures number { result ≡ reply.new.fault }
+{
+    *reply = read(alloc, handle, first, len, out);
+    reply.fault
+}

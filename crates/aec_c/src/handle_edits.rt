@@ -1,0 +1,102 @@
+//! Edits of a workspace that a handle holds.
+
+ghost use Rattle.std.specs.Prelude.{◌≡◌, IfOk, IfErr};
+ghost use Rattle.aec_params.specs.declared.fault.Fault.TheVariants.{Memory};
+ghost use Rattle.aec_params.specs.declared.edit.Edit.TheVariants.{Overwrite, Append, Insert};
+ghost use Rattle.aec_c.specs.HandleCalls.{OnHandle, MakesEdit, MakesCopiedEdit, edit_reply, not_open};
+
+use crate::handle::Handle;
+use crate::reply::{Reply, answered, refused};
+use aec_params::{Edit, Fault, Samples};
+use std::alloc::Global;
+use std::mem;
+
+/// The number of a reply where a handle holds no workspace.
+pub(crate) const NOT_OPEN: u32 = 19;
+
+pub(crate) fn not_open() -> Reply
+    ensures { result ≡ not_open }
+{
+    Reply {
+        fault: NOT_OPEN,
+        place: 0,
+        len: 0,
+    }
+}
+
+/// The reply to an edit: how many intervals it has coded, or its refusal.
+fn edit_reply(answer: Result<u64, Fault>) -> Reply
+    ensures { result ≡ edit_reply answer }
+{
+    match answer {
+        Ok(coded) => answered(coded),
+        Err(fault) => refused(fault),
+    }
+}
+
+/// Values as an edit carries them. `Memory` where there is none for the copy.
+pub(crate) fn copied(alloc: Global, values: &[i64]) -> Result<Samples, Fault>
+    ensures ok { IfOk result (λ samples. samples ≡ values.now) }
+    ensures fault { IfErr result (λ fault. fault ≡ Memory) }
+{
+    match Vec::from_slice(alloc, values) {
+        Ok(items) => Ok(Samples::new(items)),
+        Err(_) => Err(Fault::Memory),
+    }
+}
+
+/// Makes an edit of the workspace that a handle holds.
+pub(crate) fn edited(alloc: Global, handle: &mut Handle, edit: &Edit) -> Reply
+    ensures { OnHandle (MakesEdit edit.now) handle.old.value handle.new.value result }
+{
+    match mem::replace(handle, Handle::empty()).into_box(alloc) {
+        Some(mut work) => {
+            let answer = work.workspace.apply(edit);
+            *handle = Handle::of(work);
+            edit_reply(answer)
+        }
+        None => not_open(),
+    }
+}
+
+/// The same of an edit that is used up.
+fn edited_by(alloc: Global, handle: &mut Handle, edit: Edit) -> Reply
+    ensures { OnHandle (MakesEdit edit) handle.old.value handle.new.value result }
+{
+    edited(alloc, handle, &edit)
+}
+
+/// Replaces the samples from place `first` on by copied values.
+pub(crate) fn overwritten(alloc: Global, handle: &mut Handle, first: u64, values: &[i64]) -> Reply
+    ensures { MakesCopiedEdit (Overwrite first values.now)
+        handle.old.value handle.new.value result }
+{
+    match copied(alloc, values) {
+        Ok(values) => edited_by(alloc, handle, Edit::Overwrite { first, values }),
+        Err(_) => refused(Fault::Memory),
+    }
+}
+
+/// Puts copied values in front of the sample at place `first`, or behind the last one.
+pub(crate) fn inserted(alloc: Global, handle: &mut Handle, first: u64, values: &[i64]) -> Reply
+    ensures { MakesCopiedEdit (Insert first values.now) handle.old.value handle.new.value result }
+{
+    match copied(alloc, values) {
+        Ok(values) => edited_by(alloc, handle, Edit::Insert { first, values }),
+        Err(_) => refused(Fault::Memory),
+    }
+}
+
+/// Adds values behind the samples of the workspace that a handle holds, without a copy.
+pub(crate) fn appended(alloc: Global, handle: &mut Handle, values: &[i64]) -> Reply
+    ensures { OnHandle (MakesEdit (Append values.now)) handle.old.value handle.new.value result }
+{
+    match mem::replace(handle, Handle::empty()).into_box(alloc) {
+        Some(mut work) => {
+            let answer = work.workspace.append(values);
+            *handle = Handle::of(work);
+            edit_reply(answer)
+        }
+        None => not_open(),
+    }
+}

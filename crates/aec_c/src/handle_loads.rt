@@ -1,0 +1,62 @@
+//! A handle loaded with the samples of coded bytes.
+
+ghost use Rattle.std.specs.Prelude.{◌≡◌, IfOk, IfErr};
+ghost use Rattle.aec_c.specs.Calls.{settings_of, count_of};
+ghost use Rattle.aec_c.specs.HandleLoads.{AreRead, CannotRead, Holds, CannotHold, Loads};
+
+use crate::handle::{Handle, Work};
+use crate::handle_reads::{closed, fresh};
+use crate::options::{Options, asked, counted};
+use crate::reply::{Reply, answered, refused};
+use aec_bits::BitBuf;
+use aec_interval::decode_all;
+use aec_params::{Fault, Params};
+use std::alloc::Global;
+
+/// The samples that coded bytes are read as.
+fn reading(alloc: Global, options: &Options, count: u64, bytes: &[u8]) -> Result<Vec<i64>, Fault>
+    ensures ok { IfOk result (λ v. AreRead (settings_of options.now) (count_of count)
+        bytes.now v.items) }
+    ensures refuses { IfErr result
+        (λ e. CannotRead (settings_of options.now) (count_of count) bytes.now e) }
+{
+    let params = Params::new(asked(options))?;
+    let bits = BitBuf::from_bytes(alloc, bytes)?;
+    decode_all(alloc, &params, &bits, counted(count), 1 << 32)
+}
+
+/// A workspace with these samples.
+fn filled(alloc: Global, options: &Options, samples: &[i64]) -> Result<Box<Work>, Fault>
+    ensures ok { IfOk result (λ work. Holds (settings_of options.now) samples.now work.value) }
+    ensures refuses { IfErr result (λ e. CannotHold (settings_of options.now) samples.now e) }
+{
+    let mut work = fresh(alloc, options)?;
+    match work.workspace.append(samples) {
+        Ok(_) => Ok(work),
+        Err(fault) => Err(fault),
+    }
+}
+
+/// Puts a workspace with the samples of coded bytes in the place of what a handle holds.
+pub(crate) fn loaded(
+    alloc: Global,
+    options: &Options,
+    count: u64,
+    bytes: &[u8],
+    handle: &mut Handle,
+) -> Reply
+    ensures { Loads (settings_of options.now) (count_of count) bytes.now
+        handle.old.value handle.new.value result }
+{
+    match reading(alloc, options, count, bytes) {
+        Ok(samples) => match filled(alloc, options, &samples) {
+            Ok(work) => {
+                closed(alloc, handle);
+                *handle = Handle::of(work);
+                answered(samples.len() as u64)
+            }
+            Err(fault) => refused(fault),
+        },
+        Err(fault) => refused(fault),
+    }
+}

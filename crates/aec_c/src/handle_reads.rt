@@ -1,0 +1,172 @@
+//! A handle opened and closed, and what is read of the workspace that it holds.
+
+ghost use Rattle.std.specs.Prelude.{◌≡◌, ◌≤◌, ◌⊎◌, None, Some, Ok, length, IfOk, IfErr};
+ghost use Rattle.aec_params.specs.declared.fault.Fault.TheVariants.{Memory};
+ghost use Rattle.aec_params.specs.Params.{settings_fault};
+ghost use Rattle.aec_params.specs.Codewords.{bytes_of};
+ghost use Rattle.aec_bits.specs.Codec.{code_of};
+ghost use Rattle.aec_engine.specs.Transfers.{answer_of};
+ghost use Rattle.aec_engine.specs.Buffers.{left_of};
+ghost use Rattle.aec_c.specs.Calls.{settings_of};
+ghost use Rattle.aec_c.specs.HandleCalls.{format_of};
+ghost use Rattle.aec_c.specs.Replies.{over_front, reply_to};
+ghost use Rattle.aec_c.specs.HandleReads.{IsFresh, Opens, size_in, calls_in, WritesOut, ReadsOut};
+
+use crate::handle::{Handle, Work};
+use crate::handle_edits::not_open;
+use crate::options::{Options, asked};
+use crate::reply::{Reply, answered, refused, too_long};
+use crate::settling::settle;
+use aec_bits::WriteSink;
+use aec_edit::Workspace;
+use aec_interval::AecCodec;
+use aec_params::{Fault, Params};
+use std::alloc::Global;
+use std::mem;
+
+/// An empty workspace.
+pub(crate) fn fresh(alloc: Global, options: &Options) -> Result<Box<Work>, Fault>
+    ensures ok { IfOk result (λ work. IsFresh (settings_of options.now) work.value) }
+    ensures refuses { IfErr result
+        (λ fault. (fault ≡ Memory) ⊎ (settings_fault (settings_of options.now) ≡ Some fault)) }
+{
+    let params = Params::new(asked(options))?;
+    let workspace = Workspace::new(alloc, AecCodec::new(alloc, params), 1 << 32);
+    match Box::new(alloc, Work { workspace }) {
+        Ok(work) => Ok(work),
+        Err(_) => Err(Fault::Memory),
+    }
+}
+
+/// Frees what a handle holds.
+pub(crate) fn closed(alloc: Global, handle: &mut Handle)
+    ensures { handle.new.value ≡ None }
+{
+    let _held = mem::replace(handle, Handle::empty()).into_box(alloc);
+}
+
+/// Puts an empty workspace in the place of what a handle holds.
+pub(crate) fn opened(alloc: Global, options: &Options, handle: &mut Handle) -> Reply
+    ensures { Opens (settings_of options.now) handle.old.value handle.new.value result }
+{
+    match fresh(alloc, options) {
+        Ok(work) => {
+            closed(alloc, handle);
+            *handle = Handle::of(work);
+            answered(0)
+        }
+        Err(fault) => refused(fault),
+    }
+}
+
+/// The number of samples.
+pub(crate) fn counted(alloc: Global, handle: &mut Handle) -> u64
+    ensures size { result ≡ size_in handle.old.value }
+    ensures same { handle.new.value ≡ handle.old.value }
+{
+    match mem::replace(handle, Handle::empty()).into_box(alloc) {
+        Some(work) => {
+            let size = work.workspace.count();
+            *handle = Handle::of(work);
+            size
+        }
+        None => 0,
+    }
+}
+
+/// How many intervals the coder has coded.
+pub(crate) fn called(alloc: Global, handle: &mut Handle) -> u64
+    ensures calls { result ≡ calls_in handle.old.value }
+    ensures same { handle.new.value ≡ handle.old.value }
+{
+    match mem::replace(handle, Handle::empty()).into_box(alloc) {
+        Some(work) => {
+            let calls = work.workspace.calls();
+            *handle = Handle::of(work);
+            calls
+        }
+        None => 0,
+    }
+}
+
+/// The bytes of the code of a workspace's samples.
+fn code_bytes(alloc: Global, work: &Work) -> Result<Vec<u8>, Fault>
+    ensures ok { IfOk result (λ bytes. bytes.items ≡ bytes_of
+        (code_of (format_of work.now) work.now.workspace.samples)) }
+    ensures fault { IfErr result (λ fault. fault ≡ Memory) }
+{
+    let mut sink = WriteSink::new(Vec::new(alloc));
+    match work.workspace.write_to(&mut sink) {
+        Ok(()) => Ok(sink.into_inner()),
+        Err(_) => Err(Fault::Memory),
+    }
+}
+
+/// Puts the bytes of the code of all samples into a buffer.
+pub(crate) fn written(alloc: Global, handle: &mut Handle, out: &mut [u8]) -> Reply
+    ensures { WritesOut handle.old.value handle.new.value out.old out.new result }
+{
+    match mem::replace(handle, Handle::empty()).into_box(alloc) {
+        Some(work) => {
+            let answer = code_bytes(alloc, &work);
+            *handle = Handle::of(work);
+            settle(answer, out)
+        }
+        None => not_open(),
+    }
+}
+
+/// Puts samples at the front of a buffer that has room for them.
+fn put_samples(answer: &[i64], out: &mut [i64])
+    requires { length answer.now ≤ length out.old }
+    ensures { out.new ≡ over_front answer.now out.old }
+{
+    out[..answer.len()].copy_from_slice(answer);
+}
+
+/// Puts samples at the front of a buffer, where there is room for all of them, and says how that
+/// ended.
+fn settle_all(answer: &[i64], out: &mut [i64]) -> Reply
+    ensures left { out.new ≡ left_of (Ok answer.now) out.old }
+    ensures reply { result ≡ reply_to (Ok answer.now) (length out.old) }
+{
+    let len = answer.len();
+    if len <= out.len() {
+        put_samples(answer, out);
+        answered(len as u64)
+    } else {
+        too_long(len as u64)
+    }
+}
+
+/// The same for samples or a refusal, which leaves the buffer as it was.
+fn settle_samples(answer: Result<Vec<i64>, Fault>, out: &mut [i64]) -> Reply
+    ensures left { out.new ≡ left_of (answer_of (λ samples. samples.items) answer) out.old }
+    ensures reply { result ≡ reply_to (answer_of
+        (λ samples. samples.items) answer) (length out.old) }
+{
+    match answer {
+        Ok(samples) => settle_all(&samples, out),
+        Err(fault) => refused(fault),
+    }
+}
+
+/// Puts the `len` samples from place `first` on into a buffer.
+pub(crate) fn read(
+    alloc: Global,
+    handle: &mut Handle,
+    first: u64,
+    len: u64,
+    out: &mut [i64],
+) -> Reply
+    ensures { ReadsOut first len handle.old.value handle.new.value out.old out.new result }
+{
+    match mem::replace(handle, Handle::empty()).into_box(alloc) {
+        Some(mut work) => {
+            let answer = work.workspace.range(alloc, first, len);
+            *handle = Handle::of(work);
+            settle_samples(answer, out)
+        }
+        None => not_open(),
+    }
+}

@@ -1,0 +1,26 @@
+-- What is left in a buffer that takes an answer.
+use Rattle.std.specs.Prelude.{◌≡◌, ℕ, nat_le, if◌then◌else◌, Result, Ok, Err, List, ◌++◌, length, drop, ◌⊎◌}
+use Rattle.aec_params.specs.declared.fault.Fault.{Fault}
+use Rattle.aec_params.specs.declared.fault.Fault.TheVariants.{Memory}
+use Rattle.aec_engine.specs.Transfers.{answer_of}
+
+-- items in the place of as many at the front, where there is room for all of them; else all as it
+-- was
+abbrev pub front_put : {X : Type 0} → List X → List X → List X
+front_put items before = if nat_le (length items) (length before) then items ++ drop (length items) before else before
+
+-- what an answer leaves of a buffer
+abbrev pub left_of : {X : Type 0} → Result (List X) Fault → List X → List X
+left_of (Ok items) before = front_put items before
+left_of (Err fault) before = before
+
+-- a call gave one of these answers, put it into a buffer, and tells how long it is
+pub record FillsOne (answers : Result (List ℕ) Fault → Type 0) (before after : List ℕ) (result : Result ℕ Fault) : Type 0 where
+  pub answer : Result (List ℕ) Fault
+  pub answered : answers answer
+  pub told : result ≡ answer_of (λ (bytes : List ℕ). length bytes) answer
+  pub left : after ≡ left_of answer before
+
+-- one of these answers, or want of memory
+abbrev pub OrMemory : (Result (List ℕ) Fault → Type 0) → Result (List ℕ) Fault → Type 0
+OrMemory answers answer = (answer ≡ Err Memory) ⊎ answers answer

@@ -1,0 +1,39 @@
+-- What is left of a script whose lines are read again when their edits are made.
+use Rattle.std.specs.Prelude.{◌≡◌, ℕ, ◌+◌, ◌^◌, ◌≤◌, ◌⊎◌, Option, Some, None, option_map, MatchOption, ⊤, []}
+use Rattle.aec_edit.specs.Early.{IsInside}
+use Rattle.aec_engine.specs.declared.script_edits.NextEdit.{NextEdit}
+use Rattle.aec_engine.specs.declared.script_edits.EditsAhead.{EditsAhead}
+use Rattle.aec_engine.specs.Numerals.{Text}
+use Rattle.aec_engine.specs.Scripts.{change, Listing, listed, listing_from}
+use Rattle.aec_engine.specs.ScriptLines.{lines_left, text_left}
+
+-- the text that is not read again yet
+abbrev pub text_behind : EditsAhead → Option Text
+text_behind ahead = option_map (λ text. text.now) ahead.rest
+
+-- the listing of its lines
+abbrev pub behind : EditsAhead → Listing
+behind ahead = listing_from (ahead.number + 1) (lines_left (text_behind ahead))
+
+-- a listing, with an edit before it
+abbrev pub with_next : Option NextEdit → Listing → Listing
+with_next (Some next) rest = listed next.line (change next.edit) rest
+with_next None rest = rest
+
+-- the listing of what is left
+abbrev pub left_in : EditsAhead → Listing
+left_in ahead = with_next ahead.next (behind ahead)
+
+-- the lines that are not read again yet have been judged, and can be counted
+pub record AreKnown (ahead : EditsAhead) : Type 0 where
+  pub sound : (behind ahead).bad ≡ None
+  pub few : ahead.number + text_left (text_behind ahead) ≤ 2 ^ 63
+
+-- where no edit is ready, none is left
+abbrev pub IsReady : EditsAhead → Type 0
+IsReady ahead = MatchOption ahead.next (behind ahead ≡ record { edits = []; lines = []; bad = None }) (λ next. ⊤)
+
+-- no edit is left, or the next one is no overwrite inside so many samples, or so many calls of the
+-- coder are too many
+abbrev pub StopsAt : EditsAhead → ℕ → ℕ → Type 0
+StopsAt ahead count calls = MatchOption ahead.next ⊤ (λ next. (2 ^ 62 ≤ calls) ⊎ (IsInside count next.edit → ⊥))

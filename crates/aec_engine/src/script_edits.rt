@@ -1,0 +1,101 @@
+//! Scripts that are judged first, and whose lines are read again, each when its edit is to be made.
+
+ghost use Rattle.std.specs.Prelude.{◌≡◌, ◌≢◌, ℕ, Some, None, IfOk, IfErr};
+ghost use Rattle.aec_params.specs.declared.fault.Fault.TheVariants.{Memory, Script as ScriptFault};
+ghost use Rattle.aec_engine.specs.Scripts.{listing_of, meaning_of, unknown};
+ghost use Rattle.aec_engine.specs.EditsAhead.{AreKnown, IsReady, behind, left_in};
+
+use crate::script_lines::{Line, line_of};
+use crate::script_reading::{cut_line, edit_on_line};
+use aec_params::{Edit, Fault};
+use std::alloc::Global;
+
+/// Whether a line, whose number is given, is one that `script` reads; else `Script`.
+fn judge_line(number: u64, text: &[u8]) -> Result<(), Fault>
+    ensures ok { IfOk result (λ _. meaning_of text.now ≢ unknown) }
+    ensures refuses { IfErr result (λ e.
+        (meaning_of text.now ≡ unknown) × (e ≡ ScriptFault number)) }
+{
+    match line_of(text) {
+        Line::Unknown => Err(Fault::Script { line: number }),
+        _ => Ok(()),
+    }
+}
+
+#[tactic(auto, using(crate::proofs::ScriptLineLemmas::listed_known))]
+/// Judges the lines of a script, and keeps nothing. `Script` names the first one that `script`
+/// doesn't read.
+pub(crate) fn judge_script(bytes: &[u8]) -> Result<(), Fault>
+    ensures ok { IfOk result (λ _. (listing_of bytes.now).bad ≡ None) }
+    ensures refuses { IfErr result (λ e.
+        (n : ℕ) × ((listing_of bytes.now).bad ≡ Some n) × (e ≡ ScriptFault n)) }
+{
+    let mut rest = Some(bytes);
+    let mut number: u64 = 0;
+    while let Some(text) = rest {
+        let (line, after) = cut_line(text);
+        number += 1;
+        judge_line(number, line)?;
+        rest = after;
+    }
+    Ok(())
+}
+
+/// An edit of a script and the number of its line.
+#[derive(Drop)]
+pub(crate) struct NextEdit {
+    pub(crate) edit: Edit,
+    pub(crate) line: u64,
+}
+
+/// What is left of a script: its next edit, how many lines were read up to it, and the text behind
+/// these. So no more of a script is kept than its text and the values of one line.
+#[derive(Drop)]
+pub(crate) struct EditsAhead<'a> {
+    pub(crate) next: Option<NextEdit>,
+    number: u64,
+    rest: Option<&'a [u8]>,
+}
+
+impl<'a> EditsAhead<'a> {
+    /// All edits of a script.
+    pub(crate) fn new(alloc: Global, text: &'a [u8]) -> Result<EditsAhead<'a>, Fault>
+        requires known { (listing_of text.now).bad ≡ None }
+        ensures all { IfOk result (λ ahead. left_in ahead ≡ listing_of text.now) }
+        ensures known { IfOk result (λ ahead. AreKnown ahead) }
+        ensures ready { IfOk result (λ ahead. IsReady ahead) }
+        ensures fault { IfErr result (λ e. e ≡ Memory) }
+    {
+        let mut ahead = EditsAhead {
+            next: None,
+            number: 0,
+            rest: Some(text),
+        };
+        ahead.advance(alloc)?;
+        Ok(ahead)
+    }
+
+    /// Leaves the next edit, and reads lines up to the one behind it.
+    pub(crate) fn advance(&mut self, alloc: Global) -> Result<(), Fault>
+        requires known { AreKnown self.old }
+        ensures ok { IfOk result (λ _. left_in self.new ≡ behind self.old) }
+        ensures known { IfOk result (λ _. AreKnown self.new) }
+        ensures ready { IfOk result (λ _. IsReady self.new) }
+        ensures fault { IfErr result (λ e. e ≡ Memory) }
+    {
+        self.next = None;
+        while let Some(text) = self.rest {
+            let (line, after) = cut_line(text);
+            self.number += 1;
+            self.rest = after;
+            if let Some(edit) = edit_on_line(alloc, self.number, line)? {
+                self.next = Some(NextEdit {
+                    edit,
+                    line: self.number,
+                });
+                return Ok(());
+            }
+        }
+        Ok(())
+    }
+}

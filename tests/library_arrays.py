@@ -1,0 +1,162 @@
+#!/usr/bin/env python3
+"""The Python module with numpy, and its examples: library_arrays.py PATH_OF_AEC FOLDER
+
+FOLDER has libaecp.a and libaecp.so. Arrays of each type go to streams that the program at PATH_OF_AEC reads, and back; so do files by
+`python -m aecp`; aecp_numcodecs.py and aecp_szip.py beside numcodecs and HDF5; the Python of docs/LIBRARY.md.
+
+It goes on by the first interpreter that has numpy, and h5py where one has both. What isn't installed is skipped, and said. Prints the
+checks that fail and, last, how many passed. Ends with 1 where one failed.
+"""
+
+import os
+import re
+import subprocess
+import sys
+import tempfile
+
+import library_buffers
+from program import Program, Tally
+
+HERE = os.path.dirname(os.path.abspath(__file__))
+TOP = os.path.dirname(HERE)
+TYPES = {"u1": 8, "i1": 8, "<u2": 16, ">i2": 12, "<u4": 32, ">u4": 24, "<i4": 20}
+
+
+def interpreter():
+    """The Python that has most of numpy and h5py."""
+    paths = [sys.executable, "/usr/bin/python3"]
+    for needed in ("numpy, h5py", "numpy"):
+        for path in filter(os.path.exists, paths):
+            if subprocess.run([path, "-c", f"import {needed}"], capture_output=True, check=False).returncode == 0:
+                return path
+    return None
+
+
+def options_of(dtype, bits):
+    """The module's options for arrays of a type, and the words for the program."""
+    words = ["-n", str(bits), "-j", "16", "-r", "128"]
+    words += ["-s"] * (dtype.kind == "i") + ["-m"] * (dtype.str[0] == ">")
+    return {"bits": bits, "signed": dtype.kind == "i", "msb_first": dtype.str[0] == ">"}, words
+
+
+def drawn_array(dtype, bits):
+    """A walk of 3,000 samples of so many bits."""
+    steps = numpy.random.default_rng(bits).integers(-3, 4, 3000).cumsum()
+    least = -(1 << bits - 1) if dtype.kind == "i" else 0
+    return ((steps - least) % (1 << bits) + least).astype(dtype)
+
+
+def try_arrays(program, tally):
+    for name, bits in TYPES.items():
+        dtype = numpy.dtype(name)
+        named, words = options_of(dtype, bits)
+        options, array = aecp.Options(**named), drawn_array(dtype, bits)
+        coded = aecp.encode(array, options)
+        tally.check(f"{name}: the program's stream", bytes(coded), program.answer(words, array.tobytes()))
+        back = aecp.decode(coded, len(array), options)
+        tally.holds((back == array).all() and back.dtype.itemsize == dtype.itemsize, f"{name}: decoded")
+        part = aecp.decode_range(coded, len(array), 1000, 77, options)
+        tally.holds((part == array[1000:1077]).all() and len(part) == 77, f"{name}: a range")
+
+
+def try_files(program, tally):
+    """`python -m aecp` on files."""
+    samples = drawn_array(numpy.dtype("<u2"), 16).tobytes()
+    program.write("samples", samples)
+
+    def module(*words):
+        ended = subprocess.run([sys.executable, "-m", "aecp", *words], cwd=program.folder, capture_output=True, text=True, check=False)
+        return ended.returncode, (ended.stdout + ended.stderr).strip().split("\n")[-1]
+
+    tally.check("code", module("-n", "16", "samples", "coded"), (0, ""))
+    tally.check("stream", program.read("coded"), program.answer(["-n", "16", "-j", "16", "-r", "128"], samples))
+    tally.check("decode", (module("-n", "16", "-d", "-c", "3000", "coded", "back"), program.read("back")), ((0, ""), samples))
+    tally.check("range", (module("-n", "16", "-c", "3000", "--range", "5:7", "coded", "back"), program.read("back")), ((0, ""), samples[10:24]))
+    status, said = module("-n", "16", "-c", "3000", "samples", "coded")
+    tally.check("a count in coding", (status, said), (2, "python -m aecp: error: --count needs --decode or --range"))
+    status, said = module("-n", "16", "-d", "-c", "4001", "coded", "none")
+    tally.holds(status == 1 and said.startswith("aecp: coded data is cut short at bit "), f"a count too high: {said}")
+    tally.check("nothing is written then", program.read("none"), None)
+
+
+def try_szip(program, tally):
+    """aecp_szip.py on files that HDF5 has written, one with a chunk that its place doesn't tell."""
+    try:
+        import h5py
+    except ImportError:
+        print("aecp_szip.py: no interpreter here has numpy and h5py")
+        return
+    if not h5py.h5z.filter_avail(h5py.h5z.FILTER_SZIP):
+        print("aecp_szip.py: HDF5 has no szip here")
+        return
+    import aecp_szip
+    from recipe_calls import called
+
+    path = program.file("sets.h5")
+    keys = {"compression": "szip", "compression_opts": ("nn", 8)}
+    for name, shape, chunks in (("u1", (70, 33), (16, 33)), (">i2", (9, 20, 31), (4, 7, 31)), ("<i4", (40,), (40,)), ("<f8", (20, 30), (8, 16))):
+        elements = (numpy.random.default_rng(7).integers(0, 9, shape).cumsum(-1) % 100).astype(name)
+        with h5py.File(path, "w") as file:
+            file.create_dataset("d", data=elements, chunks=chunks, **keys)
+        tally.check(f"aecp_szip {name}", called(aecp_szip.show, path, "d"), (0, f"{elements}\n"))
+    elements = numpy.arange(600, dtype="<i4").reshape(20, 30)
+    with h5py.File(path, "w", libver="latest") as file:
+        file.create_dataset("d", (20, 30), "<i4", chunks=(8, 16), maxshape=(20, None), fillvalue=5, **keys)[:, :16] = elements[:, :16]
+    elements[:, 16:] = 5
+    with h5py.File(path, "r") as file:
+        tally.holds((aecp_szip.array_of(file["d"]) == elements).all(), "aecp_szip: a data set that grows")
+    with h5py.File(path, "w") as file:
+        file.create_dataset("d", data=elements)
+    tally.check("aecp_szip: no szip", called(aecp_szip.show, path, "d"), (1, "the data set has the filters [], not szip (4) alone"))
+
+
+def try_numcodecs(tally):
+    try:
+        import numcodecs
+    except ImportError:
+        print("aecp_numcodecs.py: no numcodecs here")
+        return
+    from aecp_numcodecs import Aecp
+
+    array, codec = drawn_array(numpy.dtype("<u2"), 16), Aecp(16)
+    coded = codec.encode(array)
+    tally.check("numcodecs: decoded", numpy.frombuffer(codec.decode(coded), "<u2").tolist(), array.tolist())
+    again = numcodecs.get_codec(codec.get_config())
+    tally.check("numcodecs: by its configuration", bytes(again.decode(coded)), array.tobytes())
+
+
+def try_page(folder, tally):
+    """The Python of LIBRARY.md, one block after the other."""
+    with open(os.path.join(TOP, "docs", "LIBRARY.md"), encoding="utf-8") as file:
+        blocks = re.findall(r"```python\n(.*?)```", file.read(), re.S)
+    tally.check("the page's Python", Program(sys.executable, folder).run("-c", "".join(blocks)), (0, ""))
+
+
+def main():
+    tally = Tally()
+    sys.path.append(os.path.join(TOP, "examples"))
+    with tempfile.TemporaryDirectory() as folder:
+        here = Program(sys.argv[1], folder)
+        library_buffers.try_arrays(aecp, numpy, tally)
+        try_arrays(here, tally)
+        try_files(here, tally)
+        try_szip(here, tally)
+        try_numcodecs(tally)
+        try_page(folder, tally)
+    tally.print()
+    sys.exit(tally.failed > 0)
+
+
+if __name__ == "__main__":
+    found = interpreter()
+    if found is None:
+        print("the module with numpy: no numpy here\n0 passed, 0 failed")
+        sys.exit(0)
+    if os.environ.get("AECP_LIBRARY") is None:
+        path = os.pathsep.join([os.path.join(TOP, "python"), HERE])
+        made = {"AECP_LIBRARY": os.path.abspath(os.path.join(sys.argv[2], "libaecp.so")), "PYTHONPATH": path}
+        sys.exit(subprocess.run([found, *sys.argv], env={**os.environ, **made}, check=False).returncode)
+    import aecp
+    import numpy
+
+    main()

@@ -1,0 +1,141 @@
+/* A handle of libaecp for tests/library.py: every call on it, its refusals, and what they leave; and eight threads with a handle each.
+ * Prints what goes wrong, and last how many checks passed. */
+#include <aecp.h>
+#include <pthread.h>
+#include <stdio.h>
+#include <string.h>
+
+enum { MANY = 20, THREADS = 8, TURNS = 50 };
+
+static unsigned passed, failed;
+
+static void check(int holds, const char *what) {
+    if (holds)
+        passed++;
+    else
+        failed++, printf("wrong: %s\n", what);
+}
+
+static void holds(aecp_handle *handle, const int64_t *wanted, size_t count, const char *what) {
+    int64_t out[MANY];
+    aecp_reply reply;
+    check(aecp_size(handle) == count, what);
+    check(aecp_read(handle, 0, count, out, MANY, &reply) == AECP_OK && reply.len == count, what);
+    check(memcmp(out, wanted, count * sizeof out[0]) == 0, what);
+}
+
+static void try_edits(aecp_handle *handle) {
+    const int64_t ramp[] = {0, 1, 2, 3, 4, 5, 6, 7}, nines[] = {9, 9};
+    aecp_reply reply;
+    check(aecp_append(handle, ramp, 8, &reply) == AECP_OK && reply.len == 1, "append");
+    holds(handle, ramp, 8, "appended");
+    check(aecp_overwrite(handle, 1, nines, 2, &reply) == AECP_OK, "overwrite");
+    holds(handle, (const int64_t[]){0, 9, 9, 3, 4, 5, 6, 7}, 8, "overwritten");
+    check(aecp_insert(handle, 8, nines, 2, &reply) == AECP_OK, "insert");
+    holds(handle, (const int64_t[]){0, 9, 9, 3, 4, 5, 6, 7, 9, 9}, 10, "inserted");
+    check(aecp_remove(handle, 0, 3, &reply) == AECP_OK, "remove");
+    holds(handle, (const int64_t[]){3, 4, 5, 6, 7, 9, 9}, 7, "removed");
+    check(aecp_truncate(handle, 5, &reply) == AECP_OK, "truncate");
+    holds(handle, (const int64_t[]){3, 4, 5, 6, 7}, 5, "truncated");
+    check(aecp_calls(handle) == 5, "calls");
+}
+
+static void try_refusals(aecp_handle *handle) {
+    const int64_t wanted[] = {3, 4, 5, 6, 7}, wide[] = {1, 256};
+    int64_t out[MANY] = {-1, -1, -1, -1};
+    aecp_reply reply;
+    check(aecp_append(handle, wide, 2, &reply) == AECP_SAMPLE_RANGE && reply.place == 1, "append of 256");
+    check(aecp_insert(handle, 6, wide, 1, &reply) == AECP_OUT_OF_RANGE && reply.place == 5, "insert behind");
+    check(aecp_overwrite(handle, 4, wanted, 2, &reply) == AECP_OUT_OF_RANGE, "overwrite behind");
+    check(aecp_truncate(handle, 6, &reply) == AECP_OUT_OF_RANGE, "truncate behind");
+    check(aecp_remove(handle, 5, 1, &reply) == AECP_OUT_OF_RANGE, "remove behind");
+    check(aecp_read(handle, 3, 3, out, MANY, &reply) == AECP_OUT_OF_RANGE && out[0] == -1, "read behind");
+    check(aecp_read(handle, 0, 3, out, 2, &reply) == AECP_NO_ROOM && reply.len == 3 && out[0] == -1, "read without room");
+    check(aecp_read(handle, 0, 3, out, 3, &reply) == AECP_OK && out[2] == 5 && out[3] == -1, "read into three");
+    holds(handle, wanted, 5, "refused");
+}
+
+static void try_stream(const aecp_options *options, aecp_handle *handle) {
+    uint8_t out[MANY], plain[MANY], coded[MANY];
+    aecp_reply reply, direct;
+    const uint8_t stored[] = {3, 4, 5, 6, 7};
+    check(aecp_write(handle, out, 1, &reply) == AECP_NO_ROOM, "write without room");
+    check(aecp_write(handle, out, sizeof out, &reply) == AECP_OK, "write");
+    check(aecp_encode(options, stored, 5, coded, sizeof coded, &direct) == AECP_OK && direct.len == reply.len, "length");
+    check(memcmp(coded, out, direct.len) == 0, "stream");
+    check(aecp_decode(options, 5, out, reply.len, plain, sizeof plain, &direct) == AECP_OK, "decode");
+    check(direct.len == 5 && memcmp(plain, stored, 5) == 0, "decoded");
+    aecp_handle other = AECP_HANDLE;
+    check(aecp_load(options, 5, out, reply.len, &other, &direct) == AECP_OK && direct.len == 5, "load");
+    holds(&other, (const int64_t[]){3, 4, 5, 6, 7}, 5, "loaded");
+    check(aecp_load(options, 9, out, reply.len, &other, &direct) == AECP_TRUNCATED, "load of nine");
+    check(aecp_size(&other) == 5 && aecp_calls(&other) == 1, "refused load");
+    check(aecp_load(options, 0, out, 0, &other, &direct) == AECP_OK && aecp_size(&other) == 0, "load of none");
+    aecp_close(&other);
+}
+
+static void try_empty(aecp_handle *handle) {
+    uint8_t bytes[1] = {7};
+    int64_t out[1] = {7};
+    aecp_reply reply;
+    check(aecp_size(handle) == 0 && aecp_calls(handle) == 0, "size of none");
+    check(aecp_append(handle, out, 1, &reply) == AECP_NOT_OPEN, "append to none");
+    check(aecp_overwrite(handle, 0, out, 1, &reply) == AECP_NOT_OPEN, "overwrite of none");
+    check(aecp_insert(handle, 0, out, 1, &reply) == AECP_NOT_OPEN, "insert into none");
+    check(aecp_remove(handle, 0, 0, &reply) == AECP_NOT_OPEN, "remove of none");
+    check(aecp_truncate(handle, 0, &reply) == AECP_NOT_OPEN, "truncate of none");
+    check(aecp_read(handle, 0, 0, out, 1, &reply) == AECP_NOT_OPEN && out[0] == 7, "read of none");
+    check(aecp_write(handle, bytes, 1, &reply) == AECP_NOT_OPEN && bytes[0] == 7, "write of none");
+    aecp_close(handle);
+}
+
+/* A list that grows by one sample a turn, of which each before the last is then the thread's number. Sets that to 0 where all is so. */
+static void *work(void *given) {
+    int64_t *number = given, zero = 0, out[TURNS], right = 0;
+    aecp_options options = AECP_OPTIONS(8);
+    aecp_handle handle = AECP_HANDLE;
+    aecp_reply reply;
+    options.block_size = 8;
+    options.interval = 1;
+    if (aecp_open(&options, &handle, &reply)) return 0;
+    for (uint64_t i = 0; i < TURNS; i++) {
+        if (aecp_append(&handle, &zero, 1, &reply) || (i && aecp_overwrite(&handle, i - 1, number, 1, &reply))) return 0;
+    }
+    if (aecp_read(&handle, 0, TURNS, out, TURNS, &reply)) return 0;
+    for (int i = 0; i < TURNS; i++) right += out[i] == (i < TURNS - 1 ? *number : 0);
+    aecp_close(&handle);
+    *number = right == TURNS ? 0 : *number;
+    return 0;
+}
+
+static void try_threads(void) {
+    pthread_t all[THREADS];
+    int64_t numbers[THREADS];
+    for (int i = 0; i < THREADS; i++) {
+        numbers[i] = i + 1;
+        check(pthread_create(&all[i], 0, work, &numbers[i]) == 0, "thread");
+    }
+    for (int i = 0; i < THREADS; i++) check(pthread_join(all[i], 0) == 0 && numbers[i] == 0, "a thread's handle");
+}
+
+int main(void) {
+    aecp_options options = AECP_OPTIONS(8), none = AECP_OPTIONS(33);
+    aecp_handle handle = AECP_HANDLE;
+    aecp_reply reply;
+    options.block_size = 8;
+    options.interval = 1;
+    try_empty(&handle);
+    check(aecp_open(&none, &handle, &reply) == AECP_BITS_PER_SAMPLE && aecp_size(&handle) == 0, "open of 33 bits");
+    check(aecp_open(&options, &handle, &reply) == AECP_OK, "open");
+    holds(&handle, 0, 0, "opened");
+    try_edits(&handle);
+    try_refusals(&handle);
+    check(aecp_open(&none, &handle, &reply) == AECP_BITS_PER_SAMPLE && aecp_size(&handle) == 5, "refused open");
+    try_stream(&options, &handle);
+    check(aecp_open(&options, &handle, &reply) == AECP_OK && aecp_size(&handle) == 0, "opened again");
+    aecp_close(&handle);
+    try_empty(&handle);
+    try_threads();
+    printf("%u passed, %u failed\n", passed, failed);
+    return failed != 0;
+}
