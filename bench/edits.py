@@ -26,7 +26,7 @@ from bench import MIB, detector, least, run
 SIZE = 64
 SETTINGS = [(8, 2), (16, 128), (64, 4096)]
 SAMPLES = SIZE * MIB // 2 - 2048
-SCATTERED = [i * 7919 * 4241 % SAMPLES for i in range(10000)]
+SCATTERED = random.Random(5).sample(range(SAMPLES), 10000)
 SCRIPTS = [
     ("no line", []),
     ("100 samples in the middle", [f"overwrite {SAMPLES // 2 + 2048 * i} {i}" for i in range(100)]),
