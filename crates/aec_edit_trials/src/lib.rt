@@ -1,14 +1,11 @@
-//! Tests alone: what no clause of `aec_interval` and `aec_edit` says, and values from outside. They
-//! stand here because a crate with tests is proved twice, and its must-fail edits wait for both
-//! proofs.
+//! Tests alone: what no clause of `aec_edit` says, and values from outside. They stand here
+//! because a crate with tests is proved twice, and its must-fail edits wait for both proofs.
 #![tactic(auto)]
 
 #[cfg(test)]
 mod asserts;
 #[cfg(test)]
 mod every_place;
-#[cfg(test)]
-mod interval;
 #[cfg(test)]
 mod library_example;
 #[cfg(test)]
@@ -19,10 +16,6 @@ mod mixed_edits;
 mod octets;
 #[cfg(test)]
 mod plain_lists;
-#[cfg(test)]
-mod settings;
-#[cfg(test)]
-mod shared;
 #[cfg(test)]
 mod steps;
 #[cfg(test)]
