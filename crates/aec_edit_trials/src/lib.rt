@@ -7,8 +7,6 @@ mod asserts;
 #[cfg(test)]
 mod every_place;
 #[cfg(test)]
-mod library_example;
-#[cfg(test)]
 mod many_intervals;
 #[cfg(test)]
 mod mixed_edits;
