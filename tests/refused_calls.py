@@ -1,7 +1,7 @@
 #!/usr/bin/env python3
-"""Refused memory within calls of the libraries: refused_calls.py PATH_OF_AEC_CALLS
+"""Refused memory within calls of the libraries: refused_calls.py PATH_OF_AEC_MEMORY_TRIALS
 
-The program at PATH_OF_AEC_CALLS makes calls of the libraries that can lack memory, and prints what it answers and what is
+The program at PATH_OF_AEC_MEMORY_TRIALS makes calls of the libraries that can lack memory, and prints what it answers and what is
 there after it; a call that lacked memory is made once more. Growths (calls of malloc, calloc and realloc) are refused within
 those calls: the k-th and all after it in the same call, and the k-th alone, for each k until a run meets no refusal. That run has
 to print the file stdout of the crate. Each other one has to print the same, but that one call lacked memory: what was there
@@ -24,7 +24,7 @@ from typing import NamedTuple
 from program import Program, Tally
 from refusing import NO_COMPILER, Growths, build, has_compiler, ways
 
-ROWS = os.path.join(os.path.dirname(__file__), "..", "crates", "aec_calls", "stdout")
+ROWS = os.path.join(os.path.dirname(__file__), "..", "crates", "aec_memory_trials", "stdout")
 WANT = "out of memory"
 COUNTERS = re.compile(r"calls (\d+), reads (\d+),")
 

@@ -7,7 +7,7 @@ use Rattle.std.specs.String.{string_bytes}
 use Rattle.clap.specs.Matches.{first_value, one_text}
 use Rattle.clap.specs.Walk.{Text}
 use Rattle.clap.specs.declared.parser.matches.Found.{Found}
-use Rattle.aec_params.specs.Params.{settings_fault}
+use Rattle.aec_params.specs.Params.{settings_fault, usual_settings}
 use Rattle.aec_params.specs.declared.settings.Settings.{Settings}
 use Rattle.aec_cli.specs.declared.usage.Usage.{Usage}
 use Rattle.aec_cli.specs.declared.usage.Usage.TheVariants.{Jobs, Count, Range, Setting}
@@ -56,13 +56,12 @@ count_of f = option_and_then (number_in 64) (one_text f (codes "count"))
 unfoldable pub file_of : Text → Found → Text
 file_of id f = unwrap_or (first_value f id) []
 
--- the settings, with 8 bits per sample, blocks of 8 and intervals of 2 where nothing else is asked
--- for
+-- the settings: the usual numbers where no others are asked for, and each flag
 unfoldable pub settings_of : Found → Settings
 settings_of f = record {
-  bits = word_of 8 (codes "bits") f;
-  block_size = word_of 8 (codes "block-size") f;
-  interval = word_of 2 (codes "interval") f;
+  bits = word_of usual_settings.bits (codes "bits") f;
+  block_size = word_of usual_settings.block_size (codes "block-size") f;
+  interval = word_of usual_settings.interval (codes "interval") f;
   signed = is_given (codes "signed") f;
   msb_first = is_given (codes "msb-first") f;
   three_byte = is_given (codes "three-byte") f;

@@ -85,15 +85,15 @@ pub fn settings(alloc: Global, matches: &ArgMatches<'_>) -> Result<Job, Usage>
     })
 }
 
-// The settings, each of them its default where it is not given.
+// The settings, each of them the usual one where it is not given.
 #[tactic(auto, unfolding(crate::specs::Jobs::settings_of))]
 fn asked_settings(matches: &ArgMatches<'_>) -> Settings
     ensures { result ≡ settings_of (found_of matches.now) }
 {
     Settings {
-        bits: number(matches, "bits", 8),
-        block_size: number(matches, "block-size", 8),
-        interval: number(matches, "interval", 2),
+        bits: number(matches, "bits", Settings::USUAL.bits),
+        block_size: number(matches, "block-size", Settings::USUAL.block_size),
+        interval: number(matches, "interval", Settings::USUAL.interval),
         signed: has_flag(matches, "signed"),
         msb_first: has_flag(matches, "msb-first"),
         three_byte: has_flag(matches, "three-byte"),

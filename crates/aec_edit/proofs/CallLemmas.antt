@@ -5,7 +5,8 @@ use Rattle.std.proofs.lemmas.Bool.Decides.{nat_tests}
 use Rattle.aec_params.specs.declared.fault.Fault.{Fault}
 use Rattle.aec_params.specs.declared.fault.Fault.TheVariants.{Memory, Spent}
 use Rattle.aec_bits.specs.Codec.{Format}
-use Rattle.aec_edit.specs.Calls.{want_of_calls}
+use Rattle.aec_bits.specs.Devices.{counted}
+use Rattle.aec_edit.specs.Calls.{want_of_calls, RisesAtMost}
 use Rattle.aec_edit.specs.Changes.{IsNotExchanged, recoded, exchange_calls}
 
 pub calls_left : (calls needed : ℕ) → needed ≤ 2 ^ 64 - 1 - calls → want_of_calls calls needed ≡ None
@@ -28,3 +29,7 @@ lacks_memory needed calls after fault enough fault_is some least most =
 pub recoded_at : (f g : Format) (from from' to to' : ℕ) (s s' fresh fresh' : List ℤ) → g ≡ f → from' ≡ from → to' ≡ to
     → s' ≡ s → fresh' ≡ fresh → recoded g from' to' fresh' s' ≡ recoded f from to fresh s
 recoded_at f g from from' to to' s s' fresh fresh' format_is from_is to_is s_is fresh_is = rw (format_is, from_is, to_is, s_is, fresh_is) refl
+
+-- a count of reads that another one has been added to
+pub one_more_read : (before old after : ℕ) → after ≡ counted before → before ≡ old → before ≤ 2 ^ 64 - 1 → RisesAtMost 1 old after
+one_more_read before old after after_is same few = record { stays = omega (arith, after_is, same, few); few = omega (arith, after_is, same, few) }

@@ -1,5 +1,6 @@
 pub mod Workspace
 pub mod Calls
+pub mod Unchanged
 pub mod Early
 pub mod Steps
 pub mod Index

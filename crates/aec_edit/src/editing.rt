@@ -10,6 +10,7 @@ impl<C: Codec> Workspace<C> {
     ghost use Rattle.aec_edit.specs.Calls.{RisesAtMost, opened_at_most};
     ghost use Rattle.aec_edit.specs.Changes.{recoded_end};
     ghost use Rattle.aec_edit.specs.Steps.{Answers, Applies, samples_left, outcome_of};
+    ghost use Rattle.aec_edit.specs.Unchanged.{KeepsRules};
 
     /// Makes an edit, and answers how many intervals it has coded: the number that is defined. It
     /// decodes at most as many as hold a sample that is kept and coded anew.
@@ -27,8 +28,7 @@ impl<C: Codec> Workspace<C> {
             (opened_at_most (C.format self.old.codec) self.old.limit self.old.samples
             (C.called self.old.codec) edit.now)
             (C.read self.old.codec) (C.read self.new.codec) }
-        ensures limit { self.new.limit ≡ self.old.limit }
-        ensures format { C.format self.new.codec ≡ C.format self.old.codec }
+        ensures rules { KeepsRules C.format self.old self.new }
     {
         match edit {
             Edit::Overwrite { first, values } => self.overwrite(*first, values.as_slice()),
@@ -45,8 +45,7 @@ impl<C: Codec> Workspace<C> {
             (C.called self.old.codec)
             (C.read self.old.codec) (Overwrite first values.now) result self.new.samples
             (C.called self.new.codec) (C.read self.new.codec) }
-        ensures limit { self.new.limit ≡ self.old.limit }
-        ensures format { C.format self.new.codec ≡ C.format self.old.codec }
+        ensures rules { KeepsRules C.format self.old self.new }
     {
         let len = values.len() as u64;
         self.check_places(first, len)?;
@@ -64,8 +63,7 @@ impl<C: Codec> Workspace<C> {
             (C.called self.old.codec)
             (C.read self.old.codec) (Append values.now) result self.new.samples
             (C.called self.new.codec) (C.read self.new.codec) }
-        ensures limit { self.new.limit ≡ self.old.limit }
-        ensures format { C.format self.new.codec ≡ C.format self.old.codec }
+        ensures rules { KeepsRules C.format self.old self.new }
     {
         self.check_growth(values)?;
         if values.is_empty() {
@@ -81,8 +79,7 @@ impl<C: Codec> Workspace<C> {
             (C.called self.old.codec)
             (C.read self.old.codec) (Truncate stop) result self.new.samples
             (C.called self.new.codec) (C.read self.new.codec) }
-        ensures limit { self.new.limit ≡ self.old.limit }
-        ensures format { C.format self.new.codec ≡ C.format self.old.codec }
+        ensures rules { KeepsRules C.format self.old self.new }
     {
         let count = self.count();
         if stop > count {
@@ -100,8 +97,7 @@ impl<C: Codec> Workspace<C> {
             (C.called self.old.codec)
             (C.read self.old.codec) (Insert first values.now) result self.new.samples
             (C.called self.new.codec) (C.read self.new.codec) }
-        ensures limit { self.new.limit ≡ self.old.limit }
-        ensures format { C.format self.new.codec ≡ C.format self.old.codec }
+        ensures rules { KeepsRules C.format self.old self.new }
     {
         let count = self.count();
         if first > count {
@@ -121,8 +117,7 @@ impl<C: Codec> Workspace<C> {
             (C.called self.old.codec)
             (C.read self.old.codec) (Remove first len) result self.new.samples
             (C.called self.new.codec) (C.read self.new.codec) }
-        ensures limit { self.new.limit ≡ self.old.limit }
-        ensures format { C.format self.new.codec ≡ C.format self.old.codec }
+        ensures rules { KeepsRules C.format self.old self.new }
     {
         self.check_places(first, len)?;
         if len == 0 {

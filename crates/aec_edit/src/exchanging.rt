@@ -11,6 +11,7 @@ impl<C: Codec> Workspace<C> {
     ghost use Rattle.aec_params.specs.declared.fault.Fault.TheVariants.{Memory};
     ghost use Rattle.aec_edit.specs.Calls.{RisesAtMost};
     ghost use Rattle.aec_edit.specs.Changes.{IsExchange, IsExchanged, IsNotExchanged, exchanged, exchange_calls, head_of, tail_of, opens_first, opens_last, one_if, first_samples, last_samples, end_samples, opened_ends, opened_by, recoding_calls, recoding_openings, IsExchangeUpTo};
+    ghost use Rattle.aec_edit.specs.Unchanged.{KeepsRules, IsOnlyRead};
 
     /// Exchanges the samples from place `first` up to place `stop` for values, as many, or at the
     /// end, and answers how many intervals it has coded.
@@ -31,8 +32,7 @@ impl<C: Codec> Workspace<C> {
             (C.called self.old.codec)
             (opened_ends (C.format self.old.codec).most (length self.old.samples) first stop))
             (C.read self.old.codec) (C.read self.new.codec) }
-        ensures limit { self.new.limit ≡ self.old.limit }
-        ensures format { C.format self.new.codec ≡ C.format self.old.codec }
+        ensures rules { KeepsRules C.format self.old self.new }
     {
         let most = self.interval_len();
         self.exchange_up_to(first, stop, stop.div_ceil(most), values)
@@ -67,8 +67,7 @@ impl<C: Codec> Workspace<C> {
             (recoding_openings (C.format self.old.codec).most (length self.old.samples) first stop
             to))
             (C.read self.old.codec) (C.read self.new.codec) }
-        ensures limit { self.new.limit ≡ self.old.limit }
-        ensures format { C.format self.new.codec ≡ C.format self.old.codec }
+        ensures rules { KeepsRules C.format self.old self.new }
     {
         let most = self.interval_len();
         let kept = self.count().min(to * most) - stop;
@@ -107,13 +106,9 @@ impl<C: Codec> Workspace<C> {
         ensures fault { IfErr result (λ e. (e ≡ Memory)
             × (0 < recoding_calls (C.format self.old.codec).most (length self.old.samples) first
             stop to (length values.now))) }
-        ensures samples { self.new.samples ≡ self.old.samples }
-        ensures limit { self.new.limit ≡ self.old.limit }
-        ensures calls { C.called self.new.codec ≡ C.called self.old.codec }
-        ensures reads { RisesAtMost
+        ensures read { IsOnlyRead C.format C.called C.read
             (opened_ends (C.format self.old.codec).most (length self.old.samples) first stop)
-            (C.read self.old.codec) (C.read self.new.codec) }
-        ensures format { C.format self.new.codec ≡ C.format self.old.codec }
+            self.old self.new }
     {
         let most = self.interval_len();
         let next = stop.div_ceil(most);
@@ -150,13 +145,9 @@ impl<C: Codec> Workspace<C> {
         ensures fault { IfErr result (λ e. (e ≡ Memory)
             × (0 < opened_ends (C.format self.old.codec).most (length self.old.samples) first
             stop)) }
-        ensures samples { self.new.samples ≡ self.old.samples }
-        ensures limit { self.new.limit ≡ self.old.limit }
-        ensures calls { C.called self.new.codec ≡ C.called self.old.codec }
-        ensures reads { RisesAtMost
+        ensures read { IsOnlyRead C.format C.called C.read
             (opened_ends (C.format self.old.codec).most (length self.old.samples) first stop)
-            (C.read self.old.codec) (C.read self.new.codec) }
-        ensures format { C.format self.new.codec ≡ C.format self.old.codec }
+            self.old self.new }
     {
         self.open_first(first, stop, ends)?;
         self.open_last(first, stop, spare)?;
@@ -175,14 +166,10 @@ impl<C: Codec> Workspace<C> {
         ensures fault { IfErr result (λ e. (e ≡ Memory)
             × (opens_first (C.format self.old.codec).most (length self.old.samples) first stop
             ≡ true)) }
-        ensures samples { self.new.samples ≡ self.old.samples }
-        ensures limit { self.new.limit ≡ self.old.limit }
-        ensures calls { C.called self.new.codec ≡ C.called self.old.codec }
-        ensures reads { RisesAtMost
+        ensures read { IsOnlyRead C.format C.called C.read
             (one_if (opens_first (C.format self.old.codec).most (length self.old.samples) first
             stop))
-            (C.read self.old.codec) (C.read self.new.codec) }
-        ensures format { C.format self.new.codec ≡ C.format self.old.codec }
+            self.old self.new }
     {
         let most = self.interval_len();
         let from = first / most;
@@ -203,14 +190,10 @@ impl<C: Codec> Workspace<C> {
         ensures fault { IfErr result (λ e. (e ≡ Memory)
             × (opens_last (C.format self.old.codec).most (length self.old.samples) first stop
             ≡ true)) }
-        ensures samples { self.new.samples ≡ self.old.samples }
-        ensures limit { self.new.limit ≡ self.old.limit }
-        ensures calls { C.called self.new.codec ≡ C.called self.old.codec }
-        ensures reads { RisesAtMost
+        ensures read { IsOnlyRead C.format C.called C.read
             (one_if (opens_last (C.format self.old.codec).most (length self.old.samples) first
             stop))
-            (C.read self.old.codec) (C.read self.new.codec) }
-        ensures format { C.format self.new.codec ≡ C.format self.old.codec }
+            self.old self.new }
     {
         let most = self.interval_len();
         let to = stop.div_ceil(most);

@@ -11,6 +11,7 @@ impl<C: Codec> Workspace<C> {
     ghost use Rattle.aec_params.specs.declared.fault.Fault.TheVariants.{Memory};
     ghost use Rattle.aec_edit.specs.Workspace.{interval_count};
     ghost use Rattle.aec_edit.specs.Calls.{RisesAtMost, range_refusal, IsDue};
+    ghost use Rattle.aec_edit.specs.Unchanged.{IsOnlyRead};
 
     /// The `len` samples from place `first` on. `OutOfRange` exactly where one of them is past the
     /// samples, then `Memory` where a growth was refused; a range of no samples takes no memory.
@@ -22,15 +23,11 @@ impl<C: Codec> Workspace<C> {
         ensures refuses { IfErr result
             (λ e. IsDue (range_refusal (length self.old.samples) first len) e) }
         ensures memory { result ≡ Err Memory → 0 < len }
-        ensures samples { self.new.samples ≡ self.old.samples }
-        ensures limit { self.new.limit ≡ self.old.limit }
-        ensures calls { C.called self.new.codec ≡ C.called self.old.codec }
-        ensures reads { RisesAtMost
-            (length (touched_intervals (C.format self.old.codec).most first len))
-            (C.read self.old.codec) (C.read self.new.codec) }
         ensures unread { length self.old.samples < first + len
             → C.read self.new.codec ≡ C.read self.old.codec }
-        ensures format { C.format self.new.codec ≡ C.format self.old.codec }
+        ensures read { IsOnlyRead C.format C.called C.read
+            (length (touched_intervals (C.format self.old.codec).most first len))
+            self.old self.new }
     {
         let count = self.count();
         if len > count || first > count - len {
@@ -55,11 +52,7 @@ impl<C: Codec> Workspace<C> {
             ++ drop (from * (C.format self.old.codec).most)
             (take (to * (C.format self.old.codec).most) self.old.samples)) }
         ensures fault { IfErr result (λ e. e ≡ Memory) }
-        ensures samples { self.new.samples ≡ self.old.samples }
-        ensures limit { self.new.limit ≡ self.old.limit }
-        ensures calls { C.called self.new.codec ≡ C.called self.old.codec }
-        ensures reads { RisesAtMost (to - from) (C.read self.old.codec) (C.read self.new.codec) }
-        ensures format { C.format self.new.codec ≡ C.format self.old.codec }
+        ensures read { IsOnlyRead C.format C.called C.read (to - from) self.old self.new }
     {
         for i in from..to {
             self.decode_interval(i, out)?;

@@ -5,6 +5,7 @@ ghost use Rattle.aec_params.specs.declared.fault.Fault.TheVariants.{Memory};
 ghost use Rattle.aec_edit.specs.Steps.{outcome_of};
 ghost use Rattle.aec_edit.specs.Runs.{HasRun};
 ghost use Rattle.aec_edit.specs.declared.outcome.Outcome.{Outcome as OutcomeOf};
+ghost use Rattle.aec_edit.specs.Unchanged.{KeepsRules};
 
 use crate::outcome::Outcome;
 use crate::workspace::Workspace;
@@ -22,8 +23,7 @@ impl<C: Codec> Workspace<C> {
             × HasRun (C.format self.old.codec) self.old.limit self.old.samples
             (C.called self.old.codec) (C.read self.old.codec)
             edits.now done self.new.samples (C.called self.new.codec) (C.read self.new.codec)) }
-        ensures limit { self.new.limit ≡ self.old.limit }
-        ensures format { C.format self.new.codec ≡ C.format self.old.codec }
+        ensures rules { KeepsRules C.format self.old self.new }
         ensures err { OnErr result (self.new ≡ self.old) }
         ensures outcomes_err { OnErr result (outcomes.new.items ≡ outcomes.old.items) }
         ensures full { OnErr result

@@ -2,6 +2,7 @@
 
 ghost use Rattle.std.specs.Prelude.{◌≡◌};
 ghost use Rattle.aec_edit.specs.Stops.{StopsAtRefusal};
+ghost use Rattle.aec_edit.specs.Unchanged.{KeepsRules};
 
 use crate::workspace::Workspace;
 use aec_bits::Codec;
@@ -23,8 +24,7 @@ impl<C: Codec> Workspace<C> {
         ensures run { StopsAtRefusal (C.format self.old.codec) self.old.limit self.old.samples
             (C.called self.old.codec) (C.read self.old.codec)
             edits.now result self.new.samples (C.called self.new.codec) (C.read self.new.codec) }
-        ensures limit { self.new.limit ≡ self.old.limit }
-        ensures format { C.format self.new.codec ≡ C.format self.old.codec }
+        ensures rules { KeepsRules C.format self.old self.new }
     {
         for (place, edit) in edits.iter().enumerate() {
             if let Err(fault) = self.apply(edit) {

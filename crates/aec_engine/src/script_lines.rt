@@ -23,7 +23,9 @@ pub(crate) enum Line<'a> {
     Unknown,
 }
 
-/// Whether each word of a text is a value.
+/// Whether each word of a text is a value. Twice a text is gone through, here and in `values_of`,
+/// by the same `next_word` and `value_of`: a script is judged whole before a value of it is kept,
+/// so that a line that is none is `Script` where memory is wanting too.
 fn are_values(text: &[u8]) -> bool
     ensures { result ≡ are_values text.now }
 {

@@ -15,6 +15,7 @@ impl<C: Codec> Workspace<C> {
     ghost use Rattle.aec_edit.specs.Calls.{RisesAtMost};
     ghost use Rattle.aec_edit.specs.Index.{starts_of};
     ghost use Rattle.aec_edit.specs.Fresh.{to_come, IsGathered, OpensAtMost};
+    ghost use Rattle.aec_edit.specs.Unchanged.{IsUnchanged};
 
     /// Brings the next interval of fresh samples to the front. `Memory` where a growth was refused.
     fn gather(&mut self, fresh: &mut Fresh<'_>) -> Result<(), Fault>
@@ -36,10 +37,8 @@ impl<C: Codec> Workspace<C> {
         ensures opens { OpensAtMost (fresh.old.end - fresh.old.next)
             (fresh.new.end - fresh.new.next)
             (C.read self.old.codec) (C.read self.new.codec) }
-        ensures samples { self.new.samples ≡ self.old.samples }
-        ensures limit { self.new.limit ≡ self.old.limit }
         ensures calls { C.called self.new.codec ≡ C.called self.old.codec }
-        ensures format { C.format self.new.codec ≡ C.format self.old.codec }
+        ensures same { IsUnchanged C.format self.old self.new }
     {
         let most = self.interval_len();
         fresh.gather_held(most as usize)?;
@@ -66,10 +65,8 @@ impl<C: Codec> Workspace<C> {
         ensures calls { OnOk result (C.called self.new.codec ≡ C.called self.old.codec + 1) }
         ensures rises { RisesAtMost 1 (C.called self.old.codec) (C.called self.new.codec) }
         ensures fault { IfErr result (λ e. e ≡ Memory) }
-        ensures samples { self.new.samples ≡ self.old.samples }
-        ensures limit { self.new.limit ≡ self.old.limit }
         ensures reads { C.read self.new.codec ≡ C.read self.old.codec }
-        ensures format { C.format self.new.codec ≡ C.format self.old.codec }
+        ensures same { IsUnchanged C.format self.old self.new }
     {
         coded.starts.push(coded.bits.len())?;
         self.codec.code(interval, &mut coded.bits)?;
@@ -91,10 +88,8 @@ impl<C: Codec> Workspace<C> {
         ensures calls { OnOk result (C.called self.new.codec ≡ C.called self.old.codec + 1) }
         ensures rises { RisesAtMost 1 (C.called self.old.codec) (C.called self.new.codec) }
         ensures fault { IfErr result (λ e. e ≡ Memory) }
-        ensures samples { self.new.samples ≡ self.old.samples }
-        ensures limit { self.new.limit ≡ self.old.limit }
         ensures reads { C.read self.new.codec ≡ C.read self.old.codec }
-        ensures format { C.format self.new.codec ≡ C.format self.old.codec }
+        ensures same { IsUnchanged C.format self.old self.new }
     {
         let most = self.interval_len() as usize;
         let len = most.min(front.len());
@@ -136,9 +131,7 @@ impl<C: Codec> Workspace<C> {
         ensures reads { RisesAtMost (fresh.old.end - fresh.old.next) (C.read self.old.codec)
             (C.read self.new.codec) }
         ensures fault { IfErr result (λ e. (e ≡ Memory) × (0 < count)) }
-        ensures samples { self.new.samples ≡ self.old.samples }
-        ensures limit { self.new.limit ≡ self.old.limit }
-        ensures format { C.format self.new.codec ≡ C.format self.old.codec }
+        ensures same { IsUnchanged C.format self.old self.new }
     {
         let mut coded = self.take_coded();
         if count == 0 {

@@ -12,6 +12,7 @@ impl<C: Codec> Workspace<C> {
     ghost use Rattle.aec_bits.specs.Codec.{AreHeld};
     ghost use Rattle.aec_edit.specs.Workspace.{interval_count, start_of};
     ghost use Rattle.aec_edit.specs.Calls.{RisesAtMost};
+    ghost use Rattle.aec_edit.specs.Unchanged.{IsOnlyRead};
 
     /// What new memory is asked of.
     pub(crate) fn alloc(&self) -> Global {
@@ -77,11 +78,7 @@ impl<C: Codec> Workspace<C> {
             (drop (i * (C.format self.old.codec).most) self.old.samples)) }
         ensures err { OnErr result (out.new.items ≡ out.old.items) }
         ensures fault { IfErr result (λ e. e ≡ Memory) }
-        ensures samples { self.new.samples ≡ self.old.samples }
-        ensures limit { self.new.limit ≡ self.old.limit }
-        ensures calls { C.called self.new.codec ≡ C.called self.old.codec }
-        ensures reads { RisesAtMost 1 (C.read self.old.codec) (C.read self.new.codec) }
-        ensures format { C.format self.new.codec ≡ C.format self.old.codec }
+        ensures read { IsOnlyRead C.format C.called C.read 1 self.old self.new }
     {
         let start = self.start_at(i);
         let most = self.interval_len();

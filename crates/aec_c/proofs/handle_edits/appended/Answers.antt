@@ -10,6 +10,6 @@ returns-in-Some c =
       answer = c.append-answer.result;
       replied = c.edit_reply.ensures;
       applies = c.append-answer.ensures.applies;
-      limit = c.append-answer.ensures.limit;
-      format = c.append-answer.ensures.format;
+      limit = c.append-answer.ensures.rules.limit;
+      format = c.append-answer.ensures.rules.format;
     })

@@ -10,6 +10,6 @@ returns-in-Some c =
       answer = c.apply-answer.result;
       replied = c.edit_reply.ensures;
       applies = record { answer = c.apply-answer.ensures.answer; samples = c.apply-answer.ensures.samples; opens = c.apply-answer.ensures.reads };
-      limit = c.apply-answer.ensures.limit;
-      format = c.apply-answer.ensures.format;
+      limit = c.apply-answer.ensures.rules.limit;
+      format = c.apply-answer.ensures.rules.format;
     })

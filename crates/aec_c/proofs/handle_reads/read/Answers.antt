@@ -8,6 +8,6 @@ returns-in-Some c =
     let w = c.deref_mut.result.now in let says = c.range-answer.ensures in
     read w (record { workspace = c.range-answer.new.self }) (answer_of (λ v. v.items) c.range-answer.result)
     (was_held _ c.replace.result c.in-Some.work.value w c.replace.ensures.value c.in-Some.ensures c.deref_mut.ensures.value) c.of.ensures
-    (record { samples = says.samples; limit = says.limit; calls = says.calls; format = says.format })
+    (record { samples = says.read.samples; limit = says.read.limit; calls = says.read.calls; format = says.read.format })
     (range_answer w.workspace.samples c.args.first c.args.len (λ v. v.items) c.range-answer.result says.ok says.within says.refuses)
     c.settle_samples.ensures.left c.settle_samples.ensures.reply

@@ -1,6 +1,7 @@
-use Rattle.std.proofs.Common.{◌≡◌, ◌*◌, List, ℤ, length, take, drop, ap, arith}
+use Rattle.std.proofs.Common.{◌≡◌, ◌*◌, List, ℤ, length, take, drop, ap, ◌∙◌, arith}
 use Rattle.aec_bits.specs.Codec.{Format}
 use Rattle.aec_params.proofs.CountLaws.{before_end}
+use Rattle.aec_edit.proofs.CallLemmas.{one_more_read}
 use Rattle.aec_edit.proofs.KeptLemmas.{at_view, no_other, kept_again, begins_for}
 use Rattle.aec_edit.proofs.workspace.Workspace.decode_interval.Goals as goal
 
@@ -42,7 +43,12 @@ returns-clause-ok g c =
     (begins_for f _ c.args.i _ _ (ap (λ w. g.C.Codec.format w.codec) c.self.view_is) (g.C.Codec.lawful c.args.self.now.codec) kept c.requires
     c.start_at-start.ensures (omega arith))
 
-pub returns-clause-samples : goal.returns-clause-samples
-returns-clause-samples g c =
-    no_other _ (g.C.Codec.lawful c.decode.new.self)
-    (kept_again c.self.inside.written c.decode.ensures.same_format (ap (λ w. w.samples) c.self.view_is))
+pub returns-clause-read : goal.returns-clause-read
+returns-clause-read g c = record {
+  samples = no_other _ (g.C.Codec.lawful c.decode.new.self)
+      (kept_again c.self.inside.written c.decode.ensures.same_format (ap (λ w. w.samples) c.self.view_is));
+  limit = ap (λ w. w.limit) c.self.view_is;
+  format = c.decode.ensures.same_format ∙ ap (λ w. g.C.Codec.format w.codec) c.self.view_is;
+  calls = c.decode.ensures.same_calls ∙ ap (λ w. g.C.Codec.called w.codec) c.self.view_is;
+  reads = one_more_read _ _ _ c.decode.ensures.counts (ap (λ w. g.C.Codec.read w.codec) c.self.view_is) c.self.invariant.2;
+}

@@ -14,9 +14,9 @@ loop-i-preserved g c =
     record {
       items = intervals_more f.most c.args.from c.loop-i.i s c.args.out.now.items c.loop-i.out.items _ (g.C.Codec.lawful c.args.self.now.codec).some
           (omega (arith, c.loop-i.auto)) (omega (arith, c.requires.within)) so_far.items grown;
-      samples = done.samples ∙ so_far.samples;
-      limit = done.limit ∙ so_far.limit;
-      calls = done.calls ∙ so_far.calls;
-      reads = record { stays = omega (arith, done.reads.stays, so_far.reads.stays); few = omega (arith, done.reads.few, so_far.reads.few) };
-      format = done.format ∙ so_far.format;
+      samples = done.read.samples ∙ so_far.samples;
+      limit = done.read.limit ∙ so_far.limit;
+      calls = done.read.calls ∙ so_far.calls;
+      reads = record { stays = omega (arith, done.read.reads.stays, so_far.reads.stays); few = omega (arith, done.read.reads.few, so_far.reads.few) };
+      format = done.read.format ∙ so_far.format;
     }

@@ -20,9 +20,9 @@ code_fresh-requires-clause-held g c =
     let seen = c.args.self.now in
     let f : Format = g.C.Codec.format seen.codec in
     let got = c.in_ok-fresh.ensures in
-    held_at f _ _ _ got.format
+    held_at f _ _ _ got.read.format
     (coming_at f _ seen.samples _ (head_of f.most c.args.first seen.samples) _ c.args.values.now _ (tail_of f.most c.args.stop seen.samples) _
-    (div_ceil c.args.stop f.most) _ c.args.to _ got.format got.samples got.front got.values got.back got.next got.end)
+    (div_ceil c.args.stop f.most) _ c.args.to _ got.read.format got.read.samples got.front got.values got.back got.next got.end)
     (all_held f seen.limit c.args.first c.args.stop c.args.to seen.samples c.args.values.now (g.C.Codec.lawful seen.codec)
     c.interval_len-most.ensures.held c.requires)
 
@@ -32,7 +32,7 @@ code_fresh-requires-clause-count g c =
     let f : Format = g.C.Codec.format seen.codec in
     let got = c.in_ok-fresh.ensures in
     let came = coming_at f _ seen.samples _ (head_of f.most c.args.first seen.samples) _ c.args.values.now _ (tail_of f.most c.args.stop seen.samples) _
-    (div_ceil c.args.stop f.most) _ c.args.to _ got.format got.samples got.front got.values got.back got.next got.end in
+    (div_ceil c.args.stop f.most) _ c.args.to _ got.read.format got.read.samples got.front got.values got.back got.next got.end in
     total_is _ f.most _ (length seen.samples) c.args.first c.args.stop c.args.to (length c.args.values.now) _ c.interval_len-most.ensures.value
     c.count.ensures.value c.min.ensures
     ∙ sym (ap length came ∙ all_len f seen.limit c.args.first c.args.stop c.args.to seen.samples c.args.values.now (g.C.Codec.lawful seen.codec)
@@ -47,12 +47,12 @@ returns-in_err-coded-clause-answer g c =
     let most = c.interval_len-most.ensures.value in
     rw p.1
     (want_came (g.C.Codec.format seen.codec) seen.limit c.args.first c.args.stop c.args.to seen.samples c.args.values.now (g.C.Codec.lawful seen.codec)
-    c.interval_len-most.ensures.held c.requires _ (g.C.Codec.called seen.codec) _ _ _ p.0 c.in_ok-fresh.ensures.format
+    c.interval_len-most.ensures.held c.requires _ (g.C.Codec.called seen.codec) _ _ _ p.0 c.in_ok-fresh.ensures.read.format
     (total_is _ _ _ size c.args.first c.args.stop c.args.to len _ most c.count.ensures.value c.min.ensures)
     (calls_is _ _ _ size c.args.first c.args.stop c.args.to len _ _ most c.count.ensures.value c.min.ensures c.div_ceil-needed.ensures)
     (omega arith) (p.2 ∙ c.in_err-coded.ensures.fault.0) c.in_err-coded.ensures.fault.1
-    (omega (arith, c.in_ok-fresh.ensures.calls, c.in_err-coded.ensures.rises.stays))
-    (omega (arith, c.in_ok-fresh.ensures.calls, c.in_err-coded.ensures.rises.few)))
+    (omega (arith, c.in_ok-fresh.ensures.read.calls, c.in_err-coded.ensures.rises.stays))
+    (omega (arith, c.in_ok-fresh.ensures.read.calls, c.in_err-coded.ensures.rises.few)))
 
 pub put-requires : goal.put-requires
 put-requires g c =
@@ -63,8 +63,8 @@ put-requires g c =
     let most = c.interval_len-most.ensures.value in (
       fresh_of f.most seen.samples c.args.first c.args.stop c.args.to c.args.values.now,
       code_came f seen.limit c.args.first c.args.stop c.args.to seen.samples c.args.values.now (g.C.Codec.lawful seen.codec)
-          c.interval_len-most.ensures.held c.requires _ _ _ _ _ _ _ _ _ _ _ _ _ _ got.format coded.format (coded.limit ∙ got.limit) got.samples
-          coded.samples got.front got.values got.back got.next got.end (ap (λ n. c.args.first / n) most) coded.bits coded.starts
+          c.interval_len-most.ensures.held c.requires _ _ _ _ _ _ _ _ _ _ _ _ _ _ got.read.format coded.same.format (coded.same.limit ∙ got.read.limit) got.read.samples
+          coded.same.samples got.front got.values got.back got.next got.end (ap (λ n. c.args.first / n) most) coded.bits coded.starts
           (coded.count ∙ total_is _ f.most _ (length seen.samples) c.args.first c.args.stop c.args.to (length c.args.values.now) _ most
           c.count.ensures.value c.min.ensures),
     )
@@ -79,12 +79,12 @@ returns-in_err-put-clause-answer g c =
     let called = ap g.C.Codec.called c.in_err-put.ensures.codec in
     rw p.1
     (want_came (g.C.Codec.format seen.codec) seen.limit c.args.first c.args.stop c.args.to seen.samples c.args.values.now (g.C.Codec.lawful seen.codec)
-    c.interval_len-most.ensures.held c.requires _ (g.C.Codec.called seen.codec) _ _ _ p.0 c.in_ok-fresh.ensures.format
+    c.interval_len-most.ensures.held c.requires _ (g.C.Codec.called seen.codec) _ _ _ p.0 c.in_ok-fresh.ensures.read.format
     (total_is _ _ _ size c.args.first c.args.stop c.args.to len _ most c.count.ensures.value c.min.ensures)
     (calls_is _ _ _ size c.args.first c.args.stop c.args.to len _ _ most c.count.ensures.value c.min.ensures c.div_ceil-needed.ensures)
     (omega arith) (p.2 ∙ c.in_err-put.ensures.fault.0) (omega (arith, c.in_err-put.ensures.fault.1, c.in_ok-coded.ensures.count))
-    (omega (arith, c.in_ok-fresh.ensures.calls, c.in_ok-coded.ensures.calls, called))
-    (omega (arith, c.in_ok-fresh.ensures.calls, c.in_ok-coded.ensures.calls, called)))
+    (omega (arith, c.in_ok-fresh.ensures.read.calls, c.in_ok-coded.ensures.calls, called))
+    (omega (arith, c.in_ok-fresh.ensures.read.calls, c.in_ok-coded.ensures.calls, called)))
 
 pub returns-clause-ok : goal.returns-clause-ok
 returns-clause-ok g c =
@@ -98,8 +98,8 @@ returns-clause-ok g c =
     ap (λ w. w.samples) c.keep_lists.ensures.same
     ∙ c.in_ok-put.ensures.ok (fresh_of f.most seen.samples c.args.first c.args.stop c.args.to c.args.values.now)
     (code_came f seen.limit c.args.first c.args.stop c.args.to seen.samples c.args.values.now lawful held c.requires _ _ _ _ _ _ _ _ _ _ _ _ _ _
-    got.format coded.format (coded.limit ∙ got.limit) got.samples coded.samples got.front got.values got.back got.next got.end from_is
+    got.read.format coded.same.format (coded.same.limit ∙ got.read.limit) got.read.samples coded.same.samples got.front got.values got.back got.next got.end from_is
     coded.bits coded.starts (coded.count ∙ total_is _ f.most _ (length seen.samples) c.args.first c.args.stop c.args.to (length c.args.values.now) _
     c.interval_len-most.ensures.value c.count.ensures.value c.min.ensures))
-    ∙ put_came f seen.limit c.args.first c.args.stop c.args.to seen.samples c.args.values.now lawful held c.requires _ _ _ (coded.format ∙ got.format)
-    (coded.samples ∙ got.samples) from_is
+    ∙ put_came f seen.limit c.args.first c.args.stop c.args.to seen.samples c.args.values.now lawful held c.requires _ _ _ (coded.same.format ∙ got.read.format)
+    (coded.same.samples ∙ got.read.samples) from_is

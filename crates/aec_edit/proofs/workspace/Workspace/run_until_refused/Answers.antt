@@ -20,8 +20,8 @@ loop-place-preserved g c =
           c.args.edits.now c.loop-place.place _ _ c.loop-place.self.samples _ (g.C.Codec.called c.loop-place.self.codec) _ _ _ so_far.made
           c.loop-place-test.true c.index-edits-place.is (rw (so_far.format, so_far.limit) at c.in_default.ensures.answer)
           c.in_default.ensures.samples (rw (so_far.format, so_far.limit) at c.in_default.ensures.reads);
-      limit = c.in_default.ensures.limit ∙ so_far.limit;
-      format = c.in_default.ensures.format ∙ so_far.format;
+      limit = c.in_default.ensures.rules.limit ∙ so_far.limit;
+      format = c.in_default.ensures.rules.format ∙ so_far.format;
     }
 
 pub returns-clause-run : goal.returns-clause-run

@@ -29,8 +29,8 @@ loop-ahead-preserved g c =
           some (omega (arith, c.calls.ensures)) (omega (arith, c.count.ensures.few, so_far.limit, c.requires.bound, so_far.early.len))
           (subst (λ n. IsInside n e) c.count.ensures.value (c.is_inside.ensures.inside c.if-not-is_inside.false)) c.in_default-apply.ensures.answer
           c.in_default-apply.ensures.samples so_far.early;
-      limit = c.apply.ensures.limit ∙ so_far.limit;
-      format = c.apply.ensures.format ∙ so_far.format;
+      limit = c.apply.ensures.rules.limit ∙ so_far.limit;
+      format = c.apply.ensures.rules.format ∙ so_far.format;
       known = c.in_ok-advance.ensures.known;
       ready = c.in_ok-advance.ensures.ready;
     }

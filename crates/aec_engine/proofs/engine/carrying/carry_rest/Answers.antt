@@ -21,8 +21,8 @@ loop-ahead-preserved g c =
           (ap (λ next. with_next next (behind c.loop-ahead.ahead)) c.in-Some.is
           ∙ ap (listed c.in-Some.next.line (change e)) (sym c.in_ok-advance.ensures.ok))
           c.in_default-apply.ensures.answer c.in_default-apply.ensures.samples so_far.leads;
-      limit = c.apply.ensures.limit ∙ so_far.limit;
-      format = c.apply.ensures.format ∙ so_far.format;
+      limit = c.apply.ensures.rules.limit ∙ so_far.limit;
+      format = c.apply.ensures.rules.format ∙ so_far.format;
       known = c.in_ok-advance.ensures.known;
       ready = c.in_ok-advance.ensures.ready;
     }

@@ -48,7 +48,7 @@ returns-in_err-carry_early-clause-refuses g c =
     exit.2 c.in_err-carry_early.ensures.refuses (λ stops xs given.
     loads_stops c.args.reader.now c.loop-workspace.reader c.next.new.self _ _ _ _ _ (left_in c.args.ahead.now) (left_in c.loop-workspace.ahead)
     c.loop-workspace.workspace.samples _ c.deref.result.now c.append.new.self.samples xs _ c.in_err-carry_early.field-0.0 allowed so_far.format
-    (c.append.ensures.format ∙ so_far.format) (c.append.ensures.limit ∙ so_far.limit)
+    (c.append.ensures.rules.format ∙ so_far.format) (c.append.ensures.rules.limit ∙ so_far.limit)
     (subst (λ f. 0 < f.most) so_far.format (g.C.Codec.lawful c.loop-workspace.workspace.codec).some)
     c.requires.within (subst (λ n. n ≤ 2 ^ 32) c.requires.limit c.requires.bound) so_far.loads (c.in_ok-next.ensures.read c.if-branch.true)
     c.next.ensures.ends c.deref.ensures.value c.in_ok-append.ensures.applies.samples stops given)
@@ -61,12 +61,12 @@ loop-workspace-preserved g c =
       loads = loads_more c.args.reader.now c.loop-workspace.reader c.next.new.self _ _ _ _ _ _ (left_in c.args.ahead.now) (left_in c.loop-workspace.ahead)
           (left_in c.carry_early.new.ahead) c.loop-workspace.workspace.samples _ c.deref.result.now c.append.new.self.samples
           c.carry_early.new.workspace.samples _ _ _ _
-          (subst IsAllowed (sym c.requires.settings) c.interval_len-len.ensures.allowed) so_far.format (c.append.ensures.format ∙ so_far.format)
-          (c.append.ensures.limit ∙ so_far.limit) (c.requires.format ∙ ap interval_format (sym c.requires.settings)) so_far.loads
+          (subst IsAllowed (sym c.requires.settings) c.interval_len-len.ensures.allowed) so_far.format (c.append.ensures.rules.format ∙ so_far.format)
+          (c.append.ensures.rules.limit ∙ so_far.limit) (c.requires.format ∙ ap interval_format (sym c.requires.settings)) so_far.loads
           (c.in_ok-next.ensures.read c.if-branch.true) c.next.ensures.few c.next.ensures.ends (g.C.Codec.lawful c.loop-workspace.workspace.codec).some
           c.deref.ensures.value made.samples made.answer c.in_ok-carry_early.ensures.ok;
-      limit = c.carry_early.ensures.limit ∙ c.append.ensures.limit ∙ so_far.limit;
-      format = c.carry_early.ensures.format ∙ c.append.ensures.format ∙ so_far.format;
+      limit = c.carry_early.ensures.limit ∙ c.append.ensures.rules.limit ∙ so_far.limit;
+      format = c.carry_early.ensures.format ∙ c.append.ensures.rules.format ∙ so_far.format;
       known = c.in_ok-carry_early.ensures.known;
       ready = c.in_ok-carry_early.ensures.ready;
     }

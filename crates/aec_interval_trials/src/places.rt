@@ -1,7 +1,7 @@
 //! The way back to where an interval begins.
 
-use super::streams::MOST;
 use crate::asserts::same;
+use crate::streams::MOST;
 use aec_bits::BitBuf;
 use aec_interval::StreamReader;
 use aec_params::{Fault, Params, Settings};

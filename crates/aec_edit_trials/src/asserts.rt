@@ -34,8 +34,3 @@ pub(crate) fn holds_at<C: Debug>(rt: &impl Abort, condition: bool, case: &C)
 {
     assert!(rt; condition, "at {case:?}");
 }
-
-/// Fails, and shows what came.
-pub(crate) fn fails<C: Debug>(rt: &impl Abort, what: &C) {
-    assert!(rt; false, "{what:?}");
-}

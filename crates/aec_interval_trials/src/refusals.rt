@@ -1,7 +1,7 @@
 //! Bytes that are refused, and the bit at which.
 
-use super::streams::{MOST, expect_refusal, expect_zeros};
 use crate::settings::{unprocessed, with_interval};
+use crate::streams::{MOST, expect_refusal, expect_zeros};
 use aec_params::{Fault, Settings};
 use std::test::Fail;
 

@@ -1,7 +1,7 @@
 //! Bytes read as samples.
 
-use super::streams::{expect_read, expect_zeros};
 use crate::settings::{even_blocks, padded, unprocessed, with_interval};
+use crate::streams::{expect_read, expect_zeros};
 use aec_params::Settings;
 use std::test::Fail;
 

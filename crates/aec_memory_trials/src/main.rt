@@ -20,7 +20,7 @@ fn main(rt: HostRuntime) -> ExitCode {
     match try_all(&rt) {
         Ok(()) => ExitCode::SUCCESS,
         Err(fault) => {
-            let _ = eprintln!(rt; "aec_calls: {fault}");
+            let _ = eprintln!(rt; "aec_memory_trials: {fault}");
             ExitCode::FAILURE
         }
     }

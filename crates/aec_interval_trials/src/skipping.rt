@@ -1,8 +1,8 @@
 //! Intervals gone over without their samples.
 
-use super::streams::{MOST, next, skip};
 use crate::asserts::{fails, holds, same};
 use crate::settings::padded;
+use crate::streams::{MOST, next, skip};
 use aec_bits::BitBuf;
 use aec_interval::StreamReader;
 use aec_params::{Fault, Params, Settings};

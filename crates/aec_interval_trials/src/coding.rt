@@ -1,8 +1,8 @@
 //! Samples coded, and read back.
 
-use super::streams::expect_code;
 use crate::asserts::{fails, same};
 use crate::settings::even_blocks;
+use crate::streams::expect_code;
 use aec_interval::encode_all;
 use aec_params::{Fault, Params, Settings};
 use std::alloc::Global;

@@ -2,10 +2,10 @@
 
 ghost use Rattle.std.specs.Prelude.{◌<◌, ◌≤◌, length};
 
-use super::streams::MOST;
 use crate::asserts::{holds, same};
 use crate::settings::{unprocessed, width, with_interval};
 use crate::shared::expect_bits;
+use crate::streams::MOST;
 use aec_bits::{BitBuf, WriteSink};
 use aec_interval::{StreamCoder, encode_all};
 use aec_params::{Fault, Params, Settings, read_samples};
