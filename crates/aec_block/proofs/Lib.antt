@@ -1,5 +1,6 @@
 pub mod MappingLemmas
 pub mod ListMappingLemmas
+pub mod MapLaneLemmas
 pub mod NearLemmas
 pub mod NearLaneLemmas
 pub mod LengthLemmas
