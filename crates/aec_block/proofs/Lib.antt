@@ -1,6 +1,5 @@
 pub mod MappingLemmas
 pub mod ListMappingLemmas
-pub mod MapLaneLemmas
 pub mod NearLemmas
 pub mod NearLaneLemmas
 pub mod LengthLemmas

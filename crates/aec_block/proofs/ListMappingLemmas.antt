@@ -9,7 +9,7 @@ use Rattle.aec_params.specs.Params.{IsAllowed, IsHeld, x_min, sample_pattern}
 use Rattle.aec_params.specs.Mapping.{mapped_value, mapped_after}
 use Rattle.aec_params.proofs.ParamsLemmas.{pow-halves, bits-least, values-most}
 use Rattle.aec_params.proofs.ListLaws.{all-append}
-use Rattle.aec_block.specs.Offsets.{sample_offset, top_offset, mapped_offset, mapped_offsets, IsMappedSoFar}
+use Rattle.aec_block.specs.Offsets.{sample_offset, top_offset, mapped_offset, mapped_offsets}
 use Rattle.aec_block.specs.Unmapping.{Unmaps, UnmapsTo}
 use Rattle.aec_block.proofs.MappingLemmas.{mapped_value-offsets, mapped_value-pattern, sample_offset-le, held-offset, held-between, values-some}
 
@@ -102,6 +102,14 @@ mapped_after-offsets s p (x ∷ xs) allowed on held_p held =
     ap₂ (λ v vs. v ∷ vs) (mapped_value-offsets s p x allowed on held_p held.0) (mapped_after-offsets s x xs allowed on held.0 held.1)
 
 -- ---- offsets mapped in their place
+
+-- so far: what is coded for the offsets up to i stands in their place, and p is the last of them
+pub record IsMappedSoFar (top previous p i : ℕ) (old new : List ℕ) : Type 0 where
+  pub behind : drop i new ≡ drop i old
+  pub whole : take i new ++ mapped_offsets top p (drop i old) ≡ mapped_offsets top previous old
+  pub within : p ≤ top
+  pub rest : AllByRecursion (λ x. x ≤ top) (drop i old)
+  pub len : length new ≡ length old
 
 pub is_mapped-none : (top p : ℕ) (values : List ℕ) → p ≤ top → AllByRecursion (λ x. x ≤ top) values → IsMappedSoFar top p p 0 values values
 is_mapped-none top p values within all = record { behind = refl; whole = refl; within = within; rest = all; len = refl }

@@ -1,7 +1,6 @@
 -- What the private functions of `mapping` and `near_values` compute: the mapping on offsets from
 -- the least sample, of which `top` is the greatest.
-use Rattle.std.specs.Prelude.{ℕ, ◌+◌, ◌-◌, ◌*◌, ◌/◌, ◌%◌, ◌^◌, ◌≤◌, ◌==◌, min, ◌&&◌, nat_le, nat_lt, if◌then◌else◌, ℤ, ◌-ℤ◌, unsigned_abs, ⊤, List, [], ◌∷◌, ◌++◌, ◌≡◌, length, take, drop}
-use Rattle.std.specs.List.{AllByRecursion}
+use Rattle.std.specs.Prelude.{ℕ, ◌+◌, ◌-◌, ◌*◌, ◌/◌, ◌%◌, ◌^◌, ◌≤◌, ◌==◌, min, ◌&&◌, nat_le, nat_lt, if◌then◌else◌, ℤ, ◌-ℤ◌, unsigned_abs, ⊤, List, [], ◌∷◌}
 use Rattle.aec_params.specs.declared.settings.Settings.{Settings}
 use Rattle.aec_params.specs.Params.{x_min}
 
@@ -43,19 +42,3 @@ near_difference m = if m % 2 == 0 then m / 2 else 2 ^ 32 - (m / 2 + 1)
 abbrev pub AreNear : ℕ → ℕ → List ℕ → Type 0
 AreNear top p [] = ⊤
 AreNear top p (m ∷ ms) = (m ≤ 2 * offset_room top p) × AreNear top (near_offset p m) ms
-
--- how far two offsets lie apart
-abbrev pub distance : ℕ → ℕ → ℕ
-distance p x = (p - x) + (x - p)
-
--- 1 for an offset below the prediction p
-abbrev pub below : ℕ → ℕ → ℕ
-below p x = min (p - x) 1
-
--- so far: what is coded for the offsets up to i stands in their place, and p is the last of them
-pub record IsMappedSoFar (top previous p i : ℕ) (old new : List ℕ) : Type 0 where
-  pub behind : drop i new ≡ drop i old
-  pub whole : take i new ++ mapped_offsets top p (drop i old) ≡ mapped_offsets top previous old
-  pub within : p ≤ top
-  pub rest : AllByRecursion (λ x. x ≤ top) (drop i old)
-  pub len : length new ≡ length old

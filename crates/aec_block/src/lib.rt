@@ -13,7 +13,6 @@ mod lengths;
 mod low_words;
 mod mapped_blocks;
 mod mapping;
-mod mapping_lanes;
 mod near_values;
 mod reading;
 mod reading_blocks;

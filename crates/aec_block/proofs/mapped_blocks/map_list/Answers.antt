@@ -1,6 +1,6 @@
 use Rattle.std.proofs.Common.{sym, ◌∙◌}
 use Rattle.aec_block.proofs.ListMappingLemmas.{mapped_after-patterns}
-use Rattle.aec_block.proofs.mapped_blocks.map_each_way.Goals as goal
+use Rattle.aec_block.proofs.mapped_blocks.map_list.Goals as goal
 
 pub returns-else-preprocess : goal.returns-else-preprocess
 returns-else-preprocess c =
