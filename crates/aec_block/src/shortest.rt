@@ -15,7 +15,7 @@ use aec_params::{Fault, Params};
 
 /// Appends the shortest coded data set of a block whose values behind the reference place are given
 /// too. `Memory` where a growth was refused.
-#[inline(always)]
+#[inline(never)]
 fn write_chosen(
     params: &Params,
     block: &Block,
@@ -36,7 +36,9 @@ fn write_chosen(
     write_values(params, block, values, choice, out)
 }
 
-/// The same of `N` values, compiled for that number.
+/// The same of `N` values, compiled for that number: by no call of `write_chosen`, into which too
+/// much is inlined for it to be inlined in turn.
+#[inline(never)]
 fn write_known<const N: usize>(
     params: &Params,
     block: &Block,
@@ -54,7 +56,9 @@ fn write_known<const N: usize>(
     ensures full { OnErr result (out.old.room < length (shortest_bits params.now block.now)) }
     ensures fault { IfErr result (λ e. e ≡ Memory) }
 {
-    write_chosen(params, block, &values[..N], out)
+    let values = &values[..N];
+    let choice = choose_among(params, block, values);
+    write_values(params, block, values, choice, out)
 }
 
 /// Appends the shortest coded data set of a block that is in no run: what `write_block` does by the

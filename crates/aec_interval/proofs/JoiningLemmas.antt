@@ -3,7 +3,7 @@ use Rattle.std.proofs.Common.{w64, to_z, of_z, ◌≡◌, ℕ, zero, suc, ◌+�
 use Rattle.std.specs.Prelude.{Result, Ok, Err}
 use Rattle.std.specs.Prelude.{min}
 use Rattle.std.specs.Result.{result_err}
-use Rattle.std.proofs.Math.Nat.{mul_comm, mul-sub, div-eq_of_eq-mul_left, mul-le-mul, mul-le-mul_right}
+use Rattle.std.proofs.Math.Nat.{mod_self, mul_comm, mul-sub, div-eq_of_eq-mul_left, mul-le-mul, mul-le-mul_right}
 use Rattle.std.proofs.lemmas.Bool.{cases_lt}
 use Rattle.std.proofs.lemmas.List.{length-append, length-take, nil_from_length, take-append-drop}
 use Rattle.std.proofs.lemmas.Nat.{div-add-mod', mod_below}
@@ -23,7 +23,7 @@ use Rattle.aec_interval.specs.IntervalFormat.{interval_format}
 use Rattle.aec_interval.specs.Taking.{Taken, none_taken, judged_sample, taken_before, taken_groups}
 use Rattle.aec_interval.proofs.TakingLemmas.{all_taken, good_of, taken_groups-good, length-samples_of_bytes}
 use Rattle.aec_interval.specs.Feeding.{Coding, whole_front, left_behind, taken_of, samples_with, fed, Feeds, StopsFeeding, refused, no_memory}
-use Rattle.aec_interval.specs.Progress.{ArePart, IsProgress, CompletesRest, coding_at}
+use Rattle.aec_interval.specs.Progress.{ArePart, IsProgress, IsFewOrWhole, CompletesRest, coding_at}
 use Rattle.aec_interval.specs.declared.joining.Progress.{Progress}
 use Rattle.aec_interval.specs.declared.joining.Terms.{Terms}
 use Rattle.aec_interval.proofs.IntervalFormatLemmas.{interval_len-most}
@@ -42,19 +42,28 @@ no_bits s bits held a few =
     sym (append-nil bits)
     ∙ ap (λ l. bits ++ l) (sym (ap (stream_of s) (whole_front-few (interval_len s) held few) ∙ stream_of-none s a))
 
--- they are an interval's
-pub none_held : (s : Settings) (held : List ℤ) → IsAllowed s → length held ≡ interval_len s → [] ≡ left_behind (interval_len s) held
-none_held s held a full =
-    let n : length held ≡ 1 * interval_len s = omega arith in
-    sym (left_behind-none (interval_len s) 1 held (interval_len-positive s a) n)
+-- they are those of whole intervals
+whole_count : (n m : ℕ) → n ≤ m → IsFewOrWhole n m → m ≡ m / n * n
+whole_count n m most (inl few) = absurd (omega arith)
+whole_count n m most (inr whole) = omega (arith, whole, div-add-mod' m n)
 
-pub complete_bits : (s : Settings) (bits : List Bool) (held xs : List ℤ) → IsAllowed s → xs ≡ held → length held ≡ interval_len s
-    → bits ++ interval_bits s xs ≡ bits ++ stream_of s (whole_front (interval_len s) held)
-complete_bits s bits held xs a same full =
-    let n : length held ≡ 1 * interval_len s = omega arith in
-    ap (λ l. bits ++ interval_bits s l) same
-    ∙ ap (λ l. bits ++ l) (sym (ap (stream_of s) (whole_front-all (interval_len s) 1 held (interval_len-positive s a) n)
-    ∙ code_of_interval (interval_format s) held (omega (arith, n, interval_len-positive s a)) (omega (arith, n))))
+pub none_held : (s : Settings) (held : List ℤ) → IsAllowed s → interval_len s ≤ length held → IsFewOrWhole (interval_len s) (length held)
+    → [] ≡ left_behind (interval_len s) held
+none_held s held a most whole =
+    sym (left_behind-none (interval_len s) (length held / interval_len s) held (interval_len-positive s a) (whole_count (interval_len s) (length held) most whole))
+
+pub complete_bits : (s : Settings) (bits : List Bool) (held xs : List ℤ) → IsAllowed s → xs ≡ held → interval_len s ≤ length held
+    → IsFewOrWhole (interval_len s) (length held) → bits ++ stream_of s xs ≡ bits ++ stream_of s (whole_front (interval_len s) held)
+complete_bits s bits held xs a same most whole =
+    ap (λ l. bits ++ stream_of s l) (same ∙ sym (whole_front-all (interval_len s) (length held / interval_len s) held (interval_len-positive s a)
+    (whole_count (interval_len s) (length held) most whole)))
+
+-- one sample more than fewer than an interval has
+pub one_more-whole : (n : ℕ) (held more : List ℤ) (x : ℤ) → more ≡ held ++ x ∷ [] → length held < n → IsFewOrWhole n (length more)
+one_more-whole n held more x e few = elim (cases_lt (length more) n) [
+  | inl less ↦ inl less
+  | inr most ↦ inr (ap (λ k. k % n) (omega (arith, most, few, ap length e, length-append held (x ∷ []))) ∙ mod_self n)
+]
 
 -- ---- the bytes of one sample
 
@@ -217,44 +226,6 @@ joined-more c d e bytes left g later n b0 b1 b2 a h cut whole feeds =
       whole = omega (arith, ap length cut, length-append g later, whole, h.whole, sub-mul h.samples n (storage_len c.settings));
       feeds = feeds_both c d e h.front g b0 b1 b2 a h.feeds feeds;
     }
-
--- as many bytes as the interval has places for
-some_samples : (n w size : ℕ) → size ≡ n * w → 0 < size → 0 < n
-some_samples zero w size e some = absurd (omega arith)
-some_samples (suc n) w size e some = omega arith
-
--- the bytes of an interval's samples are few
-pub few_bytes : (s : Settings) (len held storage : ℕ) → IsAllowed s → len ≡ interval_len s → storage ≡ storage_len s
-    → (len - held) * storage < 18446744073709551616
-few_bytes s len held storage allowed is_len is_storage =
-    let places : len - held ≤ 262144 = omega (arith, interval_len-most s allowed) in
-    let bytes : storage ≤ 4 = omega (arith, storage-most s allowed) in
-    omega (arith, mul-le-mul places bytes)
-
-pub places_part : (s : Settings) (held : List ℤ) (bytes : List ℕ) (places w size : ℕ) → length bytes % storage_len s ≡ 0 → 0 < length bytes
-    → w ≡ storage_len s → 0 < places → length held + places ≤ interval_len s → size ≡ min (length bytes) (places * w) → ArePart s held (take size bytes)
-places_part s held bytes places w size whole some width free within is = by_count (length bytes / storage_len s) all
-  where
-    all : length bytes ≡ length bytes / storage_len s * storage_len s
-    all = omega (arith, whole, div-add-mod' (length bytes) (storage_len s))
-
-    wide : places * w ≡ places * storage_len s
-    wide = ap (λ w. places * w) width
-
-    by_count : (n : ℕ) → length bytes ≡ n * storage_len s → ArePart s held (take size bytes)
-    by_count n all = elim (cases_lt n places) [
-      | inl few ↦
-          let less = mul-le-mul_right {m = n} {n = places} (storage_len s) (omega (arith, few)) in
-          record {
-            samples = n;
-            whole = omega (arith, length-take size bytes, is, all, less, wide);
-            some = some_samples n (storage_len s) (length bytes) all some;
-            places = omega (arith, few, within);
-          }
-      | inr most ↦
-          let less = mul-le-mul_right {m = places} {n = n} (storage_len s) (omega (arith, most)) in
-          record { samples = places; whole = omega (arith, length-take size bytes, is, all, less, wide); some = free; places = within }
-    ]
 
 -- nothing is left
 pub joined-end : (c d : Coding) (bytes left : List ℕ) (b0 b1 : List Bool) → JoinedSoFar c bytes left b0 b1 d → length left < storage_len c.settings

@@ -1,5 +1,5 @@
 -- The loops over all samples: the first that is none, and interval upon interval.
-use Rattle.std.proofs.Common.{◌≡◌, ℕ, ◌+◌, ◌<◌, Bool, true, false, IsTrue, Some, None, ℤ, List, [], ◌∷◌, ◌++◌, length, sym, ap, ◌∙◌, subst, rules}
+use Rattle.std.proofs.Common.{◌≡◌, ℕ, ◌+◌, ◌<◌, Bool, true, false, IsTrue, Some, None, ℤ, List, [], ◌∷◌, ◌++◌, length, refl, sym, ap, ◌∙◌, subst, rules}
 use Rattle.std.specs.Prelude.{if◌then◌else◌}
 use Rattle.std.specs.List.{AllByRecursion, flat_map}
 use Rattle.std.proofs.lemmas.List.{append_assoc, append-nil}
@@ -46,8 +46,8 @@ pub record StreamSoFar (s : Settings) (new whole : List Bool) (rest : List ℤ) 
   pub held : AllByRecursion (IsHeld s) rest
   pub bits : new ++ stream_of s rest ≡ whole
 
-pub stream-begun : (s : Settings) (new : List Bool) (v : List ℤ) → AllByRecursion (IsHeld s) v → new ≡ [] → StreamSoFar s new (stream_of s v) v
-stream-begun s new v h e = record { held = h; bits = ap (λ l. l ++ stream_of s v) e }
+pub stream-begun : (s : Settings) (old : List Bool) (v : List ℤ) → AllByRecursion (IsHeld s) v → StreamSoFar s old (old ++ stream_of s v) v
+stream-begun s old v h = record { held = h; bits = refl }
 
 pub interval_samples : (s : Settings) (new whole : List Bool) (rest front later : List ℤ) → StreamSoFar s new whole rest → rest ≡ front ++ later
     → IsPieceBefore (interval_len s) front later → AreOfInterval s front

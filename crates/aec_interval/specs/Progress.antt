@@ -1,6 +1,6 @@
 -- What the private functions of `joining` keep: a coder that was not refused anything, by its
 -- parts.
-use Rattle.std.specs.Prelude.{◌≡◌, ℕ, ◌+◌, ◌*◌, ◌<◌, ◌≤◌, Bool, Option, None, Result, MatchResult, ℤ, List, [], ◌++◌, length}
+use Rattle.std.specs.Prelude.{◌≡◌, ℕ, ◌+◌, ◌*◌, ◌%◌, ◌<◌, ◌≤◌, ◌⊎◌, Bool, Option, None, Result, MatchResult, ℤ, List, [], ◌++◌, length}
 use Rattle.std.specs.List.{AllByRecursion}
 use Rattle.aec_params.specs.declared.settings.Settings.{Settings}
 use Rattle.aec_params.specs.declared.fault.Fault.{Fault}
@@ -33,12 +33,17 @@ pub record IsProgress (terms : Terms) (progress : Progress) : Type 0 where
   pub held : AreHeldFew terms.params progress.held.items
   pub within : progress.count ≤ terms.limit
 
--- bytes of whole samples, at least one, for which the interval has places
+-- so many samples are fewer than an interval has, or those of whole intervals
+abbrev pub IsFewOrWhole : ℕ → ℕ → Type 0
+IsFewOrWhole interval count = (count < interval) ⊎ (count % interval ≡ 0)
+
+-- bytes of whole samples, at least one, which with those that are held are fewer than an interval
+-- has, or those of whole intervals
 pub record ArePart (s : Settings) (held : List ℤ) (bytes : List ℕ) : Type 0 where
   pub samples : ℕ
   pub whole : length bytes ≡ samples * storage_len s
   pub some : 0 < samples
-  pub places : length held + samples ≤ interval_len s
+  pub fills : IsFewOrWhole (interval_len s) (length held + samples)
 
 -- the answer to a piece: it is taken, and the coder is d then, or it is refused
 abbrev pub AnswersPiece : {X : Type 0} → Coding → List ℕ → List Bool → Result X Fault → Coding → List Bool → Type 0

@@ -2,6 +2,9 @@
 
 ghost use Rattle.std.specs.Prelude.{◌≡◌, ◌++◌, None, OnOk, OnErr, IfErr};
 ghost use Rattle.aec_params.specs.declared.fault.Fault.TheVariants.{Memory};
+ghost use Rattle.std.specs.List.{AllByRecursion};
+ghost use Rattle.aec_params.specs.Params.{IsAllowed, IsHeld};
+ghost use Rattle.aec_params.specs.Streams.{stream_of};
 ghost use Rattle.aec_params.specs.Runs.{segment_len};
 ghost use Rattle.aec_params.specs.Intervals.{unpadded_bits, interval_bits};
 ghost use Rattle.aec_interval.specs.Laws.{AreOfInterval};
@@ -89,28 +92,49 @@ pub(crate) fn write_interval(
     Ok(())
 }
 
-/// Appends the code of an interval, by way of a block that the caller keeps. `Memory` where a
-/// growth was refused; the bits are then as before.
-pub(crate) fn append_interval_in(
+/// Appends the code of samples, interval by interval. `Memory` where a growth was refused; the bits
+/// from before are then still in front.
+pub(crate) fn write_intervals(
     params: &Params,
     samples: &[i64],
     block: &mut Block,
     out: &mut BitBuf,
 ) -> Result<(), Fault>
-    requires { AreOfInterval params.now samples.now }
-    ensures ok { OnOk result (out.new.list ≡ out.old.list ++ interval_bits params.now samples.now) }
+    requires { AllByRecursion (IsHeld params.now) samples.now }
+    ensures ok { OnOk result (out.new.list ≡ out.old.list ++ stream_of params.now samples.now) }
+    ensures allowed { IsAllowed params.now }
+    ensures kept { IsKept out.old.list out.new.list }
+    ensures fault { IfErr result (λ e. e ≡ Memory) }
+{
+    for interval in samples.chunks(params.interval_len() as usize) {
+        write_interval(params, interval, block, out)?;
+    }
+    Ok(())
+}
+
+/// Appends the code of samples, interval by interval, by way of a block that the caller keeps.
+/// `Memory` where a growth was refused; the bits are then as before.
+pub(crate) fn append_intervals_in(
+    params: &Params,
+    samples: &[i64],
+    block: &mut Block,
+    out: &mut BitBuf,
+) -> Result<(), Fault>
+    requires { AllByRecursion (IsHeld params.now) samples.now }
+    ensures ok { OnOk result (out.new.list ≡ out.old.list ++ stream_of params.now samples.now) }
     ensures err { OnErr result (out.new.list ≡ out.old.list) }
     ensures fault { IfErr result (λ e. e ≡ Memory) }
 {
     let start = out.len();
-    let written = write_interval(params, samples, block, out);
+    let written = write_intervals(params, samples, block, out);
     if written.is_err() {
         out.truncate(start);
     }
     written
 }
 
-/// The same, where none is kept.
+/// Appends the code of an interval. `Memory` where a growth was refused; the bits are then as
+/// before.
 pub(crate) fn append_interval(
     alloc: Global,
     params: &Params,
@@ -122,5 +146,5 @@ pub(crate) fn append_interval(
     ensures err { OnErr result (out.new.list ≡ out.old.list) }
     ensures fault { IfErr result (λ e. e ≡ Memory) }
 {
-    append_interval_in(params, samples, &mut Block::new(alloc, None), out)
+    append_intervals_in(params, samples, &mut Block::new(alloc, None), out)
 }

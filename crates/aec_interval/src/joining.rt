@@ -1,6 +1,6 @@
 //! Stored samples joined to those of an interval that is not complete, which is coded once it is.
 
-ghost use Rattle.std.specs.Prelude.{◌≡◌, ◌+◌, ◌-◌, ◌*◌, ◌<◌, ◌≤◌, ◌%◌, ◌/◌, [], ◌∷◌, ◌++◌, None, length, take, min, OnOk, OnErr, IfOk, IfErr};
+ghost use Rattle.std.specs.Prelude.{◌≡◌, ◌+◌, ◌-◌, ◌*◌, ◌<◌, ◌≤◌, ◌%◌, ◌/◌, [], ◌∷◌, ◌++◌, None, length, take, OnOk, OnErr, IfOk, IfErr};
 ghost use Rattle.aec_params.specs.declared.fault.Fault.TheVariants.{Memory};
 ghost use Rattle.std.specs.List.{AllByRecursion};
 ghost use Rattle.std.specs.Result.{result_err};
@@ -9,14 +9,17 @@ ghost use Rattle.aec_params.specs.Stored.{samples_of_bytes};
 ghost use Rattle.aec_params.specs.Streams.{stream_of};
 ghost use Rattle.aec_interval.specs.Taking.{judged_sample};
 ghost use Rattle.aec_interval.specs.Feeding.{StopsFeeding, whole_front, left_behind};
-ghost use Rattle.aec_interval.specs.Progress.{IsProgress, AreHeldFew, ArePart, AnswersPiece, Joins, CompletesRest, coding_at};
+ghost use Rattle.aec_interval.specs.Progress.{IsProgress, AreHeldFew, ArePart, AnswersPiece, Joins, CompletesRest, IsFewOrWhole, coding_at};
 
-use crate::interval::append_interval_in;
+use crate::interval::append_intervals_in;
 use crate::rest::Rest;
 use aec_bits::BitBuf;
 use aec_block::Block;
 use aec_params::{Fault, Params, append_samples, first_bad, sample_of};
 use std::alloc::Global;
+
+/// The most samples that are joined at once, where an interval has no more.
+const MOST_AT_ONCE: usize = 4096;
 
 /// What samples are joined under: how they are coded, and how many of them there may be.
 #[derive(Debug, Drop)]
@@ -35,8 +38,8 @@ pub(crate) struct Progress {
     pub(crate) block: Block,
 }
 
-/// Appends the code of the samples that are held once they are an interval's, and then none are
-/// held. `Memory` where a growth was refused; nothing is appended then.
+/// Appends the code of the samples that are held once they are those of whole intervals, and then
+/// none are held. `Memory` where a growth was refused; nothing is appended then.
 fn code_complete(
     terms: &Terms,
     held: &mut Vec<i64>,
@@ -44,7 +47,7 @@ fn code_complete(
     out: &mut BitBuf,
 ) -> Result<(), Fault>
     requires samples { AllByRecursion (IsHeld terms.now.params) held.old.items }
-    requires most { length held.old.items ≤ interval_len terms.now.params }
+    requires whole { IsFewOrWhole (interval_len terms.now.params) (length held.old.items) }
     ensures ok { OnOk result
         (held.new.items ≡ left_behind (interval_len terms.now.params) held.old.items) }
     ensures bits { OnOk result (out.new.list ≡ out.old.list ++ stream_of terms.now.params
@@ -56,7 +59,7 @@ fn code_complete(
     if (held.len() as u64) < terms.params.interval_len() {
         return Ok(());
     }
-    let coded = append_interval_in(&terms.params, held, block, out);
+    let coded = append_intervals_in(&terms.params, held, block, out);
     held.clear();
     coded
 }
@@ -131,8 +134,8 @@ fn join_each(
     Ok(())
 }
 
-/// Takes the bytes of some samples, no more than the interval has places, of which none is refused.
-/// `Memory` where a growth was refused.
+/// Takes the bytes of some samples, no more than the interval has places or those of whole
+/// intervals, of which none is refused. `Memory` where a growth was refused.
 fn join_good(
     terms: &Terms,
     progress: &mut Progress,
@@ -154,8 +157,8 @@ fn join_good(
     Ok(())
 }
 
-/// Takes the bytes of some samples, no more than the interval has places: at once where none is
-/// refused, else up to the first that is.
+/// Takes the bytes of some samples, no more than the interval has places or those of whole
+/// intervals: at once where none is refused, else up to the first that is.
 fn join_part(
     terms: &Terms,
     progress: &mut Progress,
@@ -176,18 +179,37 @@ fn join_part(
     }
 }
 
-/// How many of the bytes of whole samples, at least one, the interval has places for.
+/// How many samples are joined at once to those that are held: as many as the interval has places
+/// for; where none are held, those of as many whole intervals as are there, up to some thousand
+/// samples and at least one interval.
+fn part_samples(interval: usize, held: usize, samples: usize) -> usize
+    requires few { held < interval }
+    requires some { 0 < samples }
+    ensures some { 0 < result }
+    ensures there { result ≤ samples }
+    ensures whole { IsFewOrWhole interval (held + result) }
+{
+    if samples <= interval - held {
+        return samples;
+    }
+    if held > 0 {
+        return interval - held;
+    }
+    let most = samples.min(MOST_AT_ONCE.max(interval));
+    most - most % interval
+}
+
+/// How many of the bytes of whole samples, at least one, are joined at once.
 fn part_len(terms: &Terms, progress: &Progress, bytes: &[u8]) -> usize
     requires few { length progress.now.held.items < interval_len terms.now.params }
     requires whole { length bytes.now % storage_len terms.now.params ≡ 0 }
     requires some { 0 < length bytes.now }
-    ensures value { result ≡ min (length bytes.now)
-        ((interval_len terms.now.params - length progress.now.held.items)
-        * storage_len terms.now.params) }
+    ensures within { result ≤ length bytes.now }
     ensures part { ArePart terms.now.params progress.now.held.items (take result bytes.now) }
 {
-    let places = terms.params.interval_len() as usize - progress.held.len();
-    bytes.len().min(places * terms.params.storage())
+    let width = terms.params.storage();
+    let interval = terms.params.interval_len() as usize;
+    part_samples(interval, progress.held.len(), bytes.len() / width) * width
 }
 
 /// Takes the bytes of whole samples, up to the first that is refused.

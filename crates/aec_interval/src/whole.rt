@@ -10,7 +10,7 @@ ghost use Rattle.aec_params.specs.Streams.{stream_of};
 ghost use Rattle.aec_bits.specs.Refusals.{first_unheld};
 ghost use Rattle.aec_interval.specs.Laws.{ReadsEach};
 
-use crate::interval::write_interval;
+use crate::interval::write_intervals;
 use aec_bits::BitBuf;
 use aec_block::Block;
 use aec_params::{Fault, Params};
@@ -37,9 +37,7 @@ fn code_intervals(alloc: Global, params: &Params, samples: &[i64]) -> Result<Bit
 {
     let mut out = BitBuf::new(alloc);
     let mut block = Block::new(alloc, None);
-    for interval in samples.chunks(params.interval_len() as usize) {
-        write_interval(params, interval, &mut block, &mut out)?;
-    }
+    write_intervals(params, samples, &mut block, &mut out)?;
     Ok(out)
 }
 

@@ -17,15 +17,15 @@ returns-then-len-interval_len-clause-bits c =
 
 pub returns-clause-ok : goal.returns-clause-ok
 returns-clause-ok c =
-    on_ok_weaker c.append_interval_in-coded.result
+    on_ok_weaker c.append_intervals_in-coded.result
     (λ _. c.clear.ensures.items ∙ none_held c.args.terms.now.params c.args.held.now.items c.interval_len.ensures.allowed
-    (omega (arith, c.if-len-interval_len.false, c.len.ensures, c.interval_len.ensures.value, c.requires.most)))
-    c.append_interval_in-coded.ensures.ok
+    (omega (arith, c.if-len-interval_len.false, c.len.ensures, c.interval_len.ensures.value)) c.requires.whole)
+    c.append_intervals_in-coded.ensures.ok
 
 pub returns-clause-bits : goal.returns-clause-bits
 returns-clause-bits c =
-    on_ok_weaker c.append_interval_in-coded.result
+    on_ok_weaker c.append_intervals_in-coded.result
     (λ e. e ∙ complete_bits c.args.terms.now.params c.args.out.now.list c.args.held.now.items c.deref.result.now c.interval_len.ensures.allowed
     c.deref.ensures.value
-    (omega (arith, c.if-len-interval_len.false, c.len.ensures, c.interval_len.ensures.value, c.requires.most)))
-    c.append_interval_in-coded.ensures.ok
+    (omega (arith, c.if-len-interval_len.false, c.len.ensures, c.interval_len.ensures.value)) c.requires.whole)
+    c.append_intervals_in-coded.ensures.ok

@@ -1,9 +1,9 @@
 use Rattle.std.proofs.Common.{arith, ◌<◌, min, length, ap, ◌∙◌}
 use Rattle.std.specs.Slice.Iter.{chunks_rest}
 use Rattle.aec_params.specs.Params.{interval_len}
-use Rattle.aec_interval.proofs.SegmentLemmas.{piece_taken}
+use Rattle.aec_interval.proofs.SegmentLemmas.{piece_taken, kept-trans}
 use Rattle.aec_interval.proofs.WholeLemmas.{interval_samples, stream-more}
-use Rattle.aec_interval.proofs.whole.code_intervals.Goals as goal
+use Rattle.aec_interval.proofs.interval.write_intervals.Goals as goal
 
 pub write_interval-requires : goal.write_interval-requires
 write_interval-requires c =
@@ -26,4 +26,5 @@ loop-interval-preserved c =
       is_finite = tt;
       size = steps.0 ∙ size;
       so_far = stream-more c.args.params.now _ _ _ _ _ _ c.loop-interval.invariant.so_far steps.1.0 piece c.in_ok-write_interval.ensures.ok;
+      kept = kept-trans _ _ _ c.loop-interval.invariant.kept c.in_ok-write_interval.ensures.kept;
     }
