@@ -18,5 +18,6 @@ pub mod ByteLemmas
 pub mod LaneLemmas
 pub mod RunLemmas
 pub mod WindowLemmas
+pub mod GroupLemmas
 pub mod OnesLemmas
 pub mod EightLemmas

@@ -113,7 +113,7 @@ ones_among-binary (suc w) v =
     ∙ ap (λ k. k + count_ones low) (sym (count_ones-bit bit small))
     ∙ sym (ap count_ones parts ∙ ones_cat w bit low (mod_below v (2 ^ w) (pow_pos w)))
 
-ones_among-whole : (w v : ℕ) → v < 2 ^ w → ones_among (binary w v) ≡ count_ones v
+pub ones_among-whole : (w v : ℕ) → v < 2 ^ w → ones_among (binary w v) ≡ count_ones v
 ones_among-whole w v fits = ones_among-binary w v ∙ ap count_ones (mod-eq_of_lt fits)
 
 -- the halves of a number

@@ -4,6 +4,7 @@ use Rattle.std.specs.Prelude.{bit_and, bit_or}
 use lib.Bits.{bit_xor, xor_add_and}
 use lib.Count.{count_leading_zeros}
 use Rattle.std.proofs.lemmas.Bool.{cases_lt}
+use Rattle.std.specs.Int.Bits.{or_add_and}
 use Rattle.std.proofs.lemmas.Nat.{shr-shr, shr_high, mod_low, and_mask, one_shl, leading_top}
 use Rattle.std.proofs.lemmas.Nat.Bits.{and_high_mask}
 use Rattle.std.proofs.lemmas.List.{take_at, drop_at, take-append-drop, take-append-le, drop-append-le, drop-drop, drop-take, take-take, take-replicate, length-replicate, length-drop, replicate-append-replicate, get_or-take, get_or-append_right}
@@ -113,13 +114,24 @@ none_there list word left end start window whole place none =
 
 -- ---- the topmost one
 
+-- the lowest bit is set, so that there is one in any case
+with_low_bit : (word : ℕ) → bit_or word 1 + word % 2 ≡ word + 1
+with_low_bit word = ap (λ n. bit_or word 1 + n) (sym (and_mask word 1)) ∙ or_add_and word 1
+
+top_kept : (word or top : ℕ) → 0 < word → or + word % 2 ≡ word + 1 → 2 ^ top ≤ or → 2 ^ top ≤ word
+top_kept word or zero some is least = omega arith
+top_kept word or (suc top) some is least = omega (arith, pow-suc 2 top)
+
 pub top_place : (word : ℕ) → 0 < word → word < 2 ^ 64
-    → (2 ^ (63 - count_leading_zeros 64 word) ≤ word) × (word < 2 ^ (63 - count_leading_zeros 64 word + 1))
+    → (count_leading_zeros 64 (bit_or word 1) ≤ 63) × (2 ^ (63 - count_leading_zeros 64 (bit_or word 1)) ≤ word)
+    × (word < 2 ^ (63 - count_leading_zeros 64 (bit_or word 1) + 1))
 top_place word some fits =
-    let top = leading_top 64 word some fits in
-    let e : top.0 ≡ 63 - count_leading_zeros 64 word = omega (arith, top.1) in
-    let f : suc top.0 ≡ 63 - count_leading_zeros 64 word + 1 = omega (arith, top.1) in
-    (rw e at top.2, rw f at top.3)
+    let is = with_low_bit word in
+    let top = leading_top 64 (bit_or word 1) (omega (arith, is)) (omega (arith, is)) in
+    let e : top.0 ≡ 63 - count_leading_zeros 64 (bit_or word 1) = omega (arith, top.1) in
+    let f : suc top.0 ≡ 63 - count_leading_zeros 64 (bit_or word 1) + 1 = omega (arith, top.1) in
+    let below : word < 2 ^ suc top.0 = omega (arith, top.3, is) in
+    (omega (arith, top.1), rw e at (top_kept word (bit_or word 1) top.0 some is top.2), rw f at below)
 
 -- it stands within as many bits as the number has
 pub top_below : (word left top : ℕ) → word < 2 ^ left → 2 ^ top ≤ word → top < left
@@ -183,7 +195,7 @@ number_first word left width there size few =
     ]
 
 -- what stands first in a window stands at its place of the list
-codeword_first : (list codeword rest : List Bool) (n m : ℕ) → length codeword ≡ n → n ≤ length list
+pub codeword_first : (list codeword rest : List Bool) (n m : ℕ) → length codeword ≡ n → n ≤ length list
     → codeword ++ rest ≡ take (n + m) (list ++ replicate 64 false)
     → (list ≡ codeword ++ drop n list) × (rest ≡ take m (drop n list ++ replicate 64 false))
 codeword_first list codeword rest n m long within stands =
@@ -224,7 +236,7 @@ no_ones (suc n) zero = refl
 no_ones (suc n) (suc i) = no_ones n i
 
 -- a one stands within the list, not in the zeros past its end
-one_inside : (list rest : List Bool) (v k : ℕ) → v < k → fs v ++ rest ≡ take k (list ++ replicate 64 false) → v < length list
+pub one_inside : (list rest : List Bool) (v k : ℕ) → v < k → fs v ++ rest ≡ take k (list ++ replicate 64 false) → v < length list
 one_inside list rest v k short stands =
     elim (cases_lt v (length list)) [
       | inl less ↦ less

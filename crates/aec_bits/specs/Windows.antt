@@ -1,7 +1,7 @@
 -- The next bits of a list as a number, and the numbers that are read from it.
-use Rattle.std.specs.Prelude.{ℕ, ◌≡◌, ◌-◌, ◌≤◌, Bool, false, List, ◌++◌, length, take, drop, replicate}
+use Rattle.std.specs.Prelude.{ℕ, ◌≡◌, ◌-◌, ◌^◌, ◌<◌, ◌≤◌, Bool, false, List, ◌++◌, length, take, drop, replicate}
 use Rattle.std.specs.List.{flat_map}
-use Rattle.aec_params.specs.Codewords.{binary}
+use Rattle.aec_params.specs.Codewords.{fs, binary}
 use Rattle.aec_bits.specs.BitReader.{AreBelow}
 
 -- so many bits from a place on, 64 at most; zeros stand past the end of the list
@@ -19,3 +19,9 @@ pub record IsWindow (list : List Bool) (word left end : ℕ) : Type 0 where
 pub record StandsBefore (codeword : ℕ → List Bool) (limit : ℕ) (numbers : List ℕ) (rest bits : List Bool) : Type 0 where
   pub stands : bits ≡ flat_map codeword numbers ++ rest
   pub below : AreBelow limit numbers
+
+-- a window that begins behind the fundamental sequences of numbers, which begin a list at a place
+pub record StandsBehind (list : List Bool) (place : ℕ) (numbers : List ℕ) (word left end : ℕ) : Type 0 where
+  pub window : IsWindow list word left end
+  pub fits : word < 2 ^ left
+  pub read : StandsBefore fs 64 numbers (drop (end - left) list) (drop place list)

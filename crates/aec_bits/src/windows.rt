@@ -1,9 +1,10 @@
 //! Several codewords read at once, from a word that holds the next bits.
 
-ghost use Rattle.std.specs.Prelude.{◌≡◌, ◌+◌, ◌-◌, ◌*◌, ◌<◌, ◌≤◌, ◌^◌, ◌++◌, false, length, take, drop, MatchOption};
+ghost use Rattle.std.specs.Prelude.{◌≡◌, ◌+◌, ◌-◌, ◌*◌, ◌/◌, ◌<◌, ◌≤◌, ◌^◌, ◌++◌, nat_le, false, length, take, drop, count_ones, MatchOption};
 ghost use Rattle.aec_params.specs.Codewords.{fs, binary};
 ghost use Rattle.aec_bits.specs.BitReader.{has_one, StopsBefore};
-ghost use Rattle.aec_bits.specs.Windows.{IsWindow, StandsBefore};
+ghost use Rattle.aec_bits.specs.WordBits.{word_bits};
+ghost use Rattle.aec_bits.specs.Windows.{IsWindow, StandsBefore, StandsBehind};
 
 use crate::bit_buf::BitBuf;
 
@@ -65,7 +66,7 @@ fn top_one(word: u64) -> u32
     ensures most { word < 2 ^ (result + 1) }
     ensures small { result < 64 }
 {
-    63 - word.leading_zeros()
+    63 - (word | 1).leading_zeros()
 }
 
 /// The number of the fundamental sequence that begins a window, and what is left behind it.
@@ -77,6 +78,7 @@ fn next_sequence(window: Window) -> (u32, Window)
     ensures stands { binary window.left window.word
         ≡ fs result.0 ++ binary result.1.left result.1.word }
     ensures left { result.1.left + (result.0 + 1) ≡ window.left }
+    ensures ones { count_ones window.word ≡ 1 + count_ones result.1.word }
     ensures fits { result.1.word < 2 ^ result.1.left }
     ensures end { result.1.end ≡ window.end }
 {
@@ -89,8 +91,98 @@ fn next_sequence(window: Window) -> (u32, Window)
     (window.left - top - 1, rest)
 }
 
-/// Puts the numbers of the fundamental sequences from place `start` on into `numbers`. The place
-/// behind them; `None` where no one stands in the 64 bits at one of them.
+/// Puts the numbers of the next fundamental sequences into `numbers`, one by one. The window behind
+/// them; `None` where no one stands in the 64 bits at one of them.
+#[inline(never)]
+fn sequences_one_by_one(buf: &BitBuf, window: Window, numbers: &mut [u32]) -> Option<Window>
+    requires window { IsWindow buf.now.list window.word window.left window.end }
+    requires fits { window.word < 2 ^ window.left }
+    ensures cases { MatchOption result
+        (StopsBefore (length numbers.old) (drop (window.end - window.left) buf.now.list))
+        (λ next. StandsBehind buf.now.list (window.end - window.left) numbers.new
+        next.word next.left next.end) }
+    ensures len { length numbers.new ≡ length numbers.old }
+{
+    let mut rest = window;
+    for number in numbers.iter_mut() {
+        rest = with_one(buf, rest);
+        if rest.word == 0 {
+            return None;
+        }
+        let (zeros, behind) = next_sequence(rest);
+        *number = zeros;
+        rest = behind;
+    }
+    Some(rest)
+}
+
+/// Puts the numbers of the fundamental sequences that begin a window into `numbers`, and tells what
+/// is left behind them. The window has as many ones, so none is looked for in vain.
+#[inline(always)]
+fn sequences_within(window: Window, numbers: &mut [u32]) -> Window
+    requires size { window.left ≤ 64 }
+    requires fits { window.word < 2 ^ window.left }
+    requires some { length numbers.old ≤ count_ones window.word }
+    ensures stand { StandsBefore fs 64 numbers.new (binary result.left result.word)
+        (binary window.left window.word) }
+    ensures len { length numbers.new ≡ length numbers.old }
+    ensures fits { result.word < 2 ^ result.left }
+    ensures end { result.end ≡ window.end }
+{
+    let mut rest = window;
+    for i in 0..numbers.len() {
+        let (zeros, behind) = next_sequence(rest);
+        numbers[i] = zeros;
+        rest = behind;
+    }
+    rest
+}
+
+/// Whether so many ones are left in a window.
+#[inline(always)]
+fn has_ones(window: Window, count: usize) -> bool
+    ensures { result ≡ nat_le count (count_ones window.word) }
+{
+    count <= window.word.count_ones() as usize
+}
+
+/// A window, or the one of the 64 bits at its place where fewer than `count` ones are left in it.
+#[inline(always)]
+fn with_ones(buf: &BitBuf, window: Window, count: usize) -> Window
+    requires window { IsWindow buf.now.list window.word window.left window.end }
+    requires fits { window.word < 2 ^ window.left }
+    ensures window { IsWindow buf.now.list result.word result.left result.end }
+    ensures fits { result.word < 2 ^ result.left }
+    ensures place { result.end - result.left ≡ window.end - window.left }
+{
+    if has_ones(window, count) {
+        return window;
+    }
+    window_from(buf, place_of(window))
+}
+
+/// Puts the numbers of the next fundamental sequences into `numbers`, with one test for all where
+/// 64 bits have as many ones. The window behind them; `None` where no one stands in the 64 bits at
+/// one of them.
+#[inline(always)]
+fn next_sequences(buf: &BitBuf, window: Window, numbers: &mut [u32]) -> Option<Window>
+    requires window { IsWindow buf.now.list window.word window.left window.end }
+    requires fits { window.word < 2 ^ window.left }
+    ensures cases { MatchOption result
+        (StopsBefore (length numbers.old) (drop (window.end - window.left) buf.now.list))
+        (λ next. StandsBehind buf.now.list (window.end - window.left) numbers.new
+        next.word next.left next.end) }
+    ensures len { length numbers.new ≡ length numbers.old }
+{
+    let ready = with_ones(buf, window, numbers.len());
+    if has_ones(ready, numbers.len()) {
+        return Some(sequences_within(ready, numbers));
+    }
+    sequences_one_by_one(buf, ready, numbers)
+}
+
+/// Puts the numbers of the fundamental sequences from place `start` on into `numbers`, eight at a
+/// time. The place behind them; `None` where no one stands in the 64 bits at one of them.
 #[inline(always)]
 pub(crate) fn sequences_from(buf: &BitBuf, start: u64, numbers: &mut [u32]) -> Option<u64>
     requires { start ≤ length buf.now.list }
@@ -101,31 +193,17 @@ pub(crate) fn sequences_from(buf: &BitBuf, start: u64, numbers: &mut [u32]) -> O
     ensures len { length numbers.new ≡ length numbers.old }
 {
     let mut window = window_from(buf, start);
-    for number in numbers.iter_mut() {
-        window = with_one(buf, window);
-        if window.word == 0 {
-            return None;
+    for i in 0..numbers.len() / 8 {
+        match next_sequences(buf, window, &mut numbers[8 * i..8 * i + 8]) {
+            None => return None,
+            Some(next) => window = next,
         }
-        let (zeros, rest) = next_sequence(window);
-        *number = zeros;
-        window = rest;
     }
-    Some(place_of(window))
-}
-
-/// A window, or the one of the 64 bits at its place where less than `width` bits are left in it.
-#[inline(always)]
-fn with_bits(buf: &BitBuf, window: Window, width: u32) -> Window
-    requires width { width ≤ 64 }
-    requires window { IsWindow buf.now.list window.word window.left window.end }
-    ensures window { IsWindow buf.now.list result.word result.left result.end }
-    ensures size { width ≤ result.left }
-    ensures place { result.end - result.left ≡ window.end - window.left }
-{
-    if width <= window.left {
-        return window;
+    let done = 8 * (numbers.len() / 8);
+    match next_sequences(buf, window, &mut numbers[done..]) {
+        None => None,
+        Some(next) => Some(place_of(next)),
     }
-    window_from(buf, place_of(window))
 }
 
 /// The number that the first `width` bits of a window spell, and what is left behind them. The mask
@@ -139,6 +217,7 @@ fn next_number(window: Window, width: u32) -> (u32, Window)
         ≡ binary width result.0 ++ binary result.1.left result.1.word }
     ensures fits { result.0 < 2 ^ width }
     ensures left { result.1.left + width ≡ window.left }
+    ensures word { result.1.word ≡ window.word }
     ensures end { result.1.end ≡ window.end }
 {
     let left = window.left - width;
@@ -151,7 +230,49 @@ fn next_number(window: Window, width: u32) -> (u32, Window)
     ((window.word.wrapping_shr(left) & mask) as u32, rest)
 }
 
-/// Puts the numbers that the next `width` bits each spell from place `start` on into `numbers`.
+/// Puts the numbers that `width` bits each of a word spell, from its first bit on, into `numbers`.
+#[inline(always)]
+fn numbers_within(word: u64, width: u32, numbers: &mut [u32])
+    requires width { width ≤ 32 }
+    requires there { width * length numbers.old ≤ 64 }
+    ensures stand { StandsBefore (binary width) (2 ^ width) numbers.new
+        (binary (64 - width * length numbers.old) word) (word_bits word) }
+    ensures len { length numbers.new ≡ length numbers.old }
+{
+    let mut window = Window {
+        word,
+        left: 64,
+        end: 64,
+    };
+    for i in 0..numbers.len() {
+        let (value, rest) = next_number(window, width);
+        numbers[i] = value;
+        window = rest;
+    }
+}
+
+/// Puts the next numbers into `numbers`, so many at a time.
+#[inline(always)]
+fn numbers_by<const N: usize>(buf: &BitBuf, start: u64, width: u32, numbers: &mut [u32])
+    requires some { 0 < N }
+    requires width { width ≤ 32 }
+    requires there { width * N ≤ 64 }
+    requires within { start + width * length numbers.old ≤ length buf.now.list }
+    ensures stand { StandsBefore (binary width) (2 ^ width) numbers.new
+        (drop (start + width * length numbers.old) buf.now.list) (drop start buf.now.list) }
+    ensures len { length numbers.new ≡ length numbers.old }
+{
+    let mut place = start;
+    for i in 0..numbers.len() / N {
+        numbers_within(buf.word_from(place), width, &mut numbers[N * i..N * i + N]);
+        place += u64::from(width) * N as u64;
+    }
+    let done = N * (numbers.len() / N);
+    numbers_within(buf.word_from(place), width, &mut numbers[done..]);
+}
+
+/// Puts the numbers that the next `width` bits each spell from place `start` on into `numbers`, as
+/// many at a time as one word has.
 #[inline(always)]
 pub(crate) fn numbers_from(buf: &BitBuf, start: u64, width: u32, numbers: &mut [u32])
     requires width { width ≤ 32 }
@@ -160,10 +281,9 @@ pub(crate) fn numbers_from(buf: &BitBuf, start: u64, width: u32, numbers: &mut [
         (drop (start + width * length numbers.old) buf.now.list) (drop start buf.now.list) }
     ensures len { length numbers.new ≡ length numbers.old }
 {
-    let mut window = window_from(buf, start);
-    for number in numbers.iter_mut() {
-        let (value, rest) = next_number(with_bits(buf, window, width), width);
-        *number = value;
-        window = rest;
+    match width {
+        0..=8 => numbers_by::<8>(buf, start, width, numbers),
+        9..=16 => numbers_by::<4>(buf, start, width, numbers),
+        _ => numbers_by::<2>(buf, start, width, numbers),
     }
 }

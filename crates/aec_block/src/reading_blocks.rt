@@ -9,8 +9,8 @@ ghost use Rattle.aec_block.specs.ReadAt.{map_taken, binary_at, values_at, member
 ghost use Rattle.aec_block.specs.Gathering.{bits_at, as_taken_by, when, small_block, pair_block};
 
 use crate::block::{Block, places_before};
-use crate::reading_codewords::read_numbers;
-use crate::reading_values::{read_pairs, read_split};
+use crate::reading_codewords::read_block_numbers;
+use crate::reading_values::{read_block_split, read_pairs};
 use aec_bits::BitReader;
 use aec_params::{Fault, Params};
 
@@ -42,7 +42,7 @@ pub(crate) fn fill_uncompressed(
 {
     block.restart(reference, block_len(params));
     let values = &mut block.values.as_mut_slice()[places_before(reference)..];
-    read_numbers(reader, params.bits(), values)
+    read_block_numbers(reader, params.bits(), values)
 }
 
 /// Fills the block with the next values, split at bit `k`. Whether all are at most the greatest
@@ -65,7 +65,7 @@ pub(crate) fn fill_split(
 {
     block.restart(reference, block_len(params));
     let values = &mut block.values.as_mut_slice()[places_before(reference)..];
-    read_split(params, reader, k, values)
+    read_block_split(params, reader, k, values)
 }
 
 /// Fills the block with the next pairs. Whether all values are at most the greatest that the width

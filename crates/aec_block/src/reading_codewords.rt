@@ -51,6 +51,53 @@ pub(crate) fn read_numbers(
     reader.read_numbers(width, numbers)
 }
 
+/// The same of `N` numbers, compiled for that many.
+#[inline(never)]
+fn read_known_numbers<const N: usize>(
+    reader: &mut BitReader,
+    width: u32,
+    numbers: &mut [u32],
+) -> Result<(), Fault>
+    requires width { width ≤ 32 }
+    requires within { reader.old.pos ≤ length reader.old.list }
+    requires count { length numbers.old ≡ N }
+    ensures taken { values_at (binary_at width) (length numbers.old) (bits_at reader.old)
+        ≡ as_taken_by (λ _. numbers.new) result (bits_at reader.new) }
+    ensures len { length numbers.new ≡ length numbers.old }
+    ensures list { reader.new.list ≡ reader.old.list }
+    ensures within { reader.new.pos ≤ length reader.new.list }
+{
+    read_numbers(reader, width, &mut numbers[..N])
+}
+
+/// The same of as many values as a block has, compiled for the usual numbers of them.
+#[inline(always)]
+pub(crate) fn read_block_numbers(
+    reader: &mut BitReader,
+    width: u32,
+    numbers: &mut [u32],
+) -> Result<(), Fault>
+    requires width { width ≤ 32 }
+    requires within { reader.old.pos ≤ length reader.old.list }
+    ensures taken { values_at (binary_at width) (length numbers.old) (bits_at reader.old)
+        ≡ as_taken_by (λ _. numbers.new) result (bits_at reader.new) }
+    ensures len { length numbers.new ≡ length numbers.old }
+    ensures list { reader.new.list ≡ reader.old.list }
+    ensures within { reader.new.pos ≤ length reader.new.list }
+{
+    match numbers.len() {
+        7 => read_known_numbers::<7>(reader, width, numbers),
+        8 => read_known_numbers::<8>(reader, width, numbers),
+        15 => read_known_numbers::<15>(reader, width, numbers),
+        16 => read_known_numbers::<16>(reader, width, numbers),
+        31 => read_known_numbers::<31>(reader, width, numbers),
+        32 => read_known_numbers::<32>(reader, width, numbers),
+        63 => read_known_numbers::<63>(reader, width, numbers),
+        64 => read_known_numbers::<64>(reader, width, numbers),
+        _ => read_numbers(reader, width, numbers),
+    }
+}
+
 /// Puts the numbers of the fundamental sequences that come next into `numbers`, where all are
 /// short. Else false, and the reader stays.
 #[inline(always)]

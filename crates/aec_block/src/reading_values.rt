@@ -184,10 +184,41 @@ fn join(values: &mut [u32], lows: &[u32], k: u32)
     }
 }
 
-/// Fills `values` with the next values, split at bit `k`. Whether all are at most the greatest that
-/// the width has. Where `k` is at most the width, small high parts make small values.
+/// Fills `values`, `M` at most, with the next values, split at bit `k`. Whether all are at most the
+/// greatest that the width has. Where `k` is at most the width, small high parts make small values.
 #[inline(always)]
-pub(crate) fn read_split(
+fn read_split<const M: usize>(
+    params: &Params,
+    reader: &mut BitReader,
+    k: u32,
+    values: &mut [u32],
+) -> Result<bool, Fault>
+    requires within { reader.old.pos ≤ length reader.old.list }
+    requires shift { k < 32 }
+    requires most { length values.old ≤ M }
+    requires small { M ≤ most_values }
+    ensures taken { map_taken (small_values (2 ^ params.now.bits))
+        (split_at k (length values.old) (bits_at reader.old))
+        ≡ as_taken_by (λ fit. when fit values.new) result (bits_at reader.new) }
+    ensures len { length values.new ≡ length values.old }
+    ensures list { reader.new.list ≡ reader.old.list }
+    ensures within { reader.new.pos ≤ length reader.new.list }
+{
+    let limit = value_limit(params);
+    let mut scratch = [0u32; M];
+    let lows = &mut scratch[..values.len()];
+    let highs_fit = read_highs(reader, values, high_limit(limit, k))?;
+    read_numbers(reader, k, lows)?;
+    if !highs_fit {
+        return Ok(false);
+    }
+    join(values, lows, k);
+    Ok(k <= params.bits() || are_below(values, limit))
+}
+
+/// The same of any number of values that a block has.
+#[inline(never)]
+fn read_any_split(
     params: &Params,
     reader: &mut BitReader,
     k: u32,
@@ -203,14 +234,58 @@ pub(crate) fn read_split(
     ensures list { reader.new.list ≡ reader.old.list }
     ensures within { reader.new.pos ≤ length reader.new.list }
 {
-    let limit = value_limit(params);
-    let mut scratch = [0u32; MOST_VALUES];
-    let lows = &mut scratch[..values.len()];
-    let highs_fit = read_highs(reader, values, high_limit(limit, k))?;
-    read_numbers(reader, k, lows)?;
-    if !highs_fit {
-        return Ok(false);
+    read_split::<MOST_VALUES>(params, reader, k, values)
+}
+
+/// The same of `N` values, compiled for that many.
+#[inline(never)]
+fn read_known_split<const N: usize>(
+    params: &Params,
+    reader: &mut BitReader,
+    k: u32,
+    values: &mut [u32],
+) -> Result<bool, Fault>
+    requires within { reader.old.pos ≤ length reader.old.list }
+    requires shift { k < 32 }
+    requires most { N ≤ most_values }
+    requires count { length values.old ≡ N }
+    ensures taken { map_taken (small_values (2 ^ params.now.bits))
+        (split_at k (length values.old) (bits_at reader.old))
+        ≡ as_taken_by (λ fit. when fit values.new) result (bits_at reader.new) }
+    ensures len { length values.new ≡ length values.old }
+    ensures list { reader.new.list ≡ reader.old.list }
+    ensures within { reader.new.pos ≤ length reader.new.list }
+{
+    read_split::<N>(params, reader, k, &mut values[..N])
+}
+
+/// The same of as many values as a block has, compiled for the usual numbers of them.
+#[inline(always)]
+pub(crate) fn read_block_split(
+    params: &Params,
+    reader: &mut BitReader,
+    k: u32,
+    values: &mut [u32],
+) -> Result<bool, Fault>
+    requires within { reader.old.pos ≤ length reader.old.list }
+    requires shift { k < 32 }
+    requires most { length values.old ≤ most_values }
+    ensures taken { map_taken (small_values (2 ^ params.now.bits))
+        (split_at k (length values.old) (bits_at reader.old))
+        ≡ as_taken_by (λ fit. when fit values.new) result (bits_at reader.new) }
+    ensures len { length values.new ≡ length values.old }
+    ensures list { reader.new.list ≡ reader.old.list }
+    ensures within { reader.new.pos ≤ length reader.new.list }
+{
+    match values.len() {
+        7 => read_known_split::<7>(params, reader, k, values),
+        8 => read_known_split::<8>(params, reader, k, values),
+        15 => read_known_split::<15>(params, reader, k, values),
+        16 => read_known_split::<16>(params, reader, k, values),
+        31 => read_known_split::<31>(params, reader, k, values),
+        32 => read_known_split::<32>(params, reader, k, values),
+        63 => read_known_split::<63>(params, reader, k, values),
+        64 => read_known_split::<64>(params, reader, k, values),
+        _ => read_any_split(params, reader, k, values),
     }
-    join(values, lows, k);
-    Ok(k <= params.bits() || are_below(values, limit))
 }

@@ -42,6 +42,22 @@ fn skip_numbers(reader: &mut BitReader, width: u32, count: usize) -> Result<(), 
     reader.skip_bits(numbers_len(width, count))
 }
 
+/// Reads so many high parts to judge each. Whether all are below `limit`.
+#[inline(never)]
+fn judge_highs(reader: &mut BitReader, count: usize, limit: u64) -> Result<bool, Fault>
+    requires most { count ≤ most_values }
+    requires least { 0 < limit }
+    requires limit { limit ≤ 2 ^ 32 }
+    requires within { reader.old.pos ≤ length reader.old.list }
+    ensures taken { map_taken (all_below limit) (values_at fs_at count (bits_at reader.old))
+        ≡ as_taken result (bits_at reader.new) }
+    ensures list { reader.new.list ≡ reader.old.list }
+    ensures within { reader.new.pos ≤ length reader.new.list }
+{
+    let mut highs = [0u32; MOST_VALUES];
+    read_highs(reader, &mut highs[..count], limit)
+}
+
 /// Goes over so many high parts. Whether all are below `limit`: none is above their sum, which is
 /// what the bits gone over have besides the ones. Where that isn't below, they are read.
 fn skip_highs(reader: &mut BitReader, count: usize, limit: u64) -> Result<bool, Fault>
@@ -60,8 +76,7 @@ fn skip_highs(reader: &mut BitReader, count: usize, limit: u64) -> Result<bool, 
         return Ok(true);
     }
     reader.seek(start);
-    let mut highs = [0u32; MOST_VALUES];
-    read_highs(reader, &mut highs[..count], limit)
+    judge_highs(reader, count, limit)
 }
 
 /// Goes over the next numbers, each in as many bits as a sample has.

@@ -76,6 +76,56 @@ fn reads_many_sequences(rt: HostRuntime) -> Result<(), Fail> {
 }
 
 #[test]
+fn reads_eight_sequences_of_a_word(rt: HostRuntime) -> Result<(), Fail> {
+    // Eight ones of which the last is bit 63; eight in a byte; and the eighth behind 64 bits.
+    let bytes = [
+        1, 1, 1, 1, 1, 1, 1, 1, 0xFF, 1, 1, 1, 1, 1, 1, 1, 0, 1, 0x80,
+    ];
+    let buf = bits_in(rt.alloc(), &bytes)?;
+    let mut reader = BitReader::new(&buf);
+    let mut eight = [9u32; 8];
+    holds(&rt, read_sequences(&mut reader, &mut eight));
+    same(&rt, eight.as_slice(), [7; 8].as_slice());
+    same(&rt, reader.pos(), 64);
+    holds(&rt, read_sequences(&mut reader, &mut eight));
+    same(&rt, eight.as_slice(), [0; 8].as_slice());
+    same(&rt, reader.pos(), 72);
+    holds(&rt, read_sequences(&mut reader, &mut eight));
+    same(&rt, eight.as_slice(), [7, 7, 7, 7, 7, 7, 7, 15].as_slice());
+    same(&rt, reader.pos(), 144);
+    let mut nine = [9u32; 9];
+    reader = reader_at(&buf, 136);
+    holds(&rt, !read_sequences(&mut reader, &mut nine));
+    same(&rt, reader.pos(), 136);
+    Ok(())
+}
+
+#[test]
+fn reads_numbers_of_ones(rt: HostRuntime) -> Result<(), Fail> {
+    let buf = bits_in(rt.alloc(), &[0xFF; 32])?;
+    let mut reader = BitReader::new(&buf);
+    let mut eight = [9u32; 8];
+    same(&rt, read_numbers(&mut reader, 32, &mut eight), Ok(()));
+    same(&rt, eight.as_slice(), [u32::MAX; 8].as_slice());
+    same(&rt, reader.pos(), 256);
+    let mut seven = [9u32; 7];
+    reader = reader_at(&buf, 0);
+    same(&rt, read_numbers(&mut reader, 17, &mut seven), Ok(()));
+    same(&rt, seven.as_slice(), [131071; 7].as_slice());
+    reader = reader_at(&buf, 0);
+    same(&rt, read_numbers(&mut reader, 16, &mut seven), Ok(()));
+    same(&rt, seven.as_slice(), [65535; 7].as_slice());
+    reader = reader_at(&buf, 0);
+    same(&rt, read_numbers(&mut reader, 9, &mut seven), Ok(()));
+    same(&rt, seven.as_slice(), [511; 7].as_slice());
+    reader = reader_at(&buf, 0);
+    same(&rt, read_numbers(&mut reader, 8, &mut seven), Ok(()));
+    same(&rt, seven.as_slice(), [255; 7].as_slice());
+    same(&rt, reader.pos(), 56);
+    Ok(())
+}
+
+#[test]
 fn reads_numbers_by_hand(rt: HostRuntime) -> Result<(), Fail> {
     let buf = bits_in(rt.alloc(), &[0x12, 0x34, 0x56, 0x78, 0x9A])?;
     let mut reader = BitReader::new(&buf);

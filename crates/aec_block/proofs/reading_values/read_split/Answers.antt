@@ -1,19 +1,19 @@
 use Rattle.std.proofs.Common.{◌≡◌, ◌≤◌, ℕ, List, ◌∙◌, ap, sym, length, take, replicate, arith}
 use Rattle.std.proofs.lemmas.Bool.{le-leb}
-use Rattle.std.proofs.lemmas.List.{length-take-le}
+use Rattle.std.proofs.lemmas.List.{length-take-le, length-replicate}
 use Rattle.aec_block.specs.ReadAt.{binary_at, values_at}
 use Rattle.aec_block.specs.Gathering.{bits_at}
 use Rattle.aec_block.proofs.ReadCdsLemmas.{split_large, split_fits, small_highs}
 use Rattle.aec_block.proofs.reading_values.read_split.Goals as goal
 
 -- as many low parts are read as there are values
-count_lows : (n : ℕ) → n ≤ 64 → n ≡ length {A = ℕ} (take n (replicate 64 0))
-count_lows n most = let zeros : List ℕ = replicate 64 0 in sym (length-take-le n zeros (omega arith))
+count_lows : (m n : ℕ) → n ≤ m → n ≡ length {A = ℕ} (take n (replicate m 0))
+count_lows m n most = let zeros : List ℕ = replicate m 0 in sym (length-take-le n zeros (omega (arith, length-replicate {A = ℕ} m 0)))
 
 pub returns-then-not-highs_fit-clause-taken : goal.returns-then-not-highs_fit-clause-taken
-returns-then-not-highs_fit-clause-taken c =
+returns-then-not-highs_fit-clause-taken g c =
     let n = length c.args.values.now in
-    let lows = ap (λ m. values_at (binary_at c.args.k) m (bits_at c.read_highs.new.reader)) (count_lows n c.requires.most)
+    let lows = ap (λ m. values_at (binary_at c.args.k) m (bits_at c.read_highs.new.reader)) (count_lows g.row.M n c.requires.most)
     ∙ c.in_ok-read_numbers.ensures.taken in
     split_large c.args.params.now.bits c.value_limit-limit.result c.high_limit.result c.args.k n (bits_at c.args.reader.now)
     (bits_at c.read_highs.new.reader) (bits_at c.read_numbers.new.reader) c.read_highs.new.highs c.read_numbers.new.numbers
@@ -21,15 +21,15 @@ returns-then-not-highs_fit-clause-taken c =
     c.in_ok-highs_fit.ensures.taken lows
 
 pub join-requires-clause-highs : goal.join-requires-clause-highs
-join-requires-clause-highs c =
+join-requires-clause-highs g c =
     small_highs 32 c.value_limit-limit.result c.high_limit.result c.args.k (length c.args.values.now) (bits_at c.args.reader.now)
     (bits_at c.read_highs.new.reader) c.read_highs.new.highs c.in_ok-highs_fit.highs_fit (omega arith) c.value_limit-limit.ensures.least
     c.value_limit-limit.ensures.most c.high_limit.ensures.value c.if-not-highs_fit.false c.in_ok-highs_fit.ensures.taken
 
 pub returns-then-k-bits-clause-taken : goal.returns-then-k-bits-clause-taken
-returns-then-k-bits-clause-taken c =
+returns-then-k-bits-clause-taken g c =
     let n = length c.args.values.now in
-    let lows = ap (λ m. values_at (binary_at c.args.k) m (bits_at c.read_highs.new.reader)) (count_lows n c.requires.most)
+    let lows = ap (λ m. values_at (binary_at c.args.k) m (bits_at c.read_highs.new.reader)) (count_lows g.row.M n c.requires.most)
     ∙ c.in_ok-read_numbers.ensures.taken in
     rw (le-leb c.args.k c.bits.result c.if-k-bits.true) (split_fits c.args.params.now.bits c.value_limit-limit.result c.high_limit.result
     c.args.k n (bits_at c.args.reader.now)
