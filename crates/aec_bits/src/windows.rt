@@ -251,7 +251,7 @@ fn numbers_within(word: u64, width: u32, numbers: &mut [u32])
     }
 }
 
-/// Puts the next numbers into `numbers`, so many at a time.
+/// Puts the next numbers into `numbers`, `N` at a time.
 #[inline(always)]
 fn numbers_by<const N: usize>(buf: &BitBuf, start: u64, width: u32, numbers: &mut [u32])
     requires some { 0 < N }
@@ -271,8 +271,8 @@ fn numbers_by<const N: usize>(buf: &BitBuf, start: u64, width: u32, numbers: &mu
     numbers_within(buf.word_from(place), width, &mut numbers[done..]);
 }
 
-/// Puts the numbers that the next `width` bits each spell from place `start` on into `numbers`, as
-/// many at a time as one word has.
+/// Puts the numbers that the next `width` bits each spell from place `start` on into `numbers`:
+/// eight, four or two at a time, by their width.
 #[inline(always)]
 pub(crate) fn numbers_from(buf: &BitBuf, start: u64, width: u32, numbers: &mut [u32])
     requires width { width ≤ 32 }

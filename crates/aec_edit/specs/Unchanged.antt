@@ -1,21 +1,22 @@
--- What calls leave of a workspace, of whose codec's states these are the format and the counts.
+-- What calls leave of a workspace; `format_of`, `called` and `read` are its codec's.
 use Rattle.std.specs.Prelude.{◌≡◌, ℕ}
 use Rattle.aec_bits.specs.Codec.{Format}
 use Rattle.aec_edit.specs.Workspace.{Contents}
 use Rattle.aec_edit.specs.Calls.{RisesAtMost}
 
--- it is for the same samples: the limit and the format are as they were
+-- the limit and the format are as they were
 pub record KeepsRules {C : Type 0} (format_of : C → Format) (old new : Contents C) : Type 0 where
   pub limit : new.limit ≡ old.limit
   pub format : format_of new.codec ≡ format_of old.codec
 
--- the samples are as they were too, and so is their code
+-- the samples, the limit and the format are as they were; the counts of calls may have risen
 pub record IsUnchanged {C : Type 0} (format_of : C → Format) (old new : Contents C) : Type 0 where
   pub samples : new.samples ≡ old.samples
   pub limit : new.limit ≡ old.limit
   pub format : format_of new.codec ≡ format_of old.codec
 
--- at most so many of its intervals were decoded, and nothing else was done
+-- samples, limit, format and the count of calls are as they were, and the count of decoded
+-- intervals has risen by at most so many
 pub record IsOnlyRead {C : Type 0} (format_of : C → Format) (called read : C → ℕ) (most : ℕ) (old new : Contents C) : Type 0 where
   pub samples : new.samples ≡ old.samples
   pub limit : new.limit ≡ old.limit

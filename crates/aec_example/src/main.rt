@@ -1,5 +1,5 @@
 //! A program that edits a coded stream in memory: forty-eight zeros, of which one is replaced. It
-//! prints what became of each edit, and the bytes of the stream.
+//! prints what became of a refused edit and of one that is made, and the bytes of the stream.
 #![tactic(auto)]
 
 use aec_bits::WriteSink;
