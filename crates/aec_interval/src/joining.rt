@@ -134,8 +134,8 @@ fn join_each(
     Ok(())
 }
 
-/// Takes the bytes of some samples which, with those that are held, are no more than an interval has
-/// or those of whole intervals, and of which none is refused. `Memory` where a growth was refused.
+/// Takes the bytes of some samples, with those that are held no more than an interval has or those
+/// of whole intervals, of which none is refused. `Memory` where a growth was refused.
 fn join_good(
     terms: &Terms,
     progress: &mut Progress,
@@ -157,8 +157,8 @@ fn join_good(
     Ok(())
 }
 
-/// Takes the bytes of some samples which, with those that are held, are no more than an interval has
-/// or those of whole intervals: at once where none is refused, else up to the first that is.
+/// Takes the bytes of some samples, with those that are held no more than an interval has or those
+/// of whole intervals: at once where none is refused, else up to the first that is.
 fn join_part(
     terms: &Terms,
     progress: &mut Progress,
