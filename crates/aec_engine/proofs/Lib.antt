@@ -4,6 +4,7 @@ pub mod IntakeLemmas
 pub mod ReadTwiceLemmas
 pub mod PutRangeLemmas
 pub mod SettlingLemmas
+pub mod KeepingLemmas
 pub mod OutputLemmas
 pub mod RangingLemmas
 pub mod JudgingLemmas

@@ -50,7 +50,7 @@ samples_from-append first len xs ys =
 pub samples_from-most : (skip left : ℕ) (ys : List ℤ) → length (samples_from skip left ys) ≡ min left (length ys - skip)
 samples_from-most skip left ys = length-take left (drop skip ys) ∙ ap (min left) (length-drop skip ys)
 
-all_stored-append : (s : Settings) (xs ys : List ℤ) → all_stored s (xs ++ ys) ≡ all_stored s xs ++ all_stored s ys
+pub all_stored-append : (s : Settings) (xs ys : List ℤ) → all_stored s (xs ++ ys) ≡ all_stored s xs ++ all_stored s ys
 all_stored-append s xs ys = flat_map-append (stored_bytes s) xs ys
 
 -- ---- what was put so far
@@ -68,20 +68,18 @@ pub record PutsSoFar (start p : Place) (s : Settings) (first len skip left : ℕ
   pub left_is : left ≡ len - (length samples - first)
 
 -- a sink that kept its bytes when it was begun
-begun_then : (before mid after : Option (List ℕ)) (bytes : List ℕ) → Keeps before mid → Appends mid after bytes → Appends before after bytes
+pub begun_then : (before mid after : Option (List ℕ)) (bytes : List ℕ) → Keeps before mid → Appends mid after bytes → Appends before after bytes
 begun_then None mid after bytes kept appended = tt
 begun_then (Some xs) None after bytes kept appended = absurd kept
 begun_then (Some xs) (Some ys) None bytes kept appended = appended
 begun_then (Some xs) (Some ys) (Some zs) bytes kept appended = appended ∙ ap (λ l. l ++ bytes) kept
 
--- and is given bytes then
-pub begun_puts : {X : Type 0} (r : Result X Fault) (before mid after : Option (List ℕ)) (bytes : List ℕ) → Keeps before mid
-    → PutsAllOrFront mid after bytes r → PutsAllOrFront before after bytes r
-begun_puts (Ok x) before mid after bytes kept puts = begun_then before mid after bytes kept puts
-begun_puts (Err e) before mid after bytes kept puts = (puts.0, begun_then before mid after (take puts.0 bytes) kept puts.1)
+-- or a front of them
+pub begun_front : (before mid after : Option (List ℕ)) (bytes : List ℕ) → Keeps before mid → AppendsFront mid after bytes → AppendsFront before after bytes
+begun_front before mid after bytes kept front = (front.0, begun_then before mid after (take front.0 bytes) kept front.1)
 
 -- of samples up to a place where the range has not begun
-samples_from-before : (first len : ℕ) (xs : List ℤ) → length xs ≤ first → samples_from first len xs ≡ []
+pub samples_from-before : (first len : ℕ) (xs : List ℤ) → length xs ≤ first → samples_from first len xs ≡ []
 samples_from-before first len xs few = nil_from_length (samples_from first len xs) (omega (arith, few, samples_from-most first len xs))
 
 -- a sink that refuses to begin has a front of nothing
@@ -171,6 +169,23 @@ front_more before mid after put more rest all first front is =
         ap (take (length put + n)) is ∙ take-both (length put + n) put (more ++ rest)
         ∙ ap₂ ◌++◌ (take_all (length put + n) put (omega arith)) (ap (λ k. take k (more ++ rest)) here)
         ∙ ap (λ l. put ++ l) (take-both n more rest ∙ ap₂ ◌++◌ capped (ap (λ k. take k rest) none) ∙ append-nil (take front.0 more))
+
+-- bytes are put, and more behind them
+pub puts_behind : {X : Type 0} (r : Result X Fault) (before mid after : Option (List ℕ)) (first more : List ℕ) → Appends before mid first
+    → PutsAllOrFront mid after more r → PutsAllOrFront before after (first ++ more) r
+puts_behind (Ok x) before mid after first more appended puts = Appends-trans before mid after first more appended puts
+puts_behind (Err e) before mid after first more appended front =
+    front_more before mid after first more [] (first ++ more) appended front (ap (λ l. first ++ l) (sym (append-nil more)))
+
+-- or only a front of the first
+pub front_behind : (before after : Option (List ℕ)) (first more : List ℕ) → AppendsFront before after first → AppendsFront before after (first ++ more)
+front_behind before after first more front =
+    front_more before before after [] first more (first ++ more) (Appends-nil before) front refl
+
+-- none had waited
+pub none_waited : {X : Type 0} (r : Result X Fault) (before after : Option (List ℕ)) (waiting more : List ℕ) → waiting ≡ []
+    → PutsAllOrFront before after (waiting ++ more) r → PutsAllOrFront before after more r
+none_waited r before after waiting more none puts = subst (λ l. PutsAllOrFront before after (l ++ more) r) none puts
 
 pub puts_front : (start p q : Place) (s : Settings) (first len skip left : ℕ) (before mid after : Option (List ℕ)) (waiting : List ℕ) (ys part xs : List ℤ)
     → IsAllowed start.settings → PutsSoFar start p s first len skip left before mid waiting → ReadsInterval p ys q

@@ -26,18 +26,6 @@ pub record CountsSoFar (start p : Place) (total : ℕ) : Type 0 where
   pub same : p ≡ place_from start p.block p.bit
   pub few : p.block < 2 ^ 34
 
-pub counts_none : (start p : Place) → p ≡ start → start.block ≡ 0 → start.bit ≡ 0 → CountsSoFar start p 0
-counts_none start p is block bit = subst (λ p. CountsSoFar start p 0) (sym (is ∙ at_start)) (record {
-  samples = [];
-  read = has_read_nothing start.settings start.count start.limit start.bits;
-  counted = refl;
-  same = refl;
-  few = omega arith;
-})
-  where
-    at_start : start ≡ place_from start 0 0
-    at_start = ap (λ i. place_from start i start.bit) block ∙ ap (λ b. place_from start 0 b) bit
-
 pub settings-same : (start p : Place) → p ≡ place_from start p.block p.bit → p.settings ≡ start.settings
 settings-same start p same = ap (λ (p : Place). p.settings) same
 
@@ -120,6 +108,28 @@ begun_nothing s count limit bits p is = subst (λ p. IsBegun p 0 0) (sym is) (re
   few = omega arith;
   begins = λ _. zero-mod s.interval;
 })
+
+-- and where no bit was read either
+pub begun_at_start : (p : Place) (first : ℕ) → p.block ≡ 0 → p.bit ≡ 0 → IsBegun p 0 first
+begun_at_start p first block bit =
+    let nothing = begun_nothing p.settings p.count p.limit p.bits p (ap (λ i. place_from p i p.bit) block ∙ ap (λ b. place_from p 0 b) bit) in
+    record {
+      samples = nothing.samples;
+      read = nothing.read;
+      counted = nothing.counted;
+      at_most = omega arith;
+      few = nothing.few;
+      begins = nothing.begins;
+    }
+
+pub counts_begun : (start : Place) (before first : ℕ) → IsBegun start before first → CountsSoFar start start before
+counts_begun start before first begun = record {
+  samples = begun.samples;
+  read = begun.read;
+  counted = begun.counted;
+  same = refl;
+  few = begun.few;
+}
 
 -- a place was reached, and no more than `first` samples lie before it
 pub record IsNoted (start : Place) (block bit before first : ℕ) : Type 0 where

@@ -1,7 +1,6 @@
 -- Answers that are written or refused, by what stands for them before they are stored.
 use Rattle.std.proofs.Common.{◌≡◌, ℕ, ◌+◌, ◌<◌, ◌≤◌, Bool, Option, None, Some, Result, Ok, Err, OnOk, OnErr, IfErr, ℤ, List, length, refl, sym, ap, ◌∙◌, subst, arith}
 use Rattle.std.specs.Io.KnownBytes.{Appends}
-use Rattle.std.proofs.lemmas.List.{take_all}
 use Rattle.aec_params.specs.declared.settings.Settings.{Settings}
 use Rattle.aec_params.specs.declared.fault.Fault.{Fault}
 use Rattle.aec_params.specs.declared.fault.Fault.TheVariants.{Write, OutOfRange}
@@ -73,22 +72,6 @@ pub refuses_reading : (s : Settings) (count : Option ℕ) (limit : ℕ) (bits : 
     → None ≡ count_refusal limit count → RefusesReading p.settings p.count p.limit p.bits 0 0 fault → RefusesDecoding s count limit bits fault
 refuses_reading s count limit bits p fault is none refuses =
     unread fault (sym none) (subst (λ (p : Place). RefusesReading p.settings p.count p.limit p.bits 0 0 fault) is refuses)
-
-whole_part : (total : ℕ) (xs : List ℤ) → length xs ≡ total → samples_from 0 total xs ≡ xs
-whole_part total xs is = take_all total xs (omega (arith, is))
-
-pub decodes_all : (s : Settings) (count : Option ℕ) (limit most : ℕ) (bits : List Bool) (p : Place) (total : ℕ) (sink : Putting) (r : Result (Unit {0}) Fault)
-    → limit ≡ most → p ≡ place_at s count limit bits 0 0 → None ≡ count_refusal limit count → (have : HaveSamples p total)
-    → ((xs : List ℤ) → AreSamplesOf p xs → SettlesOne (StoresPart s 0 total xs) sink r) → SettlesOne (DecodesBits s count most bits) sink r
-decodes_all s count limit most bits p total sink r same is none have settles =
-    let start = samples_told p total have in
-    subst (λ limit. SettlesOne (DecodesBits s count limit bits) sink r) same
-    (settles_map (StoresPart s 0 total start.0) (DecodesBits s count limit bits) sink r answer (settles start.0 start.1))
-  where
-    answer : (a : Result (List ℕ) Fault) → StoresPart s 0 total have.samples a → DecodesBits s count limit bits a
-    answer a twice.stored = subst (λ xs. DecodesBits s count limit bits (Ok (all_stored s xs))) (sym (whole_part total have.samples have.counted))
-        (twice.read have.samples (sym none) (reading_at s count limit bits p have.samples is have.reading))
-    answer a twice.no_room = twice.no_memory
 
 pub cuts_part : (s : Settings) (count : Option ℕ) (limit most first len : ℕ) (bits : List Bool) (start p : Place) (total : ℕ) (sink : Putting)
     (r : Result (Unit {0}) Fault) → limit ≡ most → start ≡ place_at s count limit bits 0 0 → None ≡ count_refusal limit count

@@ -39,6 +39,15 @@ pub record IsBegun (p : Place) (before first : ℕ) : Type 0 where
   pub few : p.block < 2 ^ 34
   pub begins : is_wanted_at p ≡ true → p.block % p.settings.interval ≡ 0
 
+-- so many samples were read up to such a place, and these are their bytes
+pub record KeepsFront (p : Place) (s : Settings) (before : ℕ) (bytes : List ℕ) : Type 0 where
+  pub samples : List ℤ
+  pub read : HasRead p samples
+  pub counted : length samples ≡ before
+  pub kept : bytes ≡ all_stored s samples
+  pub few : p.block < 2 ^ 34
+  pub begins : is_wanted_at p ≡ true → p.block % p.settings.interval ≡ 0
+
 -- bits are read as so many samples
 pub record HaveSamples (p : Place) (total : ℕ) : Type 0 where
   pub samples : List ℤ

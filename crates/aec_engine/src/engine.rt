@@ -7,6 +7,7 @@ mod decoding;
 mod editing;
 mod intake;
 mod into_buffers;
+mod keeping;
 mod loading;
 mod outlet;
 mod ranging;

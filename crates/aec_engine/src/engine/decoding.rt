@@ -9,14 +9,16 @@ ghost use Rattle.aec_engine.specs.Output.{GaveSamples, IsDecoded};
 ghost use Rattle.aec_engine.specs.ReadingTwice.{DecodesBits, SettlesOne};
 
 use crate::engine::bit_intake::read_bits;
-use crate::engine::two_readings::{count_samples, write_range};
+use crate::engine::keeping::write_all;
+use crate::engine::two_readings::{buffers, judge_all};
 use aec_bits::{BitBuf, Sink, Source};
 use aec_interval::{StreamReader, decode_all};
 use aec_params::{Fault, Limits, Params};
 use std::alloc::Global;
 
-/// Reads coded bits twice: judges them first, then begins and writes the bytes of their samples.
-/// The refusals are those of `decode_all`, and `Memory`; nothing was begun then.
+/// Judges coded bits, then begins and writes the bytes of their samples: those that were kept, and
+/// those of the rest, read again. The refusals are those of `decode_all`, and `Memory`; nothing was
+/// begun then.
 fn decode_bits<W: Sink>(
     alloc: Global,
     params: &Params,
@@ -29,8 +31,15 @@ fn decode_bits<W: Sink>(
         SettlesOne (DecodesBits params.now count limits.samples bits.now.list) put result }
 {
     let mut reader = StreamReader::new(alloc, *params, bits, count, limits.samples())?;
-    let total = count_samples(params, &mut reader)?;
-    write_range(alloc, params, &mut reader, 0, 0, total, sink)
+    match buffers(alloc, params) {
+        Ok((mut samples, mut bytes)) => {
+            write_all(params, &mut reader, &mut samples, &mut bytes, sink)
+        }
+        Err(fault) => {
+            judge_all(params, &mut reader)?;
+            Err(fault)
+        }
+    }
 }
 
 /// Reads the source whole, and writes the bytes of the samples that it codes: with a count the
@@ -40,8 +49,9 @@ fn decode_bits<W: Sink>(
 /// Nothing has been written then and `begin` was not called. After `begin` only `Write` can come,
 /// and a front of the answer has been written.
 ///
-/// The coded bits are read twice, so that the samples are not kept: memory is taken for the bytes
-/// of the source, and for one interval of samples and their bytes.
+/// The bytes of the samples in front are kept while the bits are judged, where there is room for
+/// them; what lies behind is read twice, so that it is not kept. Memory is taken for the bytes of
+/// the source, for one interval of samples and their bytes, and for at most 16 MiB of kept bytes.
 pub fn decode<R: Source, W: Sink>(
     alloc: Global,
     params: &Params,

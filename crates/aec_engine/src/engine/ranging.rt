@@ -51,8 +51,8 @@ fn range_bits<W: Sink>(
 /// are judged too; then `OutOfRange` where the range passes the samples, which are `count` where a
 /// count is given; then `Memory`, though that it comes last is no part of the contract. Nothing has
 /// been written then and `begin` was not called. After `begin` only `Write` can come, and a front
-/// of the answer has been written. The coded bits are judged whole and the samples are not kept, as
-/// in `decode`; only the intervals that the range lies in are read again.
+/// of the answer has been written. The coded bits are judged whole, and no samples are kept; only
+/// the intervals that the range lies in are read again.
 pub fn range<R: Source, W: Sink>(
     alloc: Global,
     params: &Params,

@@ -43,16 +43,16 @@ pub(crate) struct Judged {
     pub(crate) bits: u64,
 }
 
-/// Goes over all samples from the first bit on, and back to the last interval that begins at or
-/// before sample `first`. Takes no memory.
-pub(crate) fn judge_samples(
+/// Goes over all samples from where the reader is, with `before` of them behind it, and back to the
+/// last interval from there on that begins at or before sample `first`. Takes no memory.
+pub(crate) fn judge_from(
     params: &Params,
     reader: &mut StreamReader,
+    before: u64,
     first: u64,
 ) -> Result<Judged, Fault>
     requires settings { reader.old.settings ≡ params.now }
-    requires block { reader.old.block ≡ 0 }
-    requires bit { reader.old.bit ≡ 0 }
+    requires begun { IsBegun reader.old before first }
     ensures ok { IfOk result (λ judged. HaveSamples reader.old judged.total) }
     ensures begun { IfOk result (λ judged. IsBegun reader.new judged.before first) }
     ensures same { OnOk result (let old = reader.old in
@@ -63,10 +63,10 @@ pub(crate) fn judge_samples(
 {
     // What the parameters promise is told by their calls.
     let _len = params.interval_len();
-    let mut total = 0;
+    let mut total = before;
     let mut begin = Begin {
         place: reader.place(),
-        before: 0,
+        before,
     };
     while let Some(len) = reader.skip()? {
         total += len;
@@ -83,6 +83,26 @@ pub(crate) fn judge_samples(
         before: begin.before,
         bits,
     })
+}
+
+/// The same from the first bit on.
+pub(crate) fn judge_samples(
+    params: &Params,
+    reader: &mut StreamReader,
+    first: u64,
+) -> Result<Judged, Fault>
+    requires settings { reader.old.settings ≡ params.now }
+    requires block { reader.old.block ≡ 0 }
+    requires bit { reader.old.bit ≡ 0 }
+    ensures ok { IfOk result (λ judged. HaveSamples reader.old judged.total) }
+    ensures begun { IfOk result (λ judged. IsBegun reader.new judged.before first) }
+    ensures same { OnOk result (let old = reader.old in
+        reader.new ≡ place_at old.settings old.count old.limit old.bits reader.new.block
+        reader.new.bit) }
+    ensures refuses { IfErr result (λ fault. let old = reader.old in
+        RefusesReading old.settings old.count old.limit old.bits 0 0 fault) }
+{
+    judge_from(params, reader, 0, first)
 }
 
 /// Goes over all samples from the first bit on, and back to it. Takes no memory.
@@ -124,7 +144,7 @@ pub(crate) fn part_of(samples: &[i64], skip: u64, left: u64) -> &[i64]
 }
 
 /// Appends the bytes of samples. Takes no memory.
-fn append_stored(params: &Params, samples: &[i64], bytes: &mut Vec<u8>)
+pub(crate) fn append_stored(params: &Params, samples: &[i64], bytes: &mut Vec<u8>)
     requires held { AllByRecursion (IsHeld params.now) samples.now }
     requires room { vec_len bytes.old + 4 * length samples.now ≤ vec_capacity bytes.old }
     ensures items { bytes.new.items ≡ bytes.old.items ++ all_stored params.now samples.now }
@@ -223,9 +243,27 @@ fn put_range<W: Sink>(
     put_all(sink, bytes)
 }
 
-/// Begins, and then puts a range of the samples, read again. `Write` where the sink fails.
-#[tactic(auto, using(crate::proofs::PutRangeLemmas::begun_puts, crate::proofs::PutRangeLemmas::front_none))]
-fn deliver_range<W: Sink>(
+/// Begins, and puts all bytes that wait. `Write` where the sink fails.
+#[tactic(auto, using(crate::proofs::PutRangeLemmas::begun_then, crate::proofs::PutRangeLemmas::begun_front, crate::proofs::PutRangeLemmas::front_none))]
+fn begin_with<W: Sink>(bytes: &mut Vec<u8>, sink: &mut W) -> Result<(), Fault>
+    ensures ok { OnOk result (Appends (W.taken sink.old) (W.taken sink.new) bytes.old.items) }
+    ensures front { OnErr result
+        (AppendsFront (W.taken sink.old) (W.taken sink.new) bytes.old.items) }
+    ensures none { OnOk result (bytes.new.items ≡ []) }
+    ensures begun { W.begun sink.new ≡ counted (W.begun sink.old) }
+    ensures order { Keeps (W.mark sink.new) (W.taken sink.old) }
+    ensures fault { IfErr result (λ e. (e ≡ WriteFault) × (W.failed sink.new ≡ 1)) }
+    ensures sound { OnOk result (W.failed sink.new ≡ 0) }
+    ensures capacity { vec_capacity bytes.old ≤ vec_capacity bytes.new }
+{
+    sink.begin()?;
+    put_waiting(bytes, sink)
+}
+
+/// Begins, puts all bytes that wait, and then a range of the samples, read again. `Write` where the
+/// sink fails.
+#[tactic(auto, using(crate::proofs::PutRangeLemmas::puts_behind, crate::proofs::PutRangeLemmas::front_behind))]
+pub(crate) fn deliver_range<W: Sink>(
     params: &Params,
     reader: &mut StreamReader,
     before: u64,
@@ -239,22 +277,21 @@ fn deliver_range<W: Sink>(
     requires read { (xs : List ℤ) × AreSamplesOf reader.old xs }
     requires begun { IsBegun reader.old before first }
     requires room { interval_len params.now ≤ vec_capacity samples.old }
-    requires empty { vec_len bytes.old ≡ 0 }
     requires buffer { 65536 + 4 * interval_len params.now ≤ vec_capacity bytes.old }
     ensures puts { (xs : List ℤ) → AreSamplesOf reader.old xs
         → PutsAllOrFront (W.taken sink.old) (W.taken sink.new)
-        (all_stored params.now (samples_from first len xs)) result }
+        (bytes.old.items ++ all_stored params.now (samples_from first len xs)) result }
     ensures begun { W.begun sink.new ≡ counted (W.begun sink.old) }
     ensures order { Keeps (W.mark sink.new) (W.taken sink.old) }
     ensures fault { IfErr result (λ e. (e ≡ WriteFault) × (W.failed sink.new ≡ 1)) }
     ensures sound { OnOk result (W.failed sink.new ≡ 0) }
 {
-    sink.begin()?;
+    begin_with(bytes, sink)?;
     put_range(params, reader, before, first, len, samples, bytes, sink)
 }
 
 /// Room for the samples of an interval, and for their bytes behind a piece.
-fn buffers(alloc: Global, params: &Params) -> Result<(Vec<i64>, Vec<u8>), Fault>
+pub(crate) fn buffers(alloc: Global, params: &Params) -> Result<(Vec<i64>, Vec<u8>), Fault>
     ensures room { IfOk result (λ made. interval_len params.now ≤ vec_capacity made.0) }
     ensures empty { IfOk result (λ made. vec_len made.1 ≡ 0) }
     ensures buffer { IfOk result

@@ -1,8 +1,10 @@
-use Rattle.std.proofs.Common.{◌∙◌}
+use Rattle.std.proofs.Common.{◌≡◌, ◌∙◌, [], arith}
+use Rattle.std.proofs.lemmas.List.{nil_from_length}
 use Rattle.std.proofs.lemmas.Result.{err_from_is_err_and}
 use Rattle.aec_params.specs.declared.fault.Fault.TheVariants.{Memory}
 use Rattle.aec_engine.specs.Output.{all_stored, samples_from}
 use Rattle.aec_engine.specs.ReadingTwice.{stored, no_room}
+use Rattle.aec_engine.proofs.PutRangeLemmas.{none_waited}
 use Rattle.aec_engine.proofs.SettlingLemmas.{settles_refusal, settles_written}
 use Rattle.aec_engine.proofs.engine.two_readings.write_range.Goals as goal
 
@@ -15,6 +17,8 @@ returns-in_err-samples g c xs given =
 
 pub returns : goal.returns
 returns g c xs given =
+    let made = c.in_ok-samples in
+    let none : made.bytes.items ≡ [] = nil_from_length made.bytes.items (omega (arith, made.bytes.ok, made.ensures.empty)) in
     settles_written _ c.deliver_range.result (all_stored c.args.params.now (samples_from c.args.first c.args.len xs)) _ stored
-    (c.deliver_range.ensures.puts xs given)
+    (none_waited _ _ _ made.bytes.items _ none (c.deliver_range.ensures.puts xs given))
     (record { once = c.deliver_range.ensures.begun; first = c.deliver_range.ensures.order }) c.deliver_range.ensures.fault c.deliver_range.ensures.sound

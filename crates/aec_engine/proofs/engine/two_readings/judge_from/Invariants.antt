@@ -1,6 +1,6 @@
 use Rattle.std.proofs.Common.{◌-◌, ◌^◌}
 use Rattle.aec_engine.proofs.ReadTwiceLemmas.{CountsSoFar, IsNoted}
-use Rattle.aec_engine.proofs.engine.two_readings.judge_samples.Given as goal
+use Rattle.aec_engine.proofs.engine.two_readings.judge_from.Given as goal
 
 abbrev pub invariant-loop-len : goal.invariant-loop-len
 invariant-loop-len l = record {

@@ -1,0 +1,118 @@
+-- The front of a stream whose bytes are kept, and the rest of it that is put behind them.
+use Rattle.std.proofs.Common.{◌≡◌, ℕ, ◌+◌, ◌-◌, ◌%◌, ◌<◌, ◌^◌, true, Option, None, Result, Err, OnOk, IfErr, ℤ, List, [], ◌++◌, length, take, drop, refl, sym, ap, ap₂, ◌∙◌, subst, arith}
+use Rattle.std.proofs.Math.Nat.{zero-mod}
+use Rattle.std.proofs.lemmas.List.{length-append, take_all}
+use Rattle.aec_params.specs.declared.settings.Settings.{Settings}
+use Rattle.aec_params.specs.declared.fault.Fault.{Fault}
+use Rattle.aec_params.specs.declared.fault.Fault.TheVariants.{Write}
+use Rattle.aec_params.specs.Params.{IsAllowed}
+use Rattle.aec_params.specs.Reading.{IsReading}
+use Rattle.aec_interval.specs.Reached.{count_refusal, RefusesReading}
+use Rattle.aec_interval.specs.Reached as reached
+use Rattle.aec_interval.specs.Pieces.{Place, is_wanted_at, ReadsInterval}
+use Rattle.aec_interval.proofs.PieceReadingLemmas.{has_read_nothing, has_read_more, has_read_front}
+use Rattle.aec_engine.specs.Output.{all_stored, samples_from}
+use Rattle.aec_engine.specs.ReadingTwice.{AreSamplesOf, HaveSamples, KeepsFront, DecodesBits, SettlesOne, PutsAllOrFront}
+use Rattle.aec_engine.specs.ReadingTwice as twice
+use Rattle.aec_engine.specs.Transfers.{Putting, IsBegunFirst}
+use Rattle.aec_engine.proofs.PutRangeLemmas.{all_stored-append, samples_from-append, samples_from-before}
+use Rattle.aec_engine.proofs.ReadTwiceLemmas.{place_from, settings-same, CountsSoFar}
+use Rattle.aec_engine.proofs.SettlingLemmas.{settles_refusal, settles_written}
+
+-- ---- what was kept so far
+
+pub counts_kept : (start p : Place) (s : Settings) (before : ℕ) (bytes : List ℕ) → p ≡ place_from start p.block p.bit → KeepsFront p s before bytes
+    → CountsSoFar start p before
+counts_kept start p s before bytes same keeps = record {
+  samples = keeps.samples;
+  read = keeps.read;
+  counted = keeps.counted;
+  same = same;
+  few = keeps.few;
+}
+
+pub keeps_none : (start : Place) (s : Settings) (bytes : List ℕ) → start.block ≡ 0 → start.bit ≡ 0 → bytes ≡ [] → KeepsFront start s 0 bytes
+keeps_none start s bytes block bit none = subst (λ p. KeepsFront p s 0 bytes) (sym at_start) (record {
+  samples = [];
+  read = has_read_nothing start.settings start.count start.limit start.bits;
+  counted = refl;
+  kept = none;
+  few = omega arith;
+  begins = λ _. zero-mod start.settings.interval;
+})
+  where
+    at_start : start ≡ place_from start 0 0
+    at_start = ap (λ i. place_from start i start.bit) block ∙ ap (λ b. place_from start 0 b) bit
+
+pub keeps_more : (start p q : Place) (s : Settings) (before len more : ℕ) (bytes room bytes_then : List ℕ) (ys part : List ℤ) → IsAllowed start.settings
+    → p ≡ place_from start p.block p.bit → KeepsFront p s before bytes → ReadsInterval p ys q → q.block < 2 ^ 34
+    → (is_wanted_at q ≡ true → q.block % q.settings.interval ≡ 0) → room ≡ bytes → bytes_then ≡ room ++ all_stored s part → part ≡ ys
+    → len ≡ length ys → more ≡ before + len → KeepsFront q s more bytes_then
+keeps_more start p q s before len more bytes room bytes_then ys part a same keeps step few begins stays adds is counts adds_up = record {
+  samples = keeps.samples ++ ys;
+  read = has_read_more p q keeps.samples ys (subst IsAllowed (sym (settings-same start p same)) a) keeps.read step;
+  counted = omega (arith, length-append keeps.samples ys, keeps.counted, counts, adds_up);
+  kept = adds ∙ ap₂ (λ l part. l ++ all_stored s part) (stays ∙ keeps.kept) is ∙ sym (all_stored-append s keeps.samples ys);
+  few = few;
+  begins = begins;
+}
+
+-- ---- kept bytes and those of the rest
+
+-- the samples behind a front are the rest
+samples_from-rest : (before total : ℕ) (xs ys : List ℤ) → length xs ≡ before → length (xs ++ ys) ≡ total → samples_from before (total - before) (xs ++ ys) ≡ ys
+samples_from-rest before total xs ys counted all =
+    let len : total - before - (length xs - before) ≡ length ys = omega (arith, counted, all, length-append xs ys) in
+    let none : before - length xs ≡ 0 = omega (arith, counted) in
+    samples_from-append before (total - before) xs ys
+    ∙ ap₂ ◌++◌ (samples_from-before before (total - before) xs (omega (arith, counted))) (ap₂ (λ n k. take n (drop k ys)) len none)
+    ∙ take_all (length ys) ys (omega arith)
+
+pub kept_and_rest : (p : Place) (s : Settings) (before total : ℕ) (bytes : List ℕ) (xs : List ℤ) → IsAllowed p.settings → KeepsFront p s before bytes
+    → IsReading p.settings p.count p.limit p.bits xs → length xs ≡ total → bytes ++ all_stored s (samples_from before (total - before) xs) ≡ all_stored s xs
+kept_and_rest p s before total bytes xs a keeps reading counted =
+    let rest = has_read_front p keeps.samples xs a keeps.read keeps.begins reading in
+    let behind : samples_from before (total - before) xs ≡ rest.0 =
+    ap (samples_from before (total - before)) rest.1
+    ∙ samples_from-rest before total keeps.samples rest.0 keeps.counted (sym (ap length rest.1) ∙ counted) in
+    ap₂ (λ l part. l ++ all_stored s part) keeps.kept behind
+    ∙ sym (ap (all_stored s) rest.1 ∙ all_stored-append s keeps.samples rest.0)
+
+-- ---- answers
+
+pub settles_unread : (start p : Place) (s : Settings) (r : Result (Unit {0}) Fault) (fault f : Fault) (before mark : Option (List ℕ)) (begun failures : ℕ)
+    → p ≡ place_from start p.block p.bit → start.settings ≡ s → count_refusal start.limit start.count ≡ None → r ≡ Err fault → fault ≡ f
+    → RefusesReading p.settings p.count p.limit p.bits 0 0 f → SettlesOne (DecodesBits s start.count start.limit start.bits)
+    (record { before = before; after = before; begun_before = begun; begun_after = begun; mark = mark; failures = failures }) r
+settles_unread start p s r fault f before mark begun failures same settings none is same_fault refuses =
+    settles_refusal (DecodesBits s start.count start.limit start.bits) r fault f before mark begun failures is same_fault
+    (twice.unread f (reached.unread f none (subst (λ s. RefusesReading s start.count start.limit start.bits 0 0 f) settings
+    (subst (λ (p : Place). RefusesReading p.settings p.count p.limit p.bits 0 0 f) same refuses))))
+
+-- all is written once the kept bytes are, and behind them those of the rest
+pub settles_kept : (start p q : Place) (s : Settings) (before total left : ℕ) (bytes : List ℕ) (sink : Putting) (r : Result (Unit {0}) Fault) → IsAllowed s
+    → p ≡ place_from start p.block p.bit → q ≡ place_from p q.block q.bit → start.settings ≡ s → count_refusal start.limit start.count ≡ None
+    → KeepsFront p s before bytes → HaveSamples p total → left ≡ total - before
+    → ((xs : List ℤ) → AreSamplesOf q xs → PutsAllOrFront sink.before sink.after (bytes ++ all_stored s (samples_from before left xs)) r)
+    → IsBegunFirst sink → IfErr r (λ e. (e ≡ Write) × (sink.failures ≡ 1)) → OnOk r (sink.failures ≡ 0)
+    → SettlesOne (DecodesBits s start.count start.limit start.bits) sink r
+settles_kept start p q s before total left bytes sink r a same there settings none keeps have rest puts begun fault sound =
+    settles_written (DecodesBits s start.count start.limit start.bits) r (all_stored s xs) sink (twice.read xs none reading) all_put begun fault sound
+  where
+    xs : List ℤ
+    xs = have.samples
+
+    reading : IsReading s start.count start.limit start.bits xs
+    reading = subst (λ s. IsReading s start.count start.limit start.bits xs) settings
+        (subst (λ (p : Place). IsReading p.settings p.count p.limit p.bits xs) same have.reading)
+
+    allowed : IsAllowed p.settings
+    allowed = subst IsAllowed (sym (settings-same start p same ∙ settings)) a
+
+    given : AreSamplesOf q xs
+    given = record { reading = subst (λ (p : Place). IsReading p.settings p.count p.limit p.bits xs) (sym there) have.reading }
+
+    all_put : PutsAllOrFront sink.before sink.after (all_stored s xs) r
+    all_put = subst (λ l. PutsAllOrFront sink.before sink.after l r)
+        (ap (λ n. bytes ++ all_stored s (samples_from before n xs)) rest ∙ kept_and_rest p s before total bytes xs allowed keeps have.reading have.counted)
+        (puts xs given)

@@ -1,0 +1,46 @@
+use Rattle.std.proofs.Common.{arith, refl, sym, subst}
+use Rattle.std.proofs.lemmas.List.{nil_from_length}
+use Rattle.std.proofs.lemmas.Result.{err_from_is_err_and}
+use Rattle.aec_params.specs.Params.{IsAllowed}
+use Rattle.aec_engine.proofs.ReadTwiceLemmas.{same_next, counts_more, counts_few, counts_refused}
+use Rattle.aec_engine.proofs.KeepingLemmas.{counts_kept, keeps_none, keeps_more}
+use Rattle.aec_engine.proofs.engine.keeping.keep_front.Goals as goal
+
+pub loop-reader-init : goal.loop-reader-init
+loop-reader-init c = record {
+  keeps = keeps_none c.args.reader.now c.args.params.now c.args.bytes.now.items c.requires.block c.requires.bit
+      (nil_from_length c.args.bytes.now.items (omega (arith, c.args.bytes.now.ok, c.requires.empty)));
+  same = refl;
+  room = omega arith;
+  buffer = omega arith;
+}
+
+pub returns-in_err-next-clause-refuses : goal.returns-in_err-next-clause-refuses
+returns-in_err-next-clause-refuses c =
+    let exit = err_from_is_err_and c.from_residual.result c.from_residual.ensures.1 in
+    counts_refused _ _ _ c.args.reader.now c.loop-reader.reader c.loop-reader.before (subst IsAllowed (sym c.requires.settings) c.interval_len.ensures.allowed)
+    exit.1 exit.2 (counts_kept c.args.reader.now c.loop-reader.reader c.args.params.now _ _ c.loop-reader.invariant.same c.loop-reader.invariant.keeps)
+    c.in_err-next.ensures.refuses
+
+pub overflow_add-before : goal.overflow_add-before
+overflow_add-before c =
+    let a = subst IsAllowed (sym c.requires.settings) c.interval_len.ensures.allowed in
+    let counts = counts_kept c.args.reader.now c.loop-reader.reader c.args.params.now _ _ c.loop-reader.invariant.same c.loop-reader.invariant.keeps in
+    let most = counts_few c.args.reader.now c.next.new.self _ a
+    (counts_more c.args.reader.now c.loop-reader.reader c.next.new.self c.loop-reader.before _ c.next.new.samples.items a counts
+    (c.in_ok-next.ensures.read c.if-branch.true) refl c.next.ensures.few) in
+    omega (arith, most, c.len.ensures, c.next.new.samples.ok)
+
+pub loop-reader-preserved : goal.loop-reader-preserved
+loop-reader-preserved c =
+    let a = subst IsAllowed (sym c.requires.settings) c.interval_len.ensures.allowed in
+    let step = c.in_ok-next.ensures.read c.if-branch.true in
+    record {
+      keeps = keeps_more c.args.reader.now c.loop-reader.reader c.next.new.self c.args.params.now c.loop-reader.before c.len.result _ c.loop-reader.bytes.items
+          c.has_room.new.bytes.items c.append_stored.new.bytes.items c.next.new.samples.items c.deref.result.now a c.loop-reader.invariant.same
+          c.loop-reader.invariant.keeps step c.next.ensures.few c.next.ensures.ends c.has_room.ensures.items c.append_stored.ensures.items c.deref.ensures.value
+          (omega (arith, c.len.ensures, c.next.new.samples.ok)) refl;
+      same = same_next c.args.reader.now c.loop-reader.reader c.next.new.self c.loop-reader.invariant.same step.piece.same;
+      room = omega (arith, c.loop-reader.invariant.room, c.next.ensures.capacity);
+      buffer = omega (arith, c.loop-reader.invariant.buffer, c.has_room.ensures.capacity, c.append_stored.ensures.capacity);
+    }

@@ -1,0 +1,118 @@
+//! Coded bits whose samples are written: the bytes of those in front are kept while the bits are
+//! judged, and only the bits behind them are read twice.
+
+ghost use Rattle.std.specs.Prelude.{◌≡◌, ◌+◌, ◌*◌, ◌≤◌, ◌^◌, None, true, vec_len, vec_capacity, IfOk, IfErr, OnOk};
+ghost use Rattle.aec_params.specs.Params.{interval_len};
+ghost use Rattle.aec_interval.specs.Reached.{count_refusal, RefusesReading};
+ghost use Rattle.aec_interval.specs.Pieces.{place_at};
+ghost use Rattle.aec_engine.specs.Transfers.{Putting, putting_of};
+ghost use Rattle.aec_engine.specs.ReadingTwice.{DecodesBits, KeepsFront, SettlesOne};
+
+use crate::engine::two_readings::{append_stored, deliver_range, judge_from};
+use aec_bits::Sink;
+use aec_interval::StreamReader;
+use aec_params::{Fault, Params};
+
+/// More memory is taken for at most so many bytes that are kept.
+const KEPT: usize = 1 << 24;
+
+/// And only where a block has at most so many bytes: judging longer ones again takes less time than
+/// memory does.
+const SHORT: usize = 32;
+
+/// How many bytes may be kept for the bits that were read: one for each, if blocks are short. So
+/// what a few bytes stand for takes little memory.
+fn most_kept(params: &Params, reader: &StreamReader) -> u64 {
+    if params.storage() * params.block_size() as usize > SHORT {
+        return 0;
+    }
+    reader.place().bit
+}
+
+/// Makes room for so many more bytes to keep, if `most` are not passed yet; room that is there is
+/// used in any case. False where there is none.
+fn has_room(bytes: &mut Vec<u8>, more: usize, most: u64) -> bool
+    ensures room { result ≡ true → vec_len bytes.new + more ≤ vec_capacity bytes.new }
+    ensures items { bytes.new.items ≡ bytes.old.items }
+    ensures len { vec_len bytes.new ≡ vec_len bytes.old }
+    ensures capacity { vec_capacity bytes.old ≤ vec_capacity bytes.new }
+{
+    let len = bytes.len();
+    if more <= bytes.capacity() - len {
+        return true;
+    }
+    let left = KEPT.saturating_sub(len);
+    if len as u64 > most || more > left {
+        return false;
+    }
+    bytes.reserve_exact(len.clamp(more, left)).is_ok()
+}
+
+/// Reads the samples of a stream from its first bit on, and keeps the bytes of those in front, as
+/// many as there is room for. How many samples these are: the reader is behind them. The refusals
+/// are those of judging.
+fn keep_front(
+    params: &Params,
+    reader: &mut StreamReader,
+    samples: &mut Vec<i64>,
+    bytes: &mut Vec<u8>,
+) -> Result<u64, Fault>
+    requires settings { reader.old.settings ≡ params.now }
+    requires block { reader.old.block ≡ 0 }
+    requires bit { reader.old.bit ≡ 0 }
+    requires empty { vec_len bytes.old ≡ 0 }
+    ensures kept { IfOk result (λ before. KeepsFront reader.new params.now before bytes.new.items) }
+    ensures same { OnOk result (let old = reader.old in
+        reader.new ≡ place_at old.settings old.count old.limit old.bits reader.new.block
+        reader.new.bit) }
+    ensures refuses { IfErr result (λ fault. let old = reader.old in
+        RefusesReading old.settings old.count old.limit old.bits 0 0 fault) }
+    ensures room { vec_capacity samples.old ≤ vec_capacity samples.new }
+    ensures buffer { vec_capacity bytes.old ≤ vec_capacity bytes.new }
+{
+    let more = 4 * params.interval_len() as usize;
+    let mut before = 0;
+    while has_room(bytes, more, most_kept(params, reader)) && reader.next(samples)? {
+        append_stored(params, samples, bytes);
+        before += samples.len() as u64;
+    }
+    Ok(before)
+}
+
+/// Writes the bytes of all samples of a stream, judged from its first bit on: those that were kept
+/// then, and behind them those of the rest, read again. The refusals are those of judging; nothing
+/// was begun then. After `begin` only `Write` can come. Takes no memory but for what is kept.
+pub(crate) fn write_all<W: Sink>(
+    params: &Params,
+    reader: &mut StreamReader,
+    samples: &mut Vec<i64>,
+    bytes: &mut Vec<u8>,
+    sink: &mut W,
+) -> Result<(), Fault>
+    requires settings { reader.old.settings ≡ params.now }
+    requires block { reader.old.block ≡ 0 }
+    requires bit { reader.old.bit ≡ 0 }
+    requires within { count_refusal reader.old.limit reader.old.count ≡ None }
+    requires room { interval_len params.now ≤ vec_capacity samples.old }
+    requires empty { vec_len bytes.old ≡ 0 }
+    requires buffer { 65536 + 4 * interval_len params.now ≤ vec_capacity bytes.old }
+    ensures { let put : Putting = putting_of W.taken W.begun W.mark W.failed sink.old sink.new in
+        SettlesOne (DecodesBits params.now reader.old.count reader.old.limit reader.old.bits) put
+        result }
+{
+    // What the parameters promise is told by their calls.
+    let _len = params.interval_len();
+    let kept = keep_front(params, reader, samples, bytes)?;
+    let judged = judge_from(params, reader, kept, kept)?;
+    let left = judged.total.saturating_sub(kept);
+    deliver_range(
+        params,
+        reader,
+        judged.before,
+        kept,
+        left,
+        samples,
+        bytes,
+        sink,
+    )
+}
