@@ -67,6 +67,7 @@ EARLY_JOB = Job("edits made early", ["-N", "-r", "1", "--edit", "script"], FEW_S
 # Answers that no pipe holds at once.
 LARGE_JOBS = [
     Job("coding of noise", ["-N"], NOISE, NOISE_STREAM),
+    Job("decoding of noise", ["-N", "-d"], NOISE_STREAM, NOISE),
     Job("decoding of many zeros", ["-d", *LONGEST], ZEROS_STREAM, ZEROS),
     Job("a range of many zeros", ["--range", "7:200000", *LONGEST], ZEROS_STREAM, bytes(200_000)),
     Job("an edit of noise", ["-N", "-r", "4096", "--edit", "script"], NOISE_STREAM, NOISE_STREAM, b"overwrite 1 154\n"),

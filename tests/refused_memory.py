@@ -4,8 +4,8 @@
 Runs the program at PATH_OF_AEC with a small library loaded before the C library, which refuses growths (calls of malloc, calloc
 and realloc): the k-th and all after it, and the k-th alone, for each k until a run meets no refusal. Each refused run has to
 end with status 1, with the one line for want of memory on standard error, and has to leave DEST as it was, or absent. The
-run that meets no refusal has to give the right bytes. Where the k-th alone is refused, a run may also go on without that
-growth, and then has to give the right bytes too.
+run that meets no refusal has to give the right bytes. A run may also go on without a growth, and then has to give the right bytes
+too: where the k-th alone is refused, and in decoding where all after it are refused as well, since that keeps no more bytes then.
 
 Beside that a short stream of very many samples is decoded, cut to a range and edited with little memory, and a stream is edited
 by a script of a million lines with four times its bytes, without the library.
@@ -103,12 +103,13 @@ def refuse_in_turn(refusing, alone, old, tally):
         answer, _, refused = refusing.answer(old, first, last)
         way = f"{what}: growth {first} {'alone' if alone else 'and all after it'}: {answer}"
         complete = refusing.is_complete(answer, old)
+        may_go_on = alone or "-d" in refusing.run.words
         if refused == 0:
             tally.holds(complete, f"{way}, with none refused")
             return first, spared
-        if alone and complete:
+        if may_go_on and complete:
             spared.add(first)
-        tally.holds(refusing.is_want_of_memory(answer, old) or alone and complete, way)
+        tally.holds(refusing.is_want_of_memory(answer, old) or may_go_on and complete, way)
     tally.holds(False, f"{what}: more than {MOST_GROWTHS} growths")
     return MOST_GROWTHS, spared
 
