@@ -62,7 +62,7 @@ install:
 	sed 's|share/doc/aec|share/doc/$(PROGRAM)|' man/aec.1 > $(share)/man/man1/$(PROGRAM).1
 	sed '/^complete /s/ aec$$/ $(PROGRAM)/' completions/aec.bash > $(share)/bash-completion/completions/$(PROGRAM)
 	sed '/^#compdef /s/ aec$$/ $(PROGRAM)/' completions/_aec > $(share)/zsh/site-functions/_$(PROGRAM)
-	for file in README.md CHANGELOG.md CONTRIBUTING.md LICENSE docs/*.md docs/*/* bench/tables.md examples/*; do \
+	for file in README.md CHANGELOG.md CONTRIBUTING.md LICENSE docs/*.md docs/*/* bench/*.md examples/*; do \
 	    test ! -f $$file || install -D -m 644 $$file $(share)/doc/$(PROGRAM)/$$file || exit 1; done
 
 clean:

@@ -20,7 +20,7 @@ from bench import INPUTS, MIB
 
 SETTINGS = [(8, 128), (16, 128), (64, 128), (8, 2), (8, 1)]
 MEAN = ["8-bit ramp with noise", "12-bit detector", "16-bit detector", "16-bit waves", "32-bit walk"]
-EVEN_BLOCKS = [8, 10, 12, 16, 30, 32]
+EVEN_BLOCKS = [8, 10, 12, 16, 24, 30, 32, 34, 48, 62, 64]
 EVEN_INPUTS = ["8-bit ramp with noise", "16-bit detector", "16-bit sparse zeros"]
 INTERVAL = 128
 # The bytes of a sample, by its greatest width.

@@ -76,7 +76,7 @@ def speed():
 
 def instructions():
     """Steps: instructions for each sample, state after state."""
-    rows = rows_below("docs/SPEED.md", "How the time fell")
+    rows = rows_below("bench/steps.md", "The steps")
     states, other = rows[:-1], rows[-1]
     left, top, bottom = 60, 60, 340
     step = (WIDTH - left - 120) / (len(states) - 1)
@@ -99,7 +99,7 @@ def instructions():
     parts.append(text(WIDTH - 120, bottom - 105, says, "end", 13))
     for number in range(len(states)):
         parts.append(text(place(number, 0)[0], bottom + 18, str(number + 1), "middle", 12))
-    parts.append(text(left, bottom + 40, "states in the order of the table in SPEED.md", size=12))
+    parts.append(text(left, bottom + 40, "states in the order of bench/steps.md", size=12))
     return picture(bottom + 55, "how the instructions for each sample fell, coding and decoding", parts)
 
 

@@ -53,15 +53,16 @@ ZEROS, ZEROS_STREAM = bytes(64 * 64 * 64), bytes_of_bits("0000" + "0" * 8 + "000
 NOISE = bytes(255 - 101 * i % 256 for i in range(100_000))
 NOISE_STREAM = bytes_of_bits("".join("111" + "".join(f"{x:08b}" for x in NOISE[i : i + 8]) for i in range(0, len(NOISE), 8)))
 
-# Eight intervals of a block, of which the first edits are made while the others are still to come. They change nothing.
-FEW, FEW_STREAM = NOISE[:64], NOISE_STREAM[:67]
+# 520 intervals of a block, of which 256 are appended at once: the first edits are made while others are still to come. They
+# change nothing.
+FEW, FEW_STREAM = NOISE[:4160], NOISE_STREAM[:4355]
 EARLY_SCRIPT = b"""overwrite 1 %d
 overwrite 9 %d %d
 # the last places
-overwrite 62 %d %d
+overwrite 4158 %d %d
 append
-truncate 64
-""" % (FEW[1], *FEW[9:11], *FEW[62:])
+truncate 4160
+""" % (FEW[1], *FEW[9:11], *FEW[4158:])
 EARLY_JOB = Job("edits made early", ["-N", "-r", "1", "--edit", "script"], FEW_STREAM, FEW_STREAM, EARLY_SCRIPT)
 
 # Answers that no pipe holds at once.

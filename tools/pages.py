@@ -15,7 +15,7 @@ them, indented by four, what it has of these lines, each of which may go on belo
 
 docs/claims.txt has what stands around the claims; its line `@crates` gives way to them.
 
-Fails where a name is none; where an ensures clause of a public function, its premise, a must-fail
+Fails where a name is none; where an ensures clause of a public function (of no crate of tests), its premise, a must-fail
 edit, a test or a script of tests/ that make runs stands in no claim; where the README.md of a crate has no
 line on a module; and with --check, which writes nothing, where the page isn't what is written.
 """
@@ -146,7 +146,7 @@ class Names:
         """What there is and nobody has named."""
         wanted = {one: f"test {one}" for one in [*(it.path() for it in self.tests), *self.scripts]}
         for one in self.functions:
-            if one.is_public:
+            if one.is_public and not one.crate.endswith("_trials"):
                 path = one.path()
                 clauses = sorted(one.clauses or {""})
                 wanted |= {(path, it): f"clause {it or NAMELESS} of {path}" for it in clauses}

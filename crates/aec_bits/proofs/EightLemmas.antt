@@ -1,18 +1,19 @@
--- Eight bytes at once of those that bits fill.
-use Rattle.std.proofs.Common.{◌≡◌, ℕ, zero, suc, ◌+◌, ◌-◌, ◌*◌, ◌/◌, ◌^◌, ◌<◌, ◌≤◌, Bool, false, List, [], ◌∷◌, ◌++◌, length, take, drop, replicate, refl, sym, ap, ◌∙◌, arith, take-add}
-use Rattle.std.specs.List.{AllByRecursion}
+-- The bytes of words, of those that bits fill.
+use Rattle.std.proofs.Common.{◌≡◌, ℕ, zero, suc, ◌+◌, ◌-◌, ◌*◌, ◌/◌, ◌^◌, ◌<◌, ◌≤◌, Bool, false, List, [], ◌∷◌, ◌++◌, length, take, drop, replicate, refl, sym, ap, ap₂, ◌∙◌, arith}
+use Rattle.std.specs.List.{AllByRecursion, flat_map}
 use Rattle.std.specs.Int.{bytes_high_first}
 use Rattle.std.proofs.lemmas.Nat.{mod_below}
-use Rattle.std.proofs.lemmas.Slice.{take-put_mid}
-use borrow.Rule.Slice.PartMut.{put_mid}
-use Rattle.std.proofs.lemmas.List.{take_at, drop_at, take-append-drop, drop-append-le, take-replicate, length-take-le, length-drop, drop-drop}
+use Rattle.std.proofs.lemmas.List.{take_at, drop_at, take-append-drop, drop-append-le, take-replicate, length-take-le, length-drop}
 use Rattle.aec_params.specs.Codewords.{bytes_of, bits_of_bytes}
 use Rattle.aec_params.specs.Cutting.{up_to_multiple}
+use Rattle.aec_params.proofs.ListLaws.{all-append}
 use Rattle.aec_params.proofs.ByteLaws.{length-bits_of_bytes, bits_of_bytes-bytes_of, bytes_of-below, bytes_of-bits_of_bytes}
-use Rattle.aec_bits.specs.WordBits.{word_bits}
-use Rattle.aec_bits.specs.Windows.{bits_from}
+use Rattle.aec_bits.specs.Words.{bits_of_words}
+use Rattle.aec_bits.specs.Packed.{ArePacked}
 use Rattle.aec_bits.proofs.CodewordLemmas.{bits_of_bytes-append, length-bytes_of}
 use Rattle.aec_bits.proofs.ByteLemmas.{byte_of, bits_of_bytes-high_first}
+use Rattle.aec_bits.proofs.WordLemmas.{bits_of_words-take, bits_of_words-drop}
+use Rattle.aec_bits.proofs.PackedLemmas.{packed_bits, length-packed}
 use Rattle.aec_bits.proofs.WindowLemmas.{take_padded}
 
 below_256 : (k n : ℕ) → AllByRecursion (λ b. b < 256) (bytes_high_first k n)
@@ -47,34 +48,64 @@ take_filled zero m xs enough = refl
 take_filled (suc n) m [] enough = take-replicate (suc n) m false (omega arith) ∙ sym (take-replicate (suc n) (suc n) false (omega arith))
 take_filled (suc n) m (x ∷ xs) enough = ap (λ l. x ∷ l) (take_filled n m xs (omega arith) ∙ sym (take_padded n (suc n) xs (omega arith)))
 
-pub eight_bytes : (list : List Bool) (at word : ℕ) → at + 8 ≤ length (bytes_of list) → word_bits word ≡ bits_from (8 * at) 64 list
-    → bytes_high_first 8 word ≡ take 8 (drop at (bytes_of list))
-unfolding word_bits bits_from
-eight_bytes list at word within there =
-    let bytes : List ℕ = bytes_of list in
-    let eight : List ℕ = take 8 (drop at bytes) in
-    let missing : ℕ = up_to_multiple 8 (length list) in
-    let begun : 8 * at ≤ length list = omega (arith, length-bytes_of list) in
-    let filled : 64 ≤ length (drop (8 * at) list) + missing = omega (arith, length-bytes_of list, length-drop (8 * at) list) in
-    let enough : 8 ≤ length (drop at bytes) = omega (arith, length-drop at bytes) in
-    let spelled : bits_of_bytes eight ≡ take 64 (drop (8 * at) list ++ replicate 64 false) =
-    bits_of_bytes-take (drop at bytes) 8 enough
-    ∙ ap (take 64) (bits_of_bytes-drop bytes at (omega arith) ∙ ap (drop (8 * at)) (bits_of_bytes-bytes_of list)
-    ∙ drop-append-le (8 * at) list (replicate missing false) begun)
-    ∙ take_filled 64 missing (drop (8 * at) list) filled in
-    sym (bytes_of-bits_of_bytes (bytes_high_first 8 word) (below_256 8 word))
-    ∙ ap bytes_of (bits_of_bytes-high_first 8 word ∙ there ∙ sym spelled)
-    ∙ bytes_of-bits_of_bytes eight (all_taken 8 (drop at bytes) (all_behind at bytes (bytes_of-below list)))
+-- ---- words
 
--- eight more bytes
-pub eight_more : (bytes piece eight new : List ℕ) (first i : ℕ) → 8 * i + 8 ≤ length piece → first + length piece ≤ length bytes
-    → take (8 * i) piece ≡ take (8 * i) (drop first bytes) → eight ≡ take 8 (drop (first + 8 * i) bytes) → new ≡ eight
-    → take (8 * (i + 1)) (put_mid (8 * i) (8 * i + 8 - 8 * i) piece new) ≡ take (8 * (i + 1)) (drop first bytes)
-eight_more bytes piece eight new first i room within so_far next put =
-    let e : 8 * i + 8 ≡ 8 * (i + 1) = omega arith in
-    let long : length new ≡ 8 =
-    ap length (put ∙ next) ∙ length-take-le 8 (drop (first + 8 * i) bytes) (omega (arith, length-drop (first + 8 * i) bytes)) in
-    take-put_mid (8 * i) (8 * i + 8 - 8 * i) piece new (8 * (i + 1)) (omega arith) (omega arith)
-    ∙ ap (λ l. l ++ new) so_far
-    ∙ ap (λ l. take (8 * i) (drop first bytes) ++ l) (put ∙ next ∙ ap (take 8) (sym (drop-drop (8 * i) first bytes)))
-    ∙ sym (take-add (8 * i) 8 (drop first bytes)) ∙ ap (λ n. take n (drop first bytes)) e
+-- the bytes of words are their bits
+pub bits_of_bytes-words : (words : List ℕ) → bits_of_bytes (flat_map (bytes_high_first 8) words) ≡ bits_of_words words
+bits_of_bytes-words [] = refl
+bits_of_bytes-words (w ∷ words) =
+    bits_of_bytes-append (bytes_high_first 8 w) (flat_map (bytes_high_first 8) words)
+    ∙ ap₂ ◌++◌ (bits_of_bytes-high_first 8 w) (bits_of_bytes-words words)
+
+words_below : (words : List ℕ) → AllByRecursion (λ b. b < 256) (flat_map (bytes_high_first 8) words)
+words_below [] = tt
+words_below (w ∷ words) = all-append (λ b. b < 256) (bytes_high_first 8 w) (flat_map (bytes_high_first 8) words) (below_256 8 w) (words_below words)
+
+-- bytes with the same bits
+same_bytes : (xs ys : List ℕ) → AllByRecursion (λ b. b < 256) xs → AllByRecursion (λ b. b < 256) ys → bits_of_bytes xs ≡ bits_of_bytes ys → xs ≡ ys
+same_bytes xs ys first second e = sym (bytes_of-bits_of_bytes xs first) ∙ ap bytes_of e ∙ bytes_of-bits_of_bytes ys second
+
+-- the bits of some of the words that hold a list, with zeros behind it
+words_bits : (words : List ℕ) (len first count : ℕ) → ArePacked words len → first + count ≤ length words → 64 * first ≤ len
+    → bits_of_words (take count (drop first words))
+    ≡ take (64 * count) (drop (64 * first) (take len (bits_of_words words)) ++ replicate (64 * count) false)
+words_bits words len first count held within begun =
+    let list : List Bool = take len (bits_of_words words) in
+    let rest : ℕ = 64 * length words - len in
+    let long : length list ≡ len = length-packed words len (omega (arith, held.0)) in
+    bits_of_words-take (drop first words) count (omega (arith, length-drop first words))
+    ∙ ap (take (64 * count)) (bits_of_words-drop words first (omega arith) ∙ ap (drop (64 * first)) (packed_bits words len held)
+    ∙ drop-append-le (64 * first) list (replicate rest false) (omega arith))
+    ∙ take_filled (64 * count) rest (drop (64 * first) list) (omega (arith, held.0, long, length-drop (64 * first) list))
+
+-- the bits of some of the bytes that a list fills, with zeros behind it
+bytes_bits : (list : List Bool) (at n : ℕ) → at + n ≤ length (bytes_of list) → 8 * at ≤ length list
+    → bits_of_bytes (take n (drop at (bytes_of list))) ≡ take (8 * n) (drop (8 * at) list ++ replicate (8 * n) false)
+bytes_bits list at n within begun =
+    let bytes : List ℕ = bytes_of list in
+    let missing : ℕ = up_to_multiple 8 (length list) in
+    bits_of_bytes-take (drop at bytes) n (omega (arith, length-drop at bytes))
+    ∙ ap (take (8 * n)) (bits_of_bytes-drop bytes at (omega arith) ∙ ap (drop (8 * at)) (bits_of_bytes-bytes_of list)
+    ∙ drop-append-le (8 * at) list (replicate missing false) begun)
+    ∙ take_filled (8 * n) missing (drop (8 * at) list) (omega (arith, length-bytes_of list, length-drop (8 * at) list))
+
+-- the bytes of some of the words that hold a list are those that it fills
+pub bytes_of-words : (words : List ℕ) (len first count n : ℕ) → ArePacked words len → n ≡ 8 * count
+    → 8 * first + n ≤ length (bytes_of (take len (bits_of_words words)))
+    → flat_map (bytes_high_first 8) (take count (drop first words)) ≡ take n (drop (8 * first) (bytes_of (take len (bits_of_words words))))
+bytes_of-words words len first zero n held eights within =
+    ap (λ k. take k (drop (8 * first) (bytes_of (take len (bits_of_words words))))) (sym eights)
+bytes_of-words words len first (suc more) n held eights within =
+    let list : List Bool = take len (bits_of_words words) in
+    let count : ℕ = suc more in
+    let long : length list ≡ len = length-packed words len (omega (arith, held.0)) in
+    let filled = length-bytes_of list in
+    let places : 64 * first ≡ 8 * (8 * first) = omega arith in
+    let bits : 64 * count ≡ 8 * n = omega (arith, eights) in
+    same_bytes (flat_map (bytes_high_first 8) (take count (drop first words))) (take n (drop (8 * first) (bytes_of list)))
+    (words_below (take count (drop first words)))
+    (all_taken n (drop (8 * first) (bytes_of list)) (all_behind (8 * first) (bytes_of list) (bytes_of-below list)))
+    (bits_of_bytes-words (take count (drop first words))
+    ∙ words_bits words len first count held (omega (arith, held.0, long, filled, within, eights)) (omega (arith, long, filled, within, eights))
+    ∙ ap₂ (λ a b. take a (drop b list ++ replicate a false)) bits places
+    ∙ sym (bytes_bits list (8 * first) n within (omega (arith, long, filled, within, eights))))

@@ -189,7 +189,8 @@ pub numbers_more : (list : List Bool) (width n i word place start behind : ℕ) 
     → word_bits word ≡ bits_from place 64 list → length part ≡ length (take (n * i + n - n * i) (drop (n * i) items))
     → StandsBefore (binary width) (2 ^ width) part (binary (64 - width * length (take (n * i + n - n * i) (drop (n * i) items))) word) (word_bits word)
     → StandsBefore (binary width) (2 ^ width) (take (n * i) items) (drop place list) (drop start list)
-    → StandsBefore (binary width) (2 ^ width) (take (n * (i + 1)) (put_mid (n * i) (n * i + n - n * i) items part)) (drop (place + behind) list) (drop start list)
+    → StandsBefore (binary width) (2 ^ width) (take (n * (i + 1)) (put_mid (n * i) (n * i + n - n * i) items part)) (drop (place + behind) list)
+    (drop start list)
 numbers_more list width n i word place start behind items part some before here all short is same size read so_far =
     let inside = group_within n i (length items) some before in
     let size_n = part_len (n * i) n items part inside size in

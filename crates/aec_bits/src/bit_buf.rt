@@ -1,9 +1,12 @@
 //! A list of bits that grows.
 
-use crate::octets::words_of;
-use crate::packed::{append_bits, cut, push_number, push_reserved_number, push_unary, splice_bits};
+use crate::words::octets::append_octets;
+use crate::words::packed::{
+    append_bits, cut, push_number, push_reserved_number, push_unary, splice_bits,
+};
 use crate::words::{number_at, padded_word_at, zeros_at};
 use aec_params::Fault;
+use byteorder::{BigEndian, ByteOrder};
 use std::alloc::Global;
 use std::marker::Model;
 
@@ -38,7 +41,7 @@ impl Model for BitBuf {
 
 #[tactic(auto, using(crate::proofs::PackedLemmas::packed_lengths))]
 impl BitBuf {
-    ghost use Rattle.std.specs.Prelude.{◌≡◌, ◌+◌, ◌-◌, ◌*◌, ◌<◌, ◌≤◌, ◌^◌, [], ◌∷◌, ◌++◌, List, Bool, false, length, take, drop, replicate, slice_index, slice_index_or, IfOk, OnOk, OnErr, IfErr, MatchOption, is_some};
+    ghost use Rattle.std.specs.Prelude.{◌≡◌, ◌+◌, ◌-◌, ◌*◌, ◌%◌, ◌<◌, ◌≤◌, ◌^◌, [], ◌∷◌, ◌++◌, List, Bool, false, length, take, drop, replicate, slice_index, slice_index_or, IfOk, OnOk, OnErr, IfErr, MatchOption, is_some};
     ghost use Rattle.std.specs.Int.{div_ceil};
     ghost use Rattle.aec_params.specs.declared.fault.Fault.TheVariants.{Memory};
     ghost use Rattle.aec_params.specs.Codewords.{fs, binary, bytes_of, bits_of_bytes, padded_to_byte};
@@ -91,15 +94,17 @@ impl BitBuf {
         number_at(&self.words, 8 * i, 8) as u8
     }
 
-    /// Eight bytes from byte `from` on of the bytes that the bits fill.
-    #[inline(always)]
+    /// Puts the bytes of words, of those that the bits fill, into all of a piece: from word `first`
+    /// on, eight bytes of each.
     #[tactic(auto, using(crate::proofs::CodewordLemmas::byte_counts, crate::proofs::PackedLemmas::packed_lengths))]
-    pub(crate) fn eight_bytes(&self, from: u64) -> [u8; 8]
-        requires { from + 8 ≤ length (bytes_of self.now.list) }
-        ensures { result ≡ take 8 (drop from (bytes_of self.now.list)) }
+    pub(crate) fn put_words(&self, first: u64, piece: &mut [u8])
+        requires eights { length piece.old % 8 ≡ 0 }
+        requires within { 8 * first + length piece.old ≤ length (bytes_of self.now.list) }
+        ensures { piece.new ≡ take (length piece.old) (drop (8 * first) (bytes_of self.now.list)) }
     {
-        let _len = self.len();
-        self.word_from(8 * from).to_be_bytes()
+        let start = first as usize;
+        let words = &self.words[start..start + piece.len() / 8];
+        BigEndian::write_u64_into(words, piece);
     }
 
     /// The number that `width` bits spell from place `start` on, the most significant first.
@@ -219,6 +224,24 @@ impl BitBuf {
         Ok(())
     }
 
+    /// Appends the bits of bytes, the most significant bit of each first.
+    pub fn append_bytes(&mut self, bytes: &[u8]) -> Result<(), Fault>
+        ensures ok { OnOk result (self.new.list ≡ self.old.list ++ bits_of_bytes bytes.now) }
+        ensures room { OnOk result (self.old.room ≤ self.new.room + 8 * length bytes.now) }
+        ensures err { OnErr result (self.new ≡ self.old) }
+        ensures full { OnErr result (self.old.room < 8 * length bytes.now) }
+        ensures fault { IfErr result (λ e. e ≡ Memory) }
+    {
+        if bytes.len() as u64 > (MOST_BITS - self.len) / 8 {
+            return Err(Fault::Memory);
+        }
+        let bits = 8 * bytes.len() as u64;
+        self.reserve(bits)?;
+        append_octets(&mut self.words, self.len, bytes);
+        self.len += bits;
+        Ok(())
+    }
+
     /// Replaces the bits from place `start` up to place `stop` by those of another list. Takes no
     /// memory where the list does not get longer.
     pub fn splice(&mut self, start: u64, stop: u64, with: &BitBuf) -> Result<(), Fault>
@@ -259,13 +282,9 @@ impl BitBuf {
         ensures ok { IfOk result (λ b. b.list ≡ bits_of_bytes bytes.now) }
         ensures fault { IfErr result (λ e. (e ≡ Memory) × (0 < length bytes.now)) }
     {
-        if bytes.len() as u64 > MOST_BITS / 8 {
-            return Err(Fault::Memory);
-        }
-        Ok(BitBuf {
-            words: words_of(alloc, bytes)?,
-            len: 8 * bytes.len() as u64,
-        })
+        let mut bits = BitBuf::new(alloc);
+        bits.append_bytes(bytes)?;
+        Ok(bits)
     }
 
     /// Keeps the first `len` bits. Takes no memory.

@@ -1,8 +1,11 @@
 //! A reader of bits.
 
+mod counted_ones;
+mod windows;
+
 use crate::bit_buf::BitBuf;
-use crate::ones::bits_to_one;
-use crate::windows::{numbers_from, sequences_from};
+use crate::bit_reader::counted_ones::bits_to_one;
+use crate::bit_reader::windows::{numbers_from, sequences_from};
 use aec_params::Fault;
 use std::marker::Model;
 

@@ -5,14 +5,8 @@ mod bit_buf;
 mod bit_reader;
 mod codec;
 mod device;
-mod fours;
 mod io_device;
 pub mod laws;
-mod octets;
-mod ones;
-mod packed;
-mod shift;
-mod windows;
 mod words;
 mod writing;
 

@@ -1,5 +1,10 @@
 //! Numbers and stretches of bits in words of 64, the most significant bit first.
 
+mod copying;
+mod copying_fours;
+pub(crate) mod octets;
+pub(crate) mod packed;
+
 ghost use Rattle.std.specs.Prelude.{◌≡◌, ◌+◌, ◌-◌, ◌*◌, ◌<◌, ◌≤◌, ◌^◌, ◌++◌, false, length, take, drop, replicate, slice_index_or, MatchOption, is_some};
 ghost use Rattle.aec_params.specs.Codewords.{fs, binary};
 ghost use Rattle.aec_bits.specs.BitReader.{has_one};

@@ -43,29 +43,19 @@ impl BitBuf {
 /// Puts the bytes from byte `first` on into a piece, as many as it holds and there are. The number
 /// of them.
 fn fill(buf: &BitBuf, first: u64, piece: &mut [u8]) -> usize
-    requires { first ≤ length (bytes_of buf.now.list) }
+    requires within { first ≤ length (bytes_of buf.now.list) }
+    requires eights { first % 8 ≡ 0 }
     ensures count { result ≡ min (length piece.old) (length (bytes_of buf.now.list) - first) }
     ensures bytes { take result piece.new ≡ take result (drop first (bytes_of buf.now.list)) }
 {
     let left = buf.byte_len() - first;
     let count = piece.len().min(left as usize);
-    fill_eights(buf, first, &mut piece[..count / 8 * 8]);
-    for k in count / 8 * 8..count {
+    let whole = count / 8 * 8;
+    buf.put_words(first / 8, &mut piece[..whole]);
+    for k in whole..count {
         piece[k] = buf.byte(first + k as u64);
     }
     count
-}
-
-/// Puts the bytes from byte `first` on into all of a piece that is whole eights.
-fn fill_eights(buf: &BitBuf, first: u64, piece: &mut [u8])
-    requires eights { length piece.old % 8 ≡ 0 }
-    requires within { first + length piece.old ≤ length (bytes_of buf.now.list) }
-    ensures { piece.new ≡ take (length piece.old) (drop first (bytes_of buf.now.list)) }
-{
-    let _total = buf.byte_len();
-    for i in 0..piece.len() / 8 {
-        piece[8 * i..8 * i + 8].copy_from_slice(&buf.eight_bytes(first + 8 * i as u64));
-    }
 }
 
 /// Puts all bytes of a piece to a sink, in as many calls as it needs.

@@ -85,7 +85,7 @@ refilled n first reference inside items shown values behind b same is_first with
     ap (λ m. take m items ++ values) is_first ∙ front reference items values b.place in
     rw same (filled ∙ place)
 
-pub block_filled : (n first : ℕ) (reference inside : Option ℕ) (items shown values behind : List ℕ) → HasBegun n reference inside items → shown ≡ items
+block_filled : (n first : ℕ) (reference inside : Option ℕ) (items shown values behind : List ℕ) → HasBegun n reference inside items → shown ≡ items
     → first ≡ length (placed_values reference []) → first ≤ n → length values ≡ n - first → let block : Block = record {
       reference = inside;
       values = refill (length items) items (take first shown ++ (values ++ behind));

@@ -1,11 +1,13 @@
 -- Identifiers: what was spelled is read back, and what is read was spelled.
-use Rattle.std.proofs.Common.{◌≡◌, ℕ, zero, suc, ◌+◌, ◌-◌, ◌^◌, ◌<◌, ◌≤◌, Bool, List, ◌++◌, refl, sym, ap, ◌∙◌, append_assoc, inl, inr, arith}
-use Rattle.std.proofs.lemmas.Nat.{pow_pos}
+use Rattle.std.proofs.Common.{◌≡◌, ℕ, zero, suc, ◌+◌, ◌-◌, ◌*◌, ◌/◌, ◌%◌, ◌^◌, ◌<◌, ◌≤◌, ◌==◌, Bool, true, false, List, ◌∷◌, ◌++◌, refl, sym, ap, ◌∙◌, append_assoc, inl, inr, arith}
+use Rattle.std.proofs.lemmas.Nat.{pow_pos, div-mul-add}
 use Rattle.std.proofs.Math.Nat.{pow-suc, div-eq_of_lt}
-use Rattle.std.proofs.lemmas.Bool.{cases_eq, eq-eqb, ne_eqb}
+use Rattle.std.proofs.lemmas.Bool.{cases_eq, cases_lt, eq-eqb, ne_eqb}
 use Rattle.aec_params.specs.Codewords.{binary}
 use Rattle.aec_block.specs.declared.reading.Kind.{Kind}
 use Rattle.aec_block.specs.declared.reading.Kind.TheVariants.{ZeroBlocks, SecondExtension, Split, NoCompression}
+use Rattle.aec_bits.specs.BitReader.{has_one}
+use Rattle.aec_block.specs.ReadCds.{is_plain}
 use Rattle.aec_block.specs.ReadAt.{taken, map_taken, binary_at, kind_of_last, kind_of_number, kind_after, kind_at}
 use Rattle.aec_block.proofs.CodewordLemmas.{then_at-passed, map_taken-mapped, binary-add, binary_at-binary, binary_at-spelled}
 
@@ -104,3 +106,38 @@ kind_at-spelled len bits kind rest e =
           let same : p.behind ≡ rest = cc in
           spelled_number len p.value bits kind rest (omega arith) number.0 (rw same at number.1) kind_is
     ]
+
+-- ---- a one in it
+
+top_bit : (w v : ℕ) → 2 ^ w ≤ v → v < 2 ^ suc w → (v / 2 ^ w % 2 == 1) ≡ true
+top_bit w v most fits =
+    let rest : v ≡ 1 * 2 ^ w + (v - 2 ^ w) = omega arith in
+    let one : v / 2 ^ w ≡ 1 = ap (λ n. n / 2 ^ w) rest ∙ div-mul-add 1 (2 ^ w) (v - 2 ^ w) (omega (arith, fits, pow-suc 2 w)) in
+    ap (λ q. q % 2 == 1) one
+
+one_in_number : (w v : ℕ) (rest : List Bool) → 0 < v → v < 2 ^ w → has_one (binary w v ++ rest) ≡ true
+one_in_number zero v rest some fits = absurd (omega arith)
+one_in_number (suc w) v rest some fits =
+    elim (cases_lt v (2 ^ w)) [
+      | inl less ↦ by_bit (v / 2 ^ w % 2 == 1) (one_in_number w v rest some less)
+      | inr most ↦ ap (λ b. has_one (b ∷ (binary w v ++ rest))) (top_bit w v most fits)
+    ]
+  where
+    by_bit : (b : Bool) → has_one (binary w v ++ rest) ≡ true → has_one (b ∷ (binary w v ++ rest)) ≡ true
+    by_bit true later = refl
+    by_bit false later = later
+
+-- an identifier of values that are written one by one is no row of zeros
+pub one_in_plain : (len : ℕ) (bits : List Bool) (kind : Kind) (rest : List Bool) → 0 < len → kind_at len bits ≡ taken kind rest → is_plain kind ≡ true
+    → has_one bits ≡ true
+one_in_plain len bits kind rest some read plain =
+    let spelled = kind_at-spelled len bits kind rest read in
+    by_kind kind spelled.is_kind spelled.spelled plain
+  where
+    by_kind : (kind : Kind) → IsKind len kind → bits ≡ kind_bits len kind ++ rest → is_plain kind ≡ true → has_one bits ≡ true
+    by_kind ZeroBlocks is_kind spelled plain = absurd (cc)
+    by_kind SecondExtension is_kind spelled plain = absurd (cc)
+    by_kind (Split k) is_kind spelled plain = ap has_one spelled ∙ one_in_number len (k + 1) rest (omega arith) (omega (arith, is_kind))
+    by_kind NoCompression is_kind spelled plain =
+        let two = two_or_more len some in
+        ap has_one spelled ∙ one_in_number len (2 ^ len - 1) rest (omega arith) (omega arith)

@@ -36,6 +36,35 @@ eight_shifted-le k values long fit =
     let each : Each1 (Fits w32) values = subst P (take_all 8 values (omega arith)) (chunk-fits w32 0 8 values fit) in
     omega (arith, shifted-le k values each)
 
+-- a 0 in front adds nothing
+zero_in_front : (k : ℕ) (values : List ℕ) → sum_of_shifted k (0 ∷ values) ≡ sum_of_shifted k values
+zero_in_front k values =
+    let added = sum_by-cons (λ (u : ℕ). u / 2 ^ k) 0 values in
+    let nothing = shr_le 0 k in
+    omega arith
+
+-- seven values one by one
+seven : (values : List ℕ) → length values ≡ 7
+    → get_or values 0 0 ∷ (get_or values 1 0 ∷ (get_or values 2 0 ∷ (get_or values 3 0 ∷ (get_or values 4 0 ∷ (get_or values 5 0
+    ∷ (get_or values 6 0 ∷ [])))))) ≡ values
+seven (a ∷ (b ∷ (c ∷ (d ∷ (e ∷ (f ∷ (g ∷ []))))))) len = refl
+seven (a ∷ (b ∷ (c ∷ (d ∷ (e ∷ (f ∷ (g ∷ (h ∷ values)))))))) len = absurd (omega arith)
+seven (a ∷ (b ∷ (c ∷ (d ∷ (e ∷ (f ∷ [])))))) len = absurd (omega arith)
+seven (a ∷ (b ∷ (c ∷ (d ∷ (e ∷ []))))) len = absurd (omega arith)
+seven (a ∷ (b ∷ (c ∷ (d ∷ [])))) len = absurd (omega arith)
+seven (a ∷ (b ∷ (c ∷ []))) len = absurd (omega arith)
+seven (a ∷ (b ∷ [])) len = absurd (omega arith)
+seven (a ∷ []) len = absurd (omega arith)
+seven [] len = absurd (omega arith)
+
+pub seven-sums : (k : ℕ) (values : List ℕ) → length values ≡ 7
+    → sum_of_shifted k (0 ∷ (get_or values 0 0 ∷ (get_or values 1 0 ∷ (get_or values 2 0 ∷ (get_or values 3 0 ∷ (get_or values 4 0
+    ∷ (get_or values 5 0 ∷ (get_or values 6 0 ∷ [])))))))) ≡ sum_of_shifted k values
+seven-sums k values len =
+    ap (λ (vs : List ℕ). sum_of_shifted k (0 ∷ vs)) (seven values len) ∙ zero_in_front k values
+
+pub ruleset behind_zero = (seven-sums)
+
 pub ruleset shifts = (chunk-fits, shifts_fit_splat, widens, zip2_splat, take_all, sum_l-shifted, eight_shifted-le)
 
 -- what adding lane to lane and adding up the lanes show as

@@ -2,6 +2,7 @@ pub mod MappingLemmas
 pub mod ListMappingLemmas
 pub mod NearLemmas
 pub mod NearLaneLemmas
+pub mod UnmappingLemmas
 pub mod LengthLemmas
 pub mod LanesLemmas
 pub mod SplittingLemmas
@@ -21,6 +22,8 @@ pub mod JoiningLemmas
 pub mod GatheringLemmas
 pub mod FillingLemmas
 pub mod ReadCdsLemmas
+pub mod PlainLemmas
+pub mod NoPlainLemmas
 pub mod StandingLemmas
 pub mod SkippingLemmas
 pub mod ShortestLemmas

@@ -1,12 +1,13 @@
 -- Lists of samples mapped one behind the other, and samples taken back from lists of values.
 use Rattle.std.proofs.Common.{◌≡◌, ℕ, zero, suc, Bool, if◌then◌else◌, ◌+◌, ◌-◌, ◌<◌, ◌≤◌, ◌^◌, Option, Some, true, false, ℤ, pos, List, [], ◌∷◌, ◌++◌, length, map, take, drop, get_or, slice_set, unwrap_or, refl, sym, ap, ap₂, ◌∙◌, subst, append_assoc, append-nil, drop-cons, arith, w64, FitsSigned}
 use Rattle.std.proofs.lemmas.List.{take_more, take_more_set, take_all, drop_all, drop-set-lt, length-set, map-append}
+use Rattle.std.proofs.lemmas.Bool.Decides.{nat_tests}
 use Rattle.std.proofs.lemmas.Int.{ints, fits_signed_from_abs}
 use Rattle.std.specs.Prelude.{◌+ℤ◌, ◌-ℤ◌, ◌≤ℤ◌, neg_ℤ, unsigned_abs}
 use Rattle.std.specs.List.{AllByRecursion, last_or}
 use Rattle.aec_params.specs.declared.settings.Settings.{Settings}
 use Rattle.aec_params.specs.Params.{IsAllowed, IsHeld, x_min, sample_pattern}
-use Rattle.aec_params.specs.Mapping.{mapped_value, mapped_after}
+use Rattle.aec_params.specs.Mapping.{mapped_value, mapped_after, mapped_values}
 use Rattle.aec_params.proofs.ParamsLemmas.{pow-halves, bits-least, values-most}
 use Rattle.aec_params.proofs.ListLaws.{all-append}
 use Rattle.aec_block.specs.Offsets.{sample_offset, top_offset, mapped_offset, mapped_offsets}
@@ -17,7 +18,8 @@ pub last_or-append : {X : Type 0} (o : Option X) (xs ys : List X) → last_or o 
 last_or-append o [] ys = refl
 last_or-append o (x ∷ xs) ys = last_or-append (Some x) xs ys
 
-pub mapped_after-append : (s : Settings) (p : ℤ) (xs ys : List ℤ) → mapped_after s p (xs ++ ys) ≡ mapped_after s p xs ++ mapped_after s (unwrap_or (last_or (Some p) xs) (pos 0)) ys
+pub mapped_after-append : (s : Settings) (p : ℤ) (xs ys : List ℤ)
+    → mapped_after s p (xs ++ ys) ≡ mapped_after s p xs ++ mapped_after s (unwrap_or (last_or (Some p) xs) (pos 0)) ys
 mapped_after-append s p [] ys = refl
 mapped_after-append s p (x ∷ xs) ys = ap (λ values. mapped_value s p x ∷ values) (mapped_after-append s x xs ys)
 
@@ -101,6 +103,24 @@ mapped_after-offsets s p [] allowed on held_p held = refl
 mapped_after-offsets s p (x ∷ xs) allowed on held_p held =
     ap₂ (λ v vs. v ∷ vs) (mapped_value-offsets s p x allowed on held_p held.0) (mapped_after-offsets s x xs allowed on held.0 held.1)
 
+-- an interval's first sample, predicted from itself
+mapped_value-self : (s : Settings) (x : ℤ) (on : Bool) → s.preprocess ≡ on → IsAllowed s → IsHeld s x
+    → mapped_value s x x ≡ (if s.preprocess then 0 else sample_pattern s x)
+mapped_value-self s x true on allowed held =
+    mapped_value-offsets s x x allowed on held held
+    ∙ (no_difference (top_offset s) (sample_offset s x) ∙ ap (λ b. if b then 0 else sample_pattern s x) (sym on))
+  where
+    no_difference : (top p : ℕ) → mapped_offset top p p ≡ 0
+    no_difference top p = grind (arith, nat_tests)
+mapped_value-self s x false off allowed held =
+    mapped_value-pattern s x x off ∙ ap (λ b. if b then 0 else sample_pattern s x) (sym off)
+
+pub mapped_after-first : (s : Settings) (p : ℤ) (xs : List ℤ) → IsAllowed s → 0 < length xs → p ≡ get_or xs 0 (pos 0) → AllByRecursion (IsHeld s) xs
+    → mapped_after s p xs ≡ mapped_values s xs
+mapped_after-first s p [] allowed some is held = absurd (omega arith)
+mapped_after-first s p (x ∷ xs) allowed some is held =
+    ap (λ p. mapped_after s p (x ∷ xs)) is ∙ ap (λ v. v ∷ mapped_after s x xs) (mapped_value-self s x s.preprocess refl allowed held.0)
+
 -- ---- offsets mapped in their place
 
 -- so far: what is coded for the offsets up to i stands in their place, and p is the last of them
@@ -180,7 +200,8 @@ unmaps_to-start s p items = record {
 }
 
 -- values, and others from the last sample on
-abbrev pub unmaps_to-append : (s : Settings) (p q : ℤ) (values others : List ℕ) (old mid new : List ℤ) → UnmapsTo s p q values old mid → Unmaps s q others mid new
+abbrev pub unmaps_to-append : (s : Settings) (p q : ℤ) (values others : List ℕ) (old mid new : List ℤ) → UnmapsTo s p q values old mid
+    → Unmaps s q others mid new
     → Unmaps s p (values ++ others) old new
 unmaps_to-append s p q values others old mid new front rest = record {
   more = front.so_far.more ++ rest.more;
@@ -199,7 +220,8 @@ unmaps_to-join s p q r values others old mid new front rest = record {
 }
 
 -- one value more in a loop over offsets: from the offset q to k
-pub unmaps_to-offset : (s : Settings) (p kept : ℤ) (values : List ℕ) (i top q k : ℕ) (old mid new : List ℤ) → IsAllowed s → s.preprocess ≡ true → top ≡ top_offset s
+pub unmaps_to-offset : (s : Settings) (p kept : ℤ) (values : List ℕ) (i top q k : ℕ) (old mid new : List ℤ) → IsAllowed s → s.preprocess ≡ true
+    → top ≡ top_offset s
     → q ≤ top → k ≤ top → i < length values → mapped_offset top q k ≡ get_or values i 0 → kept ≡ x_min s +ℤ pos k → new ≡ mid ++ kept ∷ []
     → UnmapsTo s p (x_min s +ℤ pos q) (take i values) old mid → UnmapsTo s p (x_min s +ℤ pos k) (take (i + 1) values) old new
 unmaps_to-offset s p kept values i top q k old mid new allowed on at_top q_within k_within within mapped e pushed to =
@@ -218,7 +240,8 @@ unmaps_to-offset s p kept values i top q k old mid new allowed on at_top q_withi
     }
 
 -- one pattern more, whatever it is predicted from
-pub unmaps-pattern : (s : Settings) (kept x : ℤ) (values : List ℕ) (i : ℕ) (old mid new : List ℤ) → s.preprocess ≡ false → i < length values → kept ≡ x → IsHeld s x
+pub unmaps-pattern : (s : Settings) (kept x : ℤ) (values : List ℕ) (i : ℕ) (old mid new : List ℤ) → s.preprocess ≡ false → i < length values
+    → kept ≡ x → IsHeld s x
     → sample_pattern s x ≡ get_or values i 0 → new ≡ mid ++ kept ∷ [] → ((p : ℤ) → Unmaps s p (take i values) old mid)
     → (p : ℤ) → Unmaps s p (take (i + 1) values) old new
 unmaps-pattern s kept x values i old mid new off within e held pattern pushed so_far p =

@@ -37,8 +37,10 @@ mapped_error-down a b top down = mapped_error-below (offset_room top a) (a - b -
 mapped_error-at : (t e : ℤ) (a b top : ℕ) → t ≡ pos (offset_room top a) → e +ℤ pos a ≡ pos b → mapped_error t e ≡ mapped_offset top a b
 mapped_error-at t e a b top room at_b =
     elim (cases_lt b a) [
-      | inl down ↦ let is : e ≡ negsuc (a - b - 1) = omega (arith, ints) in ap (λ (d : ℤ). mapped_error t d) is ∙ ap (λ (r : ℤ). mapped_error r (negsuc (a - b - 1))) room ∙ mapped_error-down a b top down
-      | inr up ↦ let is : e ≡ pos (b - a) = omega (arith, ints) in ap (λ (d : ℤ). mapped_error t d) is ∙ ap (λ (r : ℤ). mapped_error r (pos (b - a))) room ∙ mapped_error-up a b top up
+      | inl down ↦ let is : e ≡ negsuc (a - b - 1) = omega (arith, ints) in ap (λ (d : ℤ). mapped_error t d) is
+          ∙ ap (λ (r : ℤ). mapped_error r (negsuc (a - b - 1))) room ∙ mapped_error-down a b top down
+      | inr up ↦ let is : e ≡ pos (b - a) = omega (arith, ints) in ap (λ (d : ℤ). mapped_error t d) is
+          ∙ ap (λ (r : ℤ). mapped_error r (pos (b - a))) room ∙ mapped_error-up a b top up
     ]
 
 pub mapped_error-offsets : (lo hi p x : ℤ) (a b top : ℕ) → p ≡ lo +ℤ pos a → x ≡ lo +ℤ pos b → hi ≡ lo +ℤ pos top → a ≤ top

@@ -1,11 +1,11 @@
 -- Coded data sets: what was spelled is read back, and what is read was spelled; so none is a prefix
 -- of another.
-use Rattle.std.proofs.Common.{◌≡◌, ℕ, ◌/◌, ◌^◌, ◌<◌, Bool, true, false, Option, Some, None, List, ◌++◌, refl, sym, ap, ◌∙◌, append_assoc, inl, inr, if◌then◌else◌, nat_le, lit<, arith}
+use Rattle.std.proofs.Common.{◌≡◌, ℕ, ◌/◌, ◌^◌, ◌<◌, Bool, true, false, Option, Some, None, List, ◌++◌, refl, sym, ap, ◌∙◌, append_assoc, inl, inr, if◌then◌else◌, nat_le, lit<}
 use Rattle.aec_params.specs.declared.settings.Settings.{Settings}
 use Rattle.aec_params.specs.Params.{IsAllowed, id_len}
 use Rattle.aec_params.specs.Codewords.{binary}
 use Rattle.aec_params.specs.CodedDataSets.{Body, uncompressed_values, value_pairs, split_values, zero_blocks, CodedDataSet, identifier, reference_bits, body_bits, cds_bits, HasReference, written_count, HasBody, HasShape}
-use Rattle.aec_params.proofs.SettingLaws.{block_size-least, block_size-even}
+use Rattle.aec_params.proofs.SettingLaws.{block_size-even}
 use Rattle.aec_block.specs.declared.reading.Kind.{Kind}
 use Rattle.aec_block.specs.declared.reading.Kind.TheVariants.{ZeroBlocks, SecondExtension, Split, NoCompression}
 use Rattle.aec_block.specs.ReadAt.{nothing, taken, then_at, map_taken, fs_at, binary_at, values_at, members_at, split_at, kind_at, reference_at, body_at, set_of, set_after_reference, set_after_kind, cds_at}
@@ -26,9 +26,6 @@ id_len-positive s =
     positive_choice s.restricted (if nat_le s.bits 2 then 1 else 2) (if nat_le s.bits 8 then 3 else (if nat_le s.bits 16 then 4 else 5))
     (positive_choice (nat_le s.bits 2) 1 2 (lit< tt) (lit< tt))
     (positive_choice (nat_le s.bits 8) 3 (if nat_le s.bits 16 then 4 else 5) (lit< tt) (positive_choice (nat_le s.bits 16) 4 5 (lit< tt) (lit< tt)))
-
-pub block_size-some : (s : Settings) → IsAllowed s → 0 < s.block_size / 2
-block_size-some s allowed = omega (arith, block_size-least s allowed)
 
 -- ---- the kind of a body
 

@@ -168,7 +168,8 @@ uncompressed_body s reference is_reference kind start rest due is_kind read =
 
 pub split_body : (s : Settings) (reference : Option ℕ) (is_reference : Bool) (kind : Kind) (k : ℕ) (start rest : List Bool) (fit : Bool)
     (answer : Option RunLen)
-    → is_reference ≡ is_some reference → kind ≡ Split k → answer ≡ when fit (Blocks 1) → map_taken (all_below (2 ^ s.bits)) (split_at k (written_count s is_reference) start) ≡ taken fit rest
+    → is_reference ≡ is_some reference → kind ≡ Split k → answer ≡ when fit (Blocks 1)
+    → map_taken (all_below (2 ^ s.bits)) (split_at k (written_count s is_reference) start) ≡ taken fit rest
     → map_taken (judged_body_len s reference) (body_at s (is_some reference) kind start) ≡ taken answer rest
 split_body s reference is_reference kind k start rest fit answer due is_kind is_answer read =
     let m = map_taken-mapped (all_below (2 ^ s.bits)) (split_at k (written_count s is_reference) start) fit rest read in

@@ -1,11 +1,14 @@
 -- Three sums in lanes of 32 bits are the sums of the values.
-use Rattle.std.proofs.Common.{◌≡◌, ℕ, ◌+◌, ◌-◌, ◌*◌, ◌/◌, ◌<◌, ◌≤◌, ◌^◌, ◌∙◌, sym, subst, arith, List, length, take, drop}
+use Rattle.std.proofs.Common.{◌≡◌, ℕ, ◌+◌, ◌-◌, ◌*◌, ◌/◌, ◌<◌, ◌≤◌, ◌^◌, ◌∙◌, sym, subst, arith, List, [], ◌∷◌, length, take, drop}
 use Rattle.std.specs.Simd.Lanes.{sum_l, zip2, fold_l}
 use mir.Syntax.{add, unsigned, w32}
 use borrow.Rule.Simd.Lanes.{act2}
 use borrow.Table.Row.{s_int}
 use Rattle.std.proofs.lemmas.Simd.{adds_fit, sum_fits, sum-zip2, fold-sum, length-zip2}
-use Rattle.std.proofs.lemmas.List.Sums.{sum_by-take-drop}
+use Rattle.std.specs.List.{AllByRecursion}
+use Rattle.std.proofs.lemmas.List.Sums.{sum_by-cons, sum_by-take-drop}
+use Rattle.std.proofs.lemmas.Nat.{mul-le}
+use Rattle.std.proofs.Math.Pow.{pow_mono}
 use Rattle.aec_block.specs.Lengths.{sum_of_shifted}
 use Rattle.aec_block.proofs.LanesLemmas.{eight_more}
 use Rattle.aec_block.proofs.SplittingLemmas.{sum_of_shifted-halved}
@@ -38,5 +41,26 @@ two_less-small k values small =
     let two : k + 1 + 1 ≡ k + 2 = omega arith in
     subst (λ i. sum_of_shifted i values < 2 ^ 32) two (less-small (k + 1) values (less-small k values small))
 
+-- nor has a part
+pub part-small : (k m n : ℕ) (values : List ℕ) → sum_of_shifted k values < 2 ^ 32 → sum_of_shifted k (take m (drop n values)) < 2 ^ 32
+part-small k m n values small =
+    omega (arith, sum_by-take-drop (λ (v : ℕ). v / 2 ^ k) values n, sum_by-take-drop (λ (v : ℕ). v / 2 ^ k) (drop n values) m)
+
 pub front-small : (k n : ℕ) (values : List ℕ) → sum_of_shifted k values < 2 ^ 32 → sum_of_shifted k (take n values) < 2 ^ 32
 front-small k n values small = omega (arith, front-le k n values)
+
+-- values of few bits add up to less than 2^32
+below-sum : (n : ℕ) (values : List ℕ) → AllByRecursion (λ v. v < 2 ^ n) values → sum_of_shifted 0 values + length values ≤ length values * 2 ^ n
+below-sum n [] below = omega arith
+below-sum n (v ∷ values) below =
+    let rest = below-sum n values below.1 in
+    let added = sum_by-cons (λ (u : ℕ). u / 2 ^ 0) v values in
+    let here = below.0 in
+    omega arith
+
+pub narrow-small : (n : ℕ) (values : List ℕ) → n ≤ 26 → length values ≤ 64 → AllByRecursion (λ v. v < 2 ^ n) values → sum_of_shifted 0 values < 2 ^ 32
+narrow-small n [] few most below = omega arith
+narrow-small n (v ∷ values) few most below =
+    let power : 2 ^ n ≤ 2 ^ 26 = pow_mono few in
+    let product = mul-le (length (v ∷ values)) (2 ^ n) 64 (2 ^ 26) most power in
+    omega (arith, below-sum n (v ∷ values) below)

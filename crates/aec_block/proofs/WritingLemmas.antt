@@ -22,7 +22,8 @@ pub record Appending (old new done todo : List Bool) (before after : ℕ) : Type
   pub room : before + length todo ≤ after + length done
 
 -- the next codeword is gathered: what was held before may be in the list now
-pub gathering-more : (old new next done held kept todo codeword rest : List Bool) (before after later n : ℕ) → Appending old new done (held ++ todo) before after
+pub gathering-more : (old new next done held kept todo codeword rest : List Bool) (before after later n : ℕ)
+    → Appending old new done (held ++ todo) before after
     → todo ≡ codeword ++ rest → next ++ kept ≡ new ++ (held ++ codeword) → length codeword ≡ n → after + length kept ≤ later + (length held + n)
     → Appending old next done (kept ++ rest) before later
 gathering-more old new next done held kept todo codeword rest before after later n so_far split is len room = record {
@@ -108,7 +109,7 @@ low_parts-plain n (v ∷ values) small =
     ap (λ (low : ℕ). binary n low ++ low_parts n values) (mod-eq_of_lt small.0)
     ∙ ap (λ (bits : List Bool). binary n v ++ bits) (low_parts-plain n values small.1)
 
-after_reference-small : (n : ℕ) (reference : Option ℕ) (values : List ℕ) → AllByRecursion (λ v. v < 2 ^ n) values
+pub after_reference-small : (n : ℕ) (reference : Option ℕ) (values : List ℕ) → AllByRecursion (λ v. v < 2 ^ n) values
     → AllByRecursion (λ v. v < 2 ^ n) (after_reference reference values)
 after_reference-small n None values small = small
 after_reference-small n (Some r) [] small = tt

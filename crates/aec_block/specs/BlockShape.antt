@@ -1,11 +1,16 @@
--- What holds of every block in code: the invariant of `Block`.
-use Rattle.std.specs.Prelude.{ℕ, ◌≤◌, length}
+-- Blocks in code: what holds of every one, the invariant of `Block` and `BlockRef`, and the block
+-- of a reference and of values.
+use Rattle.std.specs.Prelude.{ℕ, ◌≤◌, Option, List, length}
 use Rattle.aec_params.specs.Blocks.{Block}
 use Rattle.aec_params.specs.BlockShapes.{HasReferencePlace}
 
 -- the most values of a block: those of the greatest block size
 abbrev pub most_values : ℕ
 most_values = 64
+
+-- the block of a reference, where there is one, and of values with the one in the reference place
+abbrev pub block_with : Option ℕ → List ℕ → Block
+block_with reference values = record { reference = reference; values = values }
 
 -- at most so many values, of which the first is 0 where there is a reference
 pub record IsSound (b : Block) : Type 0 where

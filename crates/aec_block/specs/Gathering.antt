@@ -1,12 +1,13 @@
 -- How the private functions of reading answer: what was taken, in the place of a result, and values
 -- where they are small enough.
-use Rattle.std.specs.Prelude.{ℕ, Bool, nat_lt, true, false, if◌then◌else◌, Option, Some, None, Result, Ok, Err, List, ◌∷◌, drop}
+use Rattle.std.specs.Prelude.{◌≡◌, ◌≤◌, ◌^◌, ℕ, Bool, nat_lt, true, false, if◌then◌else◌, Option, Some, None, Result, Ok, Err, List, ◌∷◌, length, drop}
 use Rattle.std.specs.List.{list_all}
 use Rattle.aec_bits.specs.BitReader.{Cursor}
+use Rattle.aec_params.specs.declared.settings.Settings.{Settings}
 use Rattle.aec_params.specs.Blocks.{Block}
 use Rattle.aec_params.specs.Places.{block_of_values, block_of_members}
 use Rattle.aec_params.specs.CodedDataSets.{value_pairs, judged_in}
-use Rattle.aec_block.specs.ReadAt.{Taken, nothing, taken}
+use Rattle.aec_block.specs.ReadAt.{Taken, nothing, taken, map_taken, binary_at, values_at, split_at}
 
 -- the bits that are left at a cursor
 abbrev pub bits_at : Cursor → List Bool
@@ -55,3 +56,20 @@ small_block limit reference values = when (all_below limit values) (block_of_val
 abbrev pub pair_block : ℕ → Option ℕ → List ℕ → Option Block
 pair_block limit reference members =
     when (all_below limit (judged_in reference (value_pairs members))) (block_of_members reference members)
+
+-- as many numbers as there were come next, of so many bits each, and are put in the place of those;
+-- an error where fewer come
+pub record PutsNumbers {X E : Type 0} (width : ℕ) (old : Cursor) (before : List ℕ) (result : Result X E) (new : Cursor) (numbers : List ℕ) : Type 0 where
+  pub taken : values_at (binary_at width) (length before) (bits_at old) ≡ as_taken_by (λ _. numbers) result (bits_at new)
+  pub len : length numbers ≡ length before
+  pub list : new.list ≡ old.list
+  pub within : new.pos ≤ length new.list
+
+-- as many values as there were come next, split at bit k, and are put in the place of those, where
+-- all are at most 2^n - 1, which the result tells; an error where fewer come
+pub record PutsSplit {E : Type 0} (s : Settings) (k : ℕ) (old : Cursor) (before : List ℕ) (result : Result Bool E) (new : Cursor) (values : List ℕ)
+    : Type 0 where
+  pub taken : map_taken (small_values (2 ^ s.bits)) (split_at k (length before) (bits_at old)) ≡ as_taken_by (λ fit. when fit values) result (bits_at new)
+  pub len : length values ≡ length before
+  pub list : new.list ≡ old.list
+  pub within : new.pos ≤ length new.list

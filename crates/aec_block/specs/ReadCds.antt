@@ -1,7 +1,8 @@
 -- What the reading of a coded data set answers: what the one stands for that begins at the
 -- position.
-use Rattle.std.specs.Prelude.{◌≡◌, ℕ, ◌+◌, ◌<◌, Bool, true, Option, Some, None, length, ⊤}
+use Rattle.std.specs.Prelude.{◌≡◌, ℕ, ◌+◌, ◌<◌, Bool, true, false, Option, Some, None, List, length, ⊤}
 use Rattle.aec_params.specs.declared.settings.Settings.{Settings}
+use Rattle.aec_params.specs.Params.{id_len}
 use Rattle.aec_params.specs.CodedDataSets.{Body, uncompressed_values, value_pairs, split_values, zero_blocks, CodedDataSet, cds_bits, has_small_values}
 use Rattle.aec_params.specs.Places.{told_blocks, block_of_values, block_of_members}
 use Rattle.aec_params.specs.Faults.{IsSetAt}
@@ -15,7 +16,7 @@ use Rattle.aec_block.specs.declared.cds.Found.{Found}
 use Rattle.aec_block.specs.declared.cds.Found.TheVariants.{Single as SingleFound, Zeros as ZerosFound}
 use Rattle.aec_block.specs.declared.reading.Kind.{Kind}
 use Rattle.aec_block.specs.declared.reading.Kind.TheVariants.{ZeroBlocks, SecondExtension, Split, NoCompression}
-use Rattle.aec_block.specs.ReadAt.{set_of}
+use Rattle.aec_block.specs.ReadAt.{Taken, nothing, taken, set_of, kind_at, cds_at}
 use Rattle.aec_block.specs.Gathering.{when}
 
 -- how many zero blocks the number of a run's code tells; without a place the rest of the segment is
@@ -60,6 +61,33 @@ HasShortSplit ZeroBlocks = ⊤
 HasShortSplit SecondExtension = ⊤
 HasShortSplit NoCompression = ⊤
 
+-- whether it announces values that are written one by one
+abbrev pub is_plain : Kind → Bool
+is_plain ZeroBlocks = false
+is_plain SecondExtension = false
+is_plain (Split k) = true
+is_plain NoCompression = true
+
+-- the same of a body: it has values that are written one by one
+abbrev pub is_plain_body : Body → Bool
+is_plain_body (uncompressed_values values) = true
+is_plain_body (value_pairs members) = false
+is_plain_body (split_values k values) = true
+is_plain_body (zero_blocks m) = false
+
+abbrev pub is_plain_taken : Taken Kind → Bool
+is_plain_taken nothing = false
+is_plain_taken (taken kind rest) = is_plain kind
+
+-- whether the first bits are the identifier of a plain body
+abbrev pub begins_plain : Settings → List Bool → Bool
+begins_plain s bits = is_plain_taken (kind_at (id_len s) bits)
+
+-- no plain coded data set without a reference sample, whose values are at most 2^n - 1, begins the
+-- bits
+abbrev pub HasNoPlain : Settings → List Bool → Type 0
+HasNoPlain s bits = (c : CodedDataSet) (rest : List Bool) → cds_at s false bits ≡ taken c rest → is_plain_body c.body ≡ true → has_small_values s c ≡ false
+
 -- the coded data set c, whose values are at most 2^n - 1, is read as what it stands for, and the
 -- cursor moves behind it
 pub record IsReadAs (s : Settings) (is_reference : Bool) (old new : Cursor) (c : CodedDataSet) (cds : Cds) : Type 0 where
@@ -67,3 +95,10 @@ pub record IsReadAs (s : Settings) (is_reference : Bool) (old new : Cursor) (c :
   pub small : has_small_values s c ≡ true
   pub behind : new ≡ record { list = old.list; pos = old.pos + length (cds_bits s c) }
   pub answer : cds ≡ cds_of c
+
+-- a plain coded data set without a reference sample, whose values are these, none of them above
+-- 2^n - 1, is read, and the cursor moves behind it
+pub record IsReadPlain (s : Settings) (old new : Cursor) (values : List ℕ) : Type 0 where
+  pub set : CodedDataSet
+  pub plain : is_plain_body set.body ≡ true
+  pub read : IsReadAs s false old new set (Single (block_of_values None values))

@@ -109,23 +109,84 @@ impl Block {
         self.reference
     }
 
+    /// The block, lent.
+    #[inline(always)]
+    pub(crate) fn lent(&self) -> BlockRef<'_>
+        ensures { result ≡ self.now }
+    {
+        BlockRef::new(self.reference(), self.values())
+    }
+
     /// Whether all values are 0.
     pub fn is_zero(&self) -> bool
         ensures { result ≡ is_zero_block self.now }
     {
         self.values.as_slice().iter().all(|v| *v == 0)
     }
+}
+
+/// The reference and the values of a block, wherever they lie.
+#[derive(Debug, Drop)]
+pub(crate) struct BlockRef<'a> {
+    reference: Option<u32>,
+    values: &'a [u32],
+}
+
+impl<'a> Model for BlockRef<'a> {
+    ghost use Rattle.aec_params.specs.Blocks.{Block as Values};
+    ghost use Rattle.aec_block.specs.BlockShape.{block_with, IsSound};
+
+    ghost Value = { Values };
+
+    ghost view = { λ b. block_with b.reference b.values.now };
+
+    ghost invariant = { λ b. IsSound (block_with b.reference b.values.now) };
+}
+
+impl<'a> BlockRef<'a> {
+    ghost use Rattle.std.specs.Prelude.{◌≡◌, ◌≤◌, length};
+    ghost use Rattle.aec_params.specs.Spellings.{written_values};
+    ghost use Rattle.aec_block.specs.BlockShape.{block_with, most_values, IsSound};
+
+    /// The block of a reference, where there is one, and of values with the one in the reference
+    /// place.
+    #[inline(always)]
+    pub(crate) fn new(reference: Option<u32>, values: &'a [u32]) -> BlockRef<'a>
+        requires { IsSound (block_with reference values.now) }
+        ensures { result ≡ block_with reference values.now }
+    {
+        BlockRef { reference, values }
+    }
+
+    /// The values, with the one in the reference place.
+    #[inline(always)]
+    pub(crate) fn values(&self) -> &'a [u32]
+        ensures value { result.now ≡ self.now.values }
+        ensures sound { IsSound self.now }
+    {
+        self.values
+    }
+
+    /// The pattern of the reference sample, where the block has one.
+    #[inline(always)]
+    pub(crate) fn reference(&self) -> Option<u32>
+        ensures value { result ≡ self.now.reference }
+        ensures sound { IsSound self.now }
+    {
+        self.reference
+    }
 
     /// The values that are written one by one: those behind the reference place, where there is
     /// one.
+    #[inline(always)]
     #[tactic(auto, using(crate::proofs::BlockLemmas::some_values))]
-    pub(crate) fn written(&self) -> &[u32]
+    pub(crate) fn written(&self) -> &'a [u32]
         ensures value { result.now ≡ written_values self.now }
         ensures len { length result.now ≤ most_values }
     {
-        match self.reference() {
-            None => self.values(),
-            Some(_) => &self.values()[1..],
+        match self.reference {
+            None => self.values,
+            Some(_) => &self.values[1..],
         }
     }
 }

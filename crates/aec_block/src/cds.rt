@@ -7,7 +7,7 @@ use crate::block::Block;
 pub enum RunLen {
     /// So many.
     Blocks(u64),
-    /// All that the segment has left.
+    /// All that the segment has left: the remainder code.
     Rest,
 }
 

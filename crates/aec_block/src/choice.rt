@@ -1,5 +1,10 @@
 //! The choice of the shortest option for a block.
 
+pub(crate) mod lengths;
+mod splitting;
+mod sums;
+pub(crate) mod sums_of_three;
+
 ghost use Rattle.std.specs.Prelude.{◌≡◌, ◌*◌, ◌^◌, ◌≤◌, ◌&&◌, ◌||◌, nat_lt, nat_le, length};
 ghost use Rattle.aec_params.specs.Params.{IsAllowed, split_count, id_len as identifier_len};
 ghost use Rattle.aec_params.specs.Spellings.{written_values};
@@ -8,9 +13,9 @@ ghost use Rattle.aec_block.specs.BlockShape.{most_values};
 ghost use Rattle.aec_block.specs.Lengths.{split_values_length, paired_length, split_length};
 ghost use Rattle.aec_block.specs.Choices.{IsFull, IsChoice, shorter_choice};
 
-use crate::block::Block;
-use crate::lengths::{head_len, paired_len, uncompressed_len};
-use crate::splitting::{Splitting, best_split};
+use crate::block::{Block, BlockRef};
+use crate::choice::lengths::{head_len, paired_len, uncompressed_len};
+use crate::choice::splitting::{Splitting, best_split};
 use aec_params::Params;
 
 /// An option by which a block that is in no run is written.
@@ -55,8 +60,9 @@ fn shorter_of(best: Choice, coding: Coding, bits: u64) -> Choice
 }
 
 /// The second extension, where it is shorter than the best so far, and else that one.
+#[inline(always)]
 #[tactic(auto, using(crate::proofs::ChoiceLemmas::too_long))]
-fn shorter_of_pairs(params: &Params, id_len: u32, block: &Block, best: Choice) -> Choice
+fn shorter_of_pairs(params: &Params, id_len: u32, block: &BlockRef, best: Choice) -> Choice
     requires id_len { id_len ≡ identifier_len params.now }
     requires bound { best.bits ≤ 2 ^ 31 }
     ensures { result ≡ shorter_choice best SecondExtension (paired_length params.now block.now) }
@@ -83,7 +89,7 @@ fn pairs_are_longer(options: u32, split: Splitting, count: u64) -> bool
 fn shorter_of_split(
     params: &Params,
     id_len: u32,
-    block: &Block,
+    block: &BlockRef,
     best: Choice,
     split: Splitting,
 ) -> Choice
@@ -100,27 +106,28 @@ fn shorter_of_split(
 /// The shortest option for a block whose values behind the reference place are given too, so that
 /// their number can be known where this is inlined.
 #[inline(always)]
-pub(crate) fn choose_among(params: &Params, block: &Block, values: &[u32]) -> Choice
+pub(crate) fn choose_among(params: &Params, id_len: u32, block: &BlockRef, values: &[u32]) -> Choice
+    requires allowed { IsAllowed params.now }
+    requires id_len { id_len ≡ identifier_len params.now }
     requires full { IsFull params.now block.now }
     requires values { values.now ≡ written_values block.now }
     requires len { length values.now ≤ most_values }
     ensures { IsChoice params.now block.now result }
 {
-    let width = params.id_len();
-    let plain = Choice {
+    let uncompressed = Choice {
         coding: Coding::NoCompression,
-        bits: uncompressed_len(params, width, block, values),
+        bits: uncompressed_len(params, id_len, block, values),
     };
-    let options = split_options(params, width);
-    let split = best_split(values, options);
+    let options = split_options(params, id_len);
+    let split = best_split(values, params.bits(), options);
     if pairs_are_longer(options, split, values.len() as u64) {
-        return shorter_of_split(params, width, block, plain, split);
+        return shorter_of_split(params, id_len, block, uncompressed, split);
     }
-    let best = shorter_of_pairs(params, width, block, plain);
+    let best = shorter_of_pairs(params, id_len, block, uncompressed);
     if options == 0 {
         return best;
     }
-    shorter_of_split(params, width, block, best, split)
+    shorter_of_split(params, id_len, block, best, split)
 }
 
 /// The shortest option for a block of J values below `2^n`, with a reference below `2^n` where it
@@ -130,5 +137,6 @@ pub fn choose(params: &Params, block: &Block) -> Choice
     requires { IsFull params.now block.now }
     ensures { IsChoice params.now block.now result }
 {
-    choose_among(params, block, block.written())
+    let lent = block.lent();
+    choose_among(params, params.id_len(), &lent, lent.written())
 }

@@ -1,13 +1,15 @@
 //! Prediction and mapping: a sample and its prediction as one number without sign, and back.
 
+pub(crate) mod mapped_blocks;
+mod small_differences;
+pub(crate) mod unmapping;
+
 ghost use Rattle.std.specs.Prelude.{◌≡◌, ℕ, ◌+◌, ◌<◌, ◌≤◌, ◌^◌, ℤ, pos, ◌+ℤ◌, ◌-ℤ◌, ◌≤ℤ◌, unsigned_abs, true, false, length, vec_len, vec_capacity};
 ghost use Rattle.std.specs.List.{AllByRecursion};
 ghost use Rattle.aec_params.specs.Params.{IsAllowed, IsHeld, x_min};
 ghost use Rattle.aec_params.specs.Mapping.{mapped_value};
 ghost use Rattle.aec_block.specs.Offsets.{sample_offset, top_offset, mapped_offset};
-ghost use Rattle.aec_block.specs.Unmapping.{Unmaps, UnmapsTo};
 
-use crate::near_values::push_eights;
 use aec_params::Params;
 
 /// What is coded for the offset `x` at the prediction `p`: differences within the room on both
@@ -26,7 +28,7 @@ pub(crate) fn map_offset(top: u32, p: u32, x: u32) -> u32
 
 /// The offset for which `m` is coded at the prediction `p`. What it would be on either side of the
 /// room's end is computed before one is taken, so that no branch depends on the sign or parity.
-fn unmap_offset(top: u32, p: u32, m: u32) -> u32
+pub(crate) fn unmap_offset(top: u32, p: u32, m: u32) -> u32
     requires prediction { p ≤ top }
     requires mapped { m ≤ top }
     ensures held { result ≤ top }
@@ -114,77 +116,5 @@ pub fn unmap(params: &Params, p: i64, m: u32) -> i64
         sample_at(params, offset)
     } else {
         params.value(m)
-    }
-}
-
-/// Appends the samples for which values are coded, predicted from the sample at an offset on, and
-/// tells the offset of the last. Takes no memory.
-pub(crate) fn push_each(params: &Params, offset: u32, values: &[u32], samples: &mut Vec<i64>) -> u32
-    requires on { params.now.preprocess ≡ true }
-    requires within { offset ≤ top_offset params.now }
-    requires mapped { AllByRecursion (λ v. v < 2 ^ params.now.bits) values.now }
-    requires room { vec_len samples.old + length values.now ≤ vec_capacity samples.old }
-    ensures within { result ≤ top_offset params.now }
-    ensures items { UnmapsTo params.now (x_min params.now +ℤ pos offset)
-        (x_min params.now +ℤ pos result) values.now samples.old.items samples.new.items }
-    ensures len { vec_len samples.new ≡ vec_len samples.old + length values.now }
-    ensures capacity { vec_capacity samples.new ≡ vec_capacity samples.old }
-{
-    let top = greatest_offset(params);
-    let least = params.x_min();
-    let mut last = offset;
-    for value in values {
-        last = unmap_offset(top, last, *value);
-        samples.push_reserved(least + i64::from(last));
-    }
-    last
-}
-
-/// Appends the samples for which values are coded, where samples are predicted: eight at a time,
-/// and the last few, fewer than eight, one by one. Takes no memory.
-fn push_offsets(params: &Params, previous: i64, values: &[u32], samples: &mut Vec<i64>)
-    requires on { params.now.preprocess ≡ true }
-    requires prediction { IsHeld params.now previous }
-    requires mapped { AllByRecursion (λ v. v < 2 ^ params.now.bits) values.now }
-    requires room { vec_len samples.old + length values.now ≤ vec_capacity samples.old }
-    ensures items { Unmaps params.now previous values.now samples.old.items samples.new.items }
-    ensures len { vec_len samples.new ≡ vec_len samples.old + length values.now }
-    ensures capacity { vec_capacity samples.new ≡ vec_capacity samples.old }
-{
-    let first = offset_of(params, previous);
-    let last = push_eights(params, first, values, samples);
-    let done = 8 * (values.len() / 8);
-    push_each(params, last, &values[done..], samples);
-}
-
-/// Appends the samples of patterns. Takes no memory.
-fn push_values(params: &Params, patterns: &[u32], samples: &mut Vec<i64>)
-    requires off { params.now.preprocess ≡ false }
-    requires small { AllByRecursion (λ v. v < 2 ^ params.now.bits) patterns.now }
-    requires room { vec_len samples.old + length patterns.now ≤ vec_capacity samples.old }
-    ensures items { (p : ℤ) → Unmaps params.now p patterns.now samples.old.items samples.new.items }
-    ensures len { vec_len samples.new ≡ vec_len samples.old + length patterns.now }
-    ensures capacity { vec_capacity samples.new ≡ vec_capacity samples.old }
-{
-    for pattern in patterns {
-        samples.push_reserved(params.value(*pattern));
-    }
-}
-
-/// Appends the samples for which values are coded, each predicted from the one before it, the first
-/// from `previous`. Without preprocessing the values are patterns, and `previous`, which has to be
-/// a sample all the same, has no effect. Takes no memory.
-pub fn unmap_all(params: &Params, previous: i64, values: &[u32], samples: &mut Vec<i64>)
-    requires prediction { IsHeld params.now previous }
-    requires mapped { AllByRecursion (λ v. v < 2 ^ params.now.bits) values.now }
-    requires room { vec_len samples.old + length values.now ≤ vec_capacity samples.old }
-    ensures items { Unmaps params.now previous values.now samples.old.items samples.new.items }
-    ensures len { vec_len samples.new ≡ vec_len samples.old + length values.now }
-    ensures capacity { vec_capacity samples.new ≡ vec_capacity samples.old }
-{
-    if params.preprocess() {
-        push_offsets(params, previous, values, samples);
-    } else {
-        push_values(params, values, samples);
     }
 }

@@ -1,19 +1,25 @@
 //! Reads one coded data set.
 
-ghost use Rattle.std.specs.Prelude.{◌≡◌, ◌+◌, ◌≤◌, length, IfOk, IfErr, OnErr};
+pub(crate) mod blocks;
+mod codewords;
+pub(crate) mod plain;
+pub(crate) mod values;
+
+ghost use Rattle.std.specs.Prelude.{◌≡◌, ◌+◌, ◌≤◌, true, length, IfOk, IfErr, OnErr};
 ghost use Rattle.std.specs.Option.{is_some};
 ghost use Rattle.aec_params.specs.Params.{IsAllowed, id_len};
 ghost use Rattle.aec_params.specs.CodedDataSets.{CodedDataSet};
+ghost use Rattle.aec_bits.specs.BitReader.{has_one};
 ghost use Rattle.aec_block.specs.declared.cds.Found.TheVariants.{Single};
 ghost use Rattle.aec_block.specs.ReadAt.{map_taken, kind_at, reference_at, body_at, cds_at};
 ghost use Rattle.aec_block.specs.Gathering.{bits_at, as_taken, as_taken_by, when};
-ghost use Rattle.aec_block.specs.ReadCds.{run_len_of, checked, checked_body, as_cds, as_read, HasShortSplit, IsReadAs};
+ghost use Rattle.aec_block.specs.ReadCds.{run_len_of, checked, checked_body, as_cds, as_read, HasShortSplit, is_plain, IsReadAs};
 ghost use Rattle.aec_params.specs.Faults.{IsNotRead};
 
 use crate::block::Block;
 use crate::cds::{Cds, Found, RunLen};
-use crate::reading_blocks::{fill_pairs, fill_split, fill_uncompressed};
-use crate::reading_codewords::{read_number, read_sequence};
+use crate::reading::blocks::{fill_pairs, fill_split, fill_uncompressed};
+use crate::reading::codewords::{read_number, read_sequence};
 use aec_bits::BitReader;
 use aec_params::{Fault, Params};
 use std::alloc::Global;
@@ -34,6 +40,7 @@ pub(crate) fn read_kind(params: &Params, reader: &mut BitReader) -> Result<Kind,
     ensures taken { kind_at (id_len params.now) (bits_at reader.old)
         ≡ as_taken result (bits_at reader.new) }
     ensures short { IfOk result HasShortSplit }
+    ensures one { IfOk result (λ kind. is_plain kind ≡ true → has_one (bits_at reader.old) ≡ true) }
     ensures allowed { IsAllowed params.now }
     ensures list { reader.new.list ≡ reader.old.list }
     ensures within { reader.new.pos ≤ length reader.new.list }
@@ -76,7 +83,7 @@ pub(crate) fn read_reference(
     Ok(Some(pattern as u32))
 }
 
-/// How many zero blocks the number of a run's code stands for.
+/// How many zero blocks the number of a run's code stands for; 4 is the remainder code.
 fn run_len(number: u64) -> RunLen
     ensures { result ≡ run_len_of number }
 {

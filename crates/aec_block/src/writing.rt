@@ -1,5 +1,11 @@
 //! What is written for one block, and for a run of zero blocks.
 
+mod gathered;
+mod high_parts;
+mod joined_high_parts;
+mod joined_low_parts;
+pub(crate) mod known_counts;
+
 ghost use Rattle.std.specs.Prelude.{◌≡◌, ◌+◌, ◌-◌, ◌*◌, ◌/◌, ◌<◌, ◌≤◌, ◌^◌, ◌++◌, false, length, drop, if◌then◌else◌, OnOk, OnErr, IfErr};
 ghost use Rattle.aec_params.specs.declared.fault.Fault.TheVariants.{Memory};
 ghost use Rattle.aec_params.specs.Params.{IsAllowed, split_count, id_len as identifier_len};
@@ -12,12 +18,13 @@ ghost use Rattle.aec_block.specs.Lengths.{reference_len};
 ghost use Rattle.aec_block.specs.Choices.{FitsReference, IsFull, IsChoice};
 ghost use Rattle.aec_block.specs.Written.{high_parts, low_parts, split_parts, shortest_bits, run_bits};
 
-use crate::block::Block;
+use crate::block::{Block, BlockRef};
+use crate::choice::lengths::{head_len, pair_len};
 use crate::choice::{Choice, Coding};
-use crate::gathered::Gathered;
-use crate::lengths::{head_len, pair_len};
-use crate::low_words::low_word;
-use crate::writing_highs::put_high_parts;
+use crate::writing::gathered::Gathered;
+use crate::writing::high_parts::put_high_parts;
+use crate::writing::joined_low_parts::low_word;
+use crate::writing::known_counts::write_values;
 use aec_bits::BitBuf;
 use aec_params::{Fault, Params};
 
@@ -114,7 +121,7 @@ fn put_low_groups<const N: usize>(
 }
 
 /// Gathers the lowest `width` bits of each value, as many values at a time as fit a word with those
-/// of two, four or eight.
+/// of two, four or eight, or of all seven behind a reference.
 #[inline(always)]
 fn put_low_parts(values: &[u32], width: u32, gathered: Gathered, out: &mut BitBuf) -> Gathered
     requires width { width ≤ 32 }
@@ -124,6 +131,9 @@ fn put_low_parts(values: &[u32], width: u32, gathered: Gathered, out: &mut BitBu
     ensures room { out.old.room + length result
         ≤ out.new.room + length (gathered ++ low_parts width values.now) }
 {
+    if width < 10 && values.len() == 7 {
+        return put_low_groups::<7>(values, width, gathered, out);
+    }
     if width < 8 {
         return put_low_groups::<8>(values, width, gathered, out);
     }
@@ -176,7 +186,15 @@ fn put_pairs(values: &[u32], mut gathered: Gathered, out: &mut BitBuf) -> Gather
 /// Appends a block as it is, for which there is room.
 #[tactic(auto, using(crate::proofs::WritingLemmas::parts))]
 #[inline(always)]
-fn put_uncompressed(params: &Params, block: &Block, values: &[u32], out: &mut BitBuf)
+fn put_uncompressed(
+    params: &Params,
+    id_len: u32,
+    block: &BlockRef,
+    values: &[u32],
+    out: &mut BitBuf,
+)
+    requires allowed { IsAllowed params.now }
+    requires id_len { id_len ≡ identifier_len params.now }
     requires full { IsFull params.now block.now }
     requires values { values.now ≡ written_values block.now }
     requires room { length (cds_bits params.now (uncompressed block.now)) ≤ out.old.room }
@@ -184,28 +202,38 @@ fn put_uncompressed(params: &Params, block: &Block, values: &[u32], out: &mut Bi
     ensures room { out.old.room
         ≤ out.new.room + length (cds_bits params.now (uncompressed block.now)) }
 {
-    let width = params.id_len();
-    let head = put_head(params, block.reference(), (1 << width) - 1, width, out);
+    let all_ones = (1 << id_len) - 1;
+    let head = put_head(params, block.reference(), all_ones, id_len, out);
     put_low_parts(values, params.bits(), head, out).append_to(out);
 }
 
 /// Appends a block by the second extension, for which there is room.
+#[inline(always)]
 #[tactic(auto, using(crate::proofs::WritingLemmas::parts))]
-fn put_paired(params: &Params, block: &Block, out: &mut BitBuf)
+fn put_paired(params: &Params, id_len: u32, block: &BlockRef, out: &mut BitBuf)
+    requires allowed { IsAllowed params.now }
+    requires id_len { id_len ≡ identifier_len params.now }
     requires full { IsFull params.now block.now }
     requires fits { length (cds_bits params.now (paired block.now)) < 2 ^ 64 }
     requires room { length (cds_bits params.now (paired block.now)) ≤ out.old.room }
     ensures list { out.new.list ≡ out.old.list ++ cds_bits params.now (paired block.now) }
     ensures room { out.old.room ≤ out.new.room + length (cds_bits params.now (paired block.now)) }
 {
-    let head = put_head(params, block.reference(), 1, params.id_len() + 1, out);
+    let head = put_head(params, block.reference(), 1, id_len + 1, out);
     put_pairs(block.values(), head, out).append_to(out);
 }
 
 /// How many of the bits of a block that is split with `k` are those of its values without their low
 /// bits.
 #[inline(always)]
-fn high_len(params: &Params, id_len: u32, block: &Block, values: &[u32], k: u32, bits: u64) -> u64
+fn high_len(
+    params: &Params,
+    id_len: u32,
+    block: &BlockRef,
+    values: &[u32],
+    k: u32,
+    bits: u64,
+) -> u64
     requires id_len { id_len ≡ identifier_len params.now }
     requires values { values.now ≡ written_values block.now }
     requires few { length values.now ≤ most_values }
@@ -220,7 +248,17 @@ fn high_len(params: &Params, id_len: u32, block: &Block, values: &[u32], k: u32,
 /// Appends a block by splitting with `k`, for which there is room, in so many bits.
 #[tactic(auto, using(crate::proofs::WritingLemmas::parts))]
 #[inline(always)]
-fn put_split(params: &Params, block: &Block, values: &[u32], k: u32, bits: u64, out: &mut BitBuf)
+fn put_split(
+    params: &Params,
+    id_len: u32,
+    block: &BlockRef,
+    values: &[u32],
+    k: u32,
+    bits: u64,
+    out: &mut BitBuf,
+)
+    requires allowed { IsAllowed params.now }
+    requires id_len { id_len ≡ identifier_len params.now }
     requires full { IsFull params.now block.now }
     requires values { values.now ≡ written_values block.now }
     requires few { length values.now ≤ most_values }
@@ -230,40 +268,9 @@ fn put_split(params: &Params, block: &Block, values: &[u32], k: u32, bits: u64, 
     ensures list { out.new.list ≡ out.old.list ++ cds_bits params.now (split block.now k) }
     ensures room { out.old.room ≤ out.new.room + length (cds_bits params.now (split block.now k)) }
 {
-    let width = params.id_len();
-    let len = high_len(params, width, block, values, k, bits);
-    let head = put_head(params, block.reference(), k + 1, width, out);
+    let len = high_len(params, id_len, block, values, k, bits);
+    let head = put_head(params, block.reference(), k + 1, id_len, out);
     put_split_values(values, k, len, head, out).append_to(out);
-}
-
-/// Appends the coded data set of a block whose values behind the reference place are given too, by
-/// the option of `choose`. `Memory` where a growth was refused.
-#[inline(always)]
-pub(crate) fn write_values(
-    params: &Params,
-    block: &Block,
-    values: &[u32],
-    choice: Choice,
-    out: &mut BitBuf,
-) -> Result<(), Fault>
-    requires full { IsFull params.now block.now }
-    requires values { values.now ≡ written_values block.now }
-    requires few { length values.now ≤ most_values }
-    requires choice { IsChoice params.now block.now choice }
-    ensures ok { OnOk result (out.new.list ≡ out.old.list ++ shortest_bits params.now block.now) }
-    ensures room { OnOk result
-        (out.old.room ≤ out.new.room + length (shortest_bits params.now block.now)) }
-    ensures err { OnErr result (out.new ≡ out.old) }
-    ensures full { OnErr result (out.old.room < length (shortest_bits params.now block.now)) }
-    ensures fault { IfErr result (λ e. e ≡ Memory) }
-{
-    out.reserve(choice.bits)?;
-    match choice.coding {
-        Coding::NoCompression => put_uncompressed(params, block, values, out),
-        Coding::SecondExtension => put_paired(params, block, out),
-        Coding::Split(k) => put_split(params, block, values, k, choice.bits, out),
-    }
-    Ok(())
 }
 
 /// Appends the coded data set of a block that is in no run, by the option of `choose`. `Memory`
@@ -284,10 +291,12 @@ pub fn write_block(
     ensures full { OnErr result (out.old.room < length (shortest_bits params.now block.now)) }
     ensures fault { IfErr result (λ e. e ≡ Memory) }
 {
-    write_values(params, block, block.written(), choice, out)
+    let lent = block.lent();
+    write_values(params, params.id_len(), &lent, lent.written(), choice, out)
 }
 
-/// The number that the code of a run of `z` blocks spells.
+/// The number that the code of a run of `z` blocks spells: 4, the remainder code, for a run of five
+/// or more that ends its segment.
 fn code_of_run(z: u32, to_end: bool) -> u32
     requires { 1 ≤ z }
     ensures { result ≡ run_code z to_end }

@@ -322,7 +322,7 @@ fn compare_choices(
 fn chooses_as_plain_lengths_say(rt: HostRuntime) -> Result<(), Fail> {
     for block_size in [8, 10, 12, 14, 16, 32, 62, 64] {
         let even_blocks = ![8, 16, 32, 64].contains(&block_size);
-        for bits in [1, 2, 3, 4, 5, 8, 9, 16, 17, 24, 32] {
+        for bits in [1, 2, 3, 4, 5, 8, 9, 16, 17, 24, 26, 27, 32] {
             let params = Params::new(Settings {
                 bits,
                 block_size,

@@ -6,25 +6,27 @@ use Rattle.aec_params.specs.declared.fault.Fault.TheVariants.{Memory}
 use Rattle.aec_params.specs.Codewords.{bytes_of}
 use Rattle.aec_bits.specs.Codec.{code_of}
 use Rattle.aec_edit.specs.Calls.{range_refusal, IsDue}
-use Rattle.aec_engine.specs.Transfers.{answer_of}
+use Rattle.aec_engine.specs.Transfers.{answer_by}
 use Rattle.aec_c.specs.HandleCalls.{format_of}
 use Rattle.aec_c.specs.HandleReads.{IsCodeOf, IsRangeOf}
-use Rattle.aec_c.specs.declared.handle.Work.{Work}
+use Rattle.aec_c.specs.declared.handle.OpenWorkspace.{OpenWorkspace}
 use Rattle.aec_c.specs.declared.handle.Handle.{Handle}
 
 -- what is taken out is what was held
-pub was_held : (handle taken : Handle) (inside before : Work) → taken ≡ handle → taken.value ≡ Some inside → before ≡ inside → handle.value ≡ Some before
+pub was_held : (handle taken : Handle) (inside before : OpenWorkspace) → taken ≡ handle → taken.value ≡ Some inside → before ≡ inside
+    → handle.value ≡ Some before
 was_held handle taken inside before same is seen = ap (λ h. h.value) (sym same) ∙ (is ∙ ap Some (sym seen))
 
 -- what coding answers
-pub code_answer : {X : Type 0} (w : Work) (view : X → List ℕ) (r : Result X Fault) → IfOk r (λ x. view x ≡ bytes_of (code_of (format_of w) w.workspace.samples))
-    → IfErr r (λ fault. fault ≡ Memory) → IsCodeOf w (answer_of view r)
+pub code_answer : {X : Type 0} (w : OpenWorkspace) (view : X → List ℕ) (r : Result X Fault)
+    → IfOk r (λ x. view x ≡ bytes_of (code_of (format_of w) w.workspace.samples))
+    → IfErr r (λ fault. fault ≡ Memory) → IsCodeOf w (answer_by view r)
 code_answer w view (Ok x) is memory = is
 code_answer w view (Err fault) is memory = memory
 
 -- what a range answers
 pub range_answer : {X : Type 0} (samples : List ℤ) (first len : ℕ) (view : X → List ℤ) (r : Result X Fault)
     → IfOk r (λ x. view x ≡ take len (drop first samples)) → OnOk r (range_refusal (length samples) first len ≡ None)
-    → IfErr r (λ fault. IsDue (range_refusal (length samples) first len) fault) → IsRangeOf samples first len (answer_of view r)
+    → IfErr r (λ fault. IsDue (range_refusal (length samples) first len) fault) → IsRangeOf samples first len (answer_by view r)
 range_answer samples first len view (Ok x) is within refuses = (is, within)
 range_answer samples first len view (Err fault) is within refuses = refuses

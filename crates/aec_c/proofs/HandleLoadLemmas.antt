@@ -9,7 +9,7 @@ use Rattle.aec_bits.specs.Codec.{Format}
 use Rattle.aec_interval.specs.IntervalFormat.{interval_format}
 use Rattle.aec_edit.specs.Calls.{due_refusal}
 use Rattle.aec_edit.specs.Steps.{Applies, LacksMemory}
-use Rattle.aec_c.specs.declared.handle.Work.{Work}
+use Rattle.aec_c.specs.declared.handle.OpenWorkspace.{OpenWorkspace}
 use Rattle.aec_c.specs.HandleCalls.{format_of}
 use Rattle.aec_c.specs.HandleReads.{IsFresh}
 use Rattle.aec_c.specs.HandleLoads.{CannotHold}
@@ -19,7 +19,7 @@ why : (due : Option Fault) (needed calls after : ℕ) (fault : Fault)
 why None needed calls after fault lacks = inl lacks.fault_is
 why (Some d) needed calls after fault is = inr (ap Some (sym is.0))
 
-module _ (s : Settings) (first w w' : Work) (xs : List ℤ) (fault : Fault) (fresh : IsFresh s first) (same : w ≡ first) where
+module _ (s : Settings) (first w w' : OpenWorkspace) (xs : List ℤ) (fault : Fault) (fresh : IsFresh s first) (same : w ≡ first) where
   abbrev due : Format → ℕ → List ℤ → ℕ → Option Fault
   due f limit samples calls = due_refusal f limit samples calls (Append xs)
 

@@ -5,6 +5,6 @@ pub mod BoundLemmas
 pub mod CodeLengthLemmas
 pub mod SufficesLemmas
 pub mod HandleSteps
-pub mod BoxedWork
+pub mod BoxedWorkspace
 pub mod HandleLemmas
 pub mod HandleLoadLemmas

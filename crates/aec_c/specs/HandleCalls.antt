@@ -6,12 +6,12 @@ use Rattle.aec_params.specs.declared.edit.Edit.{Edit}
 use Rattle.aec_bits.specs.Codec.{Format}
 use Rattle.aec_interval.specs.IntervalFormat.{interval_format}
 use Rattle.aec_edit.specs.Steps.{Applies}
-use Rattle.aec_c.specs.declared.handle.Work.{Work}
+use Rattle.aec_c.specs.declared.handle.OpenWorkspace.{OpenWorkspace}
 use Rattle.aec_c.specs.declared.reply.Reply.{Reply}
 use Rattle.aec_c.specs.Replies.{done, refused_for}
 
 -- the format of a workspace's intervals
-abbrev pub format_of : Work → Format
+abbrev pub format_of : OpenWorkspace → Format
 format_of w = interval_format w.workspace.codec.params
 
 -- the reply of a call on a handle that holds no workspace
@@ -19,8 +19,8 @@ abbrev pub not_open : Reply
 not_open = record { fault = 19; place = 0; len = 0 }
 
 -- a call on a handle, by what it does to a workspace: one that holds none holds none after it
-pub data OnHandle (Does : Work → Work → Reply → Type 0) (old new : Option Work) (reply : Reply) : Type 0 where
-  held : (before after : Work) → old ≡ Some before → new ≡ Some after → Does before after reply → OnHandle Does old new reply
+pub data OnHandle (Does : OpenWorkspace → OpenWorkspace → Reply → Type 0) (old new : Option OpenWorkspace) (reply : Reply) : Type 0 where
+  held : (before after : OpenWorkspace) → old ≡ Some before → new ≡ Some after → Does before after reply → OnHandle Does old new reply
   empty : old ≡ None → new ≡ None → reply ≡ not_open → OnHandle Does old new reply
 
 -- how many intervals an edit has coded, or why it is refused
@@ -29,7 +29,7 @@ edit_reply (Ok coded) = done coded
 edit_reply (Err fault) = refused_for fault
 
 -- an edit of a workspace, and its reply
-pub record MakesEdit (e : Edit) (before after : Work) (reply : Reply) : Type 0 where
+pub record MakesEdit (e : Edit) (before after : OpenWorkspace) (reply : Reply) : Type 0 where
   pub answer : Result ℕ Fault
   pub replied : reply ≡ edit_reply answer
   pub applies : Applies (format_of before) before.workspace.limit before.workspace.samples before.workspace.codec.calls before.workspace.codec.reads
@@ -39,5 +39,5 @@ pub record MakesEdit (e : Edit) (before after : Work) (reply : Reply) : Type 0 w
 
 -- the same of an edit whose values are copied first: where there is no memory for the copy, nothing
 -- changes
-abbrev pub MakesCopiedEdit : Edit → Option Work → Option Work → Reply → Type 0
+abbrev pub MakesCopiedEdit : Edit → Option OpenWorkspace → Option OpenWorkspace → Reply → Type 0
 MakesCopiedEdit e old new reply = OnHandle (MakesEdit e) old new reply ⊎ ((new ≡ old) × (reply ≡ refused_for Memory))

@@ -10,7 +10,7 @@ use Rattle.aec_params.specs.Reading.{IsReading}
 use Rattle.aec_interval.specs.IntervalFormat.{interval_format}
 use Rattle.aec_interval.specs.Reached.{RefusesDecoding}
 use Rattle.aec_edit.specs.Calls.{due_refusal}
-use Rattle.aec_c.specs.declared.handle.Work.{Work}
+use Rattle.aec_c.specs.declared.handle.OpenWorkspace.{OpenWorkspace}
 use Rattle.aec_c.specs.declared.reply.Reply.{Reply}
 use Rattle.aec_c.specs.Replies.{done, refused_for}
 use Rattle.aec_c.specs.HandleCalls.{format_of}
@@ -26,7 +26,7 @@ pub data CannotRead (s : Settings) (count : Option ℕ) (bytes : List ℕ) (faul
   no_memory : fault ≡ Memory → CannotRead s count bytes fault
 
 -- a workspace with these samples
-pub record Holds (s : Settings) (samples : List ℤ) (w : Work) : Type 0 where
+pub record Holds (s : Settings) (samples : List ℤ) (w : OpenWorkspace) : Type 0 where
   pub samples_are : w.workspace.samples ≡ samples
   pub limit : w.workspace.limit ≡ 2 ^ 32
   pub format : format_of w ≡ interval_format s
@@ -39,8 +39,8 @@ CannotHold s samples fault =
 
 -- loading: a workspace with the samples that bytes are read as in the place of what was held, or a
 -- refusal that changes nothing
-pub data Loads (s : Settings) (count : Option ℕ) (bytes : List ℕ) (old new : Option Work) (reply : Reply) : Type 0 where
-  loaded : (samples : List ℤ) (w : Work) → AreRead s count bytes samples → new ≡ Some w → Holds s samples w → reply ≡ done (length samples)
+pub data Loads (s : Settings) (count : Option ℕ) (bytes : List ℕ) (old new : Option OpenWorkspace) (reply : Reply) : Type 0 where
+  loaded : (samples : List ℤ) (w : OpenWorkspace) → AreRead s count bytes samples → new ≡ Some w → Holds s samples w → reply ≡ done (length samples)
       → Loads s count bytes old new reply
   unread : (fault : Fault) → CannotRead s count bytes fault → new ≡ old → reply ≡ refused_for fault → Loads s count bytes old new reply
   not_held : (samples : List ℤ) (fault : Fault) → AreRead s count bytes samples → CannotHold s samples fault → new ≡ old

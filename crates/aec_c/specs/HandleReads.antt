@@ -8,40 +8,40 @@ use Rattle.aec_params.specs.Codewords.{bytes_of}
 use Rattle.aec_bits.specs.Codec.{code_of}
 use Rattle.aec_interval.specs.IntervalFormat.{interval_format}
 use Rattle.aec_edit.specs.Calls.{range_refusal, IsDue}
-use Rattle.aec_c.specs.declared.handle.Work.{Work}
+use Rattle.aec_c.specs.declared.handle.OpenWorkspace.{OpenWorkspace}
 use Rattle.aec_c.specs.declared.reply.Reply.{Reply}
 use Rattle.aec_c.specs.Replies.{done, refused_for, reply_to}
 use Rattle.aec_engine.specs.Buffers.{left_of}
 use Rattle.aec_c.specs.HandleCalls.{format_of, not_open}
 
 -- an empty workspace over settings, whose coder hasn't been called
-pub record IsFresh (s : Settings) (w : Work) : Type 0 where
+pub record IsFresh (s : Settings) (w : OpenWorkspace) : Type 0 where
   pub samples : w.workspace.samples ≡ []
   pub limit : w.workspace.limit ≡ 2 ^ 32
   pub calls : w.workspace.codec.calls ≡ 0
   pub format : format_of w ≡ interval_format s
 
 -- opening: a fresh workspace in the place of what was held, or a refusal that changes nothing
-pub data Opens (s : Settings) (old new : Option Work) (reply : Reply) : Type 0 where
-  fresh : (w : Work) → new ≡ Some w → IsFresh s w → reply ≡ done 0 → Opens s old new reply
+pub data Opens (s : Settings) (old new : Option OpenWorkspace) (reply : Reply) : Type 0 where
+  fresh : (w : OpenWorkspace) → new ≡ Some w → IsFresh s w → reply ≡ done 0 → Opens s old new reply
   refused : (fault : Fault) → (fault ≡ Memory) ⊎ (settings_fault s ≡ Some fault) → new ≡ old → reply ≡ refused_for fault → Opens s old new reply
 
 -- the number of samples, and that of the coder's calls; none where no workspace is held
-abbrev pub size_in : Option Work → ℕ
+abbrev pub size_in : Option OpenWorkspace → ℕ
 size_in (Some w) = length w.workspace.samples
 size_in None = 0
 
-abbrev pub calls_in : Option Work → ℕ
+abbrev pub calls_in : Option OpenWorkspace → ℕ
 calls_in (Some w) = w.workspace.codec.calls
 calls_in None = 0
 
 -- the bytes of the code of a workspace's samples, or want of memory
-abbrev pub IsCodeOf : Work → Result (List ℕ) Fault → Type 0
+abbrev pub IsCodeOf : OpenWorkspace → Result (List ℕ) Fault → Type 0
 IsCodeOf w (Ok bytes) = bytes ≡ bytes_of (code_of (format_of w) w.workspace.samples)
 IsCodeOf w (Err fault) = fault ≡ Memory
 
-pub data WritesOut (old new : Option Work) (before after : List ℕ) (reply : Reply) : Type 0 where
-  written : (w : Work) (answer : Result (List ℕ) Fault) → old ≡ Some w → new ≡ Some w → IsCodeOf w answer → after ≡ left_of answer before
+pub data WritesOut (old new : Option OpenWorkspace) (before after : List ℕ) (reply : Reply) : Type 0 where
+  written : (w : OpenWorkspace) (answer : Result (List ℕ) Fault) → old ≡ Some w → new ≡ Some w → IsCodeOf w answer → after ≡ left_of answer before
       → reply ≡ reply_to answer (length before) → WritesOut old new before after reply
   no_work : old ≡ None → new ≡ None → after ≡ before → reply ≡ not_open → WritesOut old new before after reply
 
@@ -51,14 +51,14 @@ IsRangeOf samples first len (Ok part) = (part ≡ take len (drop first samples))
 IsRangeOf samples first len (Err fault) = IsDue (range_refusal (length samples) first len) fault
 
 -- a workspace with the same samples, limit, format and calls; it may have been read more often
-pub record IsSameBut (before after : Work) : Type 0 where
+pub record IsSameBut (before after : OpenWorkspace) : Type 0 where
   pub samples : after.workspace.samples ≡ before.workspace.samples
   pub limit : after.workspace.limit ≡ before.workspace.limit
   pub calls : after.workspace.codec.calls ≡ before.workspace.codec.calls
   pub format : format_of after ≡ format_of before
 
-pub data ReadsOut (first len : ℕ) (old new : Option Work) (before after : List ℤ) (reply : Reply) : Type 0 where
-  read : (w w' : Work) (answer : Result (List ℤ) Fault) → old ≡ Some w → new ≡ Some w' → IsSameBut w w'
+pub data ReadsOut (first len : ℕ) (old new : Option OpenWorkspace) (before after : List ℤ) (reply : Reply) : Type 0 where
+  read : (w w' : OpenWorkspace) (answer : Result (List ℤ) Fault) → old ≡ Some w → new ≡ Some w' → IsSameBut w w'
       → IsRangeOf w.workspace.samples first len answer → after ≡ left_of answer before → reply ≡ reply_to answer (length before)
       → ReadsOut first len old new before after reply
   none_read : old ≡ None → new ≡ None → after ≡ before → reply ≡ not_open → ReadsOut first len old new before after reply

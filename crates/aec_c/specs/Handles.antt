@@ -5,7 +5,7 @@ use denote.RawPtr.{Ptr}
 use Rattle.std.specs.contracts.impls.GlobalAllocator.TheImpl.{ghosts}
 use Rattle.std.specs.Global.{Global}
 use Rattle.std.specs.Box.Ownership.{box_owns}
-use Rattle.aec_c.specs.contracts.handle.Work.{the_row}
+use Rattle.aec_c.specs.contracts.handle.OpenWorkspace.{the_row}
 
 -- the allocator of all programs, which has no data
 abbrev pub heap : Global

@@ -5,7 +5,7 @@ mod loose;
 ghost use Rattle.std.specs.Prelude.{◌≡◌, Option, None, Some};
 ghost use Rattle.std.specs.Option.{option_map};
 ghost use Rattle.aec_c.specs.Handles.{handle_owns};
-ghost use Rattle.aec_c.specs.declared.handle.Work.{Work};
+ghost use Rattle.aec_c.specs.declared.handle.OpenWorkspace.{OpenWorkspace};
 
 use aec_edit::Workspace;
 use aec_interval::AecCodec;
@@ -16,7 +16,7 @@ use std::ptr;
 
 /// A workspace over the coder of intervals.
 #[derive(Drop)]
-pub struct Work {
+pub struct OpenWorkspace {
     pub workspace: Workspace<AecCodec>,
 }
 
@@ -26,7 +26,7 @@ pub struct Work {
 pub struct Handle {
     at: *mut u8,
     full: bool,
-    pub ghost value: { Option Work },
+    pub ghost value: { Option OpenWorkspace },
 }
 
 impl Model for Handle {
@@ -43,7 +43,7 @@ impl Handle {
         }
     }
 
-    fn of_loose(loose: Loose<Work, Global>) -> Handle
+    fn of_loose(loose: Loose<OpenWorkspace, Global>) -> Handle
         ensures { result.value ≡ Some loose.value }
     {
         let Loose { at, alloc: _ } = loose;
@@ -53,13 +53,13 @@ impl Handle {
         }
     }
 
-    fn into_loose(self, alloc: Global) -> Option<Loose<Work, Global>>
+    fn into_loose(self, alloc: Global) -> Option<Loose<OpenWorkspace, Global>>
         ensures { self.value ≡ option_map (λ loose. loose.value) result }
     {
         let Handle { at, full } = self;
         if full {
             Some(Loose {
-                at: at as *mut Work,
+                at: at as *mut OpenWorkspace,
                 alloc,
             })
         } else {
@@ -68,14 +68,14 @@ impl Handle {
     }
 
     /// The handle of a workspace. Takes no memory.
-    pub(crate) fn of(work: Box<Work>) -> Handle
+    pub(crate) fn of(work: Box<OpenWorkspace>) -> Handle
         ensures { result.value ≡ Some work.value }
     {
         Handle::of_loose(Loose::of(work))
     }
 
     /// The workspace that a handle holds.
-    pub(crate) fn into_box(self, alloc: Global) -> Option<Box<Work>>
+    pub(crate) fn into_box(self, alloc: Global) -> Option<Box<OpenWorkspace>>
         ensures { self.value ≡ option_map (λ work. work.value) result }
     {
         match self.into_loose(alloc) {

@@ -4,7 +4,7 @@ ghost use Rattle.std.specs.Prelude.{◌≡◌, IfOk, IfErr};
 ghost use Rattle.aec_c.specs.Calls.{settings_of, count_of};
 ghost use Rattle.aec_c.specs.HandleLoads.{AreRead, CannotRead, Holds, CannotHold, Loads};
 
-use crate::handle::{Handle, Work};
+use crate::handle::{Handle, OpenWorkspace};
 use crate::handle_reads::{closed, fresh};
 use crate::options::{Options, asked, counted};
 use crate::reply::{Reply, answered, refused};
@@ -26,7 +26,7 @@ fn reading(alloc: Global, options: &Options, count: u64, bytes: &[u8]) -> Result
 }
 
 /// A workspace with these samples.
-fn filled(alloc: Global, options: &Options, samples: &[i64]) -> Result<Box<Work>, Fault>
+fn filled(alloc: Global, options: &Options, samples: &[i64]) -> Result<Box<OpenWorkspace>, Fault>
     ensures ok { IfOk result (λ work. Holds (settings_of options.now) samples.now work.value) }
     ensures refuses { IfErr result (λ e. CannotHold (settings_of options.now) samples.now e) }
 {

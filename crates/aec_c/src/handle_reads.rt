@@ -5,14 +5,14 @@ ghost use Rattle.aec_params.specs.declared.fault.Fault.TheVariants.{Memory};
 ghost use Rattle.aec_params.specs.Params.{settings_fault};
 ghost use Rattle.aec_params.specs.Codewords.{bytes_of};
 ghost use Rattle.aec_bits.specs.Codec.{code_of};
-ghost use Rattle.aec_engine.specs.Transfers.{answer_of};
+ghost use Rattle.aec_engine.specs.Transfers.{answer_by};
 ghost use Rattle.aec_engine.specs.Buffers.{left_of};
 ghost use Rattle.aec_c.specs.Calls.{settings_of};
 ghost use Rattle.aec_c.specs.HandleCalls.{format_of};
 ghost use Rattle.aec_c.specs.Replies.{over_front, reply_to};
 ghost use Rattle.aec_c.specs.HandleReads.{IsFresh, Opens, size_in, calls_in, WritesOut, ReadsOut};
 
-use crate::handle::{Handle, Work};
+use crate::handle::{Handle, OpenWorkspace};
 use crate::handle_edits::not_open;
 use crate::options::{Options, asked};
 use crate::reply::{Reply, answered, refused, too_long};
@@ -25,14 +25,14 @@ use std::alloc::Global;
 use std::mem;
 
 /// An empty workspace.
-pub(crate) fn fresh(alloc: Global, options: &Options) -> Result<Box<Work>, Fault>
+pub(crate) fn fresh(alloc: Global, options: &Options) -> Result<Box<OpenWorkspace>, Fault>
     ensures ok { IfOk result (λ work. IsFresh (settings_of options.now) work.value) }
     ensures refuses { IfErr result
         (λ fault. (fault ≡ Memory) ⊎ (settings_fault (settings_of options.now) ≡ Some fault)) }
 {
     let params = Params::new(asked(options))?;
     let workspace = Workspace::new(alloc, AecCodec::new(alloc, params), 1 << 32);
-    match Box::new(alloc, Work { workspace }) {
+    match Box::new(alloc, OpenWorkspace { workspace }) {
         Ok(work) => Ok(work),
         Err(_) => Err(Fault::Memory),
     }
@@ -90,7 +90,7 @@ pub(crate) fn called(alloc: Global, handle: &mut Handle) -> u64
 }
 
 /// The bytes of the code of a workspace's samples.
-fn code_bytes(alloc: Global, work: &Work) -> Result<Vec<u8>, Fault>
+fn code_bytes(alloc: Global, work: &OpenWorkspace) -> Result<Vec<u8>, Fault>
     ensures ok { IfOk result (λ bytes. bytes.items ≡ bytes_of
         (code_of (format_of work.now) work.now.workspace.samples)) }
     ensures fault { IfErr result (λ fault. fault ≡ Memory) }
@@ -141,8 +141,8 @@ fn settle_all(answer: &[i64], out: &mut [i64]) -> Reply
 
 /// The same for samples or a refusal, which leaves the buffer as it was.
 fn settle_samples(answer: Result<Vec<i64>, Fault>, out: &mut [i64]) -> Reply
-    ensures left { out.new ≡ left_of (answer_of (λ samples. samples.items) answer) out.old }
-    ensures reply { result ≡ reply_to (answer_of
+    ensures left { out.new ≡ left_of (answer_by (λ samples. samples.items) answer) out.old }
+    ensures reply { result ≡ reply_to (answer_by
         (λ samples. samples.items) answer) (length out.old) }
 {
     match answer {

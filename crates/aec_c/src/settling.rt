@@ -1,7 +1,7 @@
 //! An answer put into a buffer.
 
 ghost use Rattle.std.specs.Prelude.{◌≡◌, ◌≤◌, Ok, length};
-ghost use Rattle.aec_engine.specs.Transfers.{answer_of};
+ghost use Rattle.aec_engine.specs.Transfers.{answer_by};
 ghost use Rattle.aec_engine.specs.Buffers.{left_of};
 ghost use Rattle.aec_c.specs.Replies.{over_front, reply_to};
 
@@ -33,8 +33,8 @@ fn settle_bytes(answer: &[u8], out: &mut [u8]) -> Reply
 
 /// The same for an answer or a refusal, which leaves the buffer as it was.
 pub(crate) fn settle(answer: Result<Vec<u8>, Fault>, out: &mut [u8]) -> Reply
-    ensures left { out.new ≡ left_of (answer_of (λ bytes. bytes.items) answer) out.old }
-    ensures reply { result ≡ reply_to (answer_of (λ bytes. bytes.items) answer) (length out.old) }
+    ensures left { out.new ≡ left_of (answer_by (λ bytes. bytes.items) answer) out.old }
+    ensures reply { result ≡ reply_to (answer_by (λ bytes. bytes.items) answer) (length out.old) }
 {
     match answer {
         Ok(bytes) => settle_bytes(&bytes, out),

@@ -14,7 +14,7 @@ use Rattle.aec_cli.specs.declared.usage.Usage.TheVariants.{Jobs, Count, Range, S
 use Rattle.aec_cli.specs.declared.job.Action.{Action}
 use Rattle.aec_cli.specs.declared.job.Action.TheVariants as action
 use Rattle.aec_cli.specs.declared.job.Job.{Job}
-use Rattle.aec_engine.specs.Numerals.{number_in, range_in}
+use Rattle.aec_engine.specs.Numerals.{option_number, range_in}
 
 -- what is done: samples are coded; coded data are decoded, cut to a range, or edited by the script
 -- in a file
@@ -46,11 +46,11 @@ is_given id f = option_map_or (λ text. bytes_eq text (codes "true")) (first_val
 
 -- the number of an option, and the default where it has none
 unfoldable pub word_of : ℕ → Text → Found → ℕ
-word_of default id f = unwrap_or (option_and_then (number_in 32) (one_text f id)) default
+word_of default id f = unwrap_or (option_and_then (option_number 32) (one_text f id)) default
 
 -- the sample count, where one is given
 unfoldable pub count_of : Found → Option ℕ
-count_of f = option_and_then (number_in 64) (one_text f (codes "count"))
+count_of f = option_and_then (option_number 64) (one_text f (codes "count"))
 
 -- the name of a file; with none, the empty name
 unfoldable pub file_of : Text → Found → Text

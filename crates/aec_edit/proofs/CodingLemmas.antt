@@ -15,6 +15,10 @@ pub record SplitsFirst (f : Format) (rest interval later : List ℤ) : Type 0 wh
   pub later_is : later ≡ drop (min f.most (length rest)) rest
   pub some : 0 < length rest
 
+-- the first interval, and what comes then
+pub splits_first : (f : Format) (rest later : List ℤ) → 0 < length rest → later ≡ drop f.most rest → SplitsFirst f rest (take f.most rest) later
+splits_first f rest later some is = record { interval_is = sym (take_min f.most rest); later_is = is ∙ sym (drop_min f.most rest); some = some }
+
 pub later_held : (f : Format) {rest interval later : List ℤ} → SplitsFirst f rest interval later → AreHeld f rest → AreHeld f later
 later_held f {rest = rest} split held = rw split.later_is (held-drop f.holds (min f.most (length rest)) rest held)
 

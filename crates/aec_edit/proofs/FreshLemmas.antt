@@ -1,11 +1,11 @@
 -- Fresh samples, handed out one interval at a time.
-use Rattle.std.proofs.Common.{◌≡◌, ℕ, ◌+◌, ◌-◌, ◌*◌, ◌<◌, ◌≤◌, ◌⊎◌, min, List, [], ◌++◌, length, take, drop, ℤ, Bool, true, ◌∷◌, refl, sym, ap, ◌∙◌, inl, inr, arith, append_assoc, length-append, take-add}
+use Rattle.std.proofs.Common.{◌≡◌, ℕ, ◌+◌, ◌-◌, ◌*◌, ◌<◌, ◌≤◌, ◌⊎◌, List, [], ◌++◌, length, take, drop, ℤ, Bool, true, ◌∷◌, refl, sym, ap, ◌∙◌, inl, inr, arith, append_assoc, length-append, take-add}
 use Rattle.std.specs.List.{list_all}
 use Rattle.std.proofs.Math.Nat.{mul-le-mul_right}
 use Rattle.std.proofs.lemmas.Bool.{cases_lt, and_parts}
 use Rattle.std.proofs.lemmas.List.{append-nil, nil_from_length, length-take, length-drop, drop_all, drop-drop, drop-take, take-append-le, drop-append-le, take_min, drop_min}
 use Rattle.aec_bits.specs.Codec.{Format, AreHeld, IsLawful}
-use Rattle.aec_edit.specs.Fresh.{old_part, to_come, IsGathered}
+use Rattle.aec_edit.specs.Fresh.{old_part, to_come, IsGathered, BeginsWhole}
 use Rattle.aec_edit.proofs.CodingLemmas.{SplitsFirst}
 
 -- ---- old intervals
@@ -108,10 +108,10 @@ front_first f front x later (inr all) some is =
       some = omega (arith, length-append front x);
     }
 
--- nothing in front: nothing to come
-pub none_to_come : (f : Format) (front coming : List ℤ) → IsLawful f → IsGathered f.most front coming → length front ≡ 0 → coming ≡ []
-none_to_come f front coming lawful (inl full) none = absurd (omega (arith, lawful.some))
-none_to_come f front coming lawful (inr all) none = sym all ∙ nil_from_length front none
+-- where something is to come, something stands in front
+pub front_some : (f : Format) (front coming : List ℤ) → IsLawful f → IsGathered f.most front coming → 1 ≤ length coming → 1 ≤ length front
+front_some f front coming lawful (inl full) some = omega (arith, lawful.some)
+front_some f front coming lawful (inr all) some = omega (arith, ap length all)
 
 pub front_held : (f : Format) (front x : List ℤ) → AreHeld f (front ++ x) → AreHeld f front
 front_held f [] x held = refl
@@ -123,6 +123,12 @@ front_held f (v ∷ front) x held = held_front f.holds (v ∷ front) x held
         let both = and_parts (holds u) (list_all holds (a ++ b)) held in
         rw (both.0, held_front holds a b both.1) refl
 
-pub later_less : (f : Format) {rest interval later : List ℤ} → IsLawful f → SplitsFirst f rest interval later → length later < length rest
-later_less f {rest = rest} lawful split =
-    omega (arith, ap length split.later_is, length-drop (min f.most (length rest)) rest, split.some, lawful.some)
+-- ---- an interval that stands whole in the values
+
+pub whole_first : (n : ℕ) (s front values back : List ℤ) (next end : ℕ) → BeginsWhole n front values
+    → take n values ≡ take n (to_come n s front values back next end)
+whole_first n s front values back next end whole = rw whole.0 (sym (take-append-le n values (back ++ old_part n s next end) whole.1))
+
+pub whole_later : (n : ℕ) (s front values back : List ℤ) (next end : ℕ) → BeginsWhole n front values
+    → to_come n s front (drop n values) back next end ≡ drop n (to_come n s front values back next end)
+whole_later n s front values back next end whole = rw whole.0 (sym (drop-append-le n values (back ++ old_part n s next end) whole.1))

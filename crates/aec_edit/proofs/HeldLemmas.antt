@@ -31,3 +31,10 @@ held-from_none holds i (x ∷ s) none = by_test (holds x) none (held-from_none h
         → t && list_all holds s ≡ true
     by_test true e later = later e
     by_test false e later = absurd (cc)
+
+-- where all are held, none is found that isn't
+pub none-from_held : (holds : ℤ → Bool) (i : ℕ) (s : List ℤ) → list_all holds s ≡ true → first_unheld holds i s ≡ None
+none-from_held holds i [] held = refl
+none-from_held holds i (x ∷ s) held =
+    let both = and_parts (holds x) (list_all holds s) held in
+    rw both.0 (none-from_held holds (i + 1) s both.1)

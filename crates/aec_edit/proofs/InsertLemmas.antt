@@ -1,11 +1,10 @@
 -- What an insertion codes and decodes, as its definition has it and as the code has it.
-use Rattle.std.proofs.Common.{◌≡◌, ℕ, ◌+◌, ◌-◌, ◌*◌, ◌/◌, ◌%◌, ◌<◌, ◌≤◌, min, true, false, eqb, List, length, ℤ, ap, ◌∙◌, inl, inr, arith}
+use Rattle.std.proofs.Common.{◌≡◌, ℕ, ◌+◌, ◌-◌, ◌*◌, ◌/◌, ◌%◌, ◌<◌, ◌≤◌, true, false, eqb, List, length, ℤ, ap, ◌∙◌, inl, inr, arith}
 use Rattle.std.specs.Result.{MatchResult, OnOk, OnErr}
 use Rattle.std.proofs.Common.{Result}
 use Rattle.std.specs.Int.{div_ceil}
 use Rattle.std.specs.List.{filter}
 use Rattle.std.proofs.lemmas.Bool.{cases_lt, cases_eq, eq-eqb, ne_eqb}
-use Rattle.std.proofs.lemmas.Bool.Decides.{nat_tests}
 use Rattle.std.proofs.lemmas.Nat.{div-add-mod'}
 use Rattle.std.proofs.Math.Nat.{mul-le-mul_right}
 use Rattle.aec_params.specs.declared.fault.Fault.{Fault}
@@ -16,11 +15,12 @@ use Rattle.aec_bits.specs.Codec.{Format, AreHeld}
 use Rattle.aec_bits.proofs.RefusalLaws.{insert_fits}
 use Rattle.aec_edit.specs.Calls.{RisesAtMost}
 use Rattle.aec_edit.specs.Steps.{Applies}
-use Rattle.aec_edit.specs.Changes.{IsExchanged, IsNotExchanged, IsExchangeUpTo, exchanged, recoded_end, fresh_total, recoding_calls, recoding_openings, opens_first, one_if, opened_ends, opened_by}
+use Rattle.aec_edit.specs.Changes.{IsExchanged, IsNotExchanged, IsExchangeUpTo, exchanged, recoded_end, fresh_total, recoding_calls, recoding_openings, opened_by}
+use Rattle.aec_edit.specs.Opened.{opened_ends}
 use Rattle.aec_edit.proofs.ExchangeLemmas.{begins_before, ceil_mono}
 use Rattle.aec_edit.proofs.AnswerLemmas.{from_exchange}
-use Rattle.aec_edit.proofs.MoveLemmas.{places, later_calls, one_if_few, length-filter-all, later_can, whole_can}
-use Rattle.aec_edit.proofs.OpenLemmas.{opens_last-one}
+use Rattle.aec_edit.proofs.MoveLemmas.{places, later_calls, length-filter-all, later_can, whole_can}
+use Rattle.aec_edit.proofs.OpenedLemmas.{keeps_head, keeps_tail, behind-one, nothing_first, first_few, opened-count}
 
 -- ---- how many are coded
 
@@ -44,27 +44,20 @@ whole_calls n old first len h whole within =
 
 -- ---- how many are decoded
 
-no_first : (n old first : ℕ) → first ≤ first / n * n → div_ceil first n * n ≡ first → opens_first n old first first ≡ false
-no_first n old first whole end = grind (arith, nat_tests)
-
 ends_opened : (n old first : ℕ) → 0 < n → opened_ends n old first first ≤ inside_calls n first
 ends_opened n old first h =
     let begins = begins_before first n h in
+    let same : first ≤ first = omega arith in
+    let count = opened-count n old first first h same in
     elim (places n first h) [
       | inl start ↦
-          let none_first = ap one_if (no_first n old first (omega (arith, begins.2)) start.3) in
-          let none_last = ap one_if (opens_last-one n old first first (omega (arith, start.2))) in
-          omega arith
+          let none_first = ap length (nothing_first n old first first h same (omega (arith, begins.2)) (omega (arith, start.3))) in
+          let none_last = ap length (behind-one n old first first h same (omega (arith, start.2))) in
+          omega (arith, count)
       | inr within_one ↦
-          let none_last = ap one_if (opens_last-one n old first first (omega (arith, within_one.2))) in
-          omega (arith, one_if_few (opens_first n old first first))
+          let none_last = ap length (behind-one n old first first h same (omega (arith, within_one.2))) in
+          omega (arith, count, first_few n old first first h same)
     ]
-
-keeps_front : (n old first k : ℕ) → k * n < first → keeps_a_sample n old first 0 k ≡ true
-keeps_front n old first k before = grind (arith, nat_tests)
-
-keeps_rest : (n old first k : ℕ) → first < min (k * n + n) old → keeps_a_sample n old first 0 k ≡ true
-keeps_rest n old first k behind = grind (arith, nat_tests)
 
 all_kept : (n old first : ℕ) → 0 < n → (k : ℕ) → first / n ≤ k → k < div_ceil old n → keeps_a_sample n old first 0 k ≡ true
 all_kept n old first h k from below =
@@ -72,8 +65,8 @@ all_kept n old first h k from below =
     let inside = before_end k old n h below in
     let low = mul-le-mul_right {m = first / n} {n = k} n from in
     elim (cases_lt (k * n) first) [
-      | inl front ↦ keeps_front n old first k front
-      | inr behind ↦ keeps_rest n old first k (omega (arith, begins.1))
+      | inl front ↦ keeps_head n old first 0 k front
+      | inr behind ↦ keeps_tail n old first 0 k (omega (arith, begins.1))
     ]
 
 pub later_opens : (n old first : ℕ) → 0 < n → first ≤ old

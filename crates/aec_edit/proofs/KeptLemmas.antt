@@ -4,20 +4,20 @@ use Rattle.aec_bits.specs.Codec.{Format, AreHeld, IsLawful, BeginsAt, code_of}
 use Rattle.aec_bits.proofs.CodeLaws.{code_of-nil, code_of_first, same_samples}
 use Rattle.std.proofs.lemmas.List.{length-take, length-drop, take_all}
 use Rattle.aec_edit.specs.Workspace.{Contents, interval_count, start_of}
-use Rattle.aec_edit.specs.Index.{IsKept, KeptSamples, kept_samples}
+use Rattle.aec_edit.specs.Index.{IsKeptCode, KeptSamples, kept_samples}
 use Rattle.aec_params.proofs.CountLaws.{before_end, past_end}
 use Rattle.aec_edit.proofs.HeldLemmas.{held-take, held-drop}
 use Rattle.aec_edit.proofs.StartLemmas.{starts_of-nil, length-starts_of, get_or-starts_of, start_of-le, drop-code_of}
 
 -- they stand in the fields
 pub stands : {f : Format} {count : ℕ} {bits : List Bool} {starts : List ℕ} (kept : KeptSamples f count bits starts)
-    → IsKept f count bits starts (kept_samples kept)
+    → IsKeptCode f count bits starts (kept_samples kept)
 unfolding kept_samples
 stands kept = kept.1
 
 -- no others do
 pub no_other : {f : Format} {count : ℕ} {bits : List Bool} {starts : List ℕ} {s : List ℤ} (kept : KeptSamples f count bits starts)
-    → IsLawful f → IsKept f count bits starts s → kept_samples kept ≡ s
+    → IsLawful f → IsKeptCode f count bits starts s → kept_samples kept ≡ s
 no_other {f} {s = s} kept lawful is =
     let stood = stands kept in
     same_samples f (kept_samples kept) s lawful stood.held is.held (stood.count_is ∙ sym is.count_is) (sym stood.bits_are ∙ is.bits_are)
@@ -26,8 +26,9 @@ no_other {f} {s = s} kept lawful is =
 pub at_view : {C : Type 0} (format : C → Format) {codec : C} {count limit : ℕ} {bits : List Bool} {starts : List ℕ} (kept : KeptSamples
     (format codec) count bits starts)
     (seen : Contents C) → record { samples = kept_samples kept; limit = limit; codec = codec } ≡ seen
-    → IsKept (format seen.codec) count bits starts seen.samples
-at_view format {count = count} {bits = bits} {starts = starts} kept seen e = subst (λ w. IsKept (format w.codec) count bits starts w.samples) e (stands kept)
+    → IsKeptCode (format seen.codec) count bits starts seen.samples
+at_view format {count = count} {bits = bits} {starts = starts} kept seen e =
+    subst (λ w. IsKeptCode (format w.codec) count bits starts w.samples) e (stands kept)
 
 -- callers see the same where fields hold the same, as in other room
 pub seen_still : {C : Type 0} (format : C → Format) {codec : C} {count count_then limit : ℕ} {bits bits_then : List Bool}
@@ -54,12 +55,13 @@ seen_again format kept again seen lawful e = seen_still format kept again seen l
 
 -- under a format that is the same, for a list that is
 pub kept_again : {f g : Format} {count : ℕ} {bits : List Bool} {starts : List ℕ} {s : List ℤ} (kept : KeptSamples f count bits starts)
-    → g ≡ f → kept_samples kept ≡ s → IsKept g count bits starts s
+    → g ≡ f → kept_samples kept ≡ s → IsKeptCode g count bits starts s
 kept_again {f} {count = count} {bits = bits} {starts = starts} {s = s} kept same e =
-    subst (λ h. IsKept h count bits starts s) (sym same) (subst (IsKept f count bits starts) e (stands kept))
+    subst (λ h. IsKeptCode h count bits starts s) (sym same) (subst (IsKeptCode f count bits starts) e (stands kept))
 
 -- none are kept in empty fields
-pub none_kept : (f : Format) {count : ℕ} {bits : List Bool} {starts : List ℕ} → IsLawful f → count ≡ 0 → bits ≡ [] → starts ≡ [] → IsKept f count bits starts []
+pub none_kept : (f : Format) {count : ℕ} {bits : List Bool} {starts : List ℕ} → IsLawful f → count ≡ 0 → bits ≡ [] → starts ≡ []
+    → IsKeptCode f count bits starts []
 none_kept f lawful no_samples no_bits no_starts = record {
   held = refl;
   count_is = sym no_samples;
@@ -70,13 +72,13 @@ none_kept f lawful no_samples no_bits no_starts = record {
 -- ---- one interval
 
 -- what the index says of an interval, and of the end
-pub start_kept : (f : Format) {count : ℕ} {bits : List Bool} {starts : List ℕ} {s : List ℤ} (i x : ℕ) → IsLawful f → IsKept f count bits starts s
+pub start_kept : (f : Format) {count : ℕ} {bits : List Bool} {starts : List ℕ} {s : List ℤ} (i x : ℕ) → IsLawful f → IsKeptCode f count bits starts s
     → i < length starts → x ≡ get_or starts i x → x ≡ start_of f s i
 start_kept f {starts = starts} {s = s} i x lawful kept within read =
     let all : length starts ≡ interval_count f s = ap length kept.starts_are ∙ length-starts_of f 0 s lawful.some in
     read ∙ ap (λ l. get_or l i x) kept.starts_are ∙ get_or-starts_of f 0 s i x lawful.some (omega arith) ∙ omega arith
 
-pub end_kept : (f : Format) {count : ℕ} {bits : List Bool} {starts : List ℕ} {s : List ℤ} (i : ℕ) → IsLawful f → IsKept f count bits starts s
+pub end_kept : (f : Format) {count : ℕ} {bits : List Bool} {starts : List ℕ} {s : List ℤ} (i : ℕ) → IsLawful f → IsKeptCode f count bits starts s
     → length starts ≤ i → length bits ≡ start_of f s i
 end_kept f {starts = starts} {s = s} i lawful kept past =
     let all : length starts ≡ interval_count f s = ap length kept.starts_are ∙ length-starts_of f 0 s lawful.some in
@@ -106,7 +108,7 @@ begins_there f s i lawful held within =
 -- the same where an interval is to be decoded: g is the format of the codec itself, f that of the
 -- codec as callers see it
 pub begins_for : (f g : Format) {count : ℕ} {bits : List Bool} {starts : List ℕ} {s : List ℤ} (i start len : ℕ) → g ≡ f → IsLawful f
-    → IsKept f count bits starts s → i < interval_count f s → start ≡ start_of f s i → len ≡ min f.most (count - i * f.most)
+    → IsKeptCode f count bits starts s → i < interval_count f s → start ≡ start_of f s i → len ≡ min f.most (count - i * f.most)
     → BeginsAt g bits start len (take f.most (drop (i * f.most) s))
 begins_for f g {count = count} {bits = bits} {s = s} i start len same lawful kept within start_is len_is =
     let count_is : min f.most (length s - i * f.most) ≡ len = ap (λ n. min f.most (n - i * f.most)) kept.count_is ∙ sym len_is in

@@ -11,11 +11,13 @@ pub mod IndexLemmas
 pub mod RecodingLemmas
 pub mod ExchangeLemmas
 pub mod UpToLemmas
-pub mod OpenLemmas
+pub mod OpenedLemmas
+pub mod EndSamplesLemmas
 pub mod CallLemmas
 pub mod AnswerLemmas
 pub mod OverwriteLemmas
 pub mod MoveLemmas
+pub mod TruncateLemmas
 pub mod InsertLemmas
 pub mod RemoveLemmas
 pub mod RangeLemmas

@@ -7,7 +7,7 @@ use Rattle.std.proofs.Math.Nat.{mul-le-mul_right}
 use Rattle.aec_params.specs.Edits.{inside_calls}
 use Rattle.aec_params.proofs.CountLaws.{ceil_bounds, ceil_unique}
 use Rattle.aec_bits.specs.Codec.{Format, AreHeld}
-use Rattle.aec_edit.specs.Changes.{IsExchangeUpTo, fresh_total, recoding_calls, one_if}
+use Rattle.aec_edit.specs.Changes.{IsExchangeUpTo, fresh_total, recoding_calls}
 use Rattle.aec_edit.proofs.ExchangeLemmas.{begins_before, ceil_mono}
 
 -- a place is at the beginning of an interval, or inside one
@@ -58,10 +58,6 @@ later_calls n old first stop len h order within =
         ]
 
 -- ---- how many are decoded
-
-pub one_if_few : (b : Bool) → one_if b ≤ 1
-one_if_few true = omega arith
-one_if_few false = omega arith
 
 pub length-filter-all : (test : ℕ → Bool) (a m : ℕ) → ((k : ℕ) → a ≤ k → k < a + m → test k ≡ true) → length (filter test (range_with_len a m)) ≡ m
 length-filter-all test a zero all = refl

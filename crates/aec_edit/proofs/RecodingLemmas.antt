@@ -6,7 +6,7 @@ use Rattle.std.proofs.lemmas.List.{append-nil, length-take, length-drop, drop_al
 use Rattle.aec_bits.specs.Codec.{Format, IsLawful, code_of}
 use Rattle.aec_bits.proofs.CodeLaws.{code_of-nil, code_of-append}
 use Rattle.aec_edit.specs.Workspace.{interval_count, start_of}
-use Rattle.aec_edit.specs.Index.{IsKept, starts_of}
+use Rattle.aec_edit.specs.Index.{IsKeptCode, starts_of}
 use Rattle.aec_edit.specs.Changes.{IsRecoding, recoded}
 use Rattle.aec_edit.proofs.HeldLemmas.{held-take, held-drop, held-append}
 use Rattle.aec_edit.proofs.StartLemmas.{starts_of-nil, starts_of-append, starts_of-add, starts_of-move, take-starts_of, drop-starts_of, take-code_of, drop-code_of, length-starts_of, get_or-starts_of, starts_of-within, start_of-le, start_of-mono}
@@ -54,12 +54,12 @@ module _ (f : Format) (limit from to : ℕ) (s fresh : List ℤ) (lawful : IsLaw
   -- samples
   pub recoded_kept : {count : ℕ} {bits : List Bool} {starts : List ℕ} (count' fresh_count i j start stop : ℕ) (bits' fresh_bits : List Bool)
       (starts' fresh_starts : List ℕ)
-      → IsKept f count bits starts s → fresh_bits ≡ code_of f fresh → fresh_starts ≡ starts_of f 0 fresh
+      → IsKeptCode f count bits starts s → fresh_bits ≡ code_of f fresh → fresh_starts ≡ starts_of f 0 fresh
       → i ≡ from → j ≡ to → start ≡ start_of f s from → stop ≡ start_of f s to
       → bits' ≡ take start bits ++ (fresh_bits ++ drop stop bits)
       → starts' ≡ take i starts ++ (map (λ x. start + x) fresh_starts ++ map (λ x. x - stop + (start + length fresh_bits)) (drop j starts))
       → count' ≡ from * f.most + length fresh + (length s - to * f.most)
-      → IsKept f count' bits' starts' (recoded f from to fresh s)
+      → IsKeptCode f count' bits' starts' (recoded f from to fresh s)
   recoded_kept {bits = bits} {starts = starts} count' fresh_count i j start stop bits' fresh_bits starts' fresh_starts kept code_is index_is i_is j_is
       start_is stop_is bits_is starts_is count_is =
       record {
@@ -114,7 +114,7 @@ module _ (f : Format) (limit from to : ℕ) (s fresh : List ℤ) (lawful : IsLaw
 
 -- either way some list is kept
 pub some_kept : {T E : Type 0} {f : Format} {count : ℕ} {bits : List Bool} {starts : List ℕ} (r : Result T E) (s s' : List ℤ)
-    → OnOk r (IsKept f count bits starts s') → OnErr r (IsKept f count bits starts s) → (x : List ℤ) × IsKept f count bits starts x
+    → OnOk r (IsKeptCode f count bits starts s') → OnErr r (IsKeptCode f count bits starts s) → (x : List ℤ) × IsKeptCode f count bits starts x
 some_kept (Ok t) s s' ok err = (s', ok)
 some_kept (Err e) s s' ok err = (s, err)
 
@@ -128,8 +128,8 @@ on_err_three (Ok t) a b d h = tt
 on_err_three (Err e) a b d h = h a b d
 
 -- fields that are as before keep the same
-pub same_kept : {f : Format} {count count' : ℕ} {bits bits' : List Bool} {starts starts' : List ℕ} {s : List ℤ} → IsKept f count bits starts s
-    → bits' ≡ bits → starts' ≡ starts → count' ≡ count → IsKept f count' bits' starts' s
+pub same_kept : {f : Format} {count count' : ℕ} {bits bits' : List Bool} {starts starts' : List ℕ} {s : List ℤ} → IsKeptCode f count bits starts s
+    → bits' ≡ bits → starts' ≡ starts → count' ≡ count → IsKeptCode f count' bits' starts' s
 same_kept kept bits_are starts_are count_is = record {
   held = kept.held;
   count_is = kept.count_is ∙ sym count_is;
@@ -137,9 +137,9 @@ same_kept kept bits_are starts_are count_is = record {
   starts_are = starts_are ∙ kept.starts_are;
 }
 
-pub in_format : {f g : Format} {count : ℕ} {bits : List Bool} {starts : List ℕ} {s : List ℤ} → g ≡ f → IsKept f count bits starts s
-    → IsKept g count bits starts s
-in_format {count = count} {bits = bits} {starts = starts} {s = s} same kept = subst (λ h. IsKept h count bits starts s) (sym same) kept
+pub in_format : {f g : Format} {count : ℕ} {bits : List Bool} {starts : List ℕ} {s : List ℤ} → g ≡ f → IsKeptCode f count bits starts s
+    → IsKeptCode g count bits starts s
+in_format {count = count} {bits = bits} {starts = starts} {s = s} same kept = subst (λ h. IsKeptCode h count bits starts s) (sym same) kept
 
 -- fresh starts are within the fresh bits
 pub starts_short : (f : Format) (fresh : List ℤ) {bits : List Bool} {starts : List ℕ} → IsLawful f → bits ≡ code_of f fresh → starts ≡ starts_of f 0 fresh
@@ -150,7 +150,7 @@ starts_short f fresh {starts = starts} lawful bits_are starts_are k within =
     omega (arith, inside.1, ap length bits_are, ap (λ l. get_or l k 0) starts_are)
 
 -- the starts from number to on are not before its own
-pub starts_later : (f : Format) {count : ℕ} {bits : List Bool} {starts : List ℕ} {s : List ℤ} (to j stop : ℕ) → IsLawful f → IsKept f count bits starts s
+pub starts_later : (f : Format) {count : ℕ} {bits : List Bool} {starts : List ℕ} {s : List ℤ} (to j stop : ℕ) → IsLawful f → IsKeptCode f count bits starts s
     → j ≡ to → stop ≡ start_of f s to → (k : ℕ) → j ≤ k → k < length starts → (stop ≤ get_or starts k 0) × (get_or starts k 0 ≤ length bits)
 starts_later f {starts = starts} {s = s} to j stop lawful kept j_is stop_is k later within =
     let all : length starts ≡ interval_count f s = ap length kept.starts_are ∙ length-starts_of f 0 s lawful.some in

@@ -4,7 +4,6 @@ use Rattle.std.specs.Result.{MatchResult, OnOk, OnErr}
 use Rattle.std.specs.Int.{div_ceil}
 use Rattle.std.specs.List.{range_with_len, filter}
 use Rattle.std.proofs.lemmas.Bool.{cases_lt, cases_eq, eq-eqb, ne_eqb}
-use Rattle.std.proofs.lemmas.Bool.Decides.{nat_tests}
 use Rattle.std.proofs.lemmas.Nat.{div-add-mod'}
 use Rattle.std.proofs.lemmas.List.Elements.{filter-append}
 use Rattle.std.proofs.Math.Nat.{mul-le-mul_right}
@@ -18,12 +17,13 @@ use Rattle.aec_bits.specs.Codec.{Format}
 use Rattle.aec_bits.proofs.RefusalLaws.{remove_fits}
 use Rattle.aec_edit.specs.Calls.{RisesAtMost}
 use Rattle.aec_edit.specs.Steps.{Applies}
-use Rattle.aec_edit.specs.Changes.{IsExchanged, IsNotExchanged, IsExchangeUpTo, exchanged, recoded_end, fresh_total, recoding_calls, recoding_openings, opens_first, opens_last, one_if, opened_by}
+use Rattle.aec_edit.specs.Changes.{IsExchanged, IsNotExchanged, IsExchangeUpTo, exchanged, recoded_end, fresh_total, recoding_calls, recoding_openings, opened_by}
+use Rattle.aec_edit.specs.Opened.{opened_first, opened_behind, opened_ends}
 use Rattle.aec_edit.proofs.ExchangeLemmas.{begins_before, ceil_mono}
 use Rattle.aec_edit.proofs.AnswerLemmas.{from_exchange}
-use Rattle.aec_edit.proofs.OpenLemmas.{nothing_first, nothing_last}
+use Rattle.aec_edit.proofs.OpenedLemmas.{keeps_tail, nothing_first, nothing_last, first_few, behind_few, opened-count}
 use Rattle.aec_edit.proofs.OverwriteLemmas.{ceil_last, last_after, overwrite_opens}
-use Rattle.aec_edit.proofs.MoveLemmas.{places, later_calls, one_if_few, length-filter-all, later_can, whole_can}
+use Rattle.aec_edit.proofs.MoveLemmas.{places, later_calls, length-filter-all, later_can, whole_can}
 
 -- ---- how many are coded
 
@@ -66,26 +66,30 @@ whole_opened n old first len h whole within =
     elim (places n first h) [
       | inl start ↦
           let test : eqb (first % n) 0 ≡ true = eq-eqb (first % n) 0 start.0 in
-          let none_first = ap one_if (nothing_first n old first (first + len) (omega (arith, start.0, begins.2)) (omega (arith, start.3))) in
-          let none_last = ap one_if (nothing_last n old first (first + len) (omega (arith, start.3))) in
-          rw test (omega arith)
+          let none_first = ap length (nothing_first n old first (first + len) h order (omega (arith, start.0, begins.2)) (omega (arith, start.3))) in
+          let none_last = ap length (nothing_last n old first (first + len) h order (omega (arith, start.3))) in
+          rw test (omega (arith, count))
       | inr cut ↦
           let test : eqb (first % n) 0 ≡ false = ne_eqb (first % n) 0 (λ e. absurd (omega (arith, cut.0))) in
           rw test (at_end (cases_eq (first + len) old))
     ]
   where
+    order : first ≤ first + len
+    order = omega arith
+
+    count : opened_ends n old first (first + len)
+        ≡ length (opened_first n old first (first + len)) + length (opened_behind n old first (first + len))
+    count = opened-count n old first (first + len) h order
+
     at_end : (first + len ≡ old) ⊎ (first + len ≡ old → ⊥)
         → recoding_openings n old first (first + len) (div_ceil (first + len) n) ≤ cond (eqb (first + len) old) 1 2
     at_end (inl end) =
         let test : eqb (first + len) old ≡ true = eq-eqb (first + len) old end in
-        let none_last = ap one_if (nothing_last n old first (first + len) (omega arith)) in
-        rw test (omega (arith, one_if_few (opens_first n old first (first + len))))
+        let none_last = ap length (nothing_last n old first (first + len) h order (omega arith)) in
+        rw test (omega (arith, count, first_few n old first (first + len) h order))
     at_end (inr inside) =
         let test : eqb (first + len) old ≡ false = ne_eqb (first + len) old inside in
-        rw test (omega (arith, one_if_few (opens_first n old first (first + len)), one_if_few (opens_last n old first (first + len))))
-
-keeps_behind : (n old first len k : ℕ) → first + len < min (k * n + n) old → keeps_a_sample n old first len k ≡ true
-keeps_behind n old first len k behind = grind (arith, nat_tests)
+        rw test (omega (arith, count, first_few n old first (first + len) h order, behind_few n old first (first + len) h order))
 
 later_opened : (n old first len : ℕ) → 0 < n → 0 < len → first + len ≤ old
     → recoding_openings n old first (first + len) (div_ceil old n) ≤ length (filter (keeps_a_sample n old first len) (intervals_from n old first))
@@ -108,7 +112,7 @@ later_opened n old first len h some within =
     ∙ ap (λ a. range_with_len (first / n) (cut - first / n) ++ range_with_len a (div_ceil old n - cut)) place
     ∙ ap (λ l. l ++ behind) (sym touched) in
     let all_behind = length-filter-all test cut (div_ceil old n - cut)
-    (λ k from below. keeps_behind n old first len k (at_or_behind k from (omega (arith, up)))) in
+    (λ k from below. keeps_tail n old first len k (at_or_behind k from (omega (arith, up)))) in
     omega (
       arith,
       ends,

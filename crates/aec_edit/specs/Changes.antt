@@ -1,7 +1,7 @@
 -- What the private functions do to the samples: places are exchanged for values, and for that
 -- intervals for fresh samples.
-use Rattle.std.specs.Prelude.{◌≡◌, ℕ, ◌+◌, ◌-◌, ◌*◌, ◌/◌, ◌%◌, ◌≤◌, ◌⊎◌, min, Bool, ◌||◌, ◌&&◌}
-use Rattle.std.specs.Prelude.{nat_lt, ◌==◌, if◌then◌else◌, None, MatchOption, is_some, List, [], ◌++◌, length, take, drop, ℤ}
+use Rattle.std.specs.Prelude.{◌≡◌, ℕ, ◌+◌, ◌-◌, ◌*◌, ◌/◌, ◌%◌, ◌≤◌, ◌⊎◌, min, Bool}
+use Rattle.std.specs.Prelude.{◌==◌, if◌then◌else◌, None, MatchOption, is_some, List, ◌++◌, length, take, drop, ℤ}
 use Rattle.std.specs.Int.{div_ceil}
 use Rattle.aec_bits.specs.Codec.{Format, AreHeld, code_of}
 use Rattle.aec_params.specs.declared.fault.Fault.{Fault}
@@ -10,6 +10,7 @@ use Rattle.aec_edit.specs.Calls.{want_of_calls}
 use Rattle.aec_edit.specs.Steps.{LacksMemory}
 use Rattle.aec_edit.specs.Index.{starts_of}
 use Rattle.aec_edit.specs.Fresh.{to_come}
+use Rattle.aec_edit.specs.Opened.{opened_ends}
 
 -- the samples with the places from first up to stop exchanged for values
 abbrev pub exchanged : ℕ → ℕ → List ℤ → List ℤ → List ℤ
@@ -48,34 +49,6 @@ head_of n first s = drop (first / n * n) (take first s)
 -- what is kept from a place on, up to the end of the intervals that the places before it touch
 abbrev pub tail_of : ℕ → ℕ → List ℤ → List ℤ
 tail_of n stop s = drop stop (take (div_ceil stop n * n) s)
-
--- whether the first touched interval keeps a sample: in front of the places, or behind them where
--- it is the last one too
-abbrev pub opens_first : ℕ → ℕ → ℕ → ℕ → Bool
-opens_first n count first stop =
-    nat_lt (first / n * n) first || (nat_lt stop (min count (div_ceil stop n * n)) && (first / n + 1 == div_ceil stop n))
-
--- whether the last touched interval is another one, and keeps a sample
-abbrev pub opens_last : ℕ → ℕ → ℕ → ℕ → Bool
-opens_last n count first stop = nat_lt stop (min count (div_ceil stop n * n)) && nat_lt (first / n + 1) (div_ceil stop n)
-
--- one where a test holds, else none
-abbrev pub one_if : Bool → ℕ
-one_if b = if b then 1 else 0
-
--- how many intervals an exchange decodes
-abbrev pub opened_ends : ℕ → ℕ → ℕ → ℕ → ℕ
-opened_ends n count first stop = one_if (opens_first n count first stop) + one_if (opens_last n count first stop)
-
--- the samples of these intervals
-abbrev pub first_samples : ℕ → ℕ → ℕ → List ℤ → List ℤ
-first_samples n first stop s = if opens_first n (length s) first stop then take n (drop (first / n * n) s) else []
-
-abbrev pub last_samples : ℕ → ℕ → ℕ → List ℤ → List ℤ
-last_samples n first stop s = if opens_last n (length s) first stop then take n (drop ((div_ceil stop n - 1) * n) s) else []
-
-abbrev pub end_samples : ℕ → ℕ → ℕ → List ℤ → List ℤ
-end_samples n first stop s = first_samples n first stop s ++ last_samples n first stop s
 
 -- an exchange that was made: calls were left for it, and each interval was coded once
 pub record IsExchanged (needed calls coded after : ℕ) : Type 0 where

@@ -18,7 +18,7 @@ abbrev pub starts_of : Format → ℕ → List ℤ → List ℕ
 starts_of f place s = piece_starts f.bits_of place (pieces_of f.most s)
 
 -- these bits, starts and this count are how the samples s are kept
-pub record IsKept (f : Format) (count : ℕ) (bits : List Bool) (starts : List ℕ) (s : List ℤ) : Type 0 where
+pub record IsKeptCode (f : Format) (count : ℕ) (bits : List Bool) (starts : List ℕ) (s : List ℤ) : Type 0 where
   pub held : AreHeld f s
   pub count_is : length s ≡ count
   pub bits_are : bits ≡ code_of f s
@@ -26,17 +26,17 @@ pub record IsKept (f : Format) (count : ℕ) (bits : List Bool) (starts : List �
 
 -- the samples that are kept so
 abbrev pub KeptSamples : Format → ℕ → List Bool → List ℕ → Type 0
-KeptSamples f count bits starts = (s : List ℤ) × IsKept f count bits starts s
+KeptSamples f count bits starts = (s : List ℤ) × IsKeptCode f count bits starts s
 
 -- that list of them
 unfoldable pub kept_samples : {f : Format} {count : ℕ} {bits : List Bool} {starts : List ℕ} → KeptSamples f count bits starts → List ℤ
 kept_samples kept = kept.0
 
-IsKept-prop : (f : Format) (count : ℕ) (bits : List Bool) (starts : List ℕ) (s : List ℤ) → IsProp (IsKept f count bits starts s)
-IsKept-prop f count bits starts s = hlevel props
+IsKeptCode-prop : (f : Format) (count : ℕ) (bits : List Bool) (starts : List ℕ) (s : List ℤ) → IsProp (IsKeptCode f count bits starts s)
+IsKeptCode-prop f count bits starts s = hlevel props
 
 -- of a lawful codec there is at most one
 pub one_list : (f : Format) (count : ℕ) (bits : List Bool) (starts : List ℕ) → IsLawful f → IsProp (KeptSamples f count bits starts)
 one_list f count bits starts lawful =
-    λ u v. Σ_prop_path (IsKept-prop f count bits starts)
+    λ u v. Σ_prop_path (IsKeptCode-prop f count bits starts)
     (same_samples f u.0 v.0 lawful u.1.held v.1.held (u.1.count_is ∙ sym v.1.count_is) (sym u.1.bits_are ∙ v.1.bits_are))

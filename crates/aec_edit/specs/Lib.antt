@@ -5,6 +5,7 @@ pub mod Early
 pub mod Steps
 pub mod Index
 pub mod Fresh
+pub mod Opened
 pub mod Changes
 pub mod Runs
 pub mod Stops

@@ -10,7 +10,7 @@ pub record KeepsRules {C : Type 0} (format_of : C → Format) (old new : Content
   pub format : format_of new.codec ≡ format_of old.codec
 
 -- the samples, the limit and the format are as they were; the counts of calls may have risen
-pub record IsUnchanged {C : Type 0} (format_of : C → Format) (old new : Contents C) : Type 0 where
+pub record KeepsSamples {C : Type 0} (format_of : C → Format) (old new : Contents C) : Type 0 where
   pub samples : new.samples ≡ old.samples
   pub limit : new.limit ≡ old.limit
   pub format : format_of new.codec ≡ format_of old.codec

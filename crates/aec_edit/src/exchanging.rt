@@ -6,11 +6,13 @@ use aec_bits::Codec;
 use aec_params::Fault;
 
 impl<C: Codec> Workspace<C> {
-    ghost use Rattle.std.specs.Prelude.{◌≡◌, ◌<◌, ◌≤◌, ◌++◌, true, [], length, IfOk, OnOk, OnErr, IfErr, MatchResult};
+    ghost use Rattle.std.specs.Prelude.{◌≡◌, ◌-◌, ◌*◌, ◌<◌, ◌≤◌, ◌++◌, ◌&&◌, nat_lt, [], length, IfOk, OnOk, OnErr, IfErr, MatchResult};
     ghost use Rattle.std.specs.Int.{div_ceil};
     ghost use Rattle.aec_params.specs.declared.fault.Fault.TheVariants.{Memory};
+    ghost use Rattle.aec_params.specs.Edits.{keeps_a_sample};
     ghost use Rattle.aec_edit.specs.Calls.{RisesAtMost};
-    ghost use Rattle.aec_edit.specs.Changes.{IsExchange, IsExchanged, IsNotExchanged, exchanged, exchange_calls, head_of, tail_of, opens_first, opens_last, one_if, first_samples, last_samples, end_samples, opened_ends, opened_by, recoding_calls, recoding_openings, IsExchangeUpTo};
+    ghost use Rattle.aec_edit.specs.Changes.{IsExchange, IsExchanged, IsNotExchanged, exchanged, exchange_calls, head_of, tail_of, opened_by, recoding_calls, recoding_openings, IsExchangeUpTo};
+    ghost use Rattle.aec_edit.specs.Opened.{opened_first, opened_behind, opened_ends, samples_of, end_samples};
     ghost use Rattle.aec_edit.specs.Unchanged.{KeepsRules, IsOnlyRead};
 
     /// Exchanges the samples from place `first` up to place `stop` for values, as many, or at the
@@ -156,25 +158,38 @@ impl<C: Codec> Workspace<C> {
         Ok(())
     }
 
+    /// Whether interval `k` begins in front of place `stop`, and keeps a sample outside the places.
+    fn is_opened(&self, first: u64, stop: u64, k: u64) -> bool
+        requires order { first ≤ stop }
+        requires within { stop ≤ length self.now.samples }
+        requires place { k * (C.format self.now.codec).most ≤ stop }
+        ensures { result ≡ (nat_lt (k * (C.format self.now.codec).most) stop
+            && keeps_a_sample (C.format self.now.codec).most (length self.now.samples) first
+            (stop - first) k) }
+    {
+        let most = self.interval_len();
+        let begin = k * most;
+        begin < stop && (begin < first || stop < self.count().min(begin + most))
+    }
+
     /// Decodes the first touched interval where it keeps a sample in front of the places, or is the
     /// last one too and keeps one behind them.
     fn open_first(&mut self, first: u64, stop: u64, ends: &mut Vec<i64>) -> Result<(), Fault>
         requires order { first ≤ stop }
         requires within { stop ≤ length self.old.samples }
         ensures ok { OnOk result (ends.new.items ≡ ends.old.items
-            ++ first_samples (C.format self.old.codec).most first stop self.old.samples) }
+            ++ samples_of (C.format self.old.codec).most self.old.samples
+            (opened_first (C.format self.old.codec).most (length self.old.samples) first stop)) }
         ensures fault { IfErr result (λ e. (e ≡ Memory)
-            × (opens_first (C.format self.old.codec).most (length self.old.samples) first stop
-            ≡ true)) }
+            × (0 < length (opened_first (C.format self.old.codec).most (length self.old.samples)
+            first stop))) }
         ensures read { IsOnlyRead C.format C.called C.read
-            (one_if (opens_first (C.format self.old.codec).most (length self.old.samples) first
+            (length (opened_first (C.format self.old.codec).most (length self.old.samples) first
             stop))
             self.old self.new }
     {
-        let most = self.interval_len();
-        let from = first / most;
-        let to = stop.div_ceil(most);
-        if from * most < first || (stop < self.count().min(to * most) && from + 1 == to) {
+        let from = first / self.interval_len();
+        if self.is_opened(first, stop, from) {
             return self.decode_interval(from, ends);
         }
         Ok(())
@@ -186,19 +201,23 @@ impl<C: Codec> Workspace<C> {
         requires order { first ≤ stop }
         requires within { stop ≤ length self.old.samples }
         ensures ok { OnOk result (ends.new.items ≡ ends.old.items
-            ++ last_samples (C.format self.old.codec).most first stop self.old.samples) }
+            ++ samples_of (C.format self.old.codec).most self.old.samples
+            (opened_behind (C.format self.old.codec).most (length self.old.samples) first stop)) }
         ensures fault { IfErr result (λ e. (e ≡ Memory)
-            × (opens_last (C.format self.old.codec).most (length self.old.samples) first stop
-            ≡ true)) }
+            × (0 < length (opened_behind (C.format self.old.codec).most (length self.old.samples)
+            first stop))) }
         ensures read { IsOnlyRead C.format C.called C.read
-            (one_if (opens_last (C.format self.old.codec).most (length self.old.samples) first
+            (length (opened_behind (C.format self.old.codec).most (length self.old.samples) first
             stop))
             self.old self.new }
     {
         let most = self.interval_len();
-        let to = stop.div_ceil(most);
-        if stop < self.count().min(to * most) && first / most + 1 < to {
-            return self.decode_interval(to - 1, ends);
+        let last = stop.div_ceil(most).saturating_sub(1);
+        if last <= first / most {
+            return Ok(());
+        }
+        if self.is_opened(first, stop, last) {
+            return self.decode_interval(last, ends);
         }
         Ok(())
     }

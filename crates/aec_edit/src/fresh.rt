@@ -1,7 +1,8 @@
 //! Fresh samples, handed out one interval at a time.
 
-ghost use Rattle.std.specs.Prelude.{◌≡◌, ◌⊎◌, ◌≤◌, ◌++◌, [], length, drop, OnOk, OnErr, IfErr};
+ghost use Rattle.std.specs.Prelude.{◌≡◌, ◌⊎◌, ◌≤◌, ◌++◌, true, false, [], length, drop, OnOk, OnErr, IfErr};
 ghost use Rattle.aec_params.specs.declared.fault.Fault.TheVariants.{Memory};
+ghost use Rattle.aec_edit.specs.Fresh.{BeginsWhole};
 
 use aec_params::Fault;
 
@@ -17,6 +18,15 @@ pub(crate) struct Fresh<'a> {
 }
 
 impl<'a> Fresh<'a> {
+    /// Whether the next interval, of `most` samples, stands whole in the values.
+    pub fn begins_whole(&self, most: usize) -> bool
+        ensures whole { result ≡ true → BeginsWhole most self.now.front.items self.now.values.now }
+        ensures not { result ≡ false
+            → BeginsWhole most self.now.front.items self.now.values.now → ⊥ }
+    {
+        self.front.is_empty() && self.values.len() >= most
+    }
+
     /// Moves values and what is behind them to the front, until it holds a whole interval. `Memory`
     /// where a growth was refused.
     pub fn gather_held(&mut self, most: usize) -> Result<(), Fault>

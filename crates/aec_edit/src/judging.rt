@@ -6,6 +6,7 @@ use aec_params::Fault;
 
 impl<C: Codec> Workspace<C> {
     ghost use Rattle.std.specs.Prelude.{◌≡◌, ◌+◌, ◌^◌, ◌<◌, ◌≤◌, None, Some, length, OnOk, IfErr};
+    ghost use Rattle.std.specs.List.{list_all};
     ghost use Rattle.aec_params.specs.declared.fault.Fault.TheVariants.{OutOfRange};
     ghost use Rattle.aec_bits.specs.Codec.{AreHeld};
     ghost use Rattle.aec_bits.specs.Refusals.{growth_refusal, values_refusal, first_unheld as first_unheld_of};
@@ -60,11 +61,26 @@ impl<C: Codec> Workspace<C> {
     fn first_unheld(&self, values: &[i64]) -> Option<u64>
         ensures { result ≡ first_unheld_of (C.format self.now.codec).holds 0 values.now }
     {
+        if self.are_held(values) {
+            return None;
+        }
         for (index, x) in values.iter().enumerate() {
             if !self.holds(*x) {
                 return Some(index as u64);
             }
         }
         None
+    }
+
+    /// Whether all values are samples. Each is looked at, whatever the others are: so nothing is
+    /// decided from one to the next.
+    fn are_held(&self, values: &[i64]) -> bool
+        ensures { result ≡ list_all (C.format self.now.codec).holds values.now }
+    {
+        let mut held = true;
+        for x in values {
+            held &= self.holds(*x);
+        }
+        held
     }
 }

@@ -110,7 +110,8 @@ decodes_into s count limit most bits p total before after r same is none have fi
     answer a twice.no_room = twice.no_memory
 
 -- the answer to all bytes of a source that did not fail
-pub whole_answer : (answers : Input → Result (List ℕ) Fault → Type 0) (enough : List ℕ → Bool) (source : Taking) (bytes : List ℕ) (answer : Result (List ℕ) Fault)
+pub whole_answer : (answers : Input → Result (List ℕ) Fault → Type 0) (enough : List ℕ → Bool) (source : Taking) (bytes : List ℕ)
+    (answer : Result (List ℕ) Fault)
     → IsJudgedWhole answers enough → source.before ≡ Some bytes → source.failures ≡ 0 → GivesAnswer answers source enough answer
     → OrMemory (answers (input_of bytes false)) answer
 whole_answer answers enough source bytes answer whole before sound (given input a gave answered) =

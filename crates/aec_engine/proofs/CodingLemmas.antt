@@ -17,7 +17,7 @@ use Rattle.aec_params.specs.Streams.{stream_of}
 use Rattle.aec_params.proofs.StoredLemmas.{storage-least}
 use Rattle.aec_interval.specs.Taking.{judged_samples}
 use Rattle.aec_interval.specs.Feeding as feeding
-use Rattle.aec_interval.specs.Feeding.{Coding, new_coding, Feeds, StopsFeeding}
+use Rattle.aec_interval.specs.Feeding.{Coder, fresh_coder, Feeds, StopsFeeding}
 use Rattle.aec_interval.specs.CutLaws.{IsStreamSoFar}
 use Rattle.aec_interval.proofs.CutLemmas.{cuts_make_no_difference}
 use Rattle.aec_interval.proofs.FeedingLemmas.{stops_later}
@@ -30,31 +30,31 @@ use Rattle.aec_interval.proofs.TakingLemmas.{length-samples_of_bytes}
 -- ---- a coder that was fed bytes
 
 -- what bytes are as a whole
-judged_so_far : (s : Settings) (limit : ℕ) (bytes : List ℕ) (bits : List Bool) (coder : Coding) → IsAllowed s
-    → Feeds (new_coding s limit) bytes [] bits coder → judged_samples limit (samples_of_bytes s bytes) ≡ None
+judged_so_far : (s : Settings) (limit : ℕ) (bytes : List ℕ) (bits : List Bool) (coder : Coder) → IsAllowed s
+    → Feeds (fresh_coder s limit) bytes [] bits coder → judged_samples limit (samples_of_bytes s bytes) ≡ None
 judged_so_far s limit bytes bits coder a feeds = sym ((cuts_make_no_difference s limit a).judged bytes) ∙ feeds.taken
 
-stream_so_far : (s : Settings) (limit : ℕ) (bytes : List ℕ) (bits : List Bool) (coder : Coding) → IsAllowed s
-    → Feeds (new_coding s limit) bytes [] bits coder → IsStreamSoFar s limit bytes [] bits coder
+stream_so_far : (s : Settings) (limit : ℕ) (bytes : List ℕ) (bits : List Bool) (coder : Coder) → IsAllowed s
+    → Feeds (fresh_coder s limit) bytes [] bits coder → IsStreamSoFar s limit bytes [] bits coder
 stream_so_far s limit bytes bits coder a feeds =
     subst (λ l. IsStreamSoFar s limit l [] bits coder) (append-nil bytes)
     ((cuts_make_no_difference s limit a).stream (bytes ∷ []) [] bits coder (bits, (coder, (feeds, (refl, refl)))))
 
 -- all bytes are counted: those of whole samples, and those behind them
-counted_so_far : (s : Settings) (limit : ℕ) (bytes : List ℕ) (bits : List Bool) (coder : Coding) → IsAllowed s
-    → Feeds (new_coding s limit) bytes [] bits coder → coder.count * storage_len s + length coder.rest ≡ length bytes
+counted_so_far : (s : Settings) (limit : ℕ) (bytes : List ℕ) (bits : List Bool) (coder : Coder) → IsAllowed s
+    → Feeds (fresh_coder s limit) bytes [] bits coder → coder.count * storage_len s + length coder.rest ≡ length bytes
 counted_so_far s limit bytes bits coder a feeds =
     let n : ℕ = storage_len s in
     let so = stream_so_far s limit bytes bits coder a feeds in
     let count : coder.count ≡ length bytes / n = so.counted ∙ length-samples_of_bytes s bytes so.samples so.taken in
     let whole : coder.count * n ≡ length bytes / n * n = ap (λ k. k * n) count in
     let rest : length coder.rest ≡ length bytes - length bytes / n * n =
-    ap (λ (c : Coding). length c.rest) feeds.coder ∙ length-drop (length bytes / n * n) bytes in
+    ap (λ (c : Coder). length c.rest) feeds.coder ∙ length-drop (length bytes / n * n) bytes in
     omega (arith, whole, rest, div-add-mod' (length bytes) n)
 
 -- which are fewer than those of more samples than the limit
-within_so_far : (s : Settings) (limit : ℕ) (bytes : List ℕ) (bits : List Bool) (coder : Coding) → IsAllowed s
-    → Feeds (new_coding s limit) bytes [] bits coder → length bytes < (limit + 1) * storage_len s
+within_so_far : (s : Settings) (limit : ℕ) (bytes : List ℕ) (bits : List Bool) (coder : Coder) → IsAllowed s
+    → Feeds (fresh_coder s limit) bytes [] bits coder → length bytes < (limit + 1) * storage_len s
 within_so_far s limit bytes bits coder a feeds =
     let n : ℕ = storage_len s in
     let so = stream_so_far s limit bytes bits coder a feeds in
@@ -66,17 +66,17 @@ within_so_far s limit bytes bits coder a feeds =
 
 -- ---- steps
 
-pub fed_begins : (s : Settings) (limit : ℕ) (before : Option (List ℕ)) (bits : List Bool) (coder : Coding) → IsAllowed s → bits ≡ []
-    → coder ≡ new_coding s limit → IsFedSoFar s limit before before bits coder
+pub fed_begins : (s : Settings) (limit : ℕ) (before : Option (List ℕ)) (bits : List Bool) (coder : Coder) → IsAllowed s → bits ≡ []
+    → coder ≡ fresh_coder s limit → IsFedSoFar s limit before before bits coder
 fed_begins s limit before bits coder a none new = record {
   allowed = a;
   bytes = [];
   taken = Consumes-nil before;
-  feeds = subst (λ c. Feeds (new_coding s limit) [] [] bits c) (sym new)
-      (subst (λ bits. Feeds (new_coding s limit) [] [] bits (new_coding s limit)) (sym none) ((cuts_make_no_difference s limit a).begun []));
+  feeds = subst (λ c. Feeds (fresh_coder s limit) [] [] bits c) (sym new)
+      (subst (λ bits. Feeds (fresh_coder s limit) [] [] bits (fresh_coder s limit)) (sym none) ((cuts_make_no_difference s limit a).begun []));
 }
 
-pub fed_goes_on : (s : Settings) (limit : ℕ) (before between after : Option (List ℕ)) (bits more : List Bool) (coder next : Coding) (piece : List ℕ)
+pub fed_goes_on : (s : Settings) (limit : ℕ) (before between after : Option (List ℕ)) (bits more : List Bool) (coder next : Coder) (piece : List ℕ)
     → IsFedSoFar s limit before between bits coder → Consumes between after piece → Feeds coder piece bits more next
     → IsFedSoFar s limit before after more next
 fed_goes_on s limit before between after bits more coder next piece so consumes feeds = record {
@@ -87,29 +87,29 @@ fed_goes_on s limit before between after bits more coder next piece so consumes 
 }
 
 -- nothing was refused so far
-pub unrefused_so_far : (s : Settings) (limit : ℕ) (before after : Option (List ℕ)) (bits : List Bool) (coder : Coding)
+pub unrefused_so_far : (s : Settings) (limit : ℕ) (before after : Option (List ℕ)) (bits : List Bool) (coder : Coder)
     → IsFedSoFar s limit before after bits coder → coder.refusal ≡ None
-unrefused_so_far s limit before after bits coder so = ap (λ (c : Coding). c.refusal) so.feeds.coder ∙ so.feeds.taken
+unrefused_so_far s limit before after bits coder so = ap (λ (c : Coder). c.refusal) so.feeds.coder ∙ so.feeds.taken
 
 -- fewer bytes are left to be taken
-pub fewer_left : (s : Settings) (limit : ℕ) (before after : Option (List ℕ)) (bits more : List Bool) (coder next : Coding) (piece : List ℕ)
+pub fewer_left : (s : Settings) (limit : ℕ) (before after : Option (List ℕ)) (bits more : List Bool) (coder next : Coder) (piece : List ℕ)
     → IsFedSoFar s limit before after bits coder → Feeds coder piece bits more next → 0 < length piece → bytes_left next < bytes_left coder
 fewer_left s limit before after bits more coder next piece so feeds some =
     let n : ℕ = storage_len s in
     let bytes : List ℕ = so.bytes ++ piece in
-    let all_fed : Feeds (new_coding s limit) bytes [] more next =
+    let all_fed : Feeds (fresh_coder s limit) bytes [] more next =
     (cuts_make_no_difference s limit so.allowed).more so.bytes piece [] bits more coder next so.feeds feeds in
     let old = counted_so_far s limit so.bytes bits coder so.allowed so.feeds in
     let new = counted_so_far s limit bytes more next so.allowed all_fed in
     let most = within_so_far s limit bytes more next so.allowed all_fed in
     let all : length bytes ≡ length so.bytes + length piece = length-append so.bytes piece in
     let old_left : bytes_left coder ≡ (limit + 1) * n - (coder.count * n + length coder.rest) =
-    ap (λ (c : Coding). (c.limit + 1) * storage_len c.settings - (coder.count * storage_len c.settings + length coder.rest)) so.feeds.coder in
+    ap (λ (c : Coder). (c.limit + 1) * storage_len c.settings - (coder.count * storage_len c.settings + length coder.rest)) so.feeds.coder in
     let new_left : bytes_left next ≡ (limit + 1) * n - (next.count * n + length next.rest) =
-    ap (λ (c : Coding). (c.limit + 1) * storage_len c.settings - (next.count * storage_len c.settings + length next.rest)) all_fed.coder in
+    ap (λ (c : Coder). (c.limit + 1) * storage_len c.settings - (next.count * storage_len c.settings + length next.rest)) all_fed.coder in
     omega (arith, old, new, most, all, old_left, new_left, some)
 
-pub fed_ends : (s : Settings) (limit : ℕ) (before between after : Option (List ℕ)) (failures : ℕ) (bits : List Bool) (coder : Coding)
+pub fed_ends : (s : Settings) (limit : ℕ) (before between after : Option (List ℕ)) (failures : ℕ) (bits : List Bool) (coder : Coder)
     → IsFedSoFar s limit before between bits coder → Consumes between after [] → IsAtEnd after → failures ≡ 0
     → IsFed s limit (taking before after failures) bits coder
 fed_ends s limit before between after failures bits coder so consumes end sound = record {
@@ -134,7 +134,7 @@ pub unless_refused : (o : Option Fault) (P : Type 0) (Q : Fault → Type 0) → 
 unless_refused None P Q none p = p
 unless_refused (Some fault) P Q none q = absurd (cc)
 
-pub fed_fails : (s : Settings) (limit : ℕ) (before between after : Option (List ℕ)) (failures : ℕ) (bits : List Bool) (coder : Coding) (fault : Fault)
+pub fed_fails : (s : Settings) (limit : ℕ) (before between after : Option (List ℕ)) (failures : ℕ) (bits : List Bool) (coder : Coder) (fault : Fault)
     → IsFedSoFar s limit before between bits coder → Keeps between after → (fault ≡ Read) × (failures ≡ 1)
     → StopsCoding s limit (taking before after failures) fault
 fed_fails s limit before between after failures bits coder fault so keeps (is, fails) =
@@ -147,16 +147,16 @@ fed_fails s limit before between after failures bits coder fault so keeps (is, f
     })
     (ap (λ o. option_or o (Some Read)) (judged_so_far s limit so.bytes bits coder so.allowed so.feeds)))
 
-pub fed_stops : (s : Settings) (limit : ℕ) (before between after : Option (List ℕ)) (failures : ℕ) (bits more : List Bool) (coder : Coding)
+pub fed_stops : (s : Settings) (limit : ℕ) (before between after : Option (List ℕ)) (failures : ℕ) (bits more : List Bool) (coder : Coder)
     (piece : List ℕ) (fault : Fault) → IsFedSoFar s limit before between bits coder → Consumes between after piece → failures ≡ 0
     → StopsFeeding coder piece bits more fault → StopsCoding s limit (taking before after failures) fault
 fed_stops s limit before between after failures bits more coder piece fault so consumes sound stops =
-    by_stop fault (stops_later (new_coding s limit) coder so.bytes piece [] bits more fault so.allowed so.feeds stops)
+    by_stop fault (stops_later (fresh_coder s limit) coder so.bytes piece [] bits more fault so.allowed so.feeds stops)
   where
     bytes : List ℕ
     bytes = so.bytes ++ piece
 
-    by_stop : (fault : Fault) → StopsFeeding (new_coding s limit) bytes [] more fault → StopsCoding s limit (taking before after failures) fault
+    by_stop : (fault : Fault) → StopsFeeding (fresh_coder s limit) bytes [] more fault → StopsCoding s limit (taking before after failures) fault
     by_stop fault (feeding.refused f refusal e) =
         let judged : judged_samples limit (samples_of_bytes s bytes) ≡ Some f = sym ((cuts_make_no_difference s limit so.allowed).judged bytes) ∙ refusal in
         let enough : are_refused s limit bytes ≡ true = ap is_some judged in
@@ -180,16 +180,16 @@ stopped_answer s caps limit source fault counted stops = by_stop fault (subst (�
     by_stop fault no_memory = lacks_memory
     by_stop fault (refused input f gave is) = given input (Err f) gave (not_coded f is)
 
-pub unrefused_fed : (s : Settings) (limit : ℕ) (source : Taking) (bits : List Bool) (coder : Coding) → IsFed s limit source bits coder → coder.refusal ≡ None
-unrefused_fed s limit source bits coder fed = ap (λ (c : Coding). c.refusal) fed.feeds.coder ∙ fed.feeds.taken
+pub unrefused_fed : (s : Settings) (limit : ℕ) (source : Taking) (bits : List Bool) (coder : Coder) → IsFed s limit source bits coder → coder.refusal ≡ None
+unrefused_fed s limit source bits coder fed = ap (λ (c : Coder). c.refusal) fed.feeds.coder ∙ fed.feeds.taken
 
-pub coded_answer : (s : Settings) (caps : Caps) (limit : ℕ) (source : Taking) (bits all : List Bool) (coder : Coding) → IsAllowed s → limit ≡ caps.samples
+pub coded_answer : (s : Settings) (caps : Caps) (limit : ℕ) (source : Taking) (bits all : List Bool) (coder : Coder) → IsAllowed s → limit ≡ caps.samples
     → IsFed s limit source bits coder → all ≡ bits ++ stream_of coder.settings coder.held
     → GivesAnswer (IsEncoded s caps) source (are_refused s caps.samples) (Ok (bytes_of all))
 coded_answer s caps limit source bits all coder a counted fed_all is =
     let fed = subst (λ n. IsFed s n source bits coder) counted fed_all in
     let so = stream_so_far s caps.samples fed.bytes bits coder a fed.feeds in
-    let same : coder.settings ≡ s = ap (λ (c : Coding). c.settings) fed.feeds.coder in
+    let same : coder.settings ≡ s = ap (λ (c : Coder). c.settings) fed.feeds.coder in
     let code : all ≡ stream_of s so.samples = is ∙ ap (λ t. bits ++ stream_of t coder.held) same ∙ so.bits in
     subst (λ all. GivesAnswer (IsEncoded s caps) source (are_refused s caps.samples) (Ok (bytes_of all))) (sym code)
     (given (input_of fed.bytes false) (Ok (bytes_of (stream_of s so.samples))) fed.gave

@@ -13,7 +13,7 @@ use Rattle.aec_interval.specs.IntervalFormat.{interval_format}
 use Rattle.aec_engine.specs.declared.scripts.EditFault.{EditFault}
 use Rattle.aec_engine.specs.declared.scripts.EditFault.TheVariants.{Plain}
 use Rattle.aec_engine.specs.Transfers as transfers
-use Rattle.aec_engine.specs.Transfers.{Input, Taking, are_past, IsTakenWhole, RefusesIntake, Putting, IsBegunFirst, answer_of, GivesAnswer, given}
+use Rattle.aec_engine.specs.Transfers.{Input, Taking, are_past, IsTakenWhole, RefusesIntake, Putting, IsBegunFirst, answer_by, GivesAnswer, given}
 use Rattle.aec_engine.specs.Output.{IsDecoded, GaveSamples}
 use Rattle.aec_engine.specs.Scripts.{Listing, listing_of}
 use Rattle.aec_engine.specs.Editing.{Left, edits_left, first_calls, Recoded, not_decoded, not_edited, edited, GaveBoth, GivesEdited, script_refused, answered, lacks_memory, lacks_memory_on, LeavesRecoded, written, refused, not_written}
@@ -27,9 +27,9 @@ use Rattle.aec_engine.proofs.OutputLemmas.{taking, Keeps-same, refused_intake, r
 -- the answer of a result that is a refusal
 gives_err : {X : Type 0} (view : X → Recoded) (r : Result X EditFault) (e fault : EditFault) (s : Settings) (caps : Caps) (count : Option ℕ)
     (from source : Taking)
-    → r ≡ Err e → e ≡ fault → GivesEdited s caps count from source (Err fault) → GivesEdited s caps count from source (answer_of view r)
+    → r ≡ Err e → e ≡ fault → GivesEdited s caps count from source (Err fault) → GivesEdited s caps count from source (answer_by view r)
 gives_err view r e fault s caps count from source is same gives =
-    subst (λ r. GivesEdited s caps count from source (answer_of view r)) (sym (is ∙ ap Err same)) gives
+    subst (λ r. GivesEdited s caps count from source (answer_by view r)) (sym (is ∙ ap Err same)) gives
 
 -- ---- no script, no samples
 
@@ -41,7 +41,7 @@ no_script_answer s caps count from source fault kept (no_edits script f gave is)
 pub gives_no_script : {X : Type 0} (view : X → Recoded) (r : Result X EditFault) (e : EditFault) (f : Fault) (s : Settings) (caps : Caps)
     (count : Option ℕ) (from : Taking)
     (left : Option (List ℕ)) (failed : ℕ) → r ≡ Err e → e ≡ Plain f → RefusesScript from caps.bytes f
-    → GivesEdited s caps count from (taking left left failed) (answer_of view r)
+    → GivesEdited s caps count from (taking left left failed) (answer_by view r)
 gives_no_script view r e f s caps count from left failed is same refuses =
     gives_err view r e (Plain f) s caps count from (taking left left failed) is same
     (no_script_answer s caps count from (taking left left failed) f (Keeps-same left) refuses)
@@ -59,7 +59,7 @@ no_source_answer s caps count from source read answer fault is script transfers.
 gives_no_source : {X : Type 0} (view : X → Recoded) (r : Result X EditFault) (e : EditFault) (f : Fault) (s : Settings) (caps : Caps)
     (count : Option ℕ) (from source : Taking)
     (read : Listing) → r ≡ Err e → e ≡ Plain f → GaveScript from caps.bytes read
-    → GivesAnswer (IsDecoded s caps count) source (are_past caps.bytes) (Err f) → GivesEdited s caps count from source (answer_of view r)
+    → GivesAnswer (IsDecoded s caps count) source (are_past caps.bytes) (Err f) → GivesEdited s caps count from source (answer_by view r)
 gives_no_source view r e f s caps count from source read is same script gives =
     gives_err view r e (Plain f) s caps count from source is same (no_source_answer s caps count from source read (Err f) f refl script gives)
 
@@ -129,7 +129,7 @@ gives_bits s caps count from before after failures limit bits text read answer l
 pub gives_no_bits : {X : Type 0} (view : X → Recoded) (r : Result X EditFault) (e : EditFault) (f : Fault) (s : Settings) (caps : Caps)
     (count : Option ℕ) (from : Taking) (before after : Option (List ℕ)) (failures limit : ℕ) (read : Listing)
     → r ≡ Err e → e ≡ Plain f → limit ≡ caps.bytes → GaveScript from caps.bytes read → RefusesIntake before after failures limit f
-    → GivesEdited s caps count from (taking before after failures) (answer_of view r)
+    → GivesEdited s caps count from (taking before after failures) (answer_by view r)
 gives_no_bits view r e f s caps count from before after failures limit read is same limited script refuses =
     gives_no_source view r e f s caps count from (taking before after failures) read is same script
     (refused_intake s caps count before after failures f (subst (λ limit. RefusesIntake before after failures limit f) limited refuses))
@@ -139,26 +139,26 @@ gives_no_bits view r e f s caps count from before after failures limit read is s
 pub settles_nothing : {X : Type 0} (view : X → Recoded) (answer : Result X EditFault) (r : Result ℕ EditFault) (e fault : EditFault)
     (before mark : Option (List ℕ)) (begun failures : ℕ) → answer ≡ Err fault → r ≡ Err e → e ≡ fault
     → SettlesRecoded (record { before = before; after = before; begun_before = begun; begun_after = begun; mark = mark; failures = failures })
-    (answer_of view answer) r
+    (answer_by view answer) r
 settles_nothing view answer r e fault before mark begun failures was is same =
     let sink : Putting = record { before = before; after = before; begun_before = begun; begun_after = begun; mark = mark; failures = failures } in
     let refusal : SettlesRecoded sink (Err fault) (Err fault) = not_begun fault (record { kept = Keeps-same before; begun = refl }) in
-    subst (λ r. SettlesRecoded sink (answer_of view answer) r) (sym (is ∙ ap Err same))
-    (subst (λ answer. SettlesRecoded sink (answer_of view answer) (Err fault)) (sym was) refusal)
+    subst (λ r. SettlesRecoded sink (answer_by view answer) r) (sym (is ∙ ap Err same))
+    (subst (λ answer. SettlesRecoded sink (answer_by view answer) (Err fault)) (sym was) refusal)
 
 pub settles_front : {X : Type 0} (view : X → Recoded) (answer : Result X EditFault) (r : Result ℕ EditFault) (x : X) (e : EditFault)
     (fault : Fault) (sink : Putting)
     → answer ≡ Ok x → r ≡ Err e → e ≡ Plain fault → AppendsFront sink.before sink.after (view x).bytes → IsBegunFirst sink
-    → (fault ≡ Write) × (sink.failures ≡ 1) → SettlesRecoded sink (answer_of view answer) r
+    → (fault ≡ Write) × (sink.failures ≡ 1) → SettlesRecoded sink (answer_by view answer) r
 settles_front view answer r x e fault sink was is same front begun failed =
-    subst (λ r. SettlesRecoded sink (answer_of view answer) r) (sym (is ∙ ap Err (same ∙ ap Plain failed.0)))
-    (subst (λ answer. SettlesRecoded sink (answer_of view answer) (Err (Plain Write))) (sym was) (stopped (view x) front begun failed.1))
+    subst (λ r. SettlesRecoded sink (answer_by view answer) r) (sym (is ∙ ap Err (same ∙ ap Plain failed.0)))
+    (subst (λ answer. SettlesRecoded sink (answer_by view answer) (Err (Plain Write))) (sym was) (stopped (view x) front begun failed.1))
 
 pub settles_written : {X : Type 0} (view : X → Recoded) (answer : Result X EditFault) (x : X) (calls : ℕ) (sink : Putting) → answer ≡ Ok x
     → calls ≡ (view x).calls → Appends sink.before sink.after (view x).bytes → IsBegunFirst sink → sink.failures ≡ 0
-    → SettlesRecoded sink (answer_of view answer) (Ok calls)
+    → SettlesRecoded sink (answer_by view answer) (Ok calls)
 settles_written view answer x calls sink was counted appends begun sound =
-    subst (λ answer. SettlesRecoded sink (answer_of view answer) (Ok calls)) (sym was)
+    subst (λ answer. SettlesRecoded sink (answer_by view answer) (Ok calls)) (sym was)
     (subst (λ calls. SettlesRecoded sink (Ok (view x)) (Ok calls)) (sym counted) (settled (view x) appends begun sound))
 
 pub leaves_recoded : (s : Settings) (caps : Caps) (count : Option ℕ) (from source : Taking) (sink : Putting) (answer : Result Recoded EditFault)

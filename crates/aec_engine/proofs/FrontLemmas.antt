@@ -11,8 +11,8 @@ use Rattle.aec_params.specs.declared.fault.Fault.TheVariants.{Read, StreamTooLon
 use Rattle.aec_params.specs.Limits.{Caps}
 use Rattle.aec_params.specs.Params.{IsAllowed}
 use Rattle.aec_params.specs.Stored.{samples_of_bytes}
-use Rattle.aec_interval.specs.Taking.{Taken, judged_samples}
-use Rattle.aec_interval.specs.Feeding.{Coding, new_coding, taken_of}
+use Rattle.aec_interval.specs.Taking.{TakenSamples, judged_samples}
+use Rattle.aec_interval.specs.Feeding.{Coder, fresh_coder, taken_of}
 use Rattle.aec_interval.proofs.CutLemmas.{cuts_make_no_difference}
 use Rattle.aec_interval.proofs.FeedingLemmas.{taken_of-refused}
 use Rattle.aec_engine.specs.Transfers.{Input, input_of, are_past}
@@ -26,10 +26,10 @@ use Rattle.aec_engine.proofs.AnswerLemmas.{only-not_coded, only-not_taken}
 judged-front : (s : Settings) (limit : ℕ) (front rest : List ℕ) (fault : Fault) → IsAllowed s → judged_samples limit (samples_of_bytes s front) ≡ Some fault
     → judged_samples limit (samples_of_bytes s (front ++ rest)) ≡ Some fault
 judged-front s limit front rest fault allowed is =
-    let c : Coding = new_coding s limit in
+    let c : Coder = fresh_coder s limit in
     let cuts = cuts_make_no_difference s limit allowed in
     let refusal : (taken_of c front).refusal ≡ Some fault = cuts.judged front ∙ is in
-    sym (cuts.judged (front ++ rest)) ∙ (ap (λ (t : Taken). t.refusal) (taken_of-refused c front rest fault allowed refusal) ∙ refusal)
+    sym (cuts.judged (front ++ rest)) ∙ (ap (λ (t : TakenSamples). t.refusal) (taken_of-refused c front rest fault allowed refusal) ∙ refusal)
 
 pub coding-front : (s : Settings) (caps : Caps) (front rest : List ℕ) → IsAllowed s → are_refused s caps.samples front ≡ true
     → IsJudgedByFront (IsEncoded s caps) front rest

@@ -1,5 +1,5 @@
 -- The bits of bytes that are taken piece by piece.
-use Rattle.std.proofs.Common.{◌≡◌, ℕ, ◌+◌, ◌-◌, ◌*◌, ◌≤◌, ◌<◌, Bool, true, false, Option, List, [], ◌∷◌, ◌++◌, length, refl, sym, ap, ap₂, ◌∙◌, arith, append_assoc}
+use Rattle.std.proofs.Common.{◌≡◌, ℕ, ◌+◌, ◌-◌, ◌*◌, ◌≤◌, ◌<◌, Bool, true, false, Option, List, [], ◌∷◌, ◌++◌, length, refl, sym, ap, ◌∙◌, arith, append_assoc}
 use Rattle.std.specs.Int.{div_ceil}
 use Rattle.std.specs.Io.KnownBytes.{Consumes, Keeps}
 use Rattle.std.proofs.KnownBytes.{Consumes-trans, Consumes-kept}
@@ -30,12 +30,12 @@ pub record TakesBits (before after : Option (List ℕ)) (failures : ℕ) (bits :
 pub bytes-count : (bits : List Bool) (bytes : List ℕ) (n : ℕ) → bits ≡ bits_of_bytes bytes → n ≡ div_ceil (length bits) 8 → n ≡ length bytes
 bytes-count bits bytes n spelled is = omega (arith, is, ap length spelled, length-bits_of_bytes bytes)
 
-pub takes_more : (before mid after : Option (List ℕ)) (failures later : ℕ) (bits more new : List Bool) (piece : List ℕ) → TakesBits before mid failures bits
-    → Consumes mid after piece → later ≡ 0 → more ≡ bits_of_bytes piece → new ≡ bits ++ more → TakesBits before after later new
-takes_more before mid after failures later bits more new piece so_far taken sound spelled appended = record {
+pub takes_more : (before mid after : Option (List ℕ)) (failures later : ℕ) (bits new : List Bool) (piece : List ℕ) → TakesBits before mid failures bits
+    → Consumes mid after piece → later ≡ 0 → new ≡ bits ++ bits_of_bytes piece → TakesBits before after later new
+takes_more before mid after failures later bits new piece so_far taken sound appended = record {
   bytes = so_far.bytes ++ piece;
   taken = Consumes-trans before mid after so_far.bytes piece so_far.taken taken;
-  spelled = appended ∙ (ap₂ (λ x y. x ++ y) so_far.spelled spelled ∙ sym (bits_of_bytes-append so_far.bytes piece));
+  spelled = appended ∙ ap (λ l. l ++ bits_of_bytes piece) so_far.spelled ∙ sym (bits_of_bytes-append so_far.bytes piece);
   sound = λ some. sound;
 }
 
@@ -46,7 +46,13 @@ gave_failed before mid after failures later limit n bits so_far kept failed is w
     let few : length so_far.bytes ≤ limit = omega (arith, within, bytes-count bits so_far.bytes n so_far.spelled is) in
     record {
       bytes = so_far.bytes;
-      gave = record { taken = Consumes-kept before mid after so_far.bytes so_far.taken kept; failed = λ e. failed; sound = λ e. absurd (cc); whole = λ short e. absurd (cc) };
+      gave = record {
+        taken = Consumes-kept before mid after so_far.bytes so_far.taken kept;
+        failed = λ e. failed;
+        sound = λ e. absurd (cc);
+        whole =
+            λ short e. absurd (cc);
+      };
       spelled = so_far.spelled;
       within = λ e. few;
     }
@@ -69,10 +75,10 @@ gave_past before after failures limit n bits so_far is past =
     }
 
 -- one piece more gets nearer to the limit
-pub nearer : (bits more new : List Bool) (piece : List ℕ) (limit n : ℕ) → new ≡ bits ++ more → more ≡ bits_of_bytes piece → 0 < length piece
+pub nearer : (bits new : List Bool) (piece : List ℕ) (limit n : ℕ) → new ≡ bits ++ bits_of_bytes piece → 0 < length piece
     → n ≡ div_ceil (length bits) 8 → n ≤ limit → limit + 1 - div_ceil (length new) 8 < limit + 1 - div_ceil (length bits) 8
-nearer bits more new piece limit n appended spelled some is within =
-    omega (arith, ap length appended, length-append bits more, ap length spelled, length-bits_of_bytes piece, some, is, within)
+nearer bits new piece limit n appended some is within =
+    omega (arith, ap length appended, length-append bits (bits_of_bytes piece), length-bits_of_bytes piece, some, is, within)
 
 -- a source that did not fail behind bytes within the limit
 pub gave_whole_bits : (before after : Option (List ℕ)) (failures limit n : ℕ) (bits : List Bool) (failed : Bool)
@@ -92,7 +98,8 @@ gave_whole_bits before after failures limit n bits failed gave sound is within =
     }
 
 pub refuses_failed : (before after : Option (List ℕ)) (failures limit : ℕ) (bits : List Bool) (failed : Bool)
-    → GaveBits (record { before = before; after = after; failures = failures }) limit bits failed → failed ≡ true → RefusesIntake before after failures limit Read
+    → GaveBits (record { before = before; after = after; failures = failures }) limit bits failed → failed ≡ true
+    → RefusesIntake before after failures limit Read
 refuses_failed before after failures limit bits failed gave fails =
     source_failed gave.bytes (record { taken = gave.gave.taken; failed = gave.gave.failed fails; within = gave.within fails })
 
@@ -100,4 +107,5 @@ pub refuses_past : (before after : Option (List ℕ)) (failures limit n : ℕ) (
     → GaveBits (record { before = before; after = after; failures = failures }) limit bits failed → failed ≡ false → n ≡ div_ceil (length bits) 8 → limit < n
     → RefusesIntake before after failures limit (StreamTooLong limit)
 refuses_past before after failures limit n bits failed gave sound is past =
-    too_many_bytes gave.bytes (record { taken = gave.gave.taken; sound = gave.gave.sound sound; past = omega (arith, past, bytes-count bits gave.bytes n gave.spelled is) })
+    too_many_bytes gave.bytes (record
+    { taken = gave.gave.taken; sound = gave.gave.sound sound; past = omega (arith, past, bytes-count bits gave.bytes n gave.spelled is) })

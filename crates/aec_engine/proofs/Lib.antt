@@ -2,6 +2,7 @@ pub mod NumeralLemmas
 pub mod DeviceLemmas
 pub mod IntakeLemmas
 pub mod ReadTwiceLemmas
+pub mod ReadingOnLemmas
 pub mod PutRangeLemmas
 pub mod SettlingLemmas
 pub mod KeepingLemmas

@@ -1,4 +1,4 @@
--- Samples of coded bits that are appended to a workspace interval by interval, with edits made
+-- Samples of coded bits that are appended to a workspace by whole intervals, with edits made
 -- meanwhile.
 use Rattle.std.proofs.Common.{◌≡◌, ◌⊎◌, inl, inr, ℕ, ◌+◌, ◌-◌, ◌*◌, ◌/◌, ◌%◌, ◌^◌, ◌<◌, ◌≤◌, Bool, true, false, if◌then◌else◌, IsTrue, Option, Some, None, Result, Ok, Err, IfErr, ℤ, List, [], ◌∷◌, ◌++◌, length, refl, sym, ap, ap₂, ◌∙◌, subst, arith, append_assoc}
 use Rattle.std.specs.Prelude.{MatchOption, nat_lt, ◌&&◌}
@@ -22,21 +22,22 @@ use Rattle.aec_edit.specs.Calls.{due_refusal, want_of_calls}
 use Rattle.aec_edit.specs.Steps.{LacksMemory, IsAccepted, IsRefused}
 use Rattle.aec_interval.specs.IntervalFormat.{interval_format}
 use Rattle.aec_interval.specs.Reached.{count_refusal, RefusesDecoding}
-use Rattle.aec_interval.specs.Pieces.{Place, is_wanted_at, HasRead, ReadsInterval, RefusesAt}
+use Rattle.aec_interval.specs.Pieces.{Place, is_wanted_at, HasRead}
 use Rattle.aec_interval.proofs.ReadingLemmas.{length-stream_blocks, readings_are_samples, bits_are_read_in_one_way}
-use Rattle.aec_interval.proofs.PieceReadingLemmas.{has_read_nothing, has_read_more, has_read_all, has_read_front, has_read_whole, lacks_memory_only, piece_is_held}
+use Rattle.aec_interval.proofs.PieceReadingLemmas.{has_read_nothing, has_read_all, has_read_front, has_read_whole}
 use Rattle.aec_engine.specs.declared.scripts.EditFault.{EditFault}
 use Rattle.aec_engine.specs.declared.scripts.EditFault.TheVariants.{Plain}
-use Rattle.aec_engine.specs.Transfers.{answer_of}
+use Rattle.aec_engine.specs.Transfers.{answer_by}
 use Rattle.aec_engine.specs.Scripts.{Listing}
 use Rattle.aec_engine.specs.Editing.{left_of, edits_left, first_calls, Recoded}
 use Rattle.aec_engine.specs.EditingSteps.{StopsEditing, recoded_of}
 use Rattle.aec_engine.specs.EarlyEdits as early
 use Rattle.aec_engine.specs.EarlyEdits.{LeadsToEdits, CarriesEarly, StopsEarly, LoadsAll, StopsLoading, EditsSamples, no_room, makes, EditsBits, not_read, lacks_room, stopped}
-use Rattle.aec_engine.specs.ReadingTwice.{AreSamplesOf}
+use Rattle.aec_engine.specs.ReadingTwice.{AreSamplesOf, ReadsOn, LacksMemoryAlone}
 use Rattle.aec_engine.proofs.CallLemmas.{append_calls-le, append_calls-joined}
 use Rattle.aec_engine.proofs.EarlyEditLemmas.{leads-nowhere, leads-on, leads-stop}
 use Rattle.aec_engine.proofs.ReadTwiceLemmas.{place_from, settings-same, same_next}
+use Rattle.aec_engine.proofs.ReadingOnLemmas.{same_reading}
 
 -- samples that are held are so for the codec too
 pub held-format : (s : Settings) (v : List ℤ) → AllByRecursion (IsHeld s) v → AreHeld (interval_format s) v
@@ -70,9 +71,6 @@ read-within s limit bits None samples allowed within reading =
     omega (arith, ap length reading.counted, reading.filled.whole, ap (λ n. n * s.block_size) count_is, kept)
 
 -- ---- from interval to interval
-
-same_reading : (start p : Place) (xs : List ℤ) → p ≡ place_from start p.block p.bit → AreSamplesOf start xs → IsReading p.settings p.count p.limit p.bits xs
-same_reading start p xs same given = subst (λ (p : Place). IsReading p.settings p.count p.limit p.bits xs) (sym same) given.reading
 
 -- The samples up to a place were appended, and edits made meanwhile: the front is what was read,
 -- and `made` is how often these edits called the coder.
@@ -118,16 +116,17 @@ whole n k len is = ap (λ m. m % n) zero_more ∙ mul-mod_left k n
 -- the samples of one more interval, and more edits
 pub loads_more : (start p q : Place) (f g h : Format) (limit most more : ℕ) (script ahead last : Listing)
     (w ys zs mid left : List ℤ) (called coded between after : ℕ) → IsAllowed start.settings → g ≡ f → h ≡ f → more ≡ limit
-    → f ≡ interval_format start.settings → LoadsSoFar start p f limit script ahead w called → ReadsInterval p ys q → q.block < 2 ^ 34
+    → f ≡ interval_format start.settings → LoadsSoFar start p f limit script ahead w called → ReadsOn p ys q → q.block < 2 ^ 34
     → (is_wanted_at q ≡ true → q.block % q.settings.interval ≡ 0) → 0 < g.most → zs ≡ ys → mid ≡ w ++ zs
     → IsAccepted g most w called (Append zs) coded between → CarriesEarly h more ahead mid between last left after
     → LoadsSoFar start q f limit script last left after
-loads_more start p q f g h limit most more script ahead last w ys zs mid left called coded between after a format still limited is so_far step few begins some same appended accepted carries =
+loads_more start p q f g h limit most more script ahead last w ys zs mid left called coded between after a format still limited is so_far step few
+    begins some same appended accepted carries =
     record {
       front = so_far.front ++ ys;
       made = so_far.made + carried.made;
-      read = has_read_more p q so_far.front ys allowed so_far.read step;
-      same = same_next start p q so_far.same step.piece.same;
+      read = step.behind so_far.front so_far.read;
+      same = same_next start p q so_far.same step.same;
       few = few;
       begins = begins;
       len = carried.len ∙ ap length all ∙ length-append w ys ∙ ap (λ n. n + length ys) so_far.len ∙ sym (length-append so_far.front ys);
@@ -204,21 +203,22 @@ loads_all start p f limit script ahead w called a some counted low so_far done x
 pub loads_stops : (start p q : Place) (f g h : Format) (limit more : ℕ) (script ahead : Listing) (w ys zs mid xs : List ℤ)
     (called : ℕ) (fault : EditFault) → IsAllowed start.settings → g ≡ f → h ≡ f → more ≡ limit → 0 < f.most
     → count_refusal start.limit start.count ≡ None → start.limit ≤ 2 ^ 32
-    → LoadsSoFar start p f limit script ahead w called → ReadsInterval p ys q → (is_wanted_at q ≡ true → q.block % q.settings.interval ≡ 0)
+    → LoadsSoFar start p f limit script ahead w called → ReadsOn p ys q → (is_wanted_at q ≡ true → q.block % q.settings.interval ≡ 0)
     → zs ≡ ys → mid ≡ w ++ zs → StopsEarly h more ahead mid fault → AreSamplesOf start xs
     → StopsEditing f limit (first_calls f xs) xs script.edits script.lines fault
-loads_stops start p q f g h limit more script ahead w ys zs mid xs called fault a format still limited some counted low so_far step begins same appended stops given =
+loads_stops start p q f g h limit more script ahead w ys zs mid xs called fault a format still limited some counted low so_far step begins same
+    appended stops given =
     leads-stop f limit (left_of xs (first_calls f xs)) (left_of (w ++ (ys ++ rest.0)) (first_calls f xs + so_far.made)) script ahead
     fault (so_far.leads xs (ys ++ rest.0) (rest.1 ∙ append_assoc so_far.front ys rest.0) few)
     (subst (λ s. StopsEditing f limit (first_calls f xs + so_far.made) s ahead.edits ahead.lines fault) (sym behind)
     (refused rest.0 (first_calls f xs + so_far.made) (omega (arith, few, so_far.spare))))
   where
     later : q ≡ place_from start q.block q.bit
-    later = same_next start p q so_far.same step.piece.same
+    later = same_next start p q so_far.same step.same
 
     rest : (rest : List ℤ) × (xs ≡ so_far.front ++ ys ++ rest)
     rest = has_read_front q (so_far.front ++ ys) xs (subst IsAllowed (sym (settings-same start q later)) a)
-        (has_read_more p q so_far.front ys (subst IsAllowed (sym (settings-same start p so_far.same)) a) so_far.read step) begins
+        (step.behind so_far.front so_far.read) begins
         (same_reading start q xs later given)
 
     behind : w ++ (ys ++ rest.0) ≡ mid ++ rest.0
@@ -239,10 +239,9 @@ loads_stops start p q f g h limit more script ahead w ys zs mid xs called fault 
 
 -- a second reading can only lack memory
 pub loads_memory : (start p : Place) (f : Format) (limit : ℕ) (script ahead : Listing) (w xs : List ℤ) (called : ℕ) (fault : Fault)
-    → IsAllowed start.settings → LoadsSoFar start p f limit script ahead w called → AreSamplesOf start xs → RefusesAt p fault → fault ≡ Memory
-loads_memory start p f limit script ahead w xs called fault a so_far given refuses =
-    lacks_memory_only p so_far.front xs fault (subst IsAllowed (sym (settings-same start p so_far.same)) a) so_far.read
-    (same_reading start p xs so_far.same given) refuses
+    → LoadsSoFar start p f limit script ahead w called → AreSamplesOf start xs → LacksMemoryAlone p fault → fault ≡ Memory
+loads_memory start p f limit script ahead w xs called fault so_far given alone =
+    alone so_far.front xs so_far.read (record { reading = same_reading start p xs so_far.same given })
 
 -- and so can an append of held samples within the limit
 append_memory : (f : Format) (limit : ℕ) (s ys : List ℤ) (calls after : ℕ) (fault : Fault) → 0 < f.most → AreHeld f ys → length s + length ys ≤ limit
@@ -265,7 +264,7 @@ append_memory f limit s ys calls after fault some held few room refused =
 pub append_lacks : (start p q : Place) (f g : Format) (limit most : ℕ) (script ahead : Listing) (w ys zs xs : List ℤ)
     (called after : ℕ) (fault : Fault) → IsAllowed start.settings
     → g ≡ f → f ≡ interval_format start.settings → most ≡ start.limit → most ≤ 2 ^ 32 → count_refusal start.limit start.count ≡ None
-    → LoadsSoFar start p f limit script ahead w called → ReadsInterval p ys q → (is_wanted_at q ≡ true → q.block % q.settings.interval ≡ 0)
+    → LoadsSoFar start p f limit script ahead w called → ReadsOn p ys q → (is_wanted_at q ≡ true → q.block % q.settings.interval ≡ 0)
     → AreSamplesOf start xs → zs ≡ ys → 0 < g.most → IsRefused g most w called (Append zs) fault after → fault ≡ Memory
 append_lacks start p q f g limit most script ahead w ys zs xs called after fault a format is limited low counted so_far step begins given same some refused =
     append_memory g most w zs called after fault some held
@@ -276,7 +275,7 @@ append_lacks start p q f g limit most script ahead w ys zs xs called after fault
     settings = settings-same start p so_far.same
 
     later : q ≡ place_from start q.block q.bit
-    later = same_next start p q so_far.same step.piece.same
+    later = same_next start p q so_far.same step.same
 
     few : length xs ≤ start.limit
     few = read-within start.settings start.limit start.bits start.count xs a counted given.reading
@@ -284,7 +283,7 @@ append_lacks start p q f g limit most script ahead w ys zs xs called after fault
     within : length w + length ys ≤ length xs
     within =
         let rest = has_read_front q (so_far.front ++ ys) xs (subst IsAllowed (sym (settings-same start q later)) a)
-        (has_read_more p q so_far.front ys (subst IsAllowed (sym settings) a) so_far.read step) begins (same_reading start q xs later given) in
+        (step.behind so_far.front so_far.read) begins (same_reading start q xs later given) in
         omega (arith, ap length rest.1, length-append (so_far.front ++ ys) rest.0, length-append so_far.front ys, so_far.len)
 
     calls : first_calls f so_far.front ≤ length so_far.front
@@ -292,7 +291,7 @@ append_lacks start p q f g limit most script ahead w ys zs xs called after fault
 
     held : AreHeld g zs
     held = subst (λ zs. AreHeld g zs) (sym same) (subst (λ f. AreHeld f ys) (sym (format ∙ is)) (held-format start.settings ys
-        (subst (λ s. AllByRecursion (IsHeld s) ys) settings (piece_is_held p q ys step.piece))))
+        (subst (λ s. AllByRecursion (IsHeld s) ys) settings step.held)))
 
 -- ---- in the form in which the code has the facts
 
@@ -315,16 +314,16 @@ refuses_err r fault P is holds = subst (λ r. IfErr r P) (sym is) holds
 -- ---- what comes of edits on samples
 
 pub no_room_err : {X : Type 0} (view : X → Recoded) (r : Result X EditFault) (e : EditFault) (f : Fault) (s : Settings) (limit : ℕ) (start : Place)
-    (script : Listing) → r ≡ Err e → e ≡ Plain f → f ≡ Memory → EditsSamples s limit start script (answer_of view r)
+    (script : Listing) → r ≡ Err e → e ≡ Plain f → f ≡ Memory → EditsSamples s limit start script (answer_by view r)
 no_room_err view r e f s limit start script is same memory =
-    subst (λ r. EditsSamples s limit start script (answer_of view r)) (sym (is ∙ ap Err (same ∙ ap Plain memory))) no_room
+    subst (λ r. EditsSamples s limit start script (answer_by view r)) (sym (is ∙ ap Err (same ∙ ap Plain memory))) no_room
 
 -- an edit was refused while samples were taken over
 pub loading_err : {X : Type 0} (view : X → Recoded) (r : Result X EditFault) (e fault : EditFault) (s : Settings) (f : Format) (limit most : ℕ) (start : Place)
     (given script : Listing) → r ≡ Err e → e ≡ fault → f ≡ interval_format s → most ≡ limit → given ≡ script → StopsLoading f most given start fault
-    → EditsSamples s limit start script (answer_of view r)
+    → EditsSamples s limit start script (answer_by view r)
 loading_err view r e fault s f limit most start given script is same format limited read stops =
-    subst (λ r. EditsSamples s limit start script (answer_of view r)) (sym (is ∙ ap Err same))
+    subst (λ r. EditsSamples s limit start script (answer_by view r)) (sym (is ∙ ap Err same))
     (by_why (subst (λ given. StopsLoading (interval_format s) limit given start fault) read
     (subst (λ limit. StopsLoading (interval_format s) limit given start fault) limited
     (subst (λ f. StopsLoading f most given start fault) format stops))))
@@ -346,9 +345,9 @@ same_loads s f limit most start given script ahead left calls format limited rea
 pub rest_err : {X : Type 0} (view : X → Recoded) (r : Result X EditFault) (e fault : EditFault) (s : Settings) (f g : Format) (limit most more : ℕ)
     (start : Place) (given script ahead : Listing) (left : List ℤ) (calls : ℕ) → r ≡ Err e → e ≡ fault → f ≡ interval_format s → g ≡ f
     → most ≡ limit → more ≡ most → given ≡ script → LoadsAll f most given start ahead left calls
-    → (fault ≡ Plain Memory) ⊎ StopsEditing g more calls left ahead.edits ahead.lines fault → EditsSamples s limit start script (answer_of view r)
+    → (fault ≡ Plain Memory) ⊎ StopsEditing g more calls left ahead.edits ahead.lines fault → EditsSamples s limit start script (answer_by view r)
 rest_err view r e fault s f g limit most more start given script ahead left calls is same format still limited kept read loads refused =
-    subst (λ r. EditsSamples s limit start script (answer_of view r)) (sym (is ∙ ap Err same)) (by_why refused)
+    subst (λ r. EditsSamples s limit start script (answer_by view r)) (sym (is ∙ ap Err same)) (by_why refused)
   where
     by_why : (fault ≡ Plain Memory) ⊎ StopsEditing g more calls left ahead.edits ahead.lines fault → EditsSamples s limit start script (Err fault)
     by_why (inl memory) = subst (λ fault. EditsSamples s limit start script (Err fault)) (sym memory) no_room
@@ -373,9 +372,9 @@ rest_made s f g h limit most more start given script ahead left last calls after
 
 pub unread_err : {X : Type 0} (view : X → Recoded) (r : Result X EditFault) (e : EditFault) (f : Fault) (s : Settings) (caps : Caps) (count : Option ℕ)
     (bits : List Bool) (script : Listing) → r ≡ Err e → e ≡ Plain f → RefusesDecoding s count caps.samples bits f
-    → EditsBits s caps count bits script (answer_of view r)
+    → EditsBits s caps count bits script (answer_by view r)
 unread_err view r e f s caps count bits script is same refuses =
-    subst (λ r. EditsBits s caps count bits script (answer_of view r)) (sym (is ∙ ap Err same)) (not_read f refuses)
+    subst (λ r. EditsBits s caps count bits script (answer_by view r)) (sym (is ∙ ap Err same)) (not_read f refuses)
 
 pub edits_bits : (s : Settings) (caps : Caps) (count : Option ℕ) (bits : List Bool) (start : Place) (script : Listing)
     (answer : Result Recoded EditFault) → (xs : List ℤ) → AreSamplesOf start xs

@@ -10,7 +10,7 @@ use Rattle.std.proofs.lemmas.Bool.{ltb-true, lt-ltb, eqb-true}
 use Rattle.std.proofs.lemmas.List.Splits.{join_with_byte-slice_split, slice_split_first, slice_split_none}
 use Rattle.std.proofs.lemmas.List.Sums.{fails_before_first}
 use Rattle.std.proofs.lemmas.Str.Pattern.{IsSplitOnceResult, split_once_first}
-use Rattle.aec_engine.specs.Numerals.{Text, is_numeral, decimal_in, number_in, numbers_in, range_in}
+use Rattle.aec_engine.specs.Numerals.{Text, is_numeral, decimal_in, option_number, numbers_in, range_in}
 
 pub split : (a b : Bool) → (a && b) ≡ true → (a ≡ true) × (b ≡ true)
 split true b e = (refl, e)
@@ -27,16 +27,16 @@ all_digits (d ∷ ds) e =
     (ltb-true _ _ parts.0, all_digits ds parts.1)
 
 -- what `parse` gives of a text is the number in it
-pub number_in-read : {E : Type 0} (width : ℕ) (text : Text) (r : Result ℕ E) → ParsesUnsigned width 10 text r → result_ok r ≡ number_in width text
-number_in-read width text (Ok n) h =
+pub option_number-read : {E : Type 0} (width : ℕ) (text : Text) (r : Result ℕ E) → ParsesUnsigned width 10 text r → result_ok r ≡ option_number width text
+option_number-read width text (Ok n) h =
     let digits = without_leading_plus text in
     rw (lt-ltb 0 (length digits) h.0.0.0, list_all-digits digits h.0.0.1, lt-ltb (digits_value 10 digits) (2 ^ width) h.0.1) (ap Some h.1)
-number_in-read width text (Err e) h = by_test (is_numeral digits && nat_lt (digits_value 10 digits) (2 ^ width)) refl
+option_number-read width text (Err e) h = by_test (is_numeral digits && nat_lt (digits_value 10 digits) (2 ^ width)) refl
   where
     digits : Text
     digits = without_leading_plus text
 
-    by_test : (t : Bool) → (is_numeral digits && nat_lt (digits_value 10 digits) (2 ^ width)) ≡ t → None ≡ number_in width text
+    by_test : (t : Bool) → (is_numeral digits && nat_lt (digits_value 10 digits) (2 ^ width)) ≡ t → None ≡ option_number width text
     by_test false t = rw t refl
     by_test true t =
         let outer = split _ _ t in
@@ -46,9 +46,9 @@ number_in-read width text (Err e) h = by_test (is_numeral digits && nat_lt (digi
 -- and where no plus stands first, the number in digits alone
 pub decimal_in-read : {E : Type 0} (width : ℕ) (text : Text) (r : Result ℕ E) → ParsesUnsigned width 10 text r → (slice_index text 0 == 43) ≡ false
     → result_ok r ≡ decimal_in width text
-decimal_in-read width text r parses other = number_in-read width text r parses ∙ by_test other
+decimal_in-read width text r parses other = option_number-read width text r parses ∙ by_test other
   where
-    by_test : (slice_index text 0 == 43) ≡ false → number_in width text ≡ decimal_in width text
+    by_test : (slice_index text 0 == 43) ≡ false → option_number width text ≡ decimal_in width text
     by_test e = rw e refl
 
 pub ruleset digits_alone = (decimal_in-read)

@@ -14,7 +14,7 @@ use Rattle.aec_params.specs.Reading.{IsReading}
 use Rattle.aec_interval.specs.Reached.{count_refusal, no_memory, faulty, RefusesDecoding, above_limit, unread}
 use Rattle.aec_engine.specs.Transfers as transfers
 use Rattle.aec_engine.specs.Transfers.{Input, Taking, are_past, Gave, IsTakenWhole, RefusesIntake, source_failed, too_many_bytes, GivesAnswer, given, lacks_memory, Leaves, written, refused, no_answer, not_written}
-use Rattle.aec_engine.specs.Transfers.{Putting, WroteNothing, IsBegunFirst, answer_of, Settles, settled, not_begun, stopped}
+use Rattle.aec_engine.specs.Transfers.{Putting, WroteNothing, IsBegunFirst, answer_by, Settles, settled, not_begun, stopped}
 use Rattle.aec_engine.specs.Output as output
 use Rattle.aec_engine.specs.Output.{IsRead, GaveSamples, IsDecoded, intake_refusal, all_stored, not_taken, not_counted, decoded}
 
@@ -142,14 +142,14 @@ gave_samples view r s caps count before after failures limit most bytes bits lim
 
 pub decoded_refused : {X : Type 0} (view : X → List ℕ) (r : Result X Fault) (fault f : Fault) (answers : Input → Result (List ℕ) Fault → Type 0)
     (source : Taking) (enough : List ℕ → Bool) → r ≡ Err fault → fault ≡ f → GivesAnswer answers source enough (Err f)
-    → GivesAnswer answers source enough (answer_of view r)
+    → GivesAnswer answers source enough (answer_by view r)
 decoded_refused {X} view r fault f answers source enough is same gives =
-    subst (λ r. GivesAnswer answers source enough (answer_of view r)) (sym (is ∙ ap Err same)) gives
+    subst (λ r. GivesAnswer answers source enough (answer_by view r)) (sym (is ∙ ap Err same)) gives
 
 -- a refused answer
 pub refused_answer : {X : Type 0} (view : X → List ℕ) (r : Result X Fault) (fault : Fault) (answers : Input → Result (List ℕ) Fault → Type 0)
     (source : Taking) (enough : List ℕ → Bool) → r ≡ Err fault → IfErr r (λ e. GivesAnswer answers source enough (Err e))
-    → GivesAnswer answers source enough (answer_of view r)
+    → GivesAnswer answers source enough (answer_by view r)
 refused_answer view (Ok x) fault answers source enough is refuses = absurd (cc)
 refused_answer view (Err e) fault answers source enough is refuses = refuses
 
@@ -187,19 +187,20 @@ leaves_settled answers source enough sink answer r gives (stopped bytes front be
 
 pub settles_refused : {X : Type 0} (view : X → List ℕ) (answer : Result X Fault) (r : Result (Unit {0}) Fault) (fault f : Fault) (before mark : Option (List ℕ))
     (begun failures : ℕ) → answer ≡ Err f → r ≡ Err fault → fault ≡ f
-    → Settles (record { before = before; after = before; begun_before = begun; begun_after = begun; mark = mark; failures = failures }) (answer_of view answer) r
+    → Settles (record { before = before; after = before; begun_before = begun; begun_after = begun; mark = mark; failures = failures })
+    (answer_by view answer) r
 settles_refused {X} view answer r fault f before mark begun failures was is same =
     let sink : Putting = record { before = before; after = before; begun_before = begun; begun_after = begun; mark = mark; failures = failures } in
     let refusal : Settles sink (Err f) (Err f) = not_begun f (record { kept = Keeps-same before; begun = refl }) in
-    subst (λ r. Settles sink (answer_of view answer) r) (sym (is ∙ ap Err same))
-    (subst (λ answer. Settles sink (answer_of view answer) (Err f)) (sym was) refusal)
+    subst (λ r. Settles sink (answer_by view answer) r) (sym (is ∙ ap Err same))
+    (subst (λ answer. Settles sink (answer_by view answer) (Err f)) (sym was) refusal)
 
 pub settles_delivered : {X : Type 0} (view : X → List ℕ) (answer : Result X Fault) (r : Result (Unit {0}) Fault) (x : X) (written_bytes : List ℕ)
     (sink : Putting) → answer ≡ Ok x → written_bytes ≡ view x → OnOk r (Appends sink.before sink.after written_bytes)
     → OnErr r (AppendsFront sink.before sink.after written_bytes) → IsBegunFirst sink
-    → IfErr r (λ e. (e ≡ Write) × (sink.failures ≡ 1)) → OnOk r (sink.failures ≡ 0) → Settles sink (answer_of view answer) r
+    → IfErr r (λ e. (e ≡ Write) × (sink.failures ≡ 1)) → OnOk r (sink.failures ≡ 0) → Settles sink (answer_by view answer) r
 settles_delivered {X} view answer r x written_bytes sink was same ok front begun fault sound =
-    subst (λ answer. Settles sink (answer_of view answer) r) (sym was) (subst (λ bytes. Settles sink (Ok bytes) r) same (by_result r ok front fault sound))
+    subst (λ answer. Settles sink (answer_by view answer) r) (sym was) (subst (λ bytes. Settles sink (Ok bytes) r) same (by_result r ok front fault sound))
   where
     by_result : (r : Result (Unit {0}) Fault) → OnOk r (Appends sink.before sink.after written_bytes)
         → OnErr r (AppendsFront sink.before sink.after written_bytes) → IfErr r (λ e. (e ≡ Write) × (sink.failures ≡ 1)) → OnOk r (sink.failures ≡ 0)

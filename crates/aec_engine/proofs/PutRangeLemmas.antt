@@ -113,27 +113,31 @@ behind s put waiting put_then waiting_then first len xs ys part so_far next is =
     ∙ ap₂ (λ l part. l ++ all_stored s part) so_far is
     ∙ sym (ap (all_stored s) (samples_from-append first len xs ys) ∙ all_stored-append s (samples_from first len xs) _)
 
-pub puts_more : (start p q : Place) (s : Settings) (first len skip left skip_then left_then : ℕ) (before mid after : Option (List ℕ)) (waiting waiting_then : List ℕ)
+pub puts_more : (start p q : Place) (s : Settings) (first len skip left skip_then left_then : ℕ) (before mid after : Option (List ℕ))
+    (waiting waiting_then : List ℕ)
     (ys part : List ℤ) → IsAllowed start.settings → PutsSoFar start p s first len skip left before mid waiting → ReadsInterval p ys q → q.block < 2 ^ 34
-    → (is_wanted_at q ≡ true → q.block % q.settings.interval ≡ 0) → part ≡ samples_from skip left ys → PutsPart mid after waiting (all_stored s part) waiting_then → skip_then ≡ skip - length ys → left_then ≡ left - length part
+    → (is_wanted_at q ≡ true → q.block % q.settings.interval ≡ 0) → part ≡ samples_from skip left ys
+    → PutsPart mid after waiting (all_stored s part) waiting_then → skip_then ≡ skip - length ys → left_then ≡ left - length part
     → PutsSoFar start q s first len skip_then left_then before after waiting_then
-puts_more start p q s first len skip left skip_then left_then before mid after waiting waiting_then ys part a so_far step few begins is puts skips leaves = record {
-  samples = so_far.samples ++ ys;
-  read = has_read_more p q so_far.samples ys (subst IsAllowed (sym (settings-same start p so_far.same)) a) so_far.read step;
-  same = same_next start p q so_far.same step.piece.same;
-  few = few;
-  begins = begins;
-  put = so_far.put ++ puts.put;
-  appended = Appends-trans before mid after so_far.put puts.put so_far.appended puts.appended;
-  all = behind s so_far.put waiting puts.put waiting_then first len so_far.samples ys part so_far.all puts.all
-      (is ∙ ap₂ (λ k n. samples_from k n ys) so_far.skip_is so_far.left_is);
-  skip_is = omega (arith, skips, so_far.skip_is, length-append so_far.samples ys);
-  left_is = omega (arith, leaves, so_far.left_is, so_far.skip_is, length-append so_far.samples ys, ap length is, samples_from-most skip left ys);
-}
+puts_more start p q s first len skip left skip_then left_then before mid after waiting waiting_then ys part a so_far step few begins is puts skips
+    leaves = record {
+      samples = so_far.samples ++ ys;
+      read = has_read_more p q so_far.samples ys (subst IsAllowed (sym (settings-same start p so_far.same)) a) so_far.read step;
+      same = same_next start p q so_far.same step.piece.same;
+      few = few;
+      begins = begins;
+      put = so_far.put ++ puts.put;
+      appended = Appends-trans before mid after so_far.put puts.put so_far.appended puts.appended;
+      all = behind s so_far.put waiting puts.put waiting_then first len so_far.samples ys part so_far.all puts.all
+          (is ∙ ap₂ (λ k n. samples_from k n ys) so_far.skip_is so_far.left_is);
+      skip_is = omega (arith, skips, so_far.skip_is, length-append so_far.samples ys);
+      left_is = omega (arith, leaves, so_far.left_is, so_far.skip_is, length-append so_far.samples ys, ap length is, samples_from-most skip left ys);
+    }
 
 -- ---- the second reading is refused nothing
 
-pub not_refused : (start p : Place) (s : Settings) (first len skip left capacity : ℕ) (before after : Option (List ℕ)) (waiting : List ℕ) (fault : Fault) {P : Type 0}
+pub not_refused : (start p : Place) (s : Settings) (first len skip left capacity : ℕ) (before after : Option (List ℕ)) (waiting : List ℕ)
+    (fault : Fault) {P : Type 0}
     → IsAllowed start.settings → PutsSoFar start p s first len skip left before after waiting → (samples : List ℤ) × AreSamplesOf start samples
     → RefusesAt p fault → (fault ≡ Memory → capacity < interval_len p.settings) → interval_len start.settings ≤ capacity → P
 not_refused start p s first len skip left capacity before after waiting fault a so_far given refuses full room =
@@ -145,7 +149,8 @@ not_refused start p s first len skip left capacity before after waiting fault a 
 
 -- ---- what the sink has at the end
 
-front_more : (before mid after : Option (List ℕ)) (put more rest all : List ℕ) → Appends before mid put → AppendsFront mid after more → all ≡ put ++ (more ++ rest)
+front_more : (before mid after : Option (List ℕ)) (put more rest all : List ℕ) → Appends before mid put → AppendsFront mid after more
+    → all ≡ put ++ (more ++ rest)
     → AppendsFront before after all
 front_more before mid after put more rest all first front is =
     (length put + min front.0 (length more), subst (Appends before after) (sym taken) (Appends-trans before mid after put (take front.0 more) first front.1))
@@ -193,7 +198,8 @@ pub puts_front : (start p q : Place) (s : Settings) (first len skip left : ℕ) 
     → AreSamplesOf start xs → AppendsFront before after (all_stored s (samples_from first len xs))
 puts_front start p q s first len skip left before mid after waiting ys part xs a so_far step begins is front given =
     front_more before mid after so_far.put (waiting ++ all_stored s part) (all_stored s later) (all_stored s (samples_from first len xs)) so_far.appended front
-    (ap (all_stored s) (ap (samples_from first len) rest.1 ∙ samples_from-append first len both rest.0) ∙ all_stored-append s (samples_from first len both) later
+    (ap (all_stored s) (ap (samples_from first len) rest.1 ∙ samples_from-append first len both rest.0)
+    ∙ all_stored-append s (samples_from first len both) later
     ∙ ap (λ l. l ++ all_stored s later) (sym here) ∙ append_assoc so_far.put (waiting ++ all_stored s part) (all_stored s later))
   where
     allowed : IsAllowed p.settings
@@ -218,7 +224,8 @@ puts_front start p q s first len skip left before mid after waiting ys part xs a
         ∙ sym (ap (all_stored s) (samples_from-append first len so_far.samples ys) ∙ all_stored-append s (samples_from first len so_far.samples) _)
 
 -- at the end what was read is all
-all_read : (start p : Place) (s : Settings) (first len skip left : ℕ) (before after : Option (List ℕ)) (waiting : List ℕ) (xs : List ℤ) → IsAllowed start.settings
+all_read : (start p : Place) (s : Settings) (first len skip left : ℕ) (before after : Option (List ℕ)) (waiting : List ℕ) (xs : List ℤ)
+    → IsAllowed start.settings
     → (so_far : PutsSoFar start p s first len skip left before after waiting) → is_wanted_at p ≡ false → AreSamplesOf start xs → so_far.samples ≡ xs
 all_read start p s first len skip left before after waiting xs a so_far done given =
     let whole = has_read_all p so_far.samples (subst IsAllowed (sym (settings-same start p so_far.same)) a) so_far.read done in
@@ -247,7 +254,8 @@ range_taken start p s first len skip left before after waiting xs a so_far ends 
     none_wanted : is_wanted_at p ≡ false → samples_from first len so_far.samples ≡ samples_from first len xs
     none_wanted done = ap (samples_from first len) (all_read start p s first len skip left before after waiting xs a so_far done given)
 
-pub puts_rest : (start p : Place) (s : Settings) (first len skip left : ℕ) (before mid after : Option (List ℕ)) (waiting bytes : List ℕ) (r : Result (Unit {0}) Fault)
+pub puts_rest : (start p : Place) (s : Settings) (first len skip left : ℕ) (before mid after : Option (List ℕ)) (waiting bytes : List ℕ)
+    (r : Result (Unit {0}) Fault)
     → IsAllowed start.settings → PutsSoFar start p s first len skip left before mid waiting → (left ≡ 0) ⊎ (is_wanted_at p ≡ false) → bytes ≡ waiting
     → OnOk r (Appends mid after bytes) → OnErr r (AppendsFront mid after bytes)
     → (xs : List ℤ) → AreSamplesOf start xs → PutsAllOrFront before after (all_stored s (samples_from first len xs)) r
@@ -267,7 +275,8 @@ puts_rest start p s first len skip left before mid after waiting bytes r a so_fa
 -- ---- in the form in which the code has the facts
 
 -- part of a step's samples
-pub part_is_held : (start p q : Place) (s : Settings) (skip left : ℕ) (ys part : List ℤ) → p ≡ place_from start p.block p.bit → start.settings ≡ s → ReadsPiece p ys q
+pub part_is_held : (start p q : Place) (s : Settings) (skip left : ℕ) (ys part : List ℤ) → p ≡ place_from start p.block p.bit → start.settings ≡ s
+    → ReadsPiece p ys q
     → part ≡ samples_from skip left ys → AllByRecursion (IsHeld s) part
 part_is_held start p q s skip left ys part same settings piece is =
     subst (AllByRecursion (IsHeld s)) (sym is)
@@ -275,7 +284,8 @@ part_is_held start p q s skip left ys part same settings piece is =
     (all_right (IsHeld s) (take skip ys) (drop skip ys) (subst (AllByRecursion (IsHeld s)) (sym (take-append-drop skip ys))
     (subst (λ s. AllByRecursion (IsHeld s) ys) (settings-same start p same ∙ settings) (piece_is_held p q ys piece))))))
 
-pub puts_front_err : (r : Result (Unit {0}) Fault) (fault : Fault) (start p q : Place) (s : Settings) (first len skip left : ℕ) (before mid after : Option (List ℕ))
+pub puts_front_err : (r : Result (Unit {0}) Fault) (fault : Fault) (start p q : Place) (s : Settings) (first len skip left : ℕ)
+    (before mid after : Option (List ℕ))
     (waiting : List ℕ) (ys part : List ℤ) → r ≡ Err fault
     → IsAllowed start.settings → PutsSoFar start p s first len skip left before mid waiting → ReadsInterval p ys q
     → (is_wanted_at q ≡ true → q.block % q.settings.interval ≡ 0) → part ≡ samples_from skip left ys → AppendsFront mid after (waiting ++ all_stored s part)

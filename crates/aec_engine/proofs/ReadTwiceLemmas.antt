@@ -54,7 +54,8 @@ counts_few start p total a so_far =
         let x : i * j ≤ 2 ^ 34 * j = mul-le-mul_right j (omega (arith, low)) in
         omega (arith, x, few)
 
-pub counts_refused : {X : Type 0} (r : Result X Fault) (fault other : Fault) (start p : Place) (total : ℕ) → IsAllowed start.settings → r ≡ Err fault → fault ≡ other
+pub counts_refused : {X : Type 0} (r : Result X Fault) (fault other : Fault) (start p : Place) (total : ℕ) → IsAllowed start.settings → r ≡ Err fault
+    → fault ≡ other
     → CountsSoFar start p total → RefusesAt p other → IfErr r (λ fault. RefusesReading start.settings start.count start.limit start.bits 0 0 fault)
 counts_refused {X} r fault other start p total a is same so_far refuses =
     let P : Result X Fault → Type 0 = λ r. IfErr r (λ fault. RefusesReading start.settings start.count start.limit start.bits 0 0 fault) in
@@ -91,7 +92,8 @@ counts_within start p q total len a so_far has few =
 pub some_interval : (p q : Place) (found : Option ℕ) (len : ℕ) → IfSome found (λ len. HasInterval p len q) → found ≡ Some len → HasInterval p len q
 some_interval p q found len has is = subst (λ found. IfSome found (λ len. HasInterval p len q)) is has
 
-pub counts_wrong : {X : Type 0} (r : Result X Fault) (fault other : Fault) (start p : Place) (total : ℕ) → IsAllowed start.settings → r ≡ Err fault → fault ≡ other
+pub counts_wrong : {X : Type 0} (r : Result X Fault) (fault other : Fault) (start p : Place) (total : ℕ) → IsAllowed start.settings → r ≡ Err fault
+    → fault ≡ other
     → CountsSoFar start p total → IsFaultAt p other → IfErr r (λ fault. RefusesReading start.settings start.count start.limit start.bits 0 0 fault)
 counts_wrong r fault other start p total a is same so_far wrong =
     counts_refused r fault other start p total a is same so_far (wrong_before other wrong.wrong wrong.before)

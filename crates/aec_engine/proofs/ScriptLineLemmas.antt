@@ -9,26 +9,26 @@ use Rattle.aec_params.specs.declared.edit.Edit.{Edit}
 use Rattle.aec_params.specs.declared.fault.Fault.{Fault}
 use Rattle.aec_engine.specs.Numerals.{Text}
 use Rattle.aec_engine.specs.Scripts.{value_in, values_in, Meaning, nothing, change, unknown, Listing, listed}
-use Rattle.aec_engine.specs.ScriptLines.{values_after, lines_of, after_listed, RefusesLine, RefusesListing}
+use Rattle.aec_engine.specs.ScriptLines.{after_values, lines_of, after_listed, RefusesLine, RefusesListing}
 
 -- a value that is read joins those before it
 pub values_in-next : (all : Option (List ℤ)) (old new : List ℤ) (word : Text) (words : List Text) (x : ℤ)
-    → all ≡ values_after old (values_in (word ∷ words)) → is_some (values_in (word ∷ words)) ≡ true → value_in word ≡ Some x → new ≡ old ++ x ∷ []
-    → (all ≡ values_after new (values_in words)) × (is_some (values_in words) ≡ true)
+    → all ≡ after_values old (values_in (word ∷ words)) → is_some (values_in (word ∷ words)) ≡ true → value_in word ≡ Some x → new ≡ old ++ x ∷ []
+    → (all ≡ after_values new (values_in words)) × (is_some (values_in words) ≡ true)
 values_in-next all old new word words x before some value is = by_rest (values_in words) refl
   where
     this : values_in (word ∷ words) ≡ option_map (λ xs. x ∷ xs) (values_in words)
     this = ap (λ v. option_and_then (λ x. option_map (λ xs. x ∷ xs) (values_in words)) v) value
 
-    by_rest : (rest : Option (List ℤ)) → values_in words ≡ rest → (all ≡ values_after new (values_in words)) × (is_some (values_in words) ≡ true)
+    by_rest : (rest : Option (List ℤ)) → values_in words ≡ rest → (all ≡ after_values new (values_in words)) × (is_some (values_in words) ≡ true)
     by_rest None none =
         let whole : values_in (word ∷ words) ≡ None = this ∙ ap (option_map (λ xs. x ∷ xs)) none in
         let lacks : false ≡ true = sym (ap is_some whole) ∙ some in
         absurd (cc)
     by_rest (Some xs) others =
         let whole : values_in (word ∷ words) ≡ Some (x ∷ xs) = this ∙ ap (option_map (λ xs. x ∷ xs)) others in (
-          before ∙ (ap (values_after old) whole
-              ∙ (ap Some (sym (append_assoc old (x ∷ []) xs) ∙ ap (λ front. front ++ xs) (sym is)) ∙ ap (values_after new) (sym others))),
+          before ∙ (ap (after_values old) whole
+              ∙ (ap Some (sym (append_assoc old (x ∷ []) xs) ∙ ap (λ front. front ++ xs) (sym is)) ∙ ap (after_values new) (sym others))),
           ap is_some others,
         )
 

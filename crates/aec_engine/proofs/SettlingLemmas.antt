@@ -20,7 +20,8 @@ use Rattle.aec_engine.proofs.RangingLemmas.{refused_as_decoding}
 use Rattle.aec_engine.proofs.OutputLemmas.{Keeps-same, settles_delivered, leaves_settled, refused_intake, refused_decoding, read_samples}
 
 -- a refusal with nothing written
-pub settles_refusal : (answers : Result (List ℕ) Fault → Type 0) (r : Result (Unit {0}) Fault) (fault f : Fault) (before mark : Option (List ℕ)) (begun failures : ℕ)
+pub settles_refusal : (answers : Result (List ℕ) Fault → Type 0) (r : Result (Unit {0}) Fault) (fault f : Fault) (before mark : Option (List ℕ))
+    (begun failures : ℕ)
     → r ≡ Err fault → fault ≡ f → answers (Err f)
     → SettlesOne answers (record { before = before; after = before; begun_before = begun; begun_after = begun; mark = mark; failures = failures }) r
 settles_refusal answers r fault f before mark begun failures is same answered =
@@ -100,12 +101,14 @@ cuts_past s count limit first len bits p total fault is none have past =
 
 pub leaves_refused_intake : (answers : Input → Result (List ℕ) Fault → Type 0) (caps : Caps) (source : Taking) (r : Result (Unit {0}) Fault) (fault f : Fault)
     (before mark : Option (List ℕ)) (begun failures : ℕ) → r ≡ Err fault → fault ≡ f → GivesAnswer answers source (are_past caps.bytes) (Err f)
-    → Leaves answers source (are_past caps.bytes) (record { before = before; after = before; begun_before = begun; begun_after = begun; mark = mark; failures = failures }) r
+    → Leaves answers source (are_past caps.bytes)
+    (record { before = before; after = before; begun_before = begun; begun_after = begun; mark = mark; failures = failures }) r
 leaves_refused_intake answers caps source r fault f before mark begun failures is same gives =
     let one = settles_refusal (λ a. GivesAnswer answers source (are_past caps.bytes) a) r fault f before mark begun failures is same gives in
     leaves_settled answers source (are_past caps.bytes) _ one.answer r one.answered one.settles
 
-pub gives_decoded : (s : Settings) (caps : Caps) (count : Option ℕ) (before after : Option (List ℕ)) (failures : ℕ) (bytes : List ℕ) (answer : Result (List ℕ) Fault)
+pub gives_decoded : (s : Settings) (caps : Caps) (count : Option ℕ) (before after : Option (List ℕ)) (failures : ℕ) (bytes : List ℕ)
+    (answer : Result (List ℕ) Fault)
     → IsTakenWhole before after failures caps.bytes bytes → DecodesBits s count caps.samples (bits_of_bytes bytes) answer
     → GivesAnswer (IsDecoded s caps count) (record { before = before; after = after; failures = failures }) (are_past caps.bytes) answer
 gives_decoded s caps count before after failures bytes answer taken (twice.read xs none reading) =
@@ -115,17 +118,22 @@ gives_decoded s caps count before after failures bytes answer taken (twice.unrea
     refused_decoding s caps count before after failures bytes fault taken refuses
 gives_decoded s caps count before after failures bytes answer taken twice.no_memory = transfers.lacks_memory
 
-pub leaves_decoded : (s : Settings) (caps : Caps) (count : Option ℕ) (before after : Option (List ℕ)) (failures limit most : ℕ) (bits : List Bool) (sink : Putting)
-    (r : Result (Unit {0}) Fault) → limit ≡ caps.bytes → most ≡ caps.samples → GaveWhole before after failures limit bits → SettlesOne (DecodesBits s count most bits) sink r
+pub leaves_decoded : (s : Settings) (caps : Caps) (count : Option ℕ) (before after : Option (List ℕ)) (failures limit most : ℕ) (bits : List Bool)
+    (sink : Putting)
+    (r : Result (Unit {0}) Fault) → limit ≡ caps.bytes → most ≡ caps.samples → GaveWhole before after failures limit bits
+    → SettlesOne (DecodesBits s count most bits) sink r
     → Leaves (IsDecoded s caps count) (record { before = before; after = after; failures = failures }) (are_past caps.bytes) sink r
 leaves_decoded s caps count before after failures limit most bits sink r limited counted gave one =
     leaves_settled (IsDecoded s caps count) _ (are_past caps.bytes) sink one.answer r
-    (gives_decoded s caps count before after failures gave.bytes one.answer (subst (λ limit. IsTakenWhole before after failures limit gave.bytes) limited gave.taken)
-    (subst (λ bits. DecodesBits s count caps.samples bits one.answer) gave.spelled (subst (λ most. DecodesBits s count most bits one.answer) counted one.answered)))
+    (gives_decoded s caps count before after failures gave.bytes one.answer
+    (subst (λ limit. IsTakenWhole before after failures limit gave.bytes) limited gave.taken)
+    (subst (λ bits. DecodesBits s count caps.samples bits one.answer) gave.spelled
+    (subst (λ most. DecodesBits s count most bits one.answer) counted one.answered)))
     one.settles
 
 pub gives_ranged : (s : Settings) (caps : Caps) (count : Option ℕ) (first len : ℕ) (before after : Option (List ℕ)) (failures : ℕ) (bytes : List ℕ)
-    (answer : Result (List ℕ) Fault) → IsTakenWhole before after failures caps.bytes bytes → CutsBits s count caps.samples first len (bits_of_bytes bytes) answer
+    (answer : Result (List ℕ) Fault) → IsTakenWhole before after failures caps.bytes bytes
+    → CutsBits s count caps.samples first len (bits_of_bytes bytes) answer
     → GivesAnswer (IsRanged s caps count first len) (record { before = before; after = after; failures = failures }) (are_past caps.bytes) answer
 gives_ranged s caps count first len before after failures bytes answer taken (twice.cut xs none reading within) =
     let gave = read_samples s caps count before after failures bytes xs taken none reading in
@@ -137,7 +145,8 @@ gives_ranged s caps count first len before after failures bytes answer taken (tw
     refused_as_decoding s caps count first len _ (Err fault) fault refl (refused_decoding s caps count before after failures bytes fault taken refuses)
 gives_ranged s caps count first len before after failures bytes answer taken twice.lacks_memory = transfers.lacks_memory
 
-pub leaves_ranged : (s : Settings) (caps : Caps) (count : Option ℕ) (first len : ℕ) (before after : Option (List ℕ)) (failures limit most : ℕ) (bits : List Bool)
+pub leaves_ranged : (s : Settings) (caps : Caps) (count : Option ℕ) (first len : ℕ) (before after : Option (List ℕ)) (failures limit most : ℕ)
+    (bits : List Bool)
     (sink : Putting) (r : Result (Unit {0}) Fault) → limit ≡ caps.bytes → most ≡ caps.samples → GaveWhole before after failures limit bits
     → SettlesOne (CutsBits s count most first len bits) sink r
     → Leaves (IsRanged s caps count first len) (record { before = before; after = after; failures = failures }) (are_past caps.bytes) sink r

@@ -2,7 +2,7 @@
 use Rattle.std.specs.Prelude.{◌≡◌, ℕ, nat_le, if◌then◌else◌, Result, Ok, Err, List, ◌++◌, length, drop, ◌⊎◌}
 use Rattle.aec_params.specs.declared.fault.Fault.{Fault}
 use Rattle.aec_params.specs.declared.fault.Fault.TheVariants.{Memory}
-use Rattle.aec_engine.specs.Transfers.{answer_of}
+use Rattle.aec_engine.specs.Transfers.{answer_by}
 
 -- items in the place of as many at the front, where there is room for all of them; else all as it
 -- was
@@ -18,7 +18,7 @@ left_of (Err fault) before = before
 pub record FillsOne (answers : Result (List ℕ) Fault → Type 0) (before after : List ℕ) (result : Result ℕ Fault) : Type 0 where
   pub answer : Result (List ℕ) Fault
   pub answered : answers answer
-  pub told : result ≡ answer_of (λ (bytes : List ℕ). length bytes) answer
+  pub told : result ≡ answer_by (λ (bytes : List ℕ). length bytes) answer
   pub left : after ≡ left_of answer before
 
 -- one of these answers, or want of memory

@@ -5,23 +5,23 @@ use Rattle.aec_params.specs.declared.settings.Settings.{Settings}
 use Rattle.aec_params.specs.declared.fault.Fault.{Fault}
 use Rattle.aec_params.specs.declared.fault.Fault.TheVariants.{Memory}
 use Rattle.aec_params.specs.Params.{IsAllowed, storage_len}
-use Rattle.aec_interval.specs.Feeding.{Coding, new_coding, Feeds}
+use Rattle.aec_interval.specs.Feeding.{Coder, fresh_coder, Feeds}
 use Rattle.aec_engine.specs.Transfers.{Input, input_of, Taking, Gave}
 use Rattle.aec_engine.specs.Output.{are_refused, coding_refusal}
 
 -- a new coder was fed what a source gave so far, in any pieces: what it is then, and the bits that
 -- it made
-pub record IsFedSoFar (s : Settings) (limit : ℕ) (before after : Option (List ℕ)) (bits : List Bool) (coder : Coding) : Type 0 where
+pub record IsFedSoFar (s : Settings) (limit : ℕ) (before after : Option (List ℕ)) (bits : List Bool) (coder : Coder) : Type 0 where
   pub allowed : IsAllowed s
   pub bytes : List ℕ
   pub taken : Consumes before after bytes
-  pub feeds : Feeds (new_coding s limit) bytes [] bits coder
+  pub feeds : Feeds (fresh_coder s limit) bytes [] bits coder
 
 -- it was fed all that a source gave
-pub record IsFed (s : Settings) (limit : ℕ) (source : Taking) (bits : List Bool) (coder : Coding) : Type 0 where
+pub record IsFed (s : Settings) (limit : ℕ) (source : Taking) (bits : List Bool) (coder : Coder) : Type 0 where
   pub bytes : List ℕ
   pub gave : Gave source (are_refused s limit) (input_of bytes false)
-  pub feeds : Feeds (new_coding s limit) bytes [] bits coder
+  pub feeds : Feeds (fresh_coder s limit) bytes [] bits coder
 
 -- why it was not: want of memory, or the refusal of what the source gave so far
 pub data StopsCoding (s : Settings) (limit : ℕ) (source : Taking) : Fault → Type 0 where
@@ -30,5 +30,5 @@ pub data StopsCoding (s : Settings) (limit : ℕ) (source : Taking) : Fault → 
       → StopsCoding s limit source fault
 
 -- how many bytes more a coder takes at most before one sample is too many
-abbrev pub bytes_left : Coding → ℕ
+abbrev pub bytes_left : Coder → ℕ
 bytes_left c = (c.limit + 1) * storage_len c.settings - (c.count * storage_len c.settings + length c.rest)

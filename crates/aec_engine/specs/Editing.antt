@@ -19,7 +19,7 @@ use Rattle.aec_engine.specs.declared.scripts.EditFault.{EditFault}
 use Rattle.aec_engine.specs.declared.scripts.EditFault.TheVariants.{Plain, Line}
 use Rattle.aec_engine.specs.Output.{intake_refusal, IsRead, IsDecoded}
 use Rattle.aec_engine.specs.Scripts.{Listing, listing_of}
-use Rattle.aec_engine.specs.Transfers.{Input, Taking, Putting, are_past, Gave, WroteNothing, IsBegunFirst, answer_of}
+use Rattle.aec_engine.specs.Transfers.{Input, Taking, Putting, are_past, Gave, WroteNothing, IsBegunFirst, answer_by}
 
 -- why a script is refused: as an input that is read whole, and else for its first line that is no
 -- edit
@@ -124,4 +124,4 @@ pub record LeavesEdited (s : Settings) (caps : Caps) (count : Option ℕ) (from 
     (result : Result (Unit {0}) EditFault) : Type 0 where
   pub counted : Result ℕ EditFault
   pub leaves : LeavesRecoded s caps count from source sink counted
-  pub uncounted : result ≡ answer_of (λ calls. tt) counted
+  pub uncounted : result ≡ answer_by (λ calls. tt) counted

@@ -23,8 +23,8 @@ abbrev pub decimal_in : ℕ → Text → Option ℕ
 decimal_in width text = if is_numeral text && nat_lt (digits_value 10 text) (2 ^ width) then Some (digits_value 10 text) else None
 
 -- the same where a plus may stand first, as in the number of an option
-abbrev pub number_in : ℕ → Text → Option ℕ
-number_in width text = decimal_in width (without_leading_plus text)
+abbrev pub option_number : ℕ → Text → Option ℕ
+option_number width text = decimal_in width (without_leading_plus text)
 
 -- two parts that are numbers of 64 bits
 abbrev pub numbers_in : List Text → Option (ℕ × ℕ)

@@ -1,14 +1,16 @@
 -- What the parts of decoding give: the bits of a source, and what their two readings answer.
 use Rattle.std.specs.Prelude.{◌≡◌, ℕ, ◌+◌, ◌%◌, ◌^◌, ◌<◌, ◌≤◌, Bool, true, Option, None, Result, Ok, Err, MatchResult, ℤ, List, ◌++◌, length}
+use Rattle.std.specs.List.{AllByRecursion}
 use Rattle.std.specs.Io.KnownBytes.{Appends}
 use Rattle.aec_params.specs.declared.settings.Settings.{Settings}
 use Rattle.aec_params.specs.declared.fault.Fault.{Fault}
 use Rattle.aec_params.specs.declared.fault.Fault.TheVariants.{OutOfRange, Memory}
+use Rattle.aec_params.specs.Params.{IsHeld}
 use Rattle.aec_params.specs.Codewords.{bits_of_bytes}
 use Rattle.aec_params.specs.Reading.{IsReading}
 use Rattle.aec_bits.specs.Devices.{AppendsFront}
 use Rattle.aec_interval.specs.Reached.{count_refusal, RefusesDecoding}
-use Rattle.aec_interval.specs.Pieces.{Place, is_wanted_at, HasRead}
+use Rattle.aec_interval.specs.Pieces.{Place, place_at, is_wanted_at, HasRead}
 use Rattle.aec_engine.specs.Transfers.{input_of, Taking, are_past, Gave, IsTakenWhole, Putting, Settles}
 use Rattle.aec_engine.specs.Output.{all_stored, samples_from}
 
@@ -28,6 +30,20 @@ pub record GaveWhole (before after : Option (List ℕ)) (failures limit : ℕ) (
 -- bits are read as these samples
 pub record AreSamplesOf (p : Place) (samples : List ℤ) : Type 0 where
   pub reading : IsReading p.settings p.count p.limit p.bits samples
+
+-- Where more is wanted and an interval begins, samples were read up to another place: behind
+-- whatever was read before them, all is what was read up to there.
+pub record ReadsOn (p : Place) (samples : List ℤ) (q : Place) : Type 0 where
+  pub wanted : is_wanted_at p ≡ true
+  pub begins : p.block % p.settings.interval ≡ 0
+  pub ahead : p.block < q.block
+  pub same : q ≡ place_at p.settings p.count p.limit p.bits q.block q.bit
+  pub held : AllByRecursion (IsHeld p.settings) samples
+  pub behind : (front : List ℤ) → HasRead p front → HasRead q (front ++ samples)
+
+-- what can be read is refused for want of memory alone
+abbrev pub LacksMemoryAlone : Place → Fault → Type 0
+LacksMemoryAlone p fault = (front samples : List ℤ) → HasRead p front → AreSamplesOf p samples → fault ≡ Memory
 
 -- so many samples, at most `first`, were read up to a place where an interval begins or all is
 -- read, in fewer than `2^34` blocks

@@ -62,5 +62,5 @@ abbrev pub RefusesListing : Listing → ℕ → Fault → Type 0
 RefusesListing read n e = ((read.bad ≡ Some n) × (e ≡ Script n)) ⊎ ((e ≡ Memory) × (0 < length read.edits))
 
 -- values, after others that were read
-abbrev pub values_after : List ℤ → Option (List ℤ) → Option (List ℤ)
-values_after items rest = option_map (λ xs. items ++ xs) rest
+abbrev pub after_values : List ℤ → Option (List ℤ) → Option (List ℤ)
+after_values items rest = option_map (λ xs. items ++ xs) rest

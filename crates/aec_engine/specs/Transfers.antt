@@ -108,9 +108,9 @@ pub data GivesAnswer (answers : Input → Result (List ℕ) Fault → Type 0) (s
   lacks_memory : GivesAnswer answers source enough (Err Memory)
 
 -- an answer by what is asked of it, as its bytes; or its refusal
-abbrev pub answer_of : {X A E : Type 0} → (X → A) → Result X E → Result A E
-answer_of asked (Ok x) = Ok (asked x)
-answer_of asked (Err fault) = Err fault
+abbrev pub answer_by : {X A E : Type 0} → (X → A) → Result X E → Result A E
+answer_by asked (Ok x) = Ok (asked x)
+answer_by asked (Err fault) = Err fault
 
 -- what writing an answer leaves: its bytes, begun once; nothing for a refusal; or a front of its
 -- bytes where the sink failed

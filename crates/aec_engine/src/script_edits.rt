@@ -5,7 +5,7 @@ ghost use Rattle.aec_params.specs.declared.fault.Fault.TheVariants.{Memory, Scri
 ghost use Rattle.aec_engine.specs.Scripts.{listing_of, meaning_of, unknown};
 ghost use Rattle.aec_engine.specs.EditsAhead.{AreKnown, IsReady, behind, left_in};
 
-use crate::script_lines::{Line, line_of};
+use crate::script_lines::{Line, parsed_line};
 use crate::script_reading::{cut_line, edit_on_line};
 use aec_params::{Edit, Fault};
 use std::alloc::Global;
@@ -16,7 +16,7 @@ fn judge_line(number: u64, text: &[u8]) -> Result<(), Fault>
     ensures refuses { IfErr result (λ e.
         (meaning_of text.now ≡ unknown) × (e ≡ ScriptFault number)) }
 {
-    match line_of(text) {
+    match parsed_line(text) {
         Line::Unknown => Err(Fault::Script { line: number }),
         _ => Ok(()),
     }

@@ -138,7 +138,7 @@ fn named_line<'a>(name: &[u8], words: &'a [u8]) -> Line<'a>
 }
 
 /// What a line says.
-pub(crate) fn line_of(text: &[u8]) -> Line<'_>
+pub(crate) fn parsed_line(text: &[u8]) -> Line<'_>
     ensures says { said result ≡ meaning_of text.now }
     ensures judged { IsJudged result }
 {

@@ -5,7 +5,7 @@ ghost use Rattle.aec_params.specs.declared.fault.Fault.TheVariants.{Memory, Scri
 ghost use Rattle.aec_engine.specs.Scripts.{Listing, listed, listing_of, meaning_of};
 ghost use Rattle.aec_engine.specs.ScriptLines.{after_listed, kept, lines_of, lines_left, text_left, RefusesLine, RefusesListing};
 
-use crate::script_lines::{Line, edit_of, line_of};
+use crate::script_lines::{Line, edit_of, parsed_line};
 use crate::scripts::Script;
 use aec_params::{Edit, Fault};
 use std::alloc::Global;
@@ -29,7 +29,7 @@ pub(crate) fn edit_on_line(alloc: Global, number: u64, text: &[u8]) -> Result<Op
     ensures ok { IfOk result (λ edit. kept edit ≡ meaning_of text.now) }
     ensures refuses { IfErr result (λ e. RefusesLine (meaning_of text.now) number e) }
 {
-    let line = line_of(text);
+    let line = parsed_line(text);
     if let Line::Unknown = line {
         return Err(Fault::Script { line: number });
     }

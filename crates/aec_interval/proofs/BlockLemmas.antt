@@ -18,7 +18,7 @@ use Rattle.aec_interval.proofs.CuttingLemmas.{IsPieceBefore, by_pieces, pieces_o
 use Rattle.aec_params.proofs.ValueLaws.{mapped_value-fits}
 use Rattle.aec_params.proofs.PatternLaws.{pattern-fits}
 use Rattle.aec_params.proofs.SampleShapeLaws.{blocks_of-shape}
-pub use Rattle.aec_params.proofs.SettingLaws.{block_size-positive}
+use Rattle.aec_params.proofs.SettingLaws.{block_size-positive}
 
 -- ---- what holds of each element
 

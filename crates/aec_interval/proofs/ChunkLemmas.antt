@@ -56,7 +56,8 @@ filled_samples-append s front (y ∷ rest) h piece =
     let whole : length front ≡ s.block_size = piece.full (omega arith) in
     let last : last_or None (front ++ y ∷ rest) ≡ last_or (Some y) rest = last_or-append None front (y ∷ rest) in
     let missing : up_to_multiple s.block_size (length (front ++ y ∷ rest)) ≡ up_to_multiple s.block_size (length (y ∷ rest)) =
-    ap (up_to_multiple s.block_size) (length-append front (y ∷ rest) ∙ ap (λ n. n + length (y ∷ rest)) whole) ∙ up_to_multiple-add s.block_size (length (y ∷ rest)) in
+    ap (up_to_multiple s.block_size) (length-append front (y ∷ rest) ∙ ap (λ n. n + length (y ∷ rest)) whole)
+    ∙ up_to_multiple-add s.block_size (length (y ∷ rest)) in
     ap₂ (λ n o. (front ++ y ∷ rest) ++ replicate n (unwrap_or o (pos 0))) missing last
     ∙ append_assoc front (y ∷ rest) (replicate (up_to_multiple s.block_size (length (y ∷ rest))) (unwrap_or (last_or (Some y) rest) (pos 0)))
     ∙ ap (λ l. l ++ filled_samples s (y ∷ rest)) (sym (filled_samples-whole s front h whole))
@@ -112,7 +113,8 @@ no_values s (Some p) = refl
 
 pub blocks_after-nil : (s : Settings) (o : Option ℤ) → 0 < s.block_size → blocks_after s o [] ≡ []
 blocks_after-nil s o h =
-    ap (with_reference (reference_after s o [])) (ap (pieces_of s.block_size) (ap (values_after s o) (filled_samples-nil s h) ∙ no_values s o) ∙ pieces_of-nil s.block_size h)
+    ap (with_reference (reference_after s o []))
+    (ap (pieces_of s.block_size) (ap (values_after s o) (filled_samples-nil s h) ∙ no_values s o) ∙ pieces_of-nil s.block_size h)
 
 reference_after-some : (s : Settings) (x : ℤ) (xs rest : List ℤ) → reference_after s (last_or (Some x) xs) rest ≡ None
 reference_after-some s x xs rest = ap (λ o. reference_after s o rest) (last_or-some x xs).1
@@ -210,7 +212,8 @@ segment_before s o front rest h piece = record {
   full = full rest piece.full;
 }
   where
-    full : (rest : List ℤ) → (0 < length rest → length front ≡ s.block_size * 64) → 0 < length (blocks_after s (last_or o front) rest) → length (blocks_after s o front) ≡ 64
+    full : (rest : List ℤ) → (0 < length rest → length front ≡ s.block_size * 64) → 0 < length (blocks_after s (last_or o front) rest)
+        → length (blocks_after s o front) ≡ 64
     full [] whole some = absurd (omega (arith, ap length (blocks_after-nil s (last_or o front) h)))
     full (y ∷ rest) whole some =
         length-blocks_after s o front h ∙ ap (λ n. div_ceil n s.block_size) (whole (omega arith) ∙ omega arith) ∙ div_ceil-times 64 s.block_size h

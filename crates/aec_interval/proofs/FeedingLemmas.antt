@@ -9,39 +9,39 @@ use Rattle.aec_params.specs.Stored.{byte_groups}
 use Rattle.aec_params.specs.Streams.{stream_of}
 use Rattle.aec_params.proofs.StoredLemmas.{storage-least}
 use Rattle.aec_params.proofs.SampleLaws.{interval_len-positive}
-use Rattle.aec_interval.specs.Taking.{Taken, taken_groups}
-use Rattle.aec_interval.specs.Feeding.{Coding, whole_front, left_behind, taken_of, samples_with, fed, fed_bits, Feeds, StopsFeeding, refused, no_memory}
+use Rattle.aec_interval.specs.Taking.{TakenSamples, taken_groups}
+use Rattle.aec_interval.specs.Feeding.{Coder, whole_front, left_behind, taken_of, samples_with, fed, fed_bits, Feeds, StopsFeeding, refused, no_memory}
 use Rattle.aec_interval.proofs.PieceLemmas.{whole_and_left, length-whole_front, whole_front-append, left_behind-append, stream_of-append, byte_groups-append}
 use Rattle.aec_interval.proofs.TakingLemmas.{taken_behind, taken_groups-append, taken_groups-refused}
 
 -- ---- what two pieces complete
 
 -- the groups of both
-groups_of_both : (c : Coding) (p q : List ℕ) → IsAllowed c.settings
+groups_of_both : (c : Coder) (p q : List ℕ) → IsAllowed c.settings
     → byte_groups c.settings (c.rest ++ (p ++ q)) ≡ byte_groups c.settings (c.rest ++ p) ++ byte_groups c.settings ((fed c p).rest ++ q)
 groups_of_both c p q a =
     ap (byte_groups c.settings) (sym (append_assoc c.rest p q)) ∙ byte_groups-append c.settings (c.rest ++ p) q a
 
-pub taken_of-append : (c : Coding) (p q : List ℕ) → IsAllowed c.settings → (taken_of c p).refusal ≡ None
+pub taken_of-append : (c : Coder) (p q : List ℕ) → IsAllowed c.settings → (taken_of c p).refusal ≡ None
     → taken_of c (p ++ q) ≡ taken_behind (taken_of c p) (taken_of (fed c p) q)
 taken_of-append c p q a none =
     ap (taken_groups c.settings c.limit c.count) (groups_of_both c p q a)
     ∙ taken_groups-append c.settings c.limit c.count (fed c p).count (byte_groups c.settings (c.rest ++ p))
     (byte_groups c.settings ((fed c p).rest ++ q)) none refl
 
-pub taken_of-refused : (c : Coding) (p q : List ℕ) (fault : Fault) → IsAllowed c.settings → (taken_of c p).refusal ≡ Some fault
+pub taken_of-refused : (c : Coder) (p q : List ℕ) (fault : Fault) → IsAllowed c.settings → (taken_of c p).refusal ≡ Some fault
     → taken_of c (p ++ q) ≡ taken_of c p
 taken_of-refused c p q fault a refusal =
     ap (taken_groups c.settings c.limit c.count) (groups_of_both c p q a)
     ∙ taken_groups-refused c.settings c.limit c.count (byte_groups c.settings (c.rest ++ p)) (byte_groups c.settings ((fed c p).rest ++ q)) fault refusal
 
-samples_with-append : (c : Coding) (p q : List ℕ) → IsAllowed c.settings → (taken_of c p).refusal ≡ None
+samples_with-append : (c : Coder) (p q : List ℕ) → IsAllowed c.settings → (taken_of c p).refusal ≡ None
     → samples_with c (p ++ q) ≡ samples_with c p ++ (taken_of (fed c p) q).samples
 samples_with-append c p q a none =
-    ap (λ (t : Taken). c.held ++ t.samples) (taken_of-append c p q a none)
+    ap (λ (t : TakenSamples). c.held ++ t.samples) (taken_of-append c p q a none)
     ∙ sym (append_assoc c.held (taken_of c p).samples (taken_of (fed c p) q).samples)
 
-fed_bits-append : (c : Coding) (p q : List ℕ) → IsAllowed c.settings → (taken_of c p).refusal ≡ None
+fed_bits-append : (c : Coder) (p q : List ℕ) → IsAllowed c.settings → (taken_of c p).refusal ≡ None
     → fed_bits c (p ++ q) ≡ fed_bits c p ++ fed_bits (fed c p) q
 fed_bits-append c p q a none =
     let s = c.settings in
@@ -53,7 +53,7 @@ fed_bits-append c p q a none =
     (length-whole_front n (samples_with c p) some)
 
 -- a coder by its parts
-abbrev pub coding_of : Settings → ℕ → List ℤ → List ℕ → ℕ → Option Fault → Coding
+abbrev pub coding_of : Settings → ℕ → List ℤ → List ℕ → ℕ → Option Fault → Coder
 coding_of s limit held rest count refusal = record { settings = s; limit = limit; held = held; rest = rest; count = count; refusal = refusal }
 
 pub same_coding : (s : Settings) (limit : ℕ) (h k : List ℤ) (r t : List ℕ) (m n : ℕ) (f g : Option Fault) → h ≡ k → r ≡ t → m ≡ n → f ≡ g
@@ -62,7 +62,7 @@ same_coding s limit h k r t m n f g held rest count refusal =
     ap (λ x. coding_of s limit x r m f) held ∙ ap (λ x. coding_of s limit k x m f) rest ∙ ap (λ x. coding_of s limit k t x f) count
     ∙ ap (coding_of s limit k t n) refusal
 
-pub fed-append : (c : Coding) (p q : List ℕ) → IsAllowed c.settings → (taken_of c p).refusal ≡ None → fed (fed c p) q ≡ fed c (p ++ q)
+pub fed-append : (c : Coder) (p q : List ℕ) → IsAllowed c.settings → (taken_of c p).refusal ≡ None → fed (fed c p) q ≡ fed c (p ++ q)
 fed-append c p q a none =
     let s = c.settings in
     let taken = taken_of-append c p q a none in
@@ -72,54 +72,54 @@ fed-append c p q a none =
     (sym (ap (left_behind (interval_len s)) (samples_with-append c p q a none)
     ∙ left_behind-append (interval_len s) (samples_with c p) (taken_of (fed c p) q).samples (interval_len-positive s a)))
     (sym (ap (left_behind (storage_len s)) (sym (append_assoc c.rest p q)) ∙ left_behind-append (storage_len s) (c.rest ++ p) q some))
-    (omega (arith, length-append (taken_of c p).samples (taken_of (fed c p) q).samples, ap (λ (t : Taken). length t.samples) taken))
-    (sym (ap (λ (t : Taken). t.refusal) taken))
+    (omega (arith, length-append (taken_of c p).samples (taken_of (fed c p) q).samples, ap (λ (t : TakenSamples). length t.samples) taken))
+    (sym (ap (λ (t : TakenSamples). t.refusal) taken))
 
 -- ---- one piece behind another
 
-bits_of_both : (c : Coding) (p q : List ℕ) (b0 b1 b2 : List Bool) → IsAllowed c.settings → (taken_of c p).refusal ≡ None
+bits_of_both : (c : Coder) (p q : List ℕ) (b0 b1 b2 : List Bool) → IsAllowed c.settings → (taken_of c p).refusal ≡ None
     → b1 ≡ b0 ++ fed_bits c p → b2 ≡ b1 ++ fed_bits (fed c p) q → b2 ≡ b0 ++ fed_bits c (p ++ q)
 bits_of_both c p q b0 b1 b2 a none e f =
     f ∙ ap (λ l. l ++ fed_bits (fed c p) q) e ∙ append_assoc b0 (fed_bits c p) (fed_bits (fed c p) q)
     ∙ ap (λ l. b0 ++ l) (sym (fed_bits-append c p q a none))
 
-pub feeds_both : (c d e : Coding) (p q : List ℕ) (b0 b1 b2 : List Bool) → IsAllowed c.settings → Feeds c p b0 b1 d → Feeds d q b1 b2 e
+pub feeds_both : (c d e : Coder) (p q : List ℕ) (b0 b1 b2 : List Bool) → IsAllowed c.settings → Feeds c p b0 b1 d → Feeds d q b1 b2 e
     → Feeds c (p ++ q) b0 b2 e
 feeds_both c d e p q b0 b1 b2 a first second =
     let next = subst (λ x. Feeds x q b1 b2 e) first.coder second in
     record {
-      taken = ap (λ (t : Taken). t.refusal) (taken_of-append c p q a first.taken) ∙ next.taken;
+      taken = ap (λ (t : TakenSamples). t.refusal) (taken_of-append c p q a first.taken) ∙ next.taken;
       bits = bits_of_both c p q b0 b1 b2 a first.taken first.bits next.bits;
       coder = next.coder ∙ fed-append c p q a first.taken;
     }
 
 -- samples that the second piece completes are among those that both do, and so are those of the
 -- first
-more_samples : (c : Coding) (p q : List ℕ) → IsAllowed c.settings → (taken_of c p).refusal ≡ None → 0 < length (taken_of (fed c p) q).samples
+more_samples : (c : Coder) (p q : List ℕ) → IsAllowed c.settings → (taken_of c p).refusal ≡ None → 0 < length (taken_of (fed c p) q).samples
     → 0 < length (taken_of c (p ++ q)).samples
 more_samples c p q a none some =
     omega (
       arith,
       some,
       length-append (taken_of c p).samples (taken_of (fed c p) q).samples,
-      ap (λ (t : Taken). length t.samples) (taken_of-append c p q a none),
+      ap (λ (t : TakenSamples). length t.samples) (taken_of-append c p q a none),
     )
 
-still_samples : (c : Coding) (p q : List ℕ) → IsAllowed c.settings → (taken_of c p).refusal ≡ None → 0 < length (taken_of c p).samples
+still_samples : (c : Coder) (p q : List ℕ) → IsAllowed c.settings → (taken_of c p).refusal ≡ None → 0 < length (taken_of c p).samples
     → 0 < length (taken_of c (p ++ q)).samples
 still_samples c p q a none some =
     omega (
       arith,
       some,
       length-append (taken_of c p).samples (taken_of (fed c p) q).samples,
-      ap (λ (t : Taken). length t.samples) (taken_of-append c p q a none),
+      ap (λ (t : TakenSamples). length t.samples) (taken_of-append c p q a none),
     )
 
 -- a refusal of a piece is one of all pieces up to it
-stops_next : (c : Coding) (p q : List ℕ) (b0 b1 b2 : List Bool) (fault : Fault) → IsAllowed c.settings → (taken_of c p).refusal ≡ None
+stops_next : (c : Coder) (p q : List ℕ) (b0 b1 b2 : List Bool) (fault : Fault) → IsAllowed c.settings → (taken_of c p).refusal ≡ None
     → b1 ≡ b0 ++ fed_bits c p → StopsFeeding (fed c p) q b1 b2 fault → StopsFeeding c (p ++ q) b0 b2 fault
 stops_next c p q b0 b1 b2 fault a none bits (refused f refusal e) =
-    refused f (ap (λ (t : Taken). t.refusal) (taken_of-append c p q a none) ∙ refusal) (bits_of_both c p q b0 b1 b2 a none bits e)
+    refused f (ap (λ (t : TakenSamples). t.refusal) (taken_of-append c p q a none) ∙ refusal) (bits_of_both c p q b0 b1 b2 a none bits e)
 stops_next c p q b0 b1 b2 fault a none bits (no_memory k front behind cut whole left some e) =
     let s = c.settings in
     let n = interval_len s in
@@ -135,18 +135,18 @@ stops_next c p q b0 b1 b2 fault a none bits (no_memory k front behind cut whole 
     (e ∙ ap (λ ys. ys ++ stream_of s front) bits ∙ append_assoc b0 (fed_bits c p) (stream_of s front)
     ∙ ap (λ ys. b0 ++ ys) (sym (stream_of-append s (length xs / n) w front a l)))
 
-pub stops_later : (c d : Coding) (p q : List ℕ) (b0 b1 b2 : List Bool) (fault : Fault) → IsAllowed c.settings → Feeds c p b0 b1 d
+pub stops_later : (c d : Coder) (p q : List ℕ) (b0 b1 b2 : List Bool) (fault : Fault) → IsAllowed c.settings → Feeds c p b0 b1 d
     → StopsFeeding d q b1 b2 fault → StopsFeeding c (p ++ q) b0 b2 fault
 stops_later c d p q b0 b1 b2 fault a first stops =
     stops_next c p q b0 b1 b2 fault a first.taken first.bits (subst (λ x. StopsFeeding x q b1 b2 fault) first.coder stops)
 
 -- whatever follows a refusal, it stays the refusal of all
-pub stops_before : (c : Coding) (p q : List ℕ) (b0 b1 : List Bool) (fault : Fault) → IsAllowed c.settings → StopsFeeding c p b0 b1 fault
+pub stops_before : (c : Coder) (p q : List ℕ) (b0 b1 : List Bool) (fault : Fault) → IsAllowed c.settings → StopsFeeding c p b0 b1 fault
     → StopsFeeding c (p ++ q) b0 b1 fault
 stops_before c p q b0 b1 fault a (refused f refusal e) =
     let same = taken_of-refused c p q f a refusal in
-    refused f (ap (λ (t : Taken). t.refusal) same ∙ refusal)
-    (e ∙ ap (λ (t : Taken). b0 ++ stream_of c.settings (whole_front (interval_len c.settings) (c.held ++ t.samples))) (sym same))
+    refused f (ap (λ (t : TakenSamples). t.refusal) same ∙ refusal)
+    (e ∙ ap (λ (t : TakenSamples). b0 ++ stream_of c.settings (whole_front (interval_len c.settings) (c.held ++ t.samples))) (sym same))
 stops_before c p q b0 b1 fault a (no_memory k front behind cut whole left some e) = more (taken_of c p).refusal refl
   where
     more : (o : Option Fault) → (taken_of c p).refusal ≡ o → StopsFeeding c (p ++ q) b0 b1 Memory
@@ -156,5 +156,5 @@ stops_before c p q b0 b1 fault a (no_memory k front behind cut whole left some e
         ∙ append_assoc front behind (taken_of (fed c p) q).samples) whole
         (omega (arith, left, length-append behind (taken_of (fed c p) q).samples)) (still_samples c p q a none some) e
     more (Some f) refusal =
-        no_memory k front behind (ap (λ (t : Taken). c.held ++ t.samples) (taken_of-refused c p q f a refusal) ∙ cut) whole left
-        (omega (arith, some, ap (λ (t : Taken). length t.samples) (taken_of-refused c p q f a refusal))) e
+        no_memory k front behind (ap (λ (t : TakenSamples). c.held ++ t.samples) (taken_of-refused c p q f a refusal) ∙ cut) whole left
+        (omega (arith, some, ap (λ (t : TakenSamples). length t.samples) (taken_of-refused c p q f a refusal))) e

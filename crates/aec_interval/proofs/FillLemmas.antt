@@ -1,5 +1,5 @@
--- One block: its first sample, those behind it, and the filler.
-use Rattle.std.proofs.Common.{◌≡◌, ℕ, ◌+◌, ◌-◌, ◌^◌, ◌<◌, ◌≤◌, Option, Some, None, ℤ, pos, List, [], ◌∷◌, ◌++◌, length, replicate, refl, sym, ap, ap₂, ◌∙◌, arith}
+-- One block: its samples, and the filler.
+use Rattle.std.proofs.Common.{◌≡◌, ℕ, ◌+◌, ◌^◌, ◌<◌, Bool, true, false, if◌then◌else◌, Option, Some, None, ℤ, pos, List, [], ◌∷◌, ◌++◌, length, replicate, refl, sym, ap, ap₂, ◌∙◌, subst, arith}
 use Rattle.std.specs.Prelude.{unwrap_or}
 use Rattle.std.specs.List.{AllByRecursion, last_or}
 use Rattle.std.proofs.lemmas.List.{length-append, length-replicate}
@@ -10,6 +10,9 @@ use Rattle.aec_params.specs.Cutting.{up_to_multiple}
 use Rattle.aec_params.specs.Mapping.{mapped_value, mapped_after}
 use Rattle.aec_params.specs.Blocks.{Block, filled_samples}
 use Rattle.aec_params.proofs.PatternLaws.{pattern-fits}
+use Rattle.aec_params.proofs.SettingLaws.{block_size-most}
+use Rattle.aec_params.specs.BlockShapes.{HasReferencePlace}
+use Rattle.aec_block.specs.BlockShape.{block_with, IsSound}
 use Rattle.aec_block.specs.Choices.{FitsReference, IsFull}
 use Rattle.aec_interval.specs.Chunks.{values_after, reference_after, block_after, HoldsPrevious, AreSamplesAfter}
 use Rattle.aec_interval.proofs.BlockLemmas.{all-mapped_after, all-mapped_values, all-filled_samples}
@@ -37,11 +40,11 @@ IsFull-block_after s o (x ∷ v) a some h =
       reference = fits_reference s o x v a h.held.0;
     }
 
--- the values of one block: of the first sample, of those behind it, and of the filler
-block_values : (s : Settings) (o : Option ℤ) (x last : ℤ) (xs : List ℤ) (n : ℕ) → length (x ∷ xs) ≤ s.block_size → n ≡ s.block_size - length (x ∷ xs) → Some last ≡ last_or (Some x) xs
-    → (values_after s o (x ∷ []) ++ mapped_after s x xs) ++ replicate n (mapped_value s last last) ≡ values_after s o (filled_samples s (x ∷ xs))
-block_values s o x last xs n few e f =
-    ap₂ ◌++◌ (sym (values_after-append s o (x ∷ []) xs)) (sym (mapped_after-replicate s last n) ∙ ap (λ l. values_after s l (replicate n last)) f)
+-- the values of one block: of its samples, and of the filler
+values-filled : (s : Settings) (o : Option ℤ) (x last : ℤ) (xs : List ℤ) (n : ℕ) → length (x ∷ xs) + n ≡ s.block_size → Some last ≡ last_or (Some x) xs
+    → values_after s o (x ∷ xs) ++ replicate n (mapped_value s last last) ≡ values_after s o (filled_samples s (x ∷ xs))
+values-filled s o x last xs n size f =
+    ap (λ l. values_after s o (x ∷ xs) ++ l) (sym (mapped_after-replicate s last n) ∙ ap (λ l. values_after s l (replicate n last)) f)
     ∙ sym (values_after-append s o (x ∷ xs) (replicate n last))
     ∙ ap₂ (λ k y. values_after s o ((x ∷ xs) ++ replicate k y)) missing (ap (λ l. unwrap_or l (pos 0)) f)
   where
@@ -49,31 +52,46 @@ block_values s o x last xs n few e f =
     filled =
         omega (
           arith,
-          length-filled_block s (x ∷ xs) (omega arith) few,
+          length-filled_block s (x ∷ xs) (omega arith) (omega (arith, size)),
           length-append (x ∷ xs) (replicate (up_to_multiple s.block_size (length (x ∷ xs))) (unwrap_or (last_or (Some x) xs) (pos 0))),
           length-replicate (up_to_multiple s.block_size (length (x ∷ xs))) (unwrap_or (last_or (Some x) xs) (pos 0)),
         )
 
     missing : n ≡ up_to_multiple s.block_size (length (x ∷ xs))
-    missing = omega (arith, e, filled)
+    missing = omega (arith, size, filled)
 
--- how many values there are before the filler
-pub mapped-len : (s : Settings) (o : Option ℤ) (v : List ℤ) (mapped : Block) → mapped ≡ record { reference = reference_after s o v; values = values_after s o v }
-    → length mapped.values ≡ length v
-mapped-len s o v mapped e = ap (λ (b : Block). length b.values) e ∙ length-values_after s o v
+-- 0 stands in the reference place
+first-placed : (b : Bool) (r v : ℕ) (values : List ℕ) → HasReferencePlace (if b then Some r else None) ((if b then 0 else v) ∷ values)
+first-placed true r v values = refl
+first-placed false r v values = refl
 
--- the values of the samples with the filler behind them make the block
-pub block_after-built : (s : Settings) (o : Option ℤ) (v : List ℤ) (last : ℤ) (mapped built : Block) → 0 < length v → length v ≤ s.block_size
-    → mapped ≡ record { reference = reference_after s o v; values = values_after s o v } → last ≡ last_sample v
-    → built ≡ record mapped { values = mapped.values ++ replicate (s.block_size - length mapped.values) (mapped_value s last last) }
-    → built ≡ block_after s o v
-block_after-built s o [] last mapped built some few e g h = absurd (omega arith)
-block_after-built s o (x ∷ xs) last mapped built some few e g h =
-    let front : mapped.values ≡ values_after s o (x ∷ []) ++ mapped_after s x xs =
-    ap (λ (b : Block). b.values) e ∙ values_after-append s o (x ∷ []) xs in
-    let missing : s.block_size - length mapped.values ≡ s.block_size - length (x ∷ xs) =
-    ap (λ n. s.block_size - n) (mapped-len s o (x ∷ xs) mapped e) in
-    let values : built.values ≡ values_after s o (filled_samples s (x ∷ xs)) =
-    ap (λ (b : Block). b.values) h ∙ ap (λ l. l ++ replicate (s.block_size - length mapped.values) (mapped_value s last last)) front
-    ∙ block_values s o x last xs (s.block_size - length mapped.values) few missing (last_sample-kept (x ∷ xs) x last xs refl g) in
-    ap₂ (λ r l. record { reference = r; values = l }) (ap (λ (b : Block). b.reference) h ∙ ap (λ (b : Block). b.reference) e) values
+after-placed : (s : Settings) (o : Option ℤ) (x : ℤ) (xs more : List ℤ) → HasReferencePlace (reference_after s o (x ∷ xs)) (values_after s o (x ∷ more))
+after-placed s None x xs more = first-placed s.preprocess (sample_pattern s x) (sample_pattern s x) (mapped_after s x more)
+after-placed s (Some p) x xs more = refl
+
+-- the block that samples fill
+pub record IsFilledBlock (s : Settings) (o : Option ℤ) (v : List ℤ) (b : Block) : Type 0 where
+  pub value : b ≡ block_after s o v
+  pub full : IsFull s b
+  pub sound : IsSound b
+
+pub is_filled : (s : Settings) (o : Option ℤ) (v : List ℤ) (last : ℤ) (reference : Option ℕ) (front behind values : List ℕ) (n : ℕ) → IsAllowed s
+    → 0 < length v → AreSamplesAfter s o 1 v → length v + n ≡ s.block_size → last ≡ last_sample v → reference ≡ reference_after s o v
+    → values ≡ front ++ behind → front ≡ values_after s o v → behind ≡ replicate n (mapped_value s last last)
+    → IsFilledBlock s o v (block_with reference values)
+is_filled s o [] last reference front behind values n allowed some samples size is_last is_reference joined mapped filled = absurd (omega arith)
+is_filled s o (x ∷ xs) last reference front behind values n allowed some samples size is_last is_reference joined mapped filled =
+    let same : values ≡ values_after s o (filled_samples s (x ∷ xs)) =
+    joined ∙ ap₂ ◌++◌ mapped filled ∙ values-filled s o x last xs n size (last_sample-kept (x ∷ xs) x last xs refl is_last) in
+    let value : block_with reference values ≡ block_after s o (x ∷ xs) = ap₂ block_with is_reference same in
+    let full : IsFull s (block_with reference values) =
+    subst (IsFull s) (sym value) (IsFull-block_after s o (x ∷ xs) allowed some samples) in
+    record {
+      value = value;
+      full = full;
+      sound = record {
+        len = omega (arith, full.len, block_size-most s allowed);
+        placed = rw (is_reference, same)
+            (after-placed s o x xs (xs ++ replicate (up_to_multiple s.block_size (length (x ∷ xs))) (unwrap_or (last_or (Some x) xs) (pos 0))));
+      };
+    }

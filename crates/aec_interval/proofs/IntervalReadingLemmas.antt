@@ -1,25 +1,31 @@
 -- An interval whose code stands somewhere in bits is read there, and nothing else is.
-use Rattle.std.proofs.Common.{◌≡◌, ℕ, ◌+◌, ◌*◌, Bool, Some, List, ◌++◌, length, take, refl, sym, ap, ap₂, ◌∙◌, subst, arith}
+use Rattle.std.proofs.Common.{◌≡◌, ℕ, ◌+◌, ◌-◌, ◌*◌, ◌<◌, ◌≤◌, Bool, true, false, nat_lt, Some, List, ◌++◌, length, take, refl, sym, ap, ap₂, ◌∙◌, subst, arith}
+use Rattle.std.proofs.Math.Nat.{mul_comm, zero-mul}
 use Rattle.std.specs.Prelude.{ℤ}
 use Rattle.std.specs.Int.{div_ceil}
 use Rattle.std.proofs.lemmas.List.{length-take, take-append-drop, take_at}
-use Rattle.std.proofs.lemmas.Bool.{le-ltb}
+use Rattle.std.proofs.lemmas.Bool.{le-ltb, ltb-true}
 use Rattle.aec_params.specs.declared.settings.Settings.{Settings}
 use Rattle.aec_params.specs.declared.fault.Fault.{Fault}
 use Rattle.aec_params.specs.declared.fault.Fault.TheVariants.{Memory}
-use Rattle.aec_params.specs.Params.{IsAllowed}
+use Rattle.aec_params.specs.Params.{IsAllowed, interval_len}
 use Rattle.aec_params.specs.Blocks.{blocks_of, all_blocks_of, filled_samples}
 use Rattle.aec_params.specs.Intervals.{unpadded_bits, interval_bits}
 use Rattle.aec_params.specs.Reading.{begin_of, IsBlockReading, FillBlocks}
+use Rattle.aec_params.proofs.CountLaws.{before_end}
 use Rattle.aec_params.proofs.ReadingLaws.{FillBlocks-one_to_one}
+use Rattle.aec_params.proofs.SettingLaws.{block_size-positive}
 use Rattle.aec_bits.specs.Codec.{BeginsAt}
 use Rattle.aec_interval.specs.IntervalFormat.{interval_format}
 use Rattle.aec_interval.specs.Laws.{AreOfInterval}
-use Rattle.aec_interval.specs.Reached.{IsReadFrom, RefusesReading, no_memory, faulty}
+use Rattle.aec_interval.specs.Pieces.{counted_from}
+use Rattle.aec_interval.specs.Reached.{IsReached, IsReadFrom, RefusesReading, no_memory, faulty}
+use Rattle.aec_interval.specs.Steps.{IsGoneOver}
 use Rattle.aec_interval.proofs.BlockLemmas.{length-blocks_of}
 use Rattle.aec_interval.proofs.IntervalLemmas.{ReadsBlocks-unpadded_bits}
 use Rattle.aec_interval.proofs.PlaceLemmas.{end_of}
 use Rattle.aec_interval.proofs.StreamLemmas.{interval_bits-padded, all_blocks_of-one, IsPart, part_of}
+use Rattle.aec_interval.proofs.ReadNextLemmas.{reading-done}
 use Rattle.aec_interval.proofs.RoundTripLemmas.{FillBlocks-all_blocks_of}
 use Rattle.aec_interval.proofs.WalkLemmas.{same_blocks, no_reading_and_fault}
 use Rattle.aec_interval.proofs.IntervalFormatLemmas.{AreOfInterval-format}
@@ -61,6 +67,24 @@ read-interval s limit bits start count samples v a read begins =
     let filled = FillBlocks-one_to_one s read.all_samples (filled_samples s v) (all_blocks_of s v) a
     (subst (FillBlocks s read.all_samples) same read.filled) (FillBlocks-all_blocks_of s v a h.held) in
     read.counted ∙ ap (take count) filled ∙ take_at v _ count begins.length_is
+
+-- where no more samples are asked for than an interval has, behind it nothing more is wanted
+pub counted-interval : (s : Settings) (limit count : ℕ) (bits list : List Bool) (start next e : ℕ) (all counted : List ℤ) → IsAllowed s
+    → count ≤ interval_len s → list ≡ bits → IsReached s (Some count) limit list 0 start next e all → IsGoneOver s (Some count) list 0 next e
+    → counted ≡ counted_from s (Some count) 0 all → IsReadFrom s (Some count) limit bits start counted
+counted-interval s limit count bits list start next e all counted a few same reached over is =
+    let front : count - 0 * s.block_size ≡ count = omega (arith, zero-mul s.block_size) in
+    subst (IsReadFrom s (Some count) limit bits start) (sym (is ∙ ap (λ n. take n all) front))
+    (subst (λ bits. IsReadFrom s (Some count) limit bits start (take count all)) same
+    (reading-done s (Some count) limit list start next e all reached (by_test (nat_lt next (div_ceil count s.block_size)) refl)))
+  where
+    by_test : (more : Bool) → nat_lt next (div_ceil count s.block_size) ≡ more → nat_lt next (div_ceil count s.block_size) ≡ false
+    by_test false is = is
+    by_test true is =
+        let last : next ≡ s.interval = omega (arith, over.to_end is) in
+        let fewer : next * s.block_size < count =
+        before_end next count s.block_size (block_size-positive s a) (ltb-true next (div_ceil count s.block_size) is) in
+        absurd (omega (arith, fewer, few, ap (λ n. n * s.block_size) last, mul_comm s.interval s.block_size))
 
 -- and it is refused for want of memory alone
 pub memory-alone : (s : Settings) (limit : ℕ) (bits : List Bool) (start count : ℕ) (v : List ℤ) (fault : Fault) → IsAllowed s

@@ -35,6 +35,7 @@ pub mod RefusalLemmas
 pub mod WantedSetLemmas
 pub mod ReadNextLemmas
 pub mod ReadIntervalLemmas
+pub mod PlainLemmas
 pub mod ReachedPlaceLemmas
 pub mod PieceReadingLemmas
 pub mod SkippingLemmas
@@ -43,6 +44,7 @@ pub mod IntervalReadingLemmas
 pub mod PieceLemmas
 pub mod TakingLemmas
 pub mod FeedingLemmas
+pub mod HeldLemmas
 pub mod JoiningLemmas
 pub mod CutLemmas
 pub mod WorkedFeeding

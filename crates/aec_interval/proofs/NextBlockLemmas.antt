@@ -14,7 +14,8 @@ use Rattle.std.proofs.lemmas.List.{map-append}
 use Rattle.std.proofs.Math.Nat.{mul-mod_left, mod_self, mod-eq_of_lt, add-mod_left, suc-mul, zero-mul, one-mul, sub-zero, mul-pos, mul-le-mul_right, le-mul_of_pos_right, mul_comm, mul-sub}
 use Rattle.aec_interval.proofs.CuttingLemmas.{pieces_of-nil, pieces_of-cons, pieces_of-one, IsPieceBefore, by_pieces, length-pieces_of, div_ceil-positive}
 
-pub mapped_values-append : (s : Settings) (x : ℤ) (xs ys : List ℤ) → mapped_values s ((x ∷ xs) ++ ys) ≡ mapped_values s (x ∷ xs) ++ mapped_after s (last_sample (x ∷ xs)) ys
+pub mapped_values-append : (s : Settings) (x : ℤ) (xs ys : List ℤ)
+    → mapped_values s ((x ∷ xs) ++ ys) ≡ mapped_values s (x ∷ xs) ++ mapped_after s (last_sample (x ∷ xs)) ys
 mapped_values-append s x xs ys = ap (λ values. (if s.preprocess then 0 else sample_pattern s x) ∷ values) (mapped_after-append s x xs ys)
 
 pub length-mapped_after : (s : Settings) (p : ℤ) (xs : List ℤ) → length (mapped_after s p xs) ≡ length xs
@@ -52,7 +53,8 @@ with_reference-push reference (first ∷ groups) values some =
     ap (λ blocks. first_block ∷ blocks) (map-append block groups (values ∷ []))
 
 -- pieces of whole length with one piece more
-pub pieces_of-push : {X : Type 0} (n : ℕ) → 0 < n → (xs ys : List X) (k : ℕ) → length xs ≡ k * n → length ys ≡ n → pieces_of n (xs ++ ys) ≡ pieces_of n xs ++ ys ∷ []
+pub pieces_of-push : {X : Type 0} (n : ℕ) → 0 < n → (xs ys : List X) (k : ℕ) → length xs ≡ k * n → length ys ≡ n
+    → pieces_of n (xs ++ ys) ≡ pieces_of n xs ++ ys ∷ []
 pieces_of-push {X} n positive xs ys k whole last = by_pieces P n positive nothing step xs k whole
   where
     P : List X → Type 0
@@ -80,21 +82,27 @@ blocks_of-push s (x ∷ v) ys k positive some whole last =
     (filled_samples-whole s ((x ∷ v) ++ ys) positive (suc k) (omega (arith, length-append (x ∷ v) ys, suc-mul k s.block_size)))
     ∙ (ap (λ values. with_reference (reference_of s (x ∷ v)) (pieces_of s.block_size values)) (mapped_values-append s x v ys)
     ∙ (ap (with_reference (reference_of s (x ∷ v)))
-    (pieces_of-push s.block_size positive (mapped_values s (x ∷ v)) (mapped_after s (last_sample (x ∷ v)) ys) k (length-mapped_values s (x ∷ v) ∙ whole) (length-mapped_after s _ ys ∙ last))
+    (pieces_of-push s.block_size positive (mapped_values s (x ∷ v)) (mapped_after s (last_sample (x ∷ v)) ys) k
+    (length-mapped_values s (x ∷ v) ∙ whole) (length-mapped_after s _ ys ∙ last))
     ∙ (with_reference-push (reference_of s (x ∷ v)) (pieces_of s.block_size (mapped_values s (x ∷ v))) (mapped_after s (last_sample (x ∷ v)) ys)
     (pieces_of-some s.block_size (mapped_values s (x ∷ v)) positive (omega (arith, length-mapped_values s (x ∷ v))))
-    ∙ ap (λ filled. with_reference (reference_of s (x ∷ v)) (pieces_of s.block_size (mapped_values s filled)) ++ (record { reference = None; values = mapped_after s (last_sample (x ∷ v)) ys }) ∷ [])
+    ∙ ap (λ filled. with_reference (reference_of s (x ∷ v)) (pieces_of s.block_size (mapped_values s filled))
+    ++ (record { reference = None; values = mapped_after s (last_sample (x ∷ v)) ys }) ∷ [])
     (sym (filled_samples-whole s (x ∷ v) positive k whole)))))
 
 -- one block by itself
-pub blocks_of-one : (s : Settings) (ys : List ℤ) → 0 < s.block_size → length ys ≡ s.block_size → blocks_of s ys ≡ (record { reference = reference_of s ys; values = mapped_values s ys }) ∷ []
+pub blocks_of-one : (s : Settings) (ys : List ℤ) → 0 < s.block_size → length ys ≡ s.block_size
+    → blocks_of s ys ≡ (record { reference = reference_of s ys; values = mapped_values s ys }) ∷ []
 blocks_of-one s ys positive last =
-    ap (λ filled. with_reference (reference_of s ys) (pieces_of s.block_size (mapped_values s filled))) (filled_samples-whole s ys positive 1 (last ∙ sym (one-mul s.block_size)))
-    ∙ ap (with_reference (reference_of s ys)) (pieces_of-one s.block_size (mapped_values s ys) (omega (arith, length-mapped_values s ys)) (omega (arith, length-mapped_values s ys)))
+    ap (λ filled. with_reference (reference_of s ys) (pieces_of s.block_size (mapped_values s filled)))
+    (filled_samples-whole s ys positive 1 (last ∙ sym (one-mul s.block_size)))
+    ∙ ap (with_reference (reference_of s ys))
+    (pieces_of-one s.block_size (mapped_values s ys) (omega (arith, length-mapped_values s ys)) (omega (arith, length-mapped_values s ys)))
 
 -- ---- all intervals
 
-pub all_blocks_of-cons : (s : Settings) (front rest : List ℤ) → IsPieceBefore (interval_len s) front rest → all_blocks_of s (front ++ rest) ≡ blocks_of s front ++ all_blocks_of s rest
+pub all_blocks_of-cons : (s : Settings) (front rest : List ℤ) → IsPieceBefore (interval_len s) front rest
+    → all_blocks_of s (front ++ rest) ≡ blocks_of s front ++ all_blocks_of s rest
 all_blocks_of-cons s front rest piece = ap (flat_map (blocks_of s)) (pieces_of-cons (interval_len s) front rest piece)
 
 pub all_blocks_of-one : (s : Settings) (v : List ℤ) → 0 < length v → length v ≤ interval_len s → all_blocks_of s v ≡ blocks_of s v
@@ -108,9 +116,11 @@ last_sample-append xs [] some = absurd (omega arith)
 last_sample-append xs (y ∷ ys) some = ap (λ o. unwrap_or o (pos 0)) (last_or-append None xs (y ∷ ys))
 
 -- the block that comes next depends on the rest behind whole intervals alone
-pub next_block_of-rest : (s : Settings) (front rest ys : List ℤ) → 0 < interval_len s → length front ≡ interval_len s → next_block_of s (front ++ rest) ys ≡ next_block_of s rest ys
+pub next_block_of-rest : (s : Settings) (front rest ys : List ℤ) → 0 < interval_len s → length front ≡ interval_len s
+    → next_block_of s (front ++ rest) ys ≡ next_block_of s rest ys
 next_block_of-rest s front [] ys positive full =
-    ap (λ n. next_block_at s (n == 0) (last_sample (front ++ [])) ys) (ap (λ n. n % interval_len s) (ap length (append-nil front) ∙ full) ∙ mod_self (interval_len s))
+    ap (λ n. next_block_at s (n == 0) (last_sample (front ++ [])) ys)
+    (ap (λ n. n % interval_len s) (ap length (append-nil front) ∙ full) ∙ mod_self (interval_len s))
     ∙ ap (λ n. next_block_at s (n == 0) (pos 0) ys) (sym (mod-eq_of_lt positive))
 next_block_of-rest s front (x ∷ rest) ys positive full =
     ap₂ (λ n p. next_block_at s (n == 0) p ys)
@@ -118,10 +128,12 @@ next_block_of-rest s front (x ∷ rest) ys positive full =
     (last_sample-append front (x ∷ rest) (omega arith))
 
 -- at the start of an interval, and within one
-pub next_block_of-first : (s : Settings) (ys : List ℤ) → 0 < interval_len s → next_block_of s [] ys ≡ record { reference = reference_of s ys; values = mapped_values s ys }
+pub next_block_of-first : (s : Settings) (ys : List ℤ) → 0 < interval_len s
+    → next_block_of s [] ys ≡ record { reference = reference_of s ys; values = mapped_values s ys }
 next_block_of-first s ys positive = ap (λ n. next_block_at s (n == 0) (pos 0) ys) (mod-eq_of_lt positive)
 
-pub next_block_of-later : (s : Settings) (v ys : List ℤ) → 0 < length v → length v < interval_len s → next_block_of s v ys ≡ record { reference = None; values = mapped_after s (last_sample v) ys }
+pub next_block_of-later : (s : Settings) (v ys : List ℤ) → 0 < length v → length v < interval_len s
+    → next_block_of s v ys ≡ record { reference = None; values = mapped_after s (last_sample v) ys }
 next_block_of-later s v ys some within =
     ap (λ b. next_block_at s b (last_sample v) ys) (ap (λ n. n == 0) (mod-eq_of_lt within) ∙ ne_eqb (length v) 0 (λ e. absurd (omega arith)))
 
@@ -164,7 +176,8 @@ all_blocks_of-push s xs ys k block interval whole last = by_pieces P (interval_l
     full front rest piece ih is_full k h =
         ap (all_blocks_of s) (append_assoc front rest ys)
         ∙ (all_blocks_of-cons s front (rest ++ ys) (record { some = piece.some; fits = piece.fits; full = λ _. is_full })
-        ∙ (ap (λ bs. blocks_of s front ++ bs) (ih (k - s.interval) (rest_whole s.block_size s.interval k (length front) (length rest) is_full (sym (length-append front rest) ∙ h)))
+        ∙ (ap (λ bs. blocks_of s front ++ bs)
+        (ih (k - s.interval) (rest_whole s.block_size s.interval k (length front) (length rest) is_full (sym (length-append front rest) ∙ h)))
         ∙ (sym (append_assoc (blocks_of s front) (all_blocks_of s rest) (next_block_of s rest ys ∷ []))
         ∙ ap₂ (λ bs b. bs ++ b ∷ []) (sym (all_blocks_of-cons s front rest piece)) (sym (next_block_of-rest s front rest ys positive is_full)))))
 
@@ -176,7 +189,8 @@ all_blocks_of-push s xs ys k block interval whole last = by_pieces P (interval_l
         ∙ ap₂ (λ bs b. bs ++ b ∷ []) (sym (all_blocks_of-one s front some (omega arith))) (sym (next_block_of-later s front ys some short)))
 
     step : (front rest : List ℤ) → IsPieceBefore (interval_len s) front rest → P rest → P (front ++ rest)
-    step front rest piece ih = ⊎_elim (λ short. alone rest piece short) (λ l. full front rest piece ih (omega (arith, piece.fits, l))) (cases_lt (length front) (interval_len s))
+    step front rest piece ih = ⊎_elim (λ short. alone rest piece short) (λ l. full front rest piece ih (omega (arith, piece.fits, l)))
+        (cases_lt (length front) (interval_len s))
       where
         alone : (rest : List ℤ) → IsPieceBefore (interval_len s) front rest → length front < interval_len s → P (front ++ rest)
         alone [] piece short = subst P (sym (append-nil front)) (within front piece.some short)

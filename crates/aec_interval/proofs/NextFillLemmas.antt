@@ -1,6 +1,7 @@
 -- Samples taken back from the values of a block fill that block behind the blocks before.
 use Rattle.std.proofs.Common.{◌≡◌, ℕ, zero, suc, ◌%◌, ◌<◌, ◌^◌, ◌==◌, ◌&&◌, if◌then◌else◌, Bool, true, false, Option, Some, None, ℤ, pos, List, [], ◌∷◌, ◌++◌, length, drop, unwrap_or, refl, sym, ap, ap₂, ◌∙◌, subst, append_assoc, arith, ◌-◌, neg_ℤ, int_le}
 use Rattle.std.proofs.lemmas.Bool.{le-leb}
+use Rattle.std.proofs.lemmas.Bool.Decides.{nat_tests}
 use Rattle.std.specs.List.{AllByRecursion, last_or}
 use Rattle.aec_params.specs.declared.settings.Settings.{Settings}
 use Rattle.aec_params.specs.Params.{IsAllowed, IsHeld, interval_len, sample_pattern}
@@ -10,7 +11,10 @@ use Rattle.aec_params.specs.CodedDataSets.{HasReference}
 use Rattle.aec_params.specs.BlockShapes.{HasReferencePlace}
 use Rattle.aec_params.specs.Reading.{FillBlocks}
 use Rattle.aec_params.proofs.SettingLaws.{block_size-positive, interval-positive}
+use Rattle.aec_params.proofs.ValueLaws.{mapped_value-one_to_one}
+use Rattle.aec_block.specs.Offsets.{sample_offset, top_offset, mapped_offset}
 use Rattle.aec_block.specs.Unmapping.{Unmaps}
+use Rattle.aec_block.proofs.MappingLemmas.{mapped_value-offsets}
 use Rattle.aec_interval.specs.NextBlock.{last_sample, next_block_at, IsNextBlock, FillsNext}
 use Rattle.aec_interval.proofs.NextBlockLemmas.{length-mapped_after}
 use Rattle.aec_interval.proofs.ReadingSteps.{FillBlocks-push}
@@ -43,7 +47,8 @@ pub mapped_values-plain : (s : Settings) (p : ℤ) (xs : List ℤ) → s.preproc
 mapped_values-plain s p [] plain = refl
 mapped_values-plain s p (x ∷ xs) plain =
     ap (λ v. v ∷ mapped_after s x xs)
-    (ap (λ b. if b then 0 else sample_pattern s x) plain ∙ sym (ap (λ b. if b then mapped_value (record s { preprocess = true }) p x else sample_pattern s x) plain))
+    (ap (λ b. if b then 0 else sample_pattern s x) plain
+    ∙ sym (ap (λ b. if b then mapped_value (record s { preprocess = true }) p x else sample_pattern s x) plain))
 
 pub reference_of-plain : (s : Settings) (xs : List ℤ) → s.preprocess ≡ false → reference_of s xs ≡ None
 reference_of-plain s [] plain = refl
@@ -53,12 +58,14 @@ abbrev block_of : Option ℕ → List ℕ → Block
 block_of reference values = record { reference = reference; values = values }
 
 -- a block with no reference
-next_plain : (s : Settings) (at_start : Bool) (p : ℤ) (more : List ℤ) (values : List ℕ) → HasReference s (s.preprocess && at_start) None → mapped_after s p more ≡ values
+next_plain : (s : Settings) (at_start : Bool) (p : ℤ) (more : List ℤ) (values : List ℕ) → HasReference s (s.preprocess && at_start) None
+    → mapped_after s p more ≡ values
     → next_block_at s at_start p more ≡ block_of None values
 next_plain s false p more values none mapped = ap (block_of None) mapped
 next_plain s true p more values none mapped = by_preprocess s.preprocess refl none
   where
-    by_preprocess : (preprocess : Bool) → s.preprocess ≡ preprocess → HasReference s (preprocess && true) None → next_block_at s true p more ≡ block_of None values
+    by_preprocess : (preprocess : Bool) → s.preprocess ≡ preprocess → HasReference s (preprocess && true) None
+        → next_block_at s true p more ≡ block_of None values
     by_preprocess true is none = absurd none
     by_preprocess false is none = ap₂ block_of (reference_of-plain s more is) (mapped_values-plain s p more is ∙ mapped)
 
@@ -66,37 +73,71 @@ pub fills_plain : (s : Settings) (old new : List ℤ) (values : List ℕ) → Is
     → Unmaps s (last_sample old) values old new → FillsNext s old new ((record { reference = None; values = values }) ∷ [])
 fills_plain s old new values allowed next unmaps blocks filled =
     subst (λ samples. FillBlocks s samples (blocks ++ (record { reference = None; values = values }) ∷ [])) (sym unmaps.appended)
-    (FillBlocks-push s old unmaps.more blocks (record { reference = None; values = values }) (block_size-positive s allowed) (interval-positive s allowed) filled unmaps.held
+    (FillBlocks-push s old unmaps.more blocks (record { reference = None; values = values }) (block_size-positive s allowed)
+    (interval-positive s allowed) filled unmaps.held
     (sym (length-mapped_after s (last_sample old) unmaps.more) ∙ (ap length unmaps.mapped ∙ next.count))
     (next_plain s (length old % interval_len s == 0) (last_sample old) unmaps.more values next.reference unmaps.mapped))
 
 -- a block that begins with a reference sample
 next_reference : (s : Settings) (at_start : Bool) (r : ℕ) (x : ℤ) (more : List ℤ) (values : List ℕ) (p : ℤ) → HasReference s (s.preprocess && at_start) (Some r)
-    → HasReferencePlace (Some r) values → sample_pattern s x ≡ r → mapped_after s x more ≡ drop 1 values → next_block_at s at_start p (x ∷ more) ≡ block_of (Some r) values
+    → HasReferencePlace (Some r) values → sample_pattern s x ≡ r → mapped_after s x more ≡ drop 1 values
+    → next_block_at s at_start p (x ∷ more) ≡ block_of (Some r) values
 next_reference s at_start r x more values p has placed pattern mapped = by_tests s.preprocess at_start refl has
   where
-    by_tests : (preprocess at_start : Bool) → s.preprocess ≡ preprocess → HasReference s (preprocess && at_start) (Some r) → next_block_at s at_start p (x ∷ more) ≡ block_of (Some r) values
+    by_tests : (preprocess at_start : Bool) → s.preprocess ≡ preprocess → HasReference s (preprocess && at_start) (Some r)
+        → next_block_at s at_start p (x ∷ more) ≡ block_of (Some r) values
     by_tests false at_start is has = absurd has
     by_tests true false is has = absurd has
     by_tests true true is has =
         ap₂ block_of (ap (λ b. if b then Some (sample_pattern s x) else None) is ∙ ap Some pattern)
         (ap₂ (λ b later. (if b then 0 else sample_pattern s x) ∷ later) is mapped ∙ sym placed)
 
-pub fills_reference : (s : Settings) (old new : List ℤ) (r : ℕ) (values : List ℕ) (x : ℤ) → IsAllowed s → IsNextBlock s old (record { reference = Some r; values = values })
-    → IsHeld s x → sample_pattern s x ≡ r → Unmaps s x (drop 1 values) (old ++ x ∷ []) new → FillsNext s old new ((record { reference = Some r; values = values }) ∷ [])
+pub fills_reference : (s : Settings) (old new : List ℤ) (r : ℕ) (values : List ℕ) (x : ℤ) → IsAllowed s
+    → IsNextBlock s old (record { reference = Some r; values = values })
+    → IsHeld s x → sample_pattern s x ≡ r → Unmaps s x (drop 1 values) (old ++ x ∷ []) new
+    → FillsNext s old new ((record { reference = Some r; values = values }) ∷ [])
 fills_reference s old new r values x allowed next held pattern unmaps blocks filled =
-    subst (λ samples. FillBlocks s samples (blocks ++ (record { reference = Some r; values = values }) ∷ [])) (sym (unmaps.appended ∙ append_assoc old (x ∷ []) unmaps.more))
-    (FillBlocks-push s old (x ∷ unmaps.more) blocks (record { reference = Some r; values = values }) (block_size-positive s allowed) (interval-positive s allowed) filled (held, unmaps.held) (ap suc (sym (length-mapped_after s x unmaps.more) ∙ ap length unmaps.mapped) ∙ (ap length (sym next.place) ∙ next.count))
+    subst (λ samples. FillBlocks s samples (blocks ++ (record { reference = Some r; values = values }) ∷ []))
+    (sym (unmaps.appended ∙ append_assoc old (x ∷ []) unmaps.more))
+    (FillBlocks-push s old (x ∷ unmaps.more) blocks (record { reference = Some r; values = values }) (block_size-positive s allowed)
+    (interval-positive s allowed) filled (held, unmaps.held)
+    (ap suc (sym (length-mapped_after s x unmaps.more) ∙ ap length unmaps.mapped) ∙ (ap length (sym next.place) ∙ next.count))
     (next_reference s (length old % interval_len s == 0) r x unmaps.more values (last_sample old) next.reference next.place pattern unmaps.mapped))
+
+-- a sample at its own prediction
+pub mapped_value-self : (s : Settings) (x : ℤ) → IsAllowed s → s.preprocess ≡ true → IsHeld s x → mapped_value s x x ≡ 0
+mapped_value-self s x allowed on held = mapped_value-offsets s x x allowed on held held ∙ at_itself (top_offset s) (sample_offset s x)
+  where
+    at_itself : (top a : ℕ) → mapped_offset top a a ≡ 0
+    at_itself top a = grind (arith, nat_tests)
+
+-- 0 is coded for the prediction alone: where it stands in the reference place, the reference sample
+-- comes first
+unmaps-reference_place : (s : Settings) (x : ℤ) (values : List ℕ) (old new : List ℤ) → IsAllowed s → s.preprocess ≡ true → IsHeld s x
+    → values ≡ 0 ∷ drop 1 values → Unmaps s x values old new → Unmaps s x (drop 1 values) (old ++ x ∷ []) new
+unmaps-reference_place s x values old new allowed on held placed unmaps =
+    by_samples unmaps.more unmaps.appended unmaps.held (unmaps.mapped ∙ placed)
+  where
+    by_samples : (more : List ℤ) → new ≡ old ++ more → AllByRecursion (IsHeld s) more → mapped_after s x more ≡ 0 ∷ drop 1 values
+        → Unmaps s x (drop 1 values) (old ++ x ∷ []) new
+    by_samples [] appended all mapped = absurd (cc)
+    by_samples (y ∷ ys) appended all mapped =
+        let both : mapped_value s x y ∷ mapped_after s y ys ≡ 0 ∷ drop 1 values = mapped in
+        let none : mapped_value s x y ≡ 0 = cc in
+        let later : mapped_after s y ys ≡ drop 1 values = cc in
+        let same : y ≡ x = mapped_value-one_to_one s x y x allowed held all.0 held (none ∙ sym (mapped_value-self s x allowed on held)) in
+        record {
+          more = ys;
+          appended = appended ∙ (ap (λ z. old ++ z ∷ ys) same ∙ sym (append_assoc old (x ∷ []) ys));
+          held = all.1;
+          mapped = ap (λ z. mapped_after s z ys) (sym same) ∙ later;
+        }
 
 -- ---- in the form in which the code has the facts
 
-pub values-below : (s : Settings) (b : Block) (old : List ℤ) (values : List ℕ) → IsNextBlock s old b → values ≡ b.values → AllByRecursion (λ v. v < 2 ^ s.bits) values
+pub values-below : (s : Settings) (b : Block) (old : List ℤ) (values : List ℕ) → IsNextBlock s old b → values ≡ b.values
+    → AllByRecursion (λ v. v < 2 ^ s.bits) values
 values-below s b old values next e = subst (λ values. AllByRecursion (λ v. v < 2 ^ s.bits) values) (sym e) next.below
-
-pub all-tail : {X : Type 0} (P : X → Type 0) (xs : List X) → AllByRecursion P xs → AllByRecursion P (drop 1 xs)
-all-tail P [] all = tt
-all-tail P (x ∷ xs) all = all.1
 
 pub fills_block_plain : (s : Settings) (old new : List ℤ) (b : Block) (p : ℤ) (values : List ℕ) → IsAllowed s → IsNextBlock s old b → b.reference ≡ None
     → p ≡ last_sample old → values ≡ b.values → Unmaps s p values old new → FillsNext s old new (b ∷ [])
@@ -108,13 +149,18 @@ fills_block_plain s old new b p values allowed next none previous is_values unma
     by_reference None e next unmaps = fills_plain s old new b.values allowed next unmaps
     by_reference (Some q) e next unmaps = absurd (cc)
 
-pub fills_block_reference : (s : Settings) (old mid new : List ℤ) (b : Block) (q : ℕ) (x : ℤ) (values : List ℕ) → IsAllowed s → IsNextBlock s old b
-    → b.reference ≡ Some q → IsHeld s x → sample_pattern s x ≡ q → values ≡ drop 1 b.values → mid ≡ old ++ x ∷ []
-    → Unmaps s x values mid new → FillsNext s old new (b ∷ [])
-fills_block_reference s old mid new b q x values allowed next some held pattern is_values pushed unmaps =
-    by_reference b.reference some next (subst (λ mid. Unmaps s x (drop 1 b.values) mid new) pushed (subst (λ vs. Unmaps s x vs mid new) is_values unmaps))
+pub fills_block_reference : (s : Settings) (old new : List ℤ) (b : Block) (q : ℕ) (x : ℤ) (values : List ℕ) → IsAllowed s → IsNextBlock s old b
+    → b.reference ≡ Some q → IsHeld s x → sample_pattern s x ≡ q → values ≡ b.values → Unmaps s x values old new → FillsNext s old new (b ∷ [])
+fills_block_reference s old new b q x values allowed next some held pattern is_values unmaps =
+    by_reference b.reference some next (subst (λ vs. Unmaps s x vs old new) is_values unmaps)
   where
-    by_reference : (reference : Option ℕ) → reference ≡ Some q → IsNextBlock s old (block_of reference b.values) → Unmaps s x (drop 1 b.values) (old ++ x ∷ []) new
+    on : (preprocess at_start : Bool) (r : ℕ) → HasReference s (preprocess && at_start) (Some r) → preprocess ≡ true
+    on true at_start r has = refl
+    on false at_start r has = absurd has
+
+    by_reference : (reference : Option ℕ) → reference ≡ Some q → IsNextBlock s old (block_of reference b.values) → Unmaps s x b.values old new
         → FillsNext s old new (block_of reference b.values ∷ [])
     by_reference None e next unmaps = absurd (cc)
-    by_reference (Some u) e next unmaps = fills_reference s old new u b.values x allowed next held (pattern ∙ (cc)) unmaps
+    by_reference (Some u) e next unmaps =
+        fills_reference s old new u b.values x allowed next held (pattern ∙ (cc))
+        (unmaps-reference_place s x b.values old new allowed (on s.preprocess (length old % interval_len s == 0) u next.reference) held next.place unmaps)

@@ -27,7 +27,8 @@ single_next s i samples reference body b allowed filled shape small one is =
     next_in_place s i samples b allowed filled (subst (AreBlocksFrom s i) is at).0
 
 -- the front of a run's blocks
-pub run_front : (s : Settings) (reference : Option ℕ) (z k : ℕ) → 1 ≤ k → k ≤ z → take k (zero_block s reference ∷ replicate (z - 1) (zero_block s None)) ≡ run_blocks s reference k
+pub run_front : (s : Settings) (reference : Option ℕ) (z k : ℕ) → 1 ≤ k → k ≤ z
+    → take k (zero_block s reference ∷ replicate (z - 1) (zero_block s None)) ≡ run_blocks s reference k
 run_front s reference z zero some within = absurd (omega arith)
 run_front s reference zero (suc k) some within = absurd (omega arith)
 run_front s reference (suc z) (suc k) some within =

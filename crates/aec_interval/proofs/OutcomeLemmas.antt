@@ -118,7 +118,8 @@ module _ (s : Settings) (a : IsAllowed s) (count : Option ℕ) (limit : ℕ) (bi
       (cases_Bool (has_small_values s c))
 
   -- the outcome at a place, from the outcomes behind what stands there
-  step : (i b : ℕ) → ((c : CodedDataSet) → IsSetAt s (is_reference_block s (i % s.interval)) bits b c → Outcome (next_block s i c) (next_begin s bits i b c)) → Outcome i b
+  step : (i b : ℕ) → ((c : CodedDataSet) → IsSetAt s (is_reference_block s (i % s.interval)) bits b c
+      → Outcome (next_block s i c) (next_begin s bits i b c)) → Outcome i b
   step i b later = ⊎_elim wanted (finished i b) (cases_Bool (is_wanted s count bits i b))
     where
       wanted : is_wanted s count bits i b ≡ true → Outcome i b

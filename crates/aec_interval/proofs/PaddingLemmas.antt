@@ -13,7 +13,8 @@ pub binary-zeros : (w : ℕ) → binary w 0 ≡ replicate w false
 binary-zeros zero = refl
 binary-zeros (suc w) = ap (λ l. (0 / 2 ^ w % 2 == 1) ∷ l) (binary-zeros w) ∙ ap (λ n. (n % 2 == 1) ∷ replicate w false) (zero-div (2 ^ w))
 
-pub interval-padded : (s : Settings) (v : List ℤ) (old mid new : List Bool) (n m : ℕ) → s.pad ≡ true → n ≡ length mid → m ≡ length old → mid ≡ old ++ unpadded_bits s v
+pub interval-padded : (s : Settings) (v : List ℤ) (old mid new : List Bool) (n m : ℕ) → s.pad ≡ true → n ≡ length mid → m ≡ length old
+    → mid ≡ old ++ unpadded_bits s v
     → new ≡ mid ++ binary ((8 - (n - m) % 8) % 8) 0 → new ≡ old ++ interval_bits s v
 interval-padded s v old mid new n m pad e f front written =
     written ∙ ap (λ k. mid ++ binary ((8 - k % 8) % 8) 0) len

@@ -5,7 +5,7 @@ use Rattle.std.proofs.lemmas.List.{take_at}
 use Rattle.aec_params.specs.declared.settings.Settings.{Settings}
 use Rattle.aec_params.specs.CodedDataSets.{cds_bits}
 use Rattle.aec_params.specs.Intervals.{group_sets}
-use Rattle.aec_interval.specs.declared.writing_runs.Run.{Run}
+use Rattle.aec_interval.specs.declared.interval.zero_runs.Run.{Run}
 use Rattle.aec_interval.specs.Pending.{with_run, pending_bits, bits_of_run, IsKept}
 
 bits-run_alone : (s : Settings) (reference : Option ℕ) (z : ℕ) → flat_map (cds_bits s) (group_sets s (with_run reference z [])) ≡ bits_of_run s reference z true

@@ -98,7 +98,8 @@ FillBlocks-front s i samples bs cs a begins count filled = record {
     blocks = length-all_blocks_of s a front ∙ ap (λ n. div_ceil n s.block_size) len ∙ div_ceil-times i s.block_size (block_size-positive s a)
 
     together : all_blocks_of s front ++ all_blocks_of s back ≡ bs ++ cs
-    together = sym (all_blocks_of-append s (i / s.interval) front back a (whole_intervals s i (length front) begins len)) ∙ (ap (all_blocks_of s) cut ∙ filled.mapped)
+    together = sym (all_blocks_of-append s (i / s.interval) front back a (whole_intervals s i (length front) begins len))
+        ∙ (ap (all_blocks_of s) cut ∙ filled.mapped)
 
 -- ---- samples that are asked for
 
@@ -189,7 +190,8 @@ module _ (s : Settings) (a : IsAllowed s) (count : Option ℕ) (limit : ℕ) (bi
     xs-len : length xs ≡ i * s.block_size
     xs-len = ap length xs-all ∙ all-len
 
-    counted-behind : (count : Option ℕ) (more : List ℤ) → is_wanted s count bits i b ≡ true → xs ++ counted_from s count i more ≡ counted_samples count (xs ++ more)
+    counted-behind : (count : Option ℕ) (more : List ℤ) → is_wanted s count bits i b ≡ true
+        → xs ++ counted_from s count i more ≡ counted_samples count (xs ++ more)
     counted-behind None more wanted = refl
     counted-behind (Some n) more wanted =
         let below = before_count s n i a (ltb-true i (div_ceil n s.block_size) wanted) in
@@ -207,7 +209,8 @@ module _ (s : Settings) (a : IsAllowed s) (count : Option ℕ) (limit : ℕ) (bi
         filled = subst (FillBlocks s (xs ++ piece.all_samples))
             (sym (ap (kept_blocks s count 0) (stream_blocks-append s count limit bits 0 0 read.sets i b piece.sets read.leads)
             ∙ kept_blocks-append s count bits 0 i b before (stream_blocks s i piece.sets) (omega (arith, before-count)) wanted))
-            (FillBlocks-append s (i / s.interval) xs piece.all_samples before (kept_blocks s count i (stream_blocks s i piece.sets)) a intervals xs-filled piece.filled);
+            (FillBlocks-append s (i / s.interval) xs piece.all_samples before
+            (kept_blocks s count i (stream_blocks s i piece.sets)) a intervals xs-filled piece.filled);
         counted = ap (λ ys. xs ++ ys) piece.counted ∙ counted-behind count piece.all_samples wanted ∙ sym (counted-start s count (xs ++ piece.all_samples));
         same = refl;
       })
@@ -278,7 +281,8 @@ has_read_refused p xs fault a read refuses =
     refusal-of_all p.settings a p.count p.limit p.bits p.block p.bit xs read fault (up_to-reading _ _ _ _ _ _ _ _ refuses)
 
 -- the second time only memory can be missing
-pub lacks_memory_only : (p : Place) (xs samples : List ℤ) (fault : Fault) → IsAllowed p.settings → HasRead p xs → IsReading p.settings p.count p.limit p.bits samples
+pub lacks_memory_only : (p : Place) (xs samples : List ℤ) (fault : Fault) → IsAllowed p.settings → HasRead p xs
+    → IsReading p.settings p.count p.limit p.bits samples
     → RefusesAt p fault → fault ≡ Memory
 lacks_memory_only p xs samples fault a read whole refuses =
     memory-only p.settings a p.count p.limit p.bits p.block p.bit xs read samples fault whole (up_to-reading _ _ _ _ _ _ _ _ refuses)

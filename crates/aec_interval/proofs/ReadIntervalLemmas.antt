@@ -1,5 +1,5 @@
 -- One interval read from its start: how far it comes, and how much room its samples take.
-use Rattle.std.proofs.Common.{◌≡◌, ℕ, Bool, true, false, Option, ◌&&◌, nat_lt, List, refl, ◌+◌, ◌-◌, ◌*◌, ◌/◌, ◌%◌, ◌<◌, ◌≤◌, sym, ap, ◌∙◌, subst, arith, Result, IfErr}
+use Rattle.std.proofs.Common.{max, ◌≡◌, ℕ, Bool, true, false, Option, ◌&&◌, nat_lt, List, refl, ◌+◌, ◌-◌, ◌*◌, ◌/◌, ◌%◌, ◌<◌, ◌≤◌, ◌^◌, sym, ap, ◌∙◌, subst, arith, Result, IfErr}
 use Rattle.std.proofs.Math.Nat.{mul-le-mul_right, add-mul-mod_self_right}
 use Rattle.std.proofs.lemmas.Nat.{div-add-mod', mod-mul-add}
 use Rattle.std.proofs.lemmas.Bool.{ltb-false}
@@ -33,6 +33,9 @@ no_room s first i len capacity aligned after below few full =
     both_parts : (d e r j : ℕ) → d + e ≡ r → d * j + e * j ≡ j * r
     both_parts d e r j is = omega (arith, ap (λ n. j * n) is)
 
+both_parts : (d e n j : ℕ) → d + e ≡ n → d * j + e * j ≡ n * j
+both_parts d e n j is = omega (arith, ap (λ n. n * j) is)
+
 -- an interval that begins at block `first` and ends at block `end` was gone over up to block i at
 -- position b, where more is wanted
 pub record IsInside (s : Settings) (count : Option ℕ) (limit : ℕ) (bits : List Bool) (first i b end : ℕ) : Type 0 where
@@ -65,6 +68,22 @@ module _ (s : Settings) (count : Option ℕ) (limit : ℕ) (bits : List Bool) (f
   by_its_end P r fault list same exit refuses =
       let ends : i + blocks_before_end s i ≡ first + s.interval = omega (arith, place, inside.after, before_end) in
       of_refusal r (P bits (first + s.interval)) fault exit (subst (λ e. P bits e fault) ends (subst (λ l. P l (i + blocks_before_end s i) fault) same refuses))
+
+  -- plain blocks behind a coded data set are no further on than where the interval ends
+  module _ (behind next : ℕ) (to : ComesNext s i behind) (after : behind ≤ next) (most : next ≤ max behind end) where
+    pub comes-further : next < 2 ^ 34 → ComesNext s i next
+    comes-further few = record {
+      forward = omega (arith, to.forward, after);
+      within = omega (arith, place, inside.after, before_end, inside.end_is, to.within, most);
+      few = few;
+    }
+
+    pub len-further : (old len new : ℕ) → len ≤ old + (behind - i) * s.block_size → new ≤ len + (next - behind) * s.block_size
+        → new ≤ old + (next - i) * s.block_size
+    len-further old len new few more =
+        let both : (behind - i) * s.block_size + (next - behind) * s.block_size ≡ (next - i) * s.block_size =
+        both_parts (behind - i) (next - behind) (next - i) s.block_size (omega (arith, to.forward, after)) in
+        omega (arith, both, few, more)
 
   -- a coded data set before the end of an interval ends in it
   module _ (next : ℕ) (further : ComesNext s i next) where
@@ -100,6 +119,3 @@ module _ (s : Settings) (count : Option ℕ) (limit : ℕ) (bits : List Bool) (f
         let most : (next - first) * s.block_size ≤ s.interval * s.block_size =
         mul-le-mul_right s.block_size (omega (arith, next-within)) in
         (omega (arith, both, few, more), omega (arith, both, few, more, most))
-      where
-        both_parts : (d e n j : ℕ) → d + e ≡ n → d * j + e * j ≡ n * j
-        both_parts d e n j is = omega (arith, ap (λ n. n * j) is)

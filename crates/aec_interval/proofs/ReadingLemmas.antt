@@ -16,7 +16,8 @@ use Rattle.aec_params.specs.Faults.{IsFault}
 use Rattle.aec_params.proofs.ReadingLaws.{FillBlocks-one_to_one, IsReading-of_blocks}
 use Rattle.aec_interval.specs.Laws.{BitsAreReadInOneWay, ReadingsAreSamples}
 use Rattle.aec_interval.proofs.CuttingLemmas.{div_ceil-bounds}
-use Rattle.aec_interval.proofs.BlockLemmas.{all_left, block_size-positive}
+use Rattle.aec_params.proofs.SettingLaws.{block_size-positive}
+use Rattle.aec_interval.proofs.BlockLemmas.{all_left}
 use Rattle.aec_interval.proofs.PlaceLemmas.{length-cds_blocks}
 use Rattle.aec_interval.proofs.WalkLemmas.{same_blocks, one_fault, no_reading_and_fault}
 use Rattle.aec_interval.proofs.OutcomeLemmas.{outcome}

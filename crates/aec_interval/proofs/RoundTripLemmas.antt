@@ -16,7 +16,8 @@ use Rattle.aec_params.specs.Streams.{stream_of}
 use Rattle.aec_params.specs.Reading.{IsBlockReading, FillBlocks, IsReading}
 use Rattle.aec_interval.specs.Laws.{ReadsEach}
 use Rattle.aec_interval.proofs.CuttingLemmas.{IsPieceBefore, by_pieces, div_ceil-zero}
-use Rattle.aec_interval.proofs.BlockLemmas.{all-filled_samples, length-filled_samples, length-blocks_of, blocks-few, block_size-positive}
+use Rattle.aec_params.proofs.SettingLaws.{block_size-positive}
+use Rattle.aec_interval.proofs.BlockLemmas.{all-filled_samples, length-filled_samples, length-blocks_of, blocks-few}
 use Rattle.aec_interval.proofs.StreamLemmas.{padded_code, no_padding, walk_of, stream_of-codes, ReadsEach-unpadded_bits, interval_len-positive, length-full_blocks, div_ceil-interval, all_blocks_of-nil, all_blocks_of-one, all_blocks_of-cons}
 
 -- ---- how many blocks there are

@@ -9,7 +9,7 @@ use Rattle.aec_params.specs.declared.settings.Settings.{Settings}
 use Rattle.aec_params.specs.Params.{IsHeld}
 use Rattle.aec_params.specs.Blocks.{Block}
 use Rattle.aec_params.specs.Intervals.{unpadded_bits}
-use Rattle.aec_interval.specs.declared.writing_runs.Run.{Run}
+use Rattle.aec_interval.specs.declared.interval.zero_runs.Run.{Run}
 use Rattle.aec_interval.specs.Chunks.{block_after, blocks_after, HoldsPrevious, AreSamplesAfter}
 use Rattle.aec_interval.specs.Pending.{pending_bits, segment_bits, bits_of_run, IsRun, IsKept}
 use Rattle.aec_interval.proofs.CuttingLemmas.{IsPieceBefore}
@@ -23,7 +23,8 @@ pub nothing_left : {X : Type 0} (xs : List X) → length xs ≡ 0 → xs ≡ []
 nothing_left xs h = nil_from_length xs h
 
 -- what a loop over pieces of n takes is a piece
-pub piece_taken : {X : Type 0} (n : ℕ) (whole front rest : List X) → 0 < n → whole ≡ front ++ rest → length front ≡ min n (length whole) → 0 < length whole → IsPieceBefore n front rest
+pub piece_taken : {X : Type 0} (n : ℕ) (whole front rest : List X) → 0 < n → whole ≡ front ++ rest → length front ≡ min n (length whole)
+    → 0 < length whole → IsPieceBefore n front rest
 piece_taken n whole front rest h e len some =
     let sum = ap length e ∙ length-append front rest in
     record { some = omega arith; fits = omega arith; full = λ more. omega arith }
@@ -86,7 +87,12 @@ next_chunk s old new whole o run rest chunk later h m e len some =
     let piece = piece_taken s.block_size rest chunk later h e len some in
     record {
       some = piece.some;
-      samples = record { previous_held = m.previous_held; held = all_left (IsHeld s) chunk later (subst (AllByRecursion (IsHeld s)) e m.held); few = omega (arith, piece.fits) };
+      samples = record {
+        previous_held = m.previous_held;
+        held = all_left (IsHeld s) chunk later (subst (AllByRecursion (IsHeld s)) e m.held);
+        few =
+            omega (arith, piece.fits);
+      };
       is_run = record { few = room_for_run s.block_size run.blocks (length rest) some m.few m.is_run.few; reference = m.is_run.reference };
       piece = piece;
     }
@@ -97,7 +103,8 @@ less_room n y z m k few full next most e =
     let grown = mul-le-mul_left {m = 63 - z} {n = 64 - y} n (omega arith) in
     omega (arith, ap (λ i. n * i) step)
 
-rest_fits : (s : Settings) (next run : Run) (rest chunk later : List ℤ) → length rest ≤ s.block_size * (64 - run.blocks) → run.blocks ≤ 63 → next.blocks ≤ run.blocks + 1
+rest_fits : (s : Settings) (next run : Run) (rest chunk later : List ℤ) → length rest ≤ s.block_size * (64 - run.blocks) → run.blocks ≤ 63
+    → next.blocks ≤ run.blocks + 1
     → IsPieceBefore s.block_size chunk later → rest ≡ chunk ++ later → length later ≤ s.block_size * (64 - next.blocks)
 rest_fits s next run rest chunk [] few most more piece e = omega arith
 rest_fits s next run rest chunk (y ∷ later) few most more piece e =
@@ -129,7 +136,8 @@ segment-more s old new newer whole o p run next rest chunk later h m n e last is
 pub segment-end : (s : Settings) (old new newer whole : List Bool) (o : Option ℤ) (run : Run) (rest : List ℤ) → 0 < s.block_size → length rest ≡ 0
     → SegmentSoFar s old new whole o run rest → newer ≡ new ++ bits_of_run s run.reference run.blocks true → newer ≡ old ++ whole
 segment-end s old new newer whole o run rest h none m written =
-    written ∙ ap (λ l. new ++ l) (sym (pending-end s run) ∙ ap (pending_bits s run) (sym (ap (blocks_after s o) (nothing_left rest none) ∙ blocks_after-nil s o h)))
+    written ∙ ap (λ l. new ++ l) (sym (pending-end s run)
+    ∙ ap (pending_bits s run) (sym (ap (blocks_after s o) (nothing_left rest none) ∙ blocks_after-nil s o h)))
     ∙ m.bits
 
 -- ---- the segments of an interval
@@ -143,7 +151,8 @@ pub record IntervalSoFar (s : Settings) (old new whole : List Bool) (o : Option 
 pub interval-begun : (s : Settings) (old : List Bool) (v : List ℤ) → AllByRecursion (IsHeld s) v → IntervalSoFar s old old (unpadded_bits s v) None v
 interval-begun s old v h = record { previous_held = tt; held = h; bits = refl; kept = kept-self old }
 
-pub segment_samples : (s : Settings) (old new whole : List Bool) (o : Option ℤ) (rest front later : List ℤ) → IntervalSoFar s old new whole o rest → rest ≡ front ++ later
+pub segment_samples : (s : Settings) (old new whole : List Bool) (o : Option ℤ) (rest front later : List ℤ) → IntervalSoFar s old new whole o rest
+    → rest ≡ front ++ later
     → IsPieceBefore (s.block_size * 64) front later → AreSamplesAfter s o 64 front
 segment_samples s old new whole o rest front later m e piece =
     record { previous_held = m.previous_held; held = all_left (IsHeld s) front later (subst (AllByRecursion (IsHeld s)) e m.held); few = piece.fits }

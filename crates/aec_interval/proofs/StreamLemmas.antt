@@ -17,7 +17,8 @@ use Rattle.aec_params.specs.Streams.{stream_of}
 use Rattle.aec_params.specs.Reading.{covered_blocks, ReadsBlocks, begin_of, LeadsTo, stream_blocks}
 use Rattle.aec_interval.specs.Laws.{ReadsEach}
 use Rattle.aec_interval.proofs.CuttingLemmas.{IsPieceBefore, by_pieces, pieces_of-nil, pieces_of-cons, pieces_of-one, div_ceil-zero, div_ceil-positive, div_ceil-times}
-use Rattle.aec_interval.proofs.BlockLemmas.{all_left, all_right, length-blocks_of, blocks-few, block_size-positive}
+use Rattle.aec_params.proofs.SettingLaws.{block_size-positive}
+use Rattle.aec_interval.proofs.BlockLemmas.{all_left, all_right, length-blocks_of, blocks-few}
 use Rattle.aec_interval.proofs.IntervalLemmas.{ReadsBlocks-unpadded_bits}
 use Rattle.aec_interval.proofs.PlaceLemmas.{end_of, end_of-reaches, end_of-within, length-covered_blocks, stream_blocks-covered, LeadsTo-append, stream_blocks-append, LeadsTo-interval}
 pub use Rattle.aec_params.proofs.SettingLaws.{interval-positive}

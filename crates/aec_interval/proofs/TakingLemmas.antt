@@ -8,13 +8,13 @@ use Rattle.aec_params.specs.declared.settings.Settings.{Settings}
 use Rattle.aec_params.specs.declared.fault.Fault.{Fault}
 use Rattle.aec_params.specs.declared.fault.Fault.TheVariants.{SampleRange, TooManySamples}
 use Rattle.aec_params.specs.Stored.{number_in, sample_of_number, sample_before, samples_of_groups, samples_of_bytes, byte_groups}
-use Rattle.aec_interval.specs.Taking.{Taken, in_range, judged_sample, taken_before, taken_groups, judged_samples}
+use Rattle.aec_interval.specs.Taking.{TakenSamples, in_range, judged_sample, taken_before, taken_groups, judged_samples}
 
 -- what is taken behind samples of which none was refused
-abbrev pub taken_behind : Taken → Taken → Taken
+abbrev pub taken_behind : TakenSamples → TakenSamples → TakenSamples
 taken_behind first later = record { samples = first.samples ++ later.samples; refusal = later.refusal }
 
-behind_step : (o : Result ℤ Fault) (i j : ℕ) (later all more : Taken) → (taken_before o later).refusal ≡ None
+behind_step : (o : Result ℤ Fault) (i j : ℕ) (later all more : TakenSamples) → (taken_before o later).refusal ≡ None
     → j ≡ i + length (taken_before o later).samples → (later.refusal ≡ None → j ≡ i + 1 + length later.samples → all ≡ taken_behind later more)
     → taken_before o all ≡ taken_behind (taken_before o later) more
 behind_step (Ok x) i j later all more none count ih = ap (taken_before (Ok x)) (ih none (omega arith))
@@ -28,7 +28,7 @@ taken_groups-append s limit i j (g ∷ gs) hs none count =
     behind_step (judged_sample s limit i g) i j (taken_groups s limit (i + 1) gs) (taken_groups s limit (i + 1) (gs ++ hs)) (taken_groups s limit j hs) none
     count (λ later n. taken_groups-append s limit (i + 1) j gs hs later n)
 
-refused_step : (o : Result ℤ Fault) (fault : Fault) (later all : Taken) → (taken_before o later).refusal ≡ Some fault
+refused_step : (o : Result ℤ Fault) (fault : Fault) (later all : TakenSamples) → (taken_before o later).refusal ≡ Some fault
     → (later.refusal ≡ Some fault → all ≡ later) → taken_before o all ≡ taken_before o later
 refused_step (Ok x) fault later all refusal ih = ap (taken_before (Ok x)) (ih refusal)
 refused_step (Err e) fault later all refusal ih = refl
@@ -43,7 +43,7 @@ taken_groups-refused s limit i (g ∷ gs) hs fault refusal =
 
 -- ---- all samples
 
-all_step : (t : Bool) (o : Option ℤ) (i : ℕ) (f : Fault) (later : Taken) (all : Result (List ℤ) ℕ)
+all_step : (t : Bool) (o : Option ℤ) (i : ℕ) (f : Fault) (later : TakenSamples) (all : Result (List ℤ) ℕ)
     → (taken_before (if t then in_range i o else Err f) later).refusal ≡ None → (later.refusal ≡ None → all ≡ Ok later.samples)
     → sample_before o i all ≡ Ok (taken_before (if t then in_range i o else Err f) later).samples
 all_step true (Some x) i f later all none ih = ap (sample_before (Some x) i) (ih none)
@@ -86,7 +86,7 @@ judged_from limit i (Ok samples) = if nat_lt limit (i + length samples) then Som
 judged_from limit i (Err bad) = Some (if nat_lt bad limit then SampleRange bad else TooManySamples limit)
 
 -- sample i stands below the limit
-judged_below : (o : Option ℤ) (limit i : ℕ) (later : Result (List ℤ) ℕ) (taken : Taken) → i < limit
+judged_below : (o : Option ℤ) (limit i : ℕ) (later : Result (List ℤ) ℕ) (taken : TakenSamples) → i < limit
     → taken.refusal ≡ judged_from limit (i + 1) later
     → (taken_before (in_range i o) taken).refusal ≡ judged_from limit i (sample_before o i later)
 judged_below None limit i later taken below ih =
@@ -181,7 +181,7 @@ length-samples_of_bytes s bytes samples read =
     length-samples s 0 (byte_groups s bytes) samples read ∙ length-groups (storage_len s) (length bytes / storage_len s) bytes
 
 -- samples of which none is refused
-abbrev pub all_taken : List ℤ → Taken
+abbrev pub all_taken : List ℤ → TakenSamples
 all_taken xs = record { samples = xs; refusal = None }
 
 abbrev pub good_of : Result (List ℤ) ℕ → List ℤ

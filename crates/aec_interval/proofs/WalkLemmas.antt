@@ -63,7 +63,8 @@ module _ (s : Settings) (a : IsAllowed s) (count : Option ℕ) (limit : ℕ) (bi
   pub not_wrong : (i b : ℕ) (c : CodedDataSet) (fault : Fault) → StandsAt s bits b c → IsLawfulAt s (i % s.interval) c
       → keeps_limit s count limit (next_block s i c) ≡ true
       → IsWrongAt s count limit bits i b fault → ⊥
-  not_wrong i b c fault x l within (not_read _ none) = read_there (is_reference_block s (i % s.interval)) b c fault (record { shape = l.shape; stands = x }) l.small none
+  not_wrong i b c fault x l within (not_read _ none) =
+      read_there (is_reference_block s (i % s.interval)) b c fault (record { shape = l.shape; stands = x }) l.small none
   not_wrong i b c fault x l within (too_long d at small long) =
       both_ways (stays_in_segment s (i % s.interval) d) long
       (ap (stays_in_segment s (i % s.interval)) (same_set s bits b (is_reference_block s (i % s.interval)) d c a at.shape l.shape at.stands x) ∙ l.within)
@@ -96,7 +97,8 @@ module _ (s : Settings) (a : IsAllowed s) (count : Option ℕ) (limit : ℕ) (bi
   same_unread t b fault other (too_large c at large) (too_large d at' large') = refl
 
   -- one coded data set can't be judged in two ways
-  different_long : (i b : ℕ) (c d : CodedDataSet) → IsSetAt s (is_reference_block s (i % s.interval)) bits b c → IsSetAt s (is_reference_block s (i % s.interval)) bits b d
+  different_long : (i b : ℕ) (c d : CodedDataSet) → IsSetAt s (is_reference_block s (i % s.interval)) bits b c
+      → IsSetAt s (is_reference_block s (i % s.interval)) bits b d
       → stays_in_segment s (i % s.interval) c ≡ false → stays_in_segment s (i % s.interval) d ≡ true → ⊥
   different_long i b c d x y long within =
       both_ways (stays_in_segment s (i % s.interval) c) long
@@ -106,11 +108,13 @@ module _ (s : Settings) (a : IsAllowed s) (count : Option ℕ) (limit : ℕ) (bi
   pub same_wrong : (i b : ℕ) (fault other : Fault) → IsWrongAt s count limit bits i b fault → IsWrongAt s count limit bits i b other → fault ≡ other
   same_wrong i b fault other (not_read _ none) (not_read _ n) = same_unread (is_reference_block s (i % s.interval)) b fault other none n
   same_wrong i b fault other (not_read _ none) (too_long d at small long) = absurd (read_there (is_reference_block s (i % s.interval)) b d fault at small none)
-  same_wrong i b fault other (not_read _ none) (too_many d at lawful past) = absurd (read_there (is_reference_block s (i % s.interval)) b d fault at lawful.small none)
+  same_wrong i b fault other (not_read _ none) (too_many d at lawful past) =
+      absurd (read_there (is_reference_block s (i % s.interval)) b d fault at lawful.small none)
   same_wrong i b fault other (too_long c at small long) (not_read _ none) = absurd (read_there (is_reference_block s (i % s.interval)) b c other at small none)
   same_wrong i b fault other (too_long c at small long) (too_long d at' small' long') = refl
   same_wrong i b fault other (too_long c at small long) (too_many d at' lawful past) = absurd (different_long i b c d at at' long lawful.within)
-  same_wrong i b fault other (too_many c at lawful past) (not_read _ none) = absurd (read_there (is_reference_block s (i % s.interval)) b c other at lawful.small none)
+  same_wrong i b fault other (too_many c at lawful past) (not_read _ none) =
+      absurd (read_there (is_reference_block s (i % s.interval)) b c other at lawful.small none)
   same_wrong i b fault other (too_many c at lawful past) (too_long d at' small long) = absurd (different_long i b d c at' at long lawful.within)
   same_wrong i b fault other (too_many c at lawful past) (too_many d at' lawful' past') = refl
 

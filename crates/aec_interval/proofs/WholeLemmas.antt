@@ -29,7 +29,8 @@ pub all-held : (s : Settings) (i : ℕ) (v : List ℤ) → first_unheld (is_held
 all-held s i [] h = tt
 all-held s i (x ∷ v) h = by_test (is_held s x) h (all-held s (i + 1) v)
   where
-    by_test : (t : Bool) → (if t then first_unheld (is_held s) (i + 1) v else Some i) ≡ None → (first_unheld (is_held s) (i + 1) v ≡ None → AllByRecursion (IsHeld s) v)
+    by_test : (t : Bool) → (if t then first_unheld (is_held s) (i + 1) v else Some i) ≡ None
+        → (first_unheld (is_held s) (i + 1) v ≡ None → AllByRecursion (IsHeld s) v)
         → IsTrue t × AllByRecursion (IsHeld s) v
     by_test true e later = (search rules, later e)
     by_test false e later = absurd (cc)
@@ -39,7 +40,8 @@ all-held s i (x ∷ v) h = by_test (is_held s x) h (all-held s (i + 1) v)
 stream_of-nil : (s : Settings) → 0 < interval_len s → stream_of s [] ≡ []
 stream_of-nil s h = ap (flat_map (interval_bits s)) (pieces_of-nil (interval_len s) h)
 
-stream_of-cons : (s : Settings) (front rest : List ℤ) → IsPieceBefore (interval_len s) front rest → stream_of s (front ++ rest) ≡ interval_bits s front ++ stream_of s rest
+stream_of-cons : (s : Settings) (front rest : List ℤ) → IsPieceBefore (interval_len s) front rest
+    → stream_of s (front ++ rest) ≡ interval_bits s front ++ stream_of s rest
 stream_of-cons s front rest piece = ap (flat_map (interval_bits s)) (pieces_of-cons (interval_len s) front rest piece)
 
 pub record StreamSoFar (s : Settings) (new whole : List Bool) (rest : List ℤ) : Type 0 where

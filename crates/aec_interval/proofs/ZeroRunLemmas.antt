@@ -3,7 +3,6 @@ use Rattle.std.proofs.Common.{◌≡◌, ℕ, zero, suc, ◌+◌, ◌*◌, ◌/�
 use Rattle.std.proofs.Math.Nat.{mul_comm, mod-lt, zero-mul, one-mul, suc-mul, mul-pos, mul-lt-mul_of_pos_right}
 use Rattle.std.proofs.lemmas.Nat.{div-add-mod', mod-mul-add}
 use Rattle.std.proofs.lemmas.Bool.{ne_eqb, cond-true, cond-false}
-use Rattle.std.proofs.lemmas.Bool.Decides.{nat_tests}
 use Rattle.std.specs.List.{last_or}
 use Rattle.std.proofs.lemmas.List.{length-append, length-replicate, replicate-append-replicate, take_all}
 use Rattle.aec_params.specs.declared.settings.Settings.{Settings}
@@ -21,12 +20,11 @@ use Rattle.aec_params.proofs.SettingLaws.{block_size-positive, interval-positive
 use Rattle.aec_params.proofs.ListLaws.{all-replicate}
 use Rattle.aec_params.proofs.ParamsLemmas.{value-pattern}
 use Rattle.aec_params.proofs.PatternLaws.{pattern-reaches}
-use Rattle.aec_block.specs.Offsets.{sample_offset, top_offset, mapped_offset}
 use Rattle.aec_block.specs.Unmapping.{Unmaps}
-use Rattle.aec_block.proofs.MappingLemmas.{mapped_value-offsets, mapped_value-pattern}
+use Rattle.aec_block.proofs.MappingLemmas.{mapped_value-pattern}
 use Rattle.aec_block.proofs.ListMappingLemmas.{last_or-append}
 use Rattle.aec_interval.proofs.MappedLemmas.{mapped_after-replicate}
-use Rattle.aec_interval.proofs.NextFillLemmas.{held-zero, held-last_sample, fills_plain, fills_reference, reference-below}
+use Rattle.aec_interval.proofs.NextFillLemmas.{held-zero, held-last_sample, mapped_value-self, fills_plain, fills_reference, reference-below}
 
 -- whole blocks of samples end an interval exactly where their number does
 starts_alike : (j r i : ℕ) → 0 < j → 0 < r → (i * j % (j * r) == 0) ≡ (i % r == 0)
@@ -43,14 +41,17 @@ starts_alike j r i some positive =
     zero_alike zero = ap (λ n. n == 0) (zero-mul j)
     zero_alike (suc m) = ne_eqb (suc m * j) 0 (λ e. absurd (omega (arith, suc-mul m j))) ∙ sym (ne_eqb (suc m) 0 (λ e. absurd (omega arith)))
 
-pub HasReference-next : (s : Settings) (i : ℕ) (samples : List ℤ) (reference : Option ℕ) → IsAllowed s → AreFilled s i samples → HasReference s (is_reference_block s (i % s.interval)) reference
+pub HasReference-next : (s : Settings) (i : ℕ) (samples : List ℤ) (reference : Option ℕ) → IsAllowed s → AreFilled s i samples
+    → HasReference s (is_reference_block s (i % s.interval)) reference
     → HasReference s (s.preprocess && (length samples % interval_len s == 0)) reference
 HasReference-next s i samples reference allowed filled due =
     subst (λ b. HasReference s (s.preprocess && b) reference)
-    (sym (ap (λ n. n % interval_len s == 0) (filled.filled.whole ∙ ap (λ k. k * s.block_size) filled.count_is) ∙ starts_alike s.block_size s.interval i (block_size-positive s allowed) (interval-positive s allowed))) due
+    (sym (ap (λ n. n % interval_len s == 0) (filled.filled.whole ∙ ap (λ k. k * s.block_size) filled.count_is)
+    ∙ starts_alike s.block_size s.interval i (block_size-positive s allowed) (interval-positive s allowed))) due
 
 -- a block that can stand there comes next
-pub next_in_place : (s : Settings) (i : ℕ) (samples : List ℤ) (b : Block) → IsAllowed s → AreFilled s i samples → IsBlockAt s (i % s.interval) b → IsNextBlock s samples b
+pub next_in_place : (s : Settings) (i : ℕ) (samples : List ℤ) (b : Block) → IsAllowed s → AreFilled s i samples → IsBlockAt s (i % s.interval) b
+    → IsNextBlock s samples b
 next_in_place s i samples b allowed filled at = record {
   reference = HasReference-next s i samples b.reference allowed filled at.reference;
   count = at.count;
@@ -58,7 +59,8 @@ next_in_place s i samples b allowed filled at = record {
   place = at.place;
 }
 
-pub zero_block-next : (s : Settings) (i : ℕ) (samples : List ℤ) (reference : Option ℕ) → IsAllowed s → AreFilled s i samples → HasReference s (is_reference_block s (i % s.interval)) reference
+pub zero_block-next : (s : Settings) (i : ℕ) (samples : List ℤ) (reference : Option ℕ) → IsAllowed s → AreFilled s i samples
+    → HasReference s (is_reference_block s (i % s.interval)) reference
     → IsNextBlock s samples (zero_block s reference)
 zero_block-next s i samples reference allowed filled due =
     next_in_place s i samples (zero_block s reference) allowed filled (zero_block_at s (i % s.interval) reference allowed due)
@@ -67,7 +69,8 @@ pub length-run_blocks : (s : Settings) (reference : Option ℕ) (z : ℕ) → le
 length-run_blocks s reference zero = refl
 length-run_blocks s reference (suc z) = ap suc (length-replicate z (zero_block s None))
 
-pub AreFilled-next : (s : Settings) (i k : ℕ) (old new : List ℤ) (more : List Block) → AreFilled s i old → FillsNext s old new more → length more ≡ k → AreFilled s (i + k) new
+pub AreFilled-next : (s : Settings) (i k : ℕ) (old new : List ℤ) (more : List Block) → AreFilled s i old → FillsNext s old new more → length more ≡ k
+    → AreFilled s (i + k) new
 AreFilled-next s i k old new more filled fills len = record {
   blocks = filled.blocks ++ more;
   filled = fills filled.blocks filled.filled;
@@ -86,10 +89,12 @@ no_reference-later s i k some within = subst (λ b. HasReference s b None) (sym 
     and_false false = refl
 
     not_first : is_reference_block s ((i + k) % s.interval) ≡ false
-    not_first = ap (λ p. s.preprocess && (p == 0)) place ∙ (ap (λ b. s.preprocess && b) (ne_eqb (i % s.interval + k) 0 (λ e. absurd (omega arith))) ∙ and_false s.preprocess)
+    not_first = ap (λ p. s.preprocess && (p == 0)) place
+        ∙ (ap (λ b. s.preprocess && b) (ne_eqb (i % s.interval + k) 0 (λ e. absurd (omega arith))) ∙ and_false s.preprocess)
 
 -- one zero block more
-pub run_blocks-push : (s : Settings) (reference : Option ℕ) (z : ℕ) → 1 ≤ z → run_blocks s reference (z + 1) ≡ run_blocks s reference z ++ zero_block s None ∷ []
+pub run_blocks-push : (s : Settings) (reference : Option ℕ) (z : ℕ) → 1 ≤ z
+    → run_blocks s reference (z + 1) ≡ run_blocks s reference z ++ zero_block s None ∷ []
 run_blocks-push s reference zero some = absurd (omega arith)
 run_blocks-push s reference (suc z) some =
     ap (run_blocks s reference) (add-one (suc z)) ∙ ap (λ later. zero_block s reference ∷ later) (replicate-push z (zero_block s None))
@@ -98,20 +103,15 @@ run_blocks-push s reference (suc z) some =
     replicate-push zero x = refl
     replicate-push (suc n) x = ap (λ xs. x ∷ xs) (replicate-push n x)
 
-pub FillsNext-push : (s : Settings) (old mid new : List ℤ) (reference : Option ℕ) (z : ℕ) → 1 ≤ z → FillsNext s old mid (run_blocks s reference z) → FillsNext s mid new (zero_block s None ∷ [])
+pub FillsNext-push : (s : Settings) (old mid new : List ℤ) (reference : Option ℕ) (z : ℕ) → 1 ≤ z → FillsNext s old mid (run_blocks s reference z)
+    → FillsNext s mid new (zero_block s None ∷ [])
     → FillsNext s old new (run_blocks s reference (z + 1))
 FillsNext-push s old mid new reference z some first later blocks filled =
-    subst (FillBlocks s new) (append_assoc blocks (run_blocks s reference z) (zero_block s None ∷ []) ∙ ap (λ more. blocks ++ more) (sym (run_blocks-push s reference z some)))
+    subst (FillBlocks s new) (append_assoc blocks (run_blocks s reference z) (zero_block s None ∷ [])
+    ∙ ap (λ more. blocks ++ more) (sym (run_blocks-push s reference z some)))
     (later (blocks ++ run_blocks s reference z) (first blocks filled))
 
 -- ---- the samples of zero blocks
-
--- a sample at its own prediction
-mapped_value-self : (s : Settings) (x : ℤ) → IsAllowed s → s.preprocess ≡ true → IsHeld s x → mapped_value s x x ≡ 0
-mapped_value-self s x allowed on held = mapped_value-offsets s x x allowed on held held ∙ at_itself (top_offset s) (sample_offset s x)
-  where
-    at_itself : (top a : ℕ) → mapped_offset top a a ≡ 0
-    at_itself top a = grind (arith, nat_tests)
 
 -- places that are coded as 0, the first at p
 unmaps-zeros : (s : Settings) (p x : ℤ) (n : ℕ) (old : List ℤ) → IsHeld s x → mapped_value s p x ≡ 0 → mapped_value s x x ≡ 0
@@ -139,13 +139,16 @@ pub record Repeats (s : Settings) (reference : Option ℕ) (old : List ℤ) (x :
   pub pattern : (r : ℕ) → reference ≡ Some r → sample_pattern s x ≡ r
 
 -- the sample that a zero block repeats, case by case
-pub sample_of_zeros-reference : (s : Settings) (reference : Option ℕ) (old : List ℤ) (r : ℕ) → reference ≡ Some r → sample_of_zeros s reference old ≡ pattern_value s r
+pub sample_of_zeros-reference : (s : Settings) (reference : Option ℕ) (old : List ℤ) (r : ℕ) → reference ≡ Some r
+    → sample_of_zeros s reference old ≡ pattern_value s r
 sample_of_zeros-reference s reference old r is = ap (λ o. sample_of_zeros s o old) is
 
-pub sample_of_zeros-predicted : (s : Settings) (reference : Option ℕ) (old : List ℤ) → reference ≡ None → s.preprocess ≡ true → sample_of_zeros s reference old ≡ last_sample old
+pub sample_of_zeros-predicted : (s : Settings) (reference : Option ℕ) (old : List ℤ) → reference ≡ None → s.preprocess ≡ true
+    → sample_of_zeros s reference old ≡ last_sample old
 sample_of_zeros-predicted s reference old is on = ap (λ o. sample_of_zeros s o old) is ∙ cond-true s.preprocess (last_sample old) (pos 0) on
 
-pub sample_of_zeros-plain : (s : Settings) (reference : Option ℕ) (old : List ℤ) → reference ≡ None → s.preprocess ≡ false → sample_of_zeros s reference old ≡ pos 0
+pub sample_of_zeros-plain : (s : Settings) (reference : Option ℕ) (old : List ℤ) → reference ≡ None → s.preprocess ≡ false
+    → sample_of_zeros s reference old ≡ pos 0
 sample_of_zeros-plain s reference old is off = ap (λ o. sample_of_zeros s o old) is ∙ cond-false s.preprocess (last_sample old) (pos 0) off
 
 -- a reference stands only where samples are predicted
@@ -170,7 +173,13 @@ repeats-zeros s i old (Some r) x allowed filled due is =
     let on = reference-on s (i % s.interval) r due in
     let found = sample-of-pattern s r allowed (reference-below s (is_reference_block s (i % s.interval)) r due) in
     let held : IsHeld s x = subst (λ (y : ℤ). IsHeld s y) (sym is) found.0 in
-    record { held = held; later = mapped_value-self s x allowed on held; begins = λ p none at. absurd (cc); pattern = λ q e. ap (sample_pattern s) is ∙ (found.1 ∙ (cc)) }
+    record {
+      held = held;
+      later = mapped_value-self s x allowed on held;
+      begins = λ p none at. absurd (cc);
+      pattern = λ q e. ap (sample_pattern s) is
+          ∙ (found.1 ∙ (cc));
+    }
 repeats-zeros s i old None x allowed filled due is = by_preprocess s.preprocess refl
   where
     by_preprocess : (b : Bool) → s.preprocess ≡ b → Repeats s None old x
@@ -238,7 +247,8 @@ fills-longer s i z old reference x allowed some within filled repeats before =
 
     longer : mid ++ replicate s.block_size x ≡ old ++ replicate ((z + 1) * s.block_size) x
     longer = append_assoc old (replicate (z * s.block_size) x) (replicate s.block_size x)
-        ∙ ap (λ l. old ++ l) (replicate-append-replicate (z * s.block_size) s.block_size x ∙ ap (λ n. replicate n x) (sym (ap (λ k. k * s.block_size) (add-one z) ∙ suc-mul z s.block_size)))
+        ∙ ap (λ l. old ++ l) (replicate-append-replicate (z * s.block_size) s.block_size x
+        ∙ ap (λ n. replicate n x) (sym (ap (λ k. k * s.block_size) (add-one z) ∙ suc-mul z s.block_size)))
 
 fills-run : (s : Settings) (i z : ℕ) (old : List ℤ) (reference : Option ℕ) (x : ℤ) → IsAllowed s → 1 ≤ z → i % s.interval + z ≤ s.interval
     → HasReference s (is_reference_block s (i % s.interval)) reference → AreFilled s i old → Repeats s reference old x
@@ -253,7 +263,8 @@ fills-run s i (suc (suc k)) old reference x allowed some within due filled repea
     (fills-run s i (suc k) old reference x allowed (omega arith) (omega arith) due filled repeats))
 
 -- samples to which a run's are appended in one go
-pub fills-resized : (s : Settings) (i z : ℕ) (old new : List ℤ) (reference : Option ℕ) (kept : ℤ) (len n : ℕ) → IsAllowed s → 1 ≤ z → i % s.interval + z ≤ s.interval
+pub fills-resized : (s : Settings) (i z : ℕ) (old new : List ℤ) (reference : Option ℕ) (kept : ℤ) (len n : ℕ) → IsAllowed s → 1 ≤ z
+    → i % s.interval + z ≤ s.interval
     → HasReference s (is_reference_block s (i % s.interval)) reference → AreFilled s i old → kept ≡ sample_of_zeros s reference old → len ≡ length old
     → n ≡ len + z * s.block_size → new ≡ take n old ++ replicate (n - len) kept → FillsNext s old new (run_blocks s reference z)
 fills-resized s i z old new reference kept len n allowed some within due filled is len_is n_is pushed =

@@ -1,5 +1,5 @@
--- What the private functions of `chunks` compute: the blocks of samples behind others of their
--- interval, or at its start.
+-- What the private functions of `interval::filled_blocks` compute: the blocks of samples behind
+-- others of their interval, or at its start.
 use Rattle.std.specs.Prelude.{ℕ, ◌*◌, ◌≤◌, ⊤, Option, Some, None, ℤ, List, length}
 use Rattle.std.specs.List.{AllByRecursion}
 use Rattle.aec_params.specs.declared.settings.Settings.{Settings}

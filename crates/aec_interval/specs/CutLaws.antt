@@ -8,7 +8,7 @@ use Rattle.aec_params.specs.Params.{IsAllowed}
 use Rattle.aec_params.specs.Stored.{samples_of_bytes}
 use Rattle.aec_params.specs.Streams.{stream_of}
 use Rattle.aec_interval.specs.Taking.{judged_samples}
-use Rattle.aec_interval.specs.Feeding.{Coding, new_coding, taken_of, Feeds, StopsFeeding, FeedsAll}
+use Rattle.aec_interval.specs.Feeding.{Coder, fresh_coder, taken_of, Feeds, StopsFeeding, FeedsAll}
 
 -- the pieces behind one another
 abbrev pub all_bytes : List (List ℕ) → List ℕ
@@ -16,7 +16,7 @@ all_bytes pieces = flat_map (λ piece. piece) pieces
 
 -- all bytes are samples, as many as were counted and no more than the limit, and what was appended
 -- is their stream up to the code of those that are still held
-pub record IsStreamSoFar (s : Settings) (limit : ℕ) (bytes : List ℕ) (before after : List Bool) (d : Coding) : Type 0 where
+pub record IsStreamSoFar (s : Settings) (limit : ℕ) (bytes : List ℕ) (before after : List Bool) (d : Coder) : Type 0 where
   pub samples : List ℤ
   pub taken : samples_of_bytes s bytes ≡ Ok samples
   pub bits : after ++ stream_of s d.held ≡ before ++ stream_of s samples
@@ -27,22 +27,22 @@ pub record IsStreamSoFar (s : Settings) (limit : ℕ) (bytes : List ℕ) (before
 pub record CutsMakeNoDifference (s : Settings) (limit : ℕ) : Type 0 where
   -- where all pieces are taken, what was appended and what `finish` appends is the stream of the
   -- samples of all bytes
-  pub stream : (pieces : List (List ℕ)) (before after : List Bool) (d : Coding) → FeedsAll (new_coding s limit) pieces before after d
+  pub stream : (pieces : List (List ℕ)) (before after : List Bool) (d : Coder) → FeedsAll (fresh_coder s limit) pieces before after d
       → IsStreamSoFar s limit (all_bytes pieces) before after d
   -- the pieces are as one piece of all their bytes
-  pub taken : (pieces : List (List ℕ)) (before after : List Bool) (d : Coding) → FeedsAll (new_coding s limit) pieces before after d
-      → Feeds (new_coding s limit) (all_bytes pieces) before after d
+  pub taken : (pieces : List (List ℕ)) (before after : List Bool) (d : Coder) → FeedsAll (fresh_coder s limit) pieces before after d
+      → Feeds (fresh_coder s limit) (all_bytes pieces) before after d
   -- a refusal of the next one is the refusal of all bytes, whatever comes behind them
-  pub refused : (pieces : List (List ℕ)) (piece rest : List ℕ) (before between after : List Bool) (d : Coding) (fault : Fault)
-      → FeedsAll (new_coding s limit) pieces before between d → StopsFeeding d piece between after fault
-      → StopsFeeding (new_coding s limit) (all_bytes pieces ++ (piece ++ rest)) before after fault
+  pub refused : (pieces : List (List ℕ)) (piece rest : List ℕ) (before between after : List Bool) (d : Coder) (fault : Fault)
+      → FeedsAll (fresh_coder s limit) pieces before between d → StopsFeeding d piece between after fault
+      → StopsFeeding (fresh_coder s limit) (all_bytes pieces ++ (piece ++ rest)) before after fault
   -- which is the one of all samples: the first that is out of range before the limit, or too many
   -- of them
-  pub judged : (bytes : List ℕ) → (taken_of (new_coding s limit) bytes).refusal ≡ judged_samples limit (samples_of_bytes s bytes)
+  pub judged : (bytes : List ℕ) → (taken_of (fresh_coder s limit) bytes).refusal ≡ judged_samples limit (samples_of_bytes s bytes)
   -- step by step: nothing is taken at first, and a piece more behind what was taken
-  pub begun : (bits : List Bool) → Feeds (new_coding s limit) [] bits bits (new_coding s limit)
-  pub more : (bytes piece : List ℕ) (before between after : List Bool) (d e : Coding) → Feeds (new_coding s limit) bytes before between d
-      → Feeds d piece between after e → Feeds (new_coding s limit) (bytes ++ piece) before after e
+  pub begun : (bits : List Bool) → Feeds (fresh_coder s limit) [] bits bits (fresh_coder s limit)
+  pub more : (bytes piece : List ℕ) (before between after : List Bool) (d e : Coder) → Feeds (fresh_coder s limit) bytes before between d
+      → Feeds d piece between after e → Feeds (fresh_coder s limit) (bytes ++ piece) before after e
 
 abbrev pub AllCutsMakeNoDifference : Type 0
 AllCutsMakeNoDifference = (s : Settings) (limit : ℕ) → IsAllowed s → CutsMakeNoDifference s limit

@@ -6,11 +6,11 @@ use Rattle.aec_params.specs.declared.fault.Fault.TheVariants.{Memory}
 use Rattle.aec_params.specs.Params.{interval_len, storage_len}
 use Rattle.aec_params.specs.Stored.{byte_groups}
 use Rattle.aec_params.specs.Streams.{stream_of}
-use Rattle.aec_interval.specs.Taking.{Taken, taken_groups}
+use Rattle.aec_interval.specs.Taking.{TakenSamples, taken_groups}
 
 -- what is kept between pieces: the samples of an interval that isn't complete, the bytes of a
 -- sample that isn't complete, how many samples there were so far, and the refusal, if there was one
-pub record Coding : Type 0 where
+pub record Coder : Type 0 where
   pub settings : Settings
   pub limit : ℕ
   pub held : List ℤ
@@ -19,8 +19,8 @@ pub record Coding : Type 0 where
   pub refusal : Option Fault
 
 -- a coder that was fed nothing
-abbrev pub new_coding : Settings → ℕ → Coding
-new_coding s limit = record { settings = s; limit = limit; held = []; rest = []; count = 0; refusal = None }
+abbrev pub fresh_coder : Settings → ℕ → Coder
+fresh_coder s limit = record { settings = s; limit = limit; held = []; rest = []; count = 0; refusal = None }
 
 -- the front of a list that is whole pieces of n, and what is left behind it
 abbrev pub whole_front : {X : Type 0} → ℕ → List X → List X
@@ -30,15 +30,15 @@ abbrev pub left_behind : {X : Type 0} → ℕ → List X → List X
 left_behind n xs = drop (length xs / n * n) xs
 
 -- the samples that a piece completes: those in the bytes that were left and the piece
-abbrev pub taken_of : Coding → List ℕ → Taken
+abbrev pub taken_of : Coder → List ℕ → TakenSamples
 taken_of c piece = taken_groups c.settings c.limit c.count (byte_groups c.settings (c.rest ++ piece))
 
 -- the samples that are held, and those behind them
-abbrev pub samples_with : Coding → List ℕ → List ℤ
+abbrev pub samples_with : Coder → List ℕ → List ℤ
 samples_with c piece = c.held ++ (taken_of c piece).samples
 
 -- the coder behind a piece: it holds what is left of the samples and of the bytes
-abbrev pub fed : Coding → List ℕ → Coding
+abbrev pub fed : Coder → List ℕ → Coder
 fed c piece = record {
   settings = c.settings;
   limit = c.limit;
@@ -49,11 +49,11 @@ fed c piece = record {
 }
 
 -- the bits that a piece adds: the code of the intervals that are complete with it
-abbrev pub fed_bits : Coding → List ℕ → List Bool
+abbrev pub fed_bits : Coder → List ℕ → List Bool
 fed_bits c piece = stream_of c.settings (whole_front (interval_len c.settings) (samples_with c piece))
 
 -- a piece is taken: behind it bits are `after`, and the coder is d
-pub record Feeds (c : Coding) (piece : List ℕ) (before after : List Bool) (d : Coding) : Type 0 where
+pub record Feeds (c : Coder) (piece : List ℕ) (before after : List Bool) (d : Coder) : Type 0 where
   pub taken : (taken_of c piece).refusal ≡ None
   pub bits : after ≡ before ++ fed_bits c piece
   pub coder : d ≡ fed c piece
@@ -61,14 +61,14 @@ pub record Feeds (c : Coding) (piece : List ℕ) (before after : List Bool) (d :
 -- a piece is refused: at its first sample that is too many or out of range, after the code of the
 -- intervals that were complete before it; or for want of memory at a sample that is neither, after
 -- the code of some whole intervals before it, the first ones
-pub data StopsFeeding (c : Coding) (piece : List ℕ) (before after : List Bool) : Fault → Type 0 where
+pub data StopsFeeding (c : Coder) (piece : List ℕ) (before after : List Bool) : Fault → Type 0 where
   refused : (fault : Fault) → (taken_of c piece).refusal ≡ Some fault → after ≡ before ++ fed_bits c piece → StopsFeeding c piece before after fault
   no_memory : (intervals : ℕ) (front behind : List ℤ) → samples_with c piece ≡ front ++ behind
       → length front ≡ intervals * interval_len c.settings → 0 < length behind → 0 < length (taken_of c piece).samples
       → after ≡ before ++ stream_of c.settings front → StopsFeeding c piece before after Memory
 
 -- pieces are taken one after the other
-abbrev pub FeedsAll : Coding → List (List ℕ) → List Bool → List Bool → Coding → Type 0
+abbrev pub FeedsAll : Coder → List (List ℕ) → List Bool → List Bool → Coder → Type 0
 FeedsAll c [] before after d = (after ≡ before) × (d ≡ c)
 FeedsAll c (piece ∷ pieces) before after e =
-    (between : List Bool) × ((d : Coding) × (Feeds c piece before between d × FeedsAll d pieces between after e))
+    (between : List Bool) × ((d : Coder) × (Feeds c piece before between d × FeedsAll d pieces between after e))

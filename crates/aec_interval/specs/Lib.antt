@@ -13,3 +13,4 @@ pub mod CutLaws
 pub mod PieceLaws
 pub mod Skipping
 pub mod Steps
+pub mod PlainBlocks

@@ -1,5 +1,5 @@
--- What the private functions of `writing_runs` and `interval` compute: what is still to be written
--- behind zero blocks that are counted.
+-- What the private functions of `interval::zero_runs` and `interval` compute: what is still to be
+-- written behind zero blocks that are counted.
 use Rattle.std.specs.Prelude.{◌≡◌, ℕ, zero, suc, ◌+◌, ◌==◌, ◌≤◌, Bool, length, take, if◌then◌else◌, Option, List, [], ◌∷◌}
 use Rattle.std.specs.List.{flat_map}
 use Rattle.aec_params.specs.declared.settings.Settings.{Settings}
@@ -9,7 +9,7 @@ use Rattle.aec_params.specs.Runs.{Group, zero_run, groups_of}
 use Rattle.aec_params.specs.Intervals.{group_sets}
 use Rattle.aec_block.specs.Choices.{FitsReference}
 use Rattle.aec_block.specs.Written.{run_bits}
-use Rattle.aec_interval.specs.declared.writing_runs.Run.{Run}
+use Rattle.aec_interval.specs.declared.interval.zero_runs.Run.{Run}
 
 -- a run of z blocks before groups: it joins a run that comes first
 abbrev pub with_run : Option ℕ → ℕ → List Group → List Group

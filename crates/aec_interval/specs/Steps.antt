@@ -1,8 +1,9 @@
 -- What the steps of a reading need and how far they come, whether they make samples or go over
--- them: for the private functions of `reading` and `skipping`.
+-- them: for the private functions of `reading`, `reading::plain` and `reading::skipping`.
 use Rattle.std.specs.Prelude.{◌≡◌, ◌<◌, ◌≤◌, ◌+◌, ◌%◌, ◌^◌, ℕ, Bool, true, Option, IfSome, List}
+use Rattle.std.specs.Int.{div_ceil}
 use Rattle.aec_params.specs.declared.settings.Settings.{Settings}
-use Rattle.aec_params.specs.Reading.{is_wanted}
+use Rattle.aec_params.specs.Reading.{is_wanted, keeps_limit}
 use Rattle.aec_interval.specs.NextSet.{blocks_before_end}
 
 -- in a reading that began at block `first`, where an interval begins, block i is wanted, whose
@@ -19,6 +20,16 @@ pub record ComesNext (s : Settings) (i next : ℕ) : Type 0 where
   pub forward : i < next
   pub within : next ≤ i + blocks_before_end s i
   pub few : next < 2 ^ 34
+
+-- block `last` is a bound, not always the greatest: no block of the interval that begins at block
+-- `first` needs a test of its place before it, since each is needed, where there is a count, and
+-- keeps the limit, and behind none of them does padding follow
+pub record IsUntestedEnd (s : Settings) (count : Option ℕ) (limit first last : ℕ) : Type 0 where
+  pub within : last ≤ first + s.interval
+  pub unpadded : s.pad ≡ true → last < first + s.interval
+  pub needed : IfSome count (λ n. last ≤ div_ceil n s.block_size)
+  pub keeps : keeps_limit s count limit last ≡ true
+  pub few : last < 2 ^ 34
 
 -- the interval that begins at block `first` was gone over up to block `next` at position b: to its
 -- end, where more is wanted there

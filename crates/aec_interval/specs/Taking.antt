@@ -7,11 +7,11 @@ use Rattle.aec_params.specs.declared.fault.Fault.TheVariants.{SampleRange, TooMa
 use Rattle.aec_params.specs.Stored.{number_in, sample_of_number}
 
 -- the samples that were taken, and why no more were, if one was refused
-pub record Taken : Type 0 where
+pub record TakenSamples : Type 0 where
   pub samples : List ℤ
   pub refusal : Option Fault
 
-abbrev pub none_taken : Option Fault → Taken
+abbrev pub none_taken : Option Fault → TakenSamples
 none_taken refusal = record { samples = []; refusal = refusal }
 
 -- sample i, which is out of range where its bytes are no sample
@@ -24,12 +24,12 @@ abbrev pub judged_sample : Settings → ℕ → ℕ → List ℕ → Result ℤ 
 judged_sample s limit i g = if nat_lt i limit then in_range i (sample_of_number s (number_in s g)) else Err (TooManySamples limit)
 
 -- a sample before those that are taken behind it, or its refusal
-abbrev pub taken_before : Result ℤ Fault → Taken → Taken
+abbrev pub taken_before : Result ℤ Fault → TakenSamples → TakenSamples
 taken_before (Ok x) later = record { samples = x ∷ later.samples; refusal = later.refusal }
 taken_before (Err fault) later = none_taken (Some fault)
 
 -- the samples in groups of bytes, of which the first is sample i
-abbrev pub taken_groups : Settings → ℕ → ℕ → List (List ℕ) → Taken
+abbrev pub taken_groups : Settings → ℕ → ℕ → List (List ℕ) → TakenSamples
 taken_groups s limit i [] = none_taken None
 taken_groups s limit i (g ∷ gs) = taken_before (judged_sample s limit i g) (taken_groups s limit (i + 1) gs)
 

@@ -1,16 +1,18 @@
 //! The codec of reference sample intervals.
 
-ghost use Rattle.std.specs.Prelude.{◌≡◌, ◌+◌, ◌-◌, ◌^◌, ◌↔◌, ◌++◌, [], ℤ, List, None, IfSome, OnOk, OnErr, IfErr};
+ghost use Rattle.std.specs.Prelude.{◌≡◌, ◌≤◌, ◌+◌, ◌-◌, ◌^◌, ◌↔◌, ◌++◌, [], ℤ, List, length, Some, None, IfSome, OnOk, OnErr, IfErr};
 ghost use Rattle.std.proofs.Props.{props};
 ghost use Rattle.aec_params.specs.declared.fault.Fault.TheVariants.{Memory};
-ghost use Rattle.aec_params.specs.Params.{IsAllowed};
+ghost use Rattle.aec_params.specs.Params.{IsAllowed, interval_len};
 ghost use Rattle.aec_bits.specs.Devices.{counted};
 ghost use Rattle.aec_bits.specs.Codec.{IsLawful, BeginsAt};
 ghost use Rattle.aec_interval.specs.IntervalFormat.{interval_format};
+ghost use Rattle.aec_interval.specs.Reached.{IsReadFrom, RefusesReading};
 
 use crate::interval::append_interval;
-use crate::reading::{Wanted, decode_into};
-use aec_bits::{BitBuf, Codec};
+use crate::reading::{Wanted, cut_to_count, read_interval};
+use aec_bits::{BitBuf, BitReader, Codec};
+use aec_block::Block;
 use aec_params::{Fault, Params};
 use std::alloc::Global;
 
@@ -82,7 +84,8 @@ impl Codec for AecCodec {
     }
 
     fn holds(&self, x: i64) -> bool {
-        self.params.holds(x)
+        // What `Params::holds` answers, without a branch: an edit's values are judged one by one.
+        (self.params.x_min() <= x) & (x <= self.params.x_max())
     }
 
     fn calls(&self) -> u64 {
@@ -110,7 +113,7 @@ impl Codec for AecCodec {
         let Some(calls) = one_call_more(self.calls) else {
             return Err(Fault::Spent);
         };
-        append_interval(self.alloc, &self.params, samples, out)?;
+        append_interval(&self.params, samples, out)?;
         self.calls = calls;
         Ok(())
     }
@@ -181,6 +184,41 @@ fn append_decoded(
     append_list(&samples, out)
 }
 
+/// Puts the first `count` samples that the bits from this place on stand for, those of one interval
+/// at most, into an empty list.
+fn read_samples(
+    alloc: Global,
+    params: &Params,
+    stream: &BitBuf,
+    pos: u64,
+    count: u64,
+    out: &mut Vec<i64>,
+) -> Result<(), Fault>
+    requires within { pos ≤ length stream.now.list }
+    requires some { 1 ≤ count }
+    requires few { count ≤ interval_len params.now }
+    requires empty { out.old.items ≡ [] }
+    ensures ok { OnOk result
+        (IsReadFrom params.now (Some count) count stream.now.list pos out.new.items) }
+    ensures refuses { IfErr result
+        (λ fault. RefusesReading params.now (Some count) count stream.now.list 0 pos fault) }
+{
+    // Called for its clause alone: the parameters are allowed.
+    let _len = params.interval_len();
+    let wanted = Wanted {
+        first: 0,
+        start: pos,
+        count: Some(count),
+        limit: count,
+    };
+    let mut reader = BitReader::new(stream);
+    reader.seek(pos);
+    let mut values = Block::new(alloc, None);
+    read_interval(params, wanted, &mut reader, &mut values, out)?;
+    cut_to_count(params, wanted, out);
+    Ok(())
+}
+
 /// Puts the samples of such an interval into an empty list. `Memory` where a growth was refused;
 /// the list is then empty.
 fn fill_empty(
@@ -200,13 +238,7 @@ fn fill_empty(
     ensures fault { IfErr result (λ e. e ≡ Memory) }
     ensures err { OnErr result (out.new.items ≡ []) }
 {
-    let wanted = Wanted {
-        first: 0,
-        start: pos,
-        count: Some(count),
-        limit: count,
-    };
-    match decode_into(alloc, params, stream, wanted, out) {
+    match read_samples(alloc, params, stream, pos, count, out) {
         Ok(()) => Ok(()),
         Err(fault) => {
             out.clear();

@@ -1,5 +1,11 @@
 //! Samples read from coded bits, one coded data set after another, from where an interval begins.
 
+mod plain;
+pub(crate) mod samples;
+pub(crate) mod skipping;
+pub(crate) mod whole;
+mod zero_runs;
+
 ghost use Rattle.std.specs.Prelude.{◌≡◌, ◌≤◌, ◌<◌, ◌+◌, ◌-◌, ◌*◌, ◌%◌, ◌^◌, ◌&&◌, nat_lt, min, [], length, vec_len, vec_capacity};
 ghost use Rattle.std.specs.Prelude.{Some, None, OnOk, OnErr, IfSome, IfOk, IfErr};
 ghost use Rattle.std.specs.Int.{div_ceil};
@@ -15,9 +21,10 @@ ghost use Rattle.aec_interval.specs.Pieces.{counted_from};
 ghost use Rattle.aec_interval.specs.Steps.{IsWantedNext, ComesNext, IsGoneOver};
 ghost use Rattle.aec_interval.specs.Reached.{AreFilled, IsReached, IsReadFrom, RefusesReading, RefusesUpTo};
 
-use crate::filling::push_block;
 use crate::interval::SEGMENT_BLOCKS;
-use crate::reading_runs::push_zero_run;
+use crate::reading::plain::read_plain_blocks;
+use crate::reading::samples::push_block;
+use crate::reading::zero_runs::push_zero_run;
 use aec_bits::{BitBuf, BitReader};
 use aec_block::{Block, Found, RunLen, read_into};
 use aec_params::{Fault, Params};
@@ -40,8 +47,8 @@ fn are_fewer(params: &Params, blocks: u64, count: u64) -> bool
     blocks.saturating_mul(u64::from(params.block_size())) < count
 }
 
-/// Whether a coded data set is wanted at this block: with a count while blocks are needed, without
-/// one while the rest is not all zeros.
+/// Whether a coded data set is wanted at this block: with a count while blocks are needed, so that
+/// trailing bytes are ignored, without one while the rest is not all zeros.
 pub(crate) fn wants_more(params: &Params, wanted: Wanted, reader: &BitReader, block: u64) -> bool
     ensures { result ≡ is_wanted params.now wanted.count reader.now.list block reader.now.pos }
 {
@@ -286,7 +293,8 @@ pub(crate) fn read_interval(
     let mut block = wanted.first;
     loop {
         let place = block - wanted.first;
-        block = read_next(params, wanted, reader, block, place, values, samples)?;
+        let behind = read_next(params, wanted, reader, block, place, values, samples)?;
+        block = read_plain_blocks(params, wanted, reader, behind, end, samples);
         if !goes_on(params, wanted, reader, block, end) {
             return Ok(block);
         }

@@ -1,10 +1,14 @@
 //! A coder of samples that come in pieces.
 
+mod held_samples;
+mod pieces;
+mod rest;
+
 use crate::interval::append_interval;
-use crate::joining::{Progress, Terms, take_piece};
-use crate::rest::Rest;
+use crate::stream_coder::held_samples::HeldSamples;
+use crate::stream_coder::pieces::{Progress, Terms, take_piece};
+use crate::stream_coder::rest::Rest;
 use aec_bits::BitBuf;
-use aec_block::Block;
 use aec_params::{Fault, Params};
 use std::alloc::Global;
 use std::marker::Model;
@@ -23,12 +27,12 @@ pub struct StreamCoder {
 impl Model for StreamCoder {
     ghost use Rattle.std.specs.Prelude.{◌<◌, length};
     ghost use Rattle.aec_params.specs.Params.{IsAllowed, storage_len};
-    ghost use Rattle.aec_interval.specs.Feeding.{Coding};
-    ghost use Rattle.aec_interval.specs.Progress.{IsProgress, coding_with};
+    ghost use Rattle.aec_interval.specs.Feeding.{Coder};
+    ghost use Rattle.aec_interval.specs.Progress.{IsProgress, coder_with};
 
-    ghost Value = { Coding };
+    ghost Value = { Coder };
 
-    ghost view = { λ c. coding_with c.terms c.progress c.rest c.refusal };
+    ghost view = { λ c. coder_with c.terms c.progress c.rest c.refusal };
 
     ghost invariant = { λ c.
         (length c.rest < storage_len c.terms.params) × IsProgress c.terms c.progress };
@@ -40,24 +44,19 @@ impl StreamCoder {
     ghost use Rattle.aec_params.specs.declared.fault.Fault.TheVariants.{Memory};
     ghost use Rattle.aec_params.specs.Params.{interval_len};
     ghost use Rattle.aec_params.specs.Streams.{stream_of};
-    ghost use Rattle.aec_interval.specs.Feeding.{new_coding, Feeds, StopsFeeding};
+    ghost use Rattle.aec_interval.specs.Feeding.{fresh_coder, Feeds, StopsFeeding};
 
     /// A coder that was fed nothing. It takes at most `limit` samples. Takes no memory.
     pub fn new(alloc: Global, params: Params, limit: u64) -> StreamCoder
-        ensures { result ≡ new_coding params limit }
+        ensures { result ≡ fresh_coder params limit }
     {
         // What the parameters promise is told by their calls.
         let _len = params.interval_len();
         StreamCoder {
-            terms: Terms {
-                alloc,
-                params,
-                limit,
-            },
+            terms: Terms { params, limit },
             progress: Progress {
-                held: Vec::new(alloc),
+                held: HeldSamples::new(alloc),
                 count: 0,
-                block: Block::new(alloc, None),
             },
             rest: Rest::new(),
             refusal: None,
@@ -113,14 +112,9 @@ impl StreamCoder {
         if let Some(refusal) = self.refusal {
             return Err(refusal);
         }
-        if self.progress.held.is_empty() {
+        if self.progress.held.len() == 0 {
             return Ok(());
         }
-        append_interval(
-            self.terms.alloc,
-            &self.terms.params,
-            &self.progress.held,
-            out,
-        )
+        append_interval(&self.terms.params, self.progress.held.as_slice(), out)
     }
 }

@@ -1,9 +1,9 @@
 //! A reader of samples, interval by interval.
 
 use crate::reached_place::ReachedPlace;
+use crate::reading::skipping::{count_asked, skip_interval};
+use crate::reading::whole::judge_count;
 use crate::reading::{Wanted, cut_to_count, read_interval, wants_more};
-use crate::skipping::{count_asked, skip_interval};
-use crate::whole_reading::judge_count;
 use aec_bits::{BitBuf, BitReader};
 use aec_block::Block;
 use aec_params::{Fault, Params};

@@ -12,7 +12,6 @@ ghost use Rattle.aec_interval.specs.Laws.{ReadsEach};
 
 use crate::interval::write_intervals;
 use aec_bits::BitBuf;
-use aec_block::Block;
 use aec_params::{Fault, Params};
 use std::alloc::Global;
 
@@ -36,8 +35,7 @@ fn code_intervals(alloc: Global, params: &Params, samples: &[i64]) -> Result<Bit
     ensures fault { IfErr result (λ e. e ≡ Memory) }
 {
     let mut out = BitBuf::new(alloc);
-    let mut block = Block::new(alloc, None);
-    write_intervals(params, samples, &mut block, &mut out)?;
+    write_intervals(params, samples, &mut out)?;
     Ok(out)
 }
 

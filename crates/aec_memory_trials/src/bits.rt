@@ -55,7 +55,8 @@ impl Trial for Bits {
             2 => self.list.push_fs(4),
             3 => self.list.append(&self.ones),
             4 => self.splice(),
-            5 => self.fill_up(),
+            5 => self.list.append_bytes(&[0x42]),
+            6 => self.fill_up(),
             _ => self.read_back(),
         }
     }
@@ -65,20 +66,21 @@ impl Trial for Bits {
     }
 }
 
-const WITH_ROOM: [(usize, &str); 7] = [
+const WITH_ROOM: [(usize, &str); 8] = [
     (0, "BitBuf::reserve"),
     (1, "BitBuf::push_bits"),
     (2, "BitBuf::push_fs"),
     (3, "BitBuf::append"),
     (4, "BitBuf::splice"),
-    (5, "BitBuf::pad_to_byte"),
-    (6, "BitBuf::from_bytes"),
+    (5, "BitBuf::append_bytes"),
+    (6, "BitBuf::pad_to_byte"),
+    (7, "BitBuf::from_bytes"),
 ];
 
 /// Lists of bits with room that was reserved and with none.
 pub fn try_bits<R: Print + Eprint>(rt: &R, alloc: Global) -> Result<(), Fault> {
     try_calls(rt, &WITH_ROOM, &mut Bits::new(alloc)?);
-    for call in &WITH_ROOM[1..5] {
+    for call in &WITH_ROOM[1..6] {
         try_calls(rt, &[*call], &mut Bits::new(alloc)?);
     }
     Ok(())

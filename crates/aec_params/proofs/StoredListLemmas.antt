@@ -239,7 +239,8 @@ pub outside-none : (s : Settings) (bytes : List ℕ) (number : ℕ → List ℕ 
     → AreOutside (number w) w bytes low high → result_err (samples_of_bytes s bytes) ≡ None
 outside-none s bytes number w low high a below width first last order outside =
     good_groups s (length bytes / storage_len s) 0 bytes (λ k within. outside-sample s (number_in s (drop (storage_len s * k) bytes)) a
-    (number_in-lt s (drop (storage_len s * k) bytes) (λ i. subst (λ n. n < 256) (sym (get_or-drop (storage_len s * k) bytes i 0)) (below (storage_len s * k + i))))
+    (number_in-lt s (drop (storage_len s * k) bytes)
+    (λ i. subst (λ n. n < 256) (sym (get_or-drop (storage_len s * k) bytes i 0)) (below (storage_len s * k + i))))
     (each k within))
   where
     each : (k : ℕ) → k < length bytes / storage_len s → IsOutside (2 ^ s.bits) (least_extended s) (number_in s (drop (storage_len s * k) bytes))

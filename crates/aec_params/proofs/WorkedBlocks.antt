@@ -47,7 +47,8 @@ two_bits_have_no_k = refl
 pub five_bits_read : samples_of_bytes five_signed (0x1F ∷ 0xFF ∷ 0xF0 ∷ 0x0F ∷ []) ≡ Ok (negsuc 0 ∷ negsuc 0 ∷ negsuc 15 ∷ pos 15 ∷ [])
 five_bits_read = refl
 
-pub five_bits_written : map (stored_bytes five_signed) (negsuc 0 ∷ negsuc 0 ∷ negsuc 15 ∷ pos 15 ∷ []) ≡ (0xFF ∷ []) ∷ (0xFF ∷ []) ∷ (0xF0 ∷ []) ∷ (0x0F ∷ []) ∷ []
+pub five_bits_written : map (stored_bytes five_signed) (negsuc 0 ∷ negsuc 0 ∷ negsuc 15 ∷ pos 15 ∷ [])
+    ≡ (0xFF ∷ []) ∷ (0xFF ∷ []) ∷ (0xF0 ∷ []) ∷ (0x0F ∷ []) ∷ []
 five_bits_written = refl
 
 pub wrong_sign_bits : samples_of_bytes five_signed (0xE0 ∷ []) ≡ Err 0

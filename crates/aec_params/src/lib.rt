@@ -21,4 +21,4 @@ pub use params::Params;
 pub use samples::Samples;
 pub use settings::Settings;
 pub use stored::{put_sample, sample_of};
-pub use stored_lists::{append_samples, collect_samples, put_samples, read_samples};
+pub use stored_lists::{append_samples, collect_samples, load_samples, put_samples, read_samples};

@@ -71,8 +71,9 @@ pub fn append_samples(params: &Params, bytes: &[u8], samples: &mut Vec<i64>) -> 
     Ok(())
 }
 
-/// Puts the samples of bytes that hold no bad one in the places of as many.
-fn load_samples(params: &Params, bytes: &[u8], out: &mut [i64])
+/// Puts the samples of bytes that hold no bad one, as `first_bad` tells, in the places of as many.
+/// Takes no memory.
+pub fn load_samples(params: &Params, bytes: &[u8], out: &mut [i64])
     requires good { result_err (samples_of_bytes params.now bytes.now) ≡ None }
     requires room { length out.old ≡ length bytes.now / storage_len params.now }
     ensures samples { samples_of_bytes params.now bytes.now ≡ Ok out.new }

@@ -1,26 +1,14 @@
-//! Tests alone: what no clause of `aec_engine` and `aec_cli` says, and values from outside. They
-//! stand here because a crate with tests is proved twice, and its must-fail edits wait for both
-//! proofs.
+//! Tests alone: what no clause of `aec_engine` and `aec_cli` says of the jobs of the command, and
+//! values from outside. They stand here because a crate with tests is proved twice, and its
+//! must-fail edits wait for both proofs.
 #![tactic(auto)]
 
 #[cfg(test)]
 mod answers;
 #[cfg(test)]
-mod asserts;
-#[cfg(test)]
-mod bytes;
-#[cfg(test)]
 mod coded_files;
 #[cfg(test)]
-mod counted_edits;
-#[cfg(test)]
 mod cut_streams;
-#[cfg(test)]
-mod devices;
-#[cfg(test)]
-mod edited_streams;
-#[cfg(test)]
-mod edits;
 #[cfg(test)]
 mod engines;
 #[cfg(test)]
@@ -35,8 +23,6 @@ mod ranges;
 mod refused_files;
 #[cfg(test)]
 mod runs;
-#[cfg(test)]
-mod scripts;
 #[cfg(test)]
 mod shared;
 #[cfg(test)]

@@ -178,6 +178,46 @@ fn gives_bytes_back(rt: HostRuntime) -> Result<(), Fail> {
     Ok(())
 }
 
+/// Bytes with no simple period.
+pub(crate) fn sample_bytes(alloc: Global, len: usize) -> Result<Vec<u8>, Fault> {
+    let mut bytes = Vec::new(alloc);
+    for i in 0..len {
+        bytes.push((i % 251 * 37 % 256) as u8)?;
+    }
+    Ok(bytes)
+}
+
+// Bytes behind bits leave those bits, and behind them the bits of each byte.
+fn expect_appended<R: Abort>(
+    rt: &R,
+    alloc: Global,
+    front: usize,
+    count: usize,
+) -> Result<(), Fail> {
+    let mut want = sample_list(alloc, front, 3)?;
+    let mut buf = bits(alloc, &want)?;
+    let more = sample_bytes(alloc, count)?;
+    buf.append_bytes(&more)?;
+    for byte in more.iter() {
+        for place in 0..8u32 {
+            want.push(*byte << place >= 128)?;
+        }
+    }
+    holds_at(rt, are(&buf, &want), &(&front, &count));
+    Ok(())
+}
+
+#[test]
+fn appends_bytes_anywhere(rt: HostRuntime) -> Result<(), Fail> {
+    let alloc = rt.alloc();
+    for front in [0, 1, 7, 8, 9, 56, 63, 64, 65, 128] {
+        for count in [0, 1, 7, 8, 9, 63, 64, 65] {
+            expect_appended(&rt, alloc, front, count)?;
+        }
+    }
+    Ok(())
+}
+
 // Such a list as the bits and as a list, where the places are in order and within it.
 fn expect_splice<R: Abort>(
     rt: &R,

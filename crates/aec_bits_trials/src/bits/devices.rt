@@ -1,10 +1,11 @@
-use super::bits::bits_in;
-use crate::asserts::same;
+use super::bits::{bits_in, sample_bytes};
+use crate::asserts::{same, same_at};
 use aec_bits::{ReadSource, Sink, Source, WriteSink};
 use aec_params::Fault;
 use std::alloc::Global;
 use std::io;
 use std::io::{ErrorKind, Read, Write};
+use std::process::Abort;
 use std::test::Fail;
 
 /// Takes nothing.
@@ -80,6 +81,24 @@ fn writes_whole_bytes(rt: HostRuntime) -> Result<(), Fail> {
     same(&rt, sink.failures(), 0);
     let taken = sink.into_inner();
     same(&rt, taken.as_slice(), [0x80, 0, 0x80].as_slice());
+    Ok(())
+}
+
+// The bytes of bits that end within one byte go to a sink as they are.
+fn expect_written<R: Abort>(rt: &R, alloc: Global, count: usize) -> Result<(), Fail> {
+    let given = sample_bytes(alloc, count)?;
+    let buf = bits_in(alloc, &given)?;
+    let mut sink = WriteSink::new(Vec::new(alloc));
+    buf.write_to(&mut sink)?;
+    same_at(rt, sink.into_inner().as_slice(), given.as_slice(), &count);
+    Ok(())
+}
+
+#[test]
+fn writes_each_length(rt: HostRuntime) -> Result<(), Fail> {
+    for count in [0, 1, 7, 8, 9, 63, 64, 65, 65535, 65536, 65537, 65544] {
+        expect_written(&rt, rt.alloc(), count)?;
+    }
     Ok(())
 }
 

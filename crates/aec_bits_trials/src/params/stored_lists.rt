@@ -1,6 +1,6 @@
 use crate::asserts::{holds, holds_at, same, same_at};
 use crate::settings::{msb_first, three_byte, width};
-use aec_params::{Params, Settings, append_samples, first_bad, put_samples};
+use aec_params::{Params, Settings, append_samples, first_bad, load_samples, put_samples};
 use std::alloc::Global;
 use std::process::Abort;
 use std::test::Fail;
@@ -22,6 +22,9 @@ fn goes_both_ways(
     same_at(rt, behind.get(1..), Some(wanted), &settings);
     let mut samples = Vec::new(alloc);
     append_samples(&params, bytes, &mut samples)?;
+    let mut places = vec![in alloc; 7; samples.len()]?;
+    load_samples(&params, bytes, &mut places);
+    same_at(rt, places.as_slice(), wanted, &settings);
     let mut out = vec![in alloc; 0xaa; bytes.len()]?;
     holds(rt, out.len() == params.storage() * samples.len());
     put_samples(&params, &samples, &mut out);

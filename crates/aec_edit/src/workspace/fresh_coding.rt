@@ -15,7 +15,7 @@ impl<C: Codec> Workspace<C> {
     ghost use Rattle.aec_edit.specs.Calls.{RisesAtMost};
     ghost use Rattle.aec_edit.specs.Index.{starts_of};
     ghost use Rattle.aec_edit.specs.Fresh.{to_come, IsGathered, OpensAtMost};
-    ghost use Rattle.aec_edit.specs.Unchanged.{IsUnchanged};
+    ghost use Rattle.aec_edit.specs.Unchanged.{KeepsSamples};
 
     /// Brings the next interval of fresh samples to the front. `Memory` where a growth was refused.
     fn gather(&mut self, fresh: &mut Fresh<'_>) -> Result<(), Fault>
@@ -38,7 +38,7 @@ impl<C: Codec> Workspace<C> {
             (fresh.new.end - fresh.new.next)
             (C.read self.old.codec) (C.read self.new.codec) }
         ensures calls { C.called self.new.codec ≡ C.called self.old.codec }
-        ensures same { IsUnchanged C.format self.old self.new }
+        ensures same { KeepsSamples C.format self.old self.new }
     {
         let most = self.interval_len();
         fresh.gather_held(most as usize)?;
@@ -66,7 +66,7 @@ impl<C: Codec> Workspace<C> {
         ensures rises { RisesAtMost 1 (C.called self.old.codec) (C.called self.new.codec) }
         ensures fault { IfErr result (λ e. e ≡ Memory) }
         ensures reads { C.read self.new.codec ≡ C.read self.old.codec }
-        ensures same { IsUnchanged C.format self.old self.new }
+        ensures same { KeepsSamples C.format self.old self.new }
     {
         coded.starts.push(coded.bits.len())?;
         self.codec.code(interval, &mut coded.bits)?;
@@ -89,13 +89,59 @@ impl<C: Codec> Workspace<C> {
         ensures rises { RisesAtMost 1 (C.called self.old.codec) (C.called self.new.codec) }
         ensures fault { IfErr result (λ e. e ≡ Memory) }
         ensures reads { C.read self.new.codec ≡ C.read self.old.codec }
-        ensures same { IsUnchanged C.format self.old self.new }
+        ensures same { KeepsSamples C.format self.old self.new }
     {
         let most = self.interval_len() as usize;
         let len = most.min(front.len());
         self.code_interval(&front[..len], coded)?;
         drop_front(front, len);
         Ok(())
+    }
+
+    /// Codes the next interval of fresh samples behind others. Where it stands whole in the values,
+    /// it is coded from there; else it is brought to the front. `Memory` where a growth was
+    /// refused; the call may have been made then.
+    fn code_next(&mut self, fresh: &mut Fresh<'_>, coded: &mut Coded) -> Result<(), Fault>
+        requires order { fresh.old.next ≤ fresh.old.end }
+        requires within { fresh.old.end ≤ interval_count (C.format self.old.codec)
+            self.old.samples }
+        requires some { 1 ≤ length (to_come (C.format self.old.codec).most self.old.samples
+            fresh.old.front.items fresh.old.values.now fresh.old.back.items fresh.old.next
+            fresh.old.end) }
+        requires held { AreHeld (C.format self.old.codec)
+            (to_come (C.format self.old.codec).most self.old.samples
+            fresh.old.front.items fresh.old.values.now fresh.old.back.items fresh.old.next
+            fresh.old.end) }
+        requires calls { C.called self.old.codec < 2 ^ 64 - 1 }
+        ensures coming { let n = (C.format self.old.codec).most in OnOk result (
+            to_come n self.old.samples fresh.new.front.items fresh.new.values.now
+            fresh.new.back.items fresh.new.next fresh.new.end
+            ≡ drop n (to_come n self.old.samples fresh.old.front.items fresh.old.values.now
+            fresh.old.back.items fresh.old.next fresh.old.end)) }
+        ensures bits { let n = (C.format self.old.codec).most in OnOk result (
+            coded.new.bits.list ≡ coded.old.bits.list ++ (C.format self.old.codec).bits_of
+            (take n (to_come n self.old.samples fresh.old.front.items fresh.old.values.now
+            fresh.old.back.items fresh.old.next fresh.old.end))) }
+        ensures starts { OnOk result
+            (coded.new.starts.items ≡ coded.old.starts.items ++ length coded.old.bits.list ∷ []) }
+        ensures calls { OnOk result (C.called self.new.codec ≡ C.called self.old.codec + 1) }
+        ensures rises { RisesAtMost 1 (C.called self.old.codec) (C.called self.new.codec) }
+        ensures order { fresh.new.next ≤ fresh.new.end }
+        ensures end { fresh.new.end ≡ fresh.old.end }
+        ensures opens { OpensAtMost (fresh.old.end - fresh.old.next)
+            (fresh.new.end - fresh.new.next)
+            (C.read self.old.codec) (C.read self.new.codec) }
+        ensures fault { IfErr result (λ e. e ≡ Memory) }
+        ensures same { KeepsSamples C.format self.old self.new }
+    {
+        let most = self.interval_len() as usize;
+        if fresh.begins_whole(most) {
+            let (interval, later) = fresh.values.split_at(most);
+            fresh.values = later;
+            return self.code_interval(interval, coded);
+        }
+        self.gather(fresh)?;
+        self.code_front(&mut fresh.front, coded)
     }
 
     /// Codes fresh samples, so many as `count` says. `Memory` where a growth was refused; some
@@ -131,16 +177,14 @@ impl<C: Codec> Workspace<C> {
         ensures reads { RisesAtMost (fresh.old.end - fresh.old.next) (C.read self.old.codec)
             (C.read self.new.codec) }
         ensures fault { IfErr result (λ e. (e ≡ Memory) × (0 < count)) }
-        ensures same { IsUnchanged C.format self.old self.new }
+        ensures same { KeepsSamples C.format self.old self.new }
     {
+        let most = self.interval_len();
         let mut coded = self.take_coded();
-        if count == 0 {
-            return Ok(coded);
-        }
-        self.gather(fresh)?;
-        while !fresh.front.is_empty() {
-            self.code_front(&mut fresh.front, &mut coded)?;
-            self.gather(fresh)?;
+        let mut left = count;
+        while left > 0 {
+            self.code_next(fresh, &mut coded)?;
+            left = left.saturating_sub(most);
         }
         coded.count = count;
         Ok(coded)

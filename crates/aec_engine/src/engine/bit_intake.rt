@@ -26,7 +26,7 @@ fn read_bits_past<R: Source>(
     while bits.byte_len() <= limit {
         match source.take(&mut piece) {
             Ok(0) => return Ok((bits, false)),
-            Ok(count) => bits.append(&BitBuf::from_bytes(alloc, &piece[..count])?)?,
+            Ok(count) => bits.append_bytes(&piece[..count])?,
             Err(_) => return Ok((bits, true)),
         }
     }

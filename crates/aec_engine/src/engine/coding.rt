@@ -3,7 +3,7 @@
 ghost use Rattle.std.specs.Prelude.{ℕ, List, Bool, [], Result, IfOk, IfErr};
 ghost use Rattle.aec_params.specs.declared.fault.Fault.{Fault};
 ghost use Rattle.aec_params.specs.Codewords.{bytes_of};
-ghost use Rattle.aec_engine.specs.Transfers.{Taking, taking_of, Putting, putting_of, answer_of, GivesAnswer, Leaves};
+ghost use Rattle.aec_engine.specs.Transfers.{Taking, taking_of, Putting, putting_of, answer_by, GivesAnswer, Leaves};
 ghost use Rattle.aec_engine.specs.Output.{IsEncoded, are_refused};
 ghost use Rattle.aec_engine.specs.CodingSteps.{IsFed, StopsCoding};
 
@@ -51,7 +51,7 @@ fn encode_source<R: Source>(
 ) -> Result<BitBuf, Fault>
     ensures { let took : Taking = taking_of R.left R.failed source.old source.new in
         let enough : List ℕ → Bool = are_refused params.now limits.samples in
-        let answer : Result (List ℕ) Fault = answer_of (λ bits. bytes_of bits.list) result in
+        let answer : Result (List ℕ) Fault = answer_by (λ bits. bytes_of bits.list) result in
         GivesAnswer (IsEncoded params.now limits) took enough answer }
 {
     // What the parameters promise is told by their calls.

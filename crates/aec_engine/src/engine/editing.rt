@@ -7,7 +7,7 @@ ghost use Rattle.aec_params.specs.Codewords.{bytes_of};
 ghost use Rattle.aec_bits.specs.Codec.{code_of};
 ghost use Rattle.aec_bits.specs.Devices.{counted, AppendsFront};
 ghost use Rattle.aec_interval.specs.IntervalFormat.{interval_format};
-ghost use Rattle.aec_engine.specs.Transfers.{Taking, taking_of, Putting, putting_of, answer_of};
+ghost use Rattle.aec_engine.specs.Transfers.{Taking, taking_of, Putting, putting_of, answer_by};
 ghost use Rattle.aec_engine.specs.Scripts.{listing_of};
 ghost use Rattle.aec_engine.specs.Editing.{GivesEdited, LeavesRecoded, LeavesEdited};
 ghost use Rattle.aec_engine.specs.EditingSteps.{GaveScript, RefusesScript, SettlesRecoded, recoded_of};
@@ -51,7 +51,7 @@ fn edit_source<C: Codec + Drop, Q: Source, R: Source>(
     ensures gives { let read : Taking = taking_of Q.left Q.failed from.old from.new in
         let took : Taking = taking_of R.left R.failed source.old source.new in
         GivesEdited params.now limits count read took
-        (answer_of (λ w. recoded_of (C.format w.codec) w.samples (C.called w.codec)) result) }
+        (answer_by (λ w. recoded_of (C.format w.codec) w.samples (C.called w.codec)) result) }
     ensures format { IfOk result (λ w. C.format w.codec ≡ interval_format params.now) }
 {
     let script = read_script(alloc, limits, from)?;
@@ -81,9 +81,9 @@ fn settle_code<C: Codec + Drop, W: Sink>(
 ) -> Result<Workspace<C>, EditFault>
     ensures settles { let put : Putting
         = putting_of W.taken W.begun W.mark W.failed sink.old sink.new in
-        SettlesRecoded put (answer_of
+        SettlesRecoded put (answer_by
         (λ w. recoded_of (C.format w.codec) w.samples (C.called w.codec)) answer)
-        (answer_of (λ w. C.called w.codec) result) }
+        (answer_by (λ w. C.called w.codec) result) }
     ensures stream { IfOk result
         (λ w. Appends (W.taken sink.old) (W.taken sink.new)
         (bytes_of (code_of (C.format w.codec) w.samples))) }
@@ -115,7 +115,7 @@ pub fn edit_over<C: Codec + Drop, Q: Source, R: Source, W: Sink>(
         let took : Taking = taking_of R.left R.failed source.old source.new in
         let put : Putting = putting_of W.taken W.begun W.mark W.failed sink.old sink.new in
         LeavesRecoded params.now limits count read took put
-        (answer_of (λ w. C.called w.codec) result) }
+        (answer_by (λ w. C.called w.codec) result) }
     ensures stream { IfOk result
         (λ w. Appends (W.taken sink.old) (W.taken sink.new)
         (bytes_of (code_of (C.format w.codec) w.samples))) }

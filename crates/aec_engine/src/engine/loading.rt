@@ -1,15 +1,16 @@
-//! The samples of coded bits taken over interval by interval into a workspace, and the edits of a
+//! The samples of coded bits taken over into a workspace by whole intervals, and the edits of a
 //! script made on them: those that only overwrite samples which are there already are made
 //! meanwhile, while little of the stream stands behind them.
 
-ghost use Rattle.std.specs.Prelude.{◌≡◌, ◌≤◌, ◌^◌, [], None, List, ℤ, IfOk, IfErr, Ok};
+ghost use Rattle.std.specs.Prelude.{◌≡◌, ◌<◌, ◌≤◌, ◌%◌, ◌^◌, ◌++◌, true, false, [], None, List, ℤ, IfOk, IfErr, OnOk, Ok};
 ghost use Rattle.aec_params.specs.declared.fault.Fault.TheVariants.{Memory};
 ghost use Rattle.aec_params.specs.Reading.{IsReading};
 ghost use Rattle.aec_interval.specs.IntervalFormat.{interval_format};
 ghost use Rattle.aec_interval.specs.Reached.{count_refusal, RefusesDecoding};
-ghost use Rattle.aec_engine.specs.Transfers.{answer_of};
+ghost use Rattle.aec_engine.specs.Transfers.{answer_by};
 ghost use Rattle.aec_engine.specs.EditingSteps.{recoded_of};
-ghost use Rattle.aec_engine.specs.ReadingTwice.{AreSamplesOf};
+ghost use Rattle.aec_interval.specs.Pieces.{is_wanted_at};
+ghost use Rattle.aec_engine.specs.ReadingTwice.{AreSamplesOf, ReadsOn, LacksMemoryAlone};
 ghost use Rattle.aec_engine.specs.Scripts.{listing_of};
 ghost use Rattle.aec_engine.specs.EditsAhead.{AreKnown, IsReady, left_in};
 ghost use Rattle.aec_engine.specs.EarlyEdits.{LoadsAll, StopsLoading, EditsBits, EditsSamples};
@@ -23,6 +24,49 @@ use aec_edit::Workspace;
 use aec_interval::StreamReader;
 use aec_params::{Fault, Limits, Params};
 use std::alloc::Global;
+
+/// Of short intervals so many samples are appended at once: each append is an edit.
+const AT_ONCE: usize = 2048;
+
+/// Puts the samples of the next interval in the place of those that were handed in, and behind them
+/// those of more intervals, as long as they are `AT_ONCE` at most; false where none are left. An
+/// interval behind the first comes by way of `spare`.
+///
+/// What has been judged is refused for want of memory alone.
+fn next_intervals(
+    params: &Params,
+    reader: &mut StreamReader,
+    spare: &mut Vec<i64>,
+    samples: &mut Vec<i64>,
+) -> Result<bool, Fault>
+    requires { reader.old.settings ≡ params.now }
+    ensures more { IfOk result (λ more. more ≡ is_wanted_at reader.old) }
+    ensures read { IfOk result
+        (λ more. more ≡ true → ReadsOn reader.old samples.new.items reader.new) }
+    ensures done { IfOk result (λ more. more ≡ false → reader.new ≡ reader.old) }
+    ensures refuses { IfErr result (λ fault. LacksMemoryAlone reader.old fault) }
+    ensures few { OnOk result (reader.new.block < 2 ^ 34) }
+    ensures ends { OnOk result (is_wanted_at reader.new ≡ true
+        → reader.new.block % reader.new.settings.interval ≡ 0) }
+{
+    let last = AT_ONCE.saturating_sub(params.interval_len() as usize);
+    if !reader.next(samples)? {
+        return Ok(false);
+    }
+    while samples.len() <= last && reader.next(spare)? {
+        append_behind(samples, spare)?;
+    }
+    Ok(true)
+}
+
+/// Appends samples to others. `Memory` where a growth was refused.
+fn append_behind(samples: &mut Vec<i64>, more: &[i64]) -> Result<(), Fault>
+    ensures ok { OnOk result (samples.new.items ≡ samples.old.items ++ more.now) }
+    ensures fault { IfErr result (λ e. e ≡ Memory) }
+{
+    samples.extend_from_slice(more)?;
+    Ok(())
+}
 
 /// Appends the samples that coded bits stand for to an empty workspace over a codec that has coded
 /// nothing, and makes edits of a script meanwhile. Those that are left are ahead then.
@@ -59,7 +103,8 @@ fn append_all<C: Codec>(
 {
     // What the parameters promise is told by their calls.
     let _len = params.interval_len();
-    while reader.next(samples)? {
+    let mut spare = Vec::new(alloc);
+    while next_intervals(params, reader, &mut spare, samples)? {
         workspace.append(samples)?;
         carry_early(alloc, workspace, ahead)?;
     }
@@ -93,11 +138,11 @@ fn judged_reader<'a>(
     Ok((reader, judged))
 }
 
-/// Room for the samples of an interval.
-fn interval_room(alloc: Global, params: &Params) -> Result<Vec<i64>, Fault>
+/// Room for the samples that are appended at once.
+fn room_at_once(alloc: Global, params: &Params) -> Result<Vec<i64>, Fault>
     ensures fault { IfErr result (λ e. e ≡ Memory) }
 {
-    let samples = Vec::with_capacity(alloc, params.interval_len() as usize)?;
+    let samples = Vec::with_capacity(alloc, AT_ONCE.max(params.interval_len() as usize))?;
     Ok(samples)
 }
 
@@ -156,10 +201,10 @@ fn edit_samples<C: Codec + Drop>(
     requires fresh { C.called codec ≡ 0 }
     requires known { (listing_of script.now).bad ≡ None }
     ensures edits { EditsSamples params.now limits.samples reader.old (listing_of script.now)
-        (answer_of (λ w. recoded_of (C.format w.codec) w.samples (C.called w.codec)) result) }
+        (answer_by (λ w. recoded_of (C.format w.codec) w.samples (C.called w.codec)) result) }
     ensures format { IfOk result (λ w. C.format w.codec ≡ interval_format params.now) }
 {
-    let mut samples = interval_room(alloc, params)?;
+    let mut samples = room_at_once(alloc, params)?;
     let mut workspace = roomy_workspace(alloc, codec, limits, room)?;
     let mut ahead = EditsAhead::new(alloc, script)?;
     append_all(
@@ -190,7 +235,7 @@ pub(crate) fn edit_bits<C: Codec + Drop>(
     requires fresh { C.called codec ≡ 0 }
     requires known { (listing_of script.now).bad ≡ None }
     ensures edits { EditsBits params.now limits count bits.now.list (listing_of script.now)
-        (answer_of (λ w. recoded_of (C.format w.codec) w.samples (C.called w.codec)) result) }
+        (answer_by (λ w. recoded_of (C.format w.codec) w.samples (C.called w.codec)) result) }
     ensures format { IfOk result (λ w. C.format w.codec ≡ interval_format params.now) }
 {
     let (mut reader, judged) = judged_reader(alloc, params, limits, count, bits)?;

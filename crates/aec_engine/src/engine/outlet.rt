@@ -5,7 +5,7 @@ ghost use Rattle.std.specs.Io.KnownBytes.{Appends, Keeps};
 ghost use Rattle.aec_params.specs.declared.fault.Fault.TheVariants.{Write as WriteFault};
 ghost use Rattle.aec_params.specs.Codewords.{bytes_of};
 ghost use Rattle.aec_bits.specs.Devices.{counted, AppendsFront};
-ghost use Rattle.aec_engine.specs.Transfers.{Putting, putting_of, answer_of, Settles};
+ghost use Rattle.aec_engine.specs.Transfers.{Putting, putting_of, answer_by, Settles};
 
 use aec_bits::{BitBuf, Sink};
 use aec_params::Fault;
@@ -28,7 +28,7 @@ fn deliver_bits<W: Sink>(bits: &BitBuf, sink: &mut W) -> Result<(), Fault>
 /// Begins, and writes the bytes that the bits of an answer fill; or answers its refusal.
 pub(crate) fn settle_bits<W: Sink>(answer: Result<BitBuf, Fault>, sink: &mut W) -> Result<(), Fault>
     ensures { let put : Putting = putting_of W.taken W.begun W.mark W.failed sink.old sink.new in
-        Settles put (answer_of (λ bits. bytes_of bits.list) answer) result }
+        Settles put (answer_by (λ bits. bytes_of bits.list) answer) result }
 {
     let bits = answer?;
     deliver_bits(&bits, sink)

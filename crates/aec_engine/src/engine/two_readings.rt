@@ -143,8 +143,28 @@ pub(crate) fn part_of(samples: &[i64], skip: u64, left: u64) -> &[i64]
     &rest[..(left as usize).min(rest.len())]
 }
 
+/// How many samples' bytes are appended at once: few enough to be cleared and then filled in the
+/// nearest memory.
+const STORED_AT_ONCE: usize = 256;
+
 /// Appends the bytes of samples. Takes no memory.
 pub(crate) fn append_stored(params: &Params, samples: &[i64], bytes: &mut Vec<u8>)
+    requires held { AllByRecursion (IsHeld params.now) samples.now }
+    requires room { vec_len bytes.old + 4 * length samples.now ≤ vec_capacity bytes.old }
+    ensures items { bytes.new.items ≡ bytes.old.items ++ all_stored params.now samples.now }
+    ensures len { vec_len bytes.new ≤ vec_len bytes.old + 4 * length samples.now }
+    ensures capacity { vec_capacity bytes.old ≤ vec_capacity bytes.new }
+{
+    let mut left = samples;
+    while !left.is_empty() {
+        let (part, behind) = left.split_at(left.len().min(STORED_AT_ONCE));
+        append_part(params, part, bytes);
+        left = behind;
+    }
+}
+
+/// Appends the bytes of a few samples: places are cleared for all of them, and then filled.
+fn append_part(params: &Params, samples: &[i64], bytes: &mut Vec<u8>)
     requires held { AllByRecursion (IsHeld params.now) samples.now }
     requires room { vec_len bytes.old + 4 * length samples.now ≤ vec_capacity bytes.old }
     ensures items { bytes.new.items ≡ bytes.old.items ++ all_stored params.now samples.now }

@@ -1,9 +1,18 @@
-use Rattle.std.proofs.Common.{◌≡◌, ◌*◌, ◌<◌, refl, ◌∙◌, sym, subst, arith, true, length}
+use Rattle.std.proofs.Common.{◌≡◌, ◌^◌, ◌*◌, ◌<◌, refl, ◌∙◌, sym, subst, arith, true, length}
+use Rattle.std.specs.List.{AllByRecursion}
 use Rattle.std.specs.Prelude.{nat_lt, nat_le, ◌&&◌, ◌||◌}
 use Rattle.std.proofs.lemmas.Bool.Decides.{nat_tests}
 use Rattle.aec_block.specs.Lengths.{paired_length, split_values_length, IsBestSplit}
 use Rattle.aec_block.proofs.ChoiceLemmas.{names-first, names-split, names-unsplit, names-unpaired}
+use Rattle.aec_block.proofs.WritingLemmas.{after_reference-small}
 use Rattle.aec_block.proofs.choice.choose_among.Goals as goal
+
+pub best_split-split-requires-clause-below : goal.best_split-split-requires-clause-below
+best_split-split-requires-clause-below c =
+    let b = c.args.block.now in
+    subst (λ n. AllByRecursion (λ v. v < 2 ^ n) c.args.values.now) (sym c.bits.ensures.value)
+    (subst (AllByRecursion (λ v. v < 2 ^ c.args.params.now.bits)) (sym c.requires.values)
+    (after_reference-small c.args.params.now.bits b.reference b.values c.requires.full.values))
 
 pub returns-then-pairs_are_longer : goal.returns-then-pairs_are_longer
 returns-then-pairs_are_longer c =
@@ -14,7 +23,7 @@ returns-then-pairs_are_longer c =
     let test = subst (λ v. (nat_lt 0 options && (nat_lt 0 split.result.k || nat_le (2 * length v) split.result.bits)) ≡ true) is
     (sym c.pairs_are_longer.ensures ∙ c.if-pairs_are_longer.true) in
     names-unpaired s c.args.block.now options split.result.k split.result.bits c.uncompressed_len.result c.shorter_of_split.result
-    c.id_len-width.ensures.allowed c.requires.full c.uncompressed_len.ensures.len c.split_options-options.ensures.count
+    c.requires.allowed c.requires.full c.uncompressed_len.ensures.len c.split_options-options.ensures.count
     (subst (λ v. 0 < options → IsBestSplit options split.result.k v) is split.ensures.best)
     (subst (λ v. split.result.bits ≡ split_values_length split.result.k v) is split.ensures.bits) test c.shorter_of_split.ensures
 

@@ -23,5 +23,6 @@ returns-then-preprocess-clause-only c =
 pub returns-else-preprocess-clause-only : goal.returns-else-preprocess-clause-only
 returns-else-preprocess-clause-only c =
     let fits_x : FitsSigned w64 c.value.result = search rules in
-    λ x held is. simp to_z-of_z (only-pattern c.args.params.now c.args.p x c.value.result c.args.m c.greatest_offset-top.ensures.allowed (cc) held c.value.ensures.held
+    λ x held is. simp to_z-of_z (only-pattern c.args.params.now c.args.p x c.value.result c.args.m c.greatest_offset-top.ensures.allowed
+    (cc) held c.value.ensures.held
     c.value.ensures.undone is)

@@ -4,7 +4,8 @@ use Rattle.aec_block.proofs.skipping.skip_body.Goals as goal
 
 pub returns-in_ok-skip_uncompressed-in-NoCompression-clause-taken : goal.returns-in_ok-skip_uncompressed-in-NoCompression-clause-taken
 returns-in_ok-skip_uncompressed-in-NoCompression-clause-taken c =
-    uncompressed_body c.args.params.now c.args.reference c.is_some-is_ref.result c.args.kind (bits_at c.args.reader.now) (bits_at c.skip_uncompressed.new.reader)
+    uncompressed_body c.args.params.now c.args.reference c.is_some-is_ref.result c.args.kind (bits_at c.args.reader.now)
+    (bits_at c.skip_uncompressed.new.reader)
     c.is_some-is_ref.ensures c.in-NoCompression.is c.in_ok-skip_uncompressed-in-NoCompression.ensures.taken
 
 pub returns-in_ok-skip_split-in-Split-clause-taken : goal.returns-in_ok-skip_split-in-Split-clause-taken

@@ -1,11 +1,11 @@
 use Rattle.std.proofs.Common.{arith, ◌*◌, ◌<◌, min, length, ap, ◌∙◌}
 use Rattle.std.specs.Slice.Iter.{chunks_rest}
-use Rattle.aec_interval.proofs.BlockLemmas.{block_size-positive}
+use Rattle.aec_params.proofs.SettingLaws.{block_size-positive}
 use Rattle.aec_interval.proofs.SegmentLemmas.{piece_taken, interval-more, interval-end}
 use Rattle.aec_interval.proofs.interval.write_segments.Goals as goal
 
 pub loop-segment-preserved : goal.loop-segment-preserved
-loop-segment-preserved c =
+loop-segment-preserved g c =
     let positive = block_size-positive c.args.params.now c.block_size.ensures.allowed in
     let so_far = c.loop-segment.invariant.so_far in
     let steps = c.in-Some.ensures.steps in
@@ -22,6 +22,6 @@ loop-segment-preserved c =
     }
 
 pub returns-clause-ok : goal.returns-clause-ok
-returns-clause-ok c =
+returns-clause-ok g c =
     interval-end c.args.params.now _ _ _ _ _ (block_size-positive c.args.params.now c.block_size.ensures.allowed) c.in-None.ensures.steps.1.0
     c.loop-segment.invariant.so_far

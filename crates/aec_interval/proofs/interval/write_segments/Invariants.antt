@@ -5,9 +5,9 @@ use Rattle.aec_interval.proofs.SegmentLemmas.{IntervalSoFar}
 use Rattle.aec_interval.proofs.interval.write_segments.Given as goal
 
 abbrev pub invariant-loop-segment : goal.invariant-loop-segment
-invariant-loop-segment l = record {
-  can_next : (goal.iterator-loop-segment).can_next l.segment-iterator;
-  is_finite : (goal.iterator-loop-segment).is_finite l.segment-iterator;
+invariant-loop-segment g l = record {
+  can_next : (goal.iterator-loop-segment g).can_next l.segment-iterator;
+  is_finite : (goal.iterator-loop-segment g).is_finite l.segment-iterator;
   size : chunks_size l.segment-iterator ≡ l.params.block_size * 64;
   so_far : IntervalSoFar l.params l.initial.out.list l.out.list (unpadded_bits l.params l.fn.samples) l.preceding (chunks_rest l.segment-iterator);
 }

@@ -3,8 +3,8 @@ use Rattle.aec_interval.specs.Reached.{IsReached}
 use Rattle.aec_interval.proofs.ReadIntervalLemmas.{IsInside}
 use Rattle.aec_interval.proofs.reading.read_interval.Given as goal
 
-abbrev pub invariant-loop-block : goal.invariant-loop-block
-invariant-loop-block l = record {
+abbrev pub invariant-loop-behind : goal.invariant-loop-behind
+invariant-loop-behind l = record {
   reached : IsReached l.params l.wanted.count l.wanted.limit l.fn.reader.list l.wanted.first l.wanted.start l.block l.reader.pos l.samples.items;
   list : l.reader.list ≡ l.fn.reader.list;
   inside : IsInside l.params l.wanted.count l.wanted.limit l.fn.reader.list l.wanted.first l.block l.reader.pos l.end;
@@ -12,5 +12,5 @@ invariant-loop-block l = record {
   capacity : vec_capacity l.fn.samples ≤ vec_capacity l.samples;
 }
 
-abbrev pub decreases-loop-block : goal.decreases-loop-block
-decreases-loop-block l = 2 ^ 34 - l.block
+abbrev pub decreases-loop-behind : goal.decreases-loop-behind
+decreases-loop-behind l = 2 ^ 34 - l.block

@@ -12,4 +12,5 @@ returns-in-None-clause-shortest c unpadded =
     let s = c.args.params.now in
     let held = all-held s 0 c.args.samples.now (sym c.in-None.ensures) in
     let law = codes_are_shortest s c.args.samples.now c.code_intervals.ensures.allowed in
-    IfOk-weaker c.code_intervals.result _ _ (λ b same codes each. omega (arith, ap length same, law.stream held unpadded codes each)) c.code_intervals.ensures.ok
+    IfOk-weaker c.code_intervals.result _ _
+    (λ b same codes each. omega (arith, ap length same, law.stream held unpadded codes each)) c.code_intervals.ensures.ok

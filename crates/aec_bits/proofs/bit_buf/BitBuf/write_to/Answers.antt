@@ -16,6 +16,7 @@ loop-done-preserved g c =
     let bytes = bytes_of c.args.self.now.list in
     record {
       within = omega arith;
+      eights = λ more. omega (arith, c.loop-done.invariant.eights (omega arith));
       bytes = Appends_more _ _ _ bytes c.loop-done.done c.fill-count.result c.loop-done.invariant.bytes
           (rw c.fill-count.ensures.bytes at c.in_ok-put_all.ensures.ok);
       begun = c.in_ok-put_all.ensures.begun ∙ c.loop-done.invariant.begun;

@@ -33,12 +33,12 @@ use Rattle.std.specs.contracts.alloc.Global as heap
 use Rattle.std.proofs.alloc.Global.TheLaws as heap_laws
 use Rattle.aec_c.specs.Handles.{handle_owns}
 use Rattle.aec_c.specs.declared.handle.Handle.{Handle}
-use Rattle.aec_c.specs.contracts.handle.Work as work
+use Rattle.aec_c.specs.contracts.handle.OpenWorkspace as work
 use Rattle.aec_c.specs.contracts.handle.Handle as handle
 use Rattle.aec_c.specs.contracts.handle.Handle.into_loose as f
 use Rattle.aec_c.proofs.handle.Handle.TheLaws.{lowers}
 use Rattle.aec_c.proofs.HandleSteps.{word, ptr_good, word_good, handle_out}
-use Rattle.aec_c.proofs.BoxedWork.{E, LooseWork}
+use Rattle.aec_c.proofs.BoxedWorkspace.{E, LooseWork}
 use Rattle.aec_c.proofs.handle.Handle.into_loose.Statement.{statement}
 use Rattle.aec_c.proofs.handle.Handle.into_loose.Code as code
 

@@ -22,7 +22,7 @@ use Rattle.aec_c.specs.declared.handle.Handle.{Handle}
 use Rattle.aec_c.specs.contracts.handle.Handle as handle
 use Rattle.aec_c.specs.contracts.handle.Handle.of_loose as f
 use Rattle.aec_c.proofs.HandleSteps.{word, word_good, handle_in}
-use Rattle.aec_c.proofs.BoxedWork.{E, FromLoose}
+use Rattle.aec_c.proofs.BoxedWorkspace.{E, FromLoose}
 use Rattle.aec_c.proofs.handle.Handle.of_loose.Statement.{statement}
 use Rattle.aec_c.proofs.handle.Handle.of_loose.Code as code
 

@@ -2,11 +2,11 @@ use Rattle.std.proofs.Common.{◌≡◌, ◌+◌, ◌-◌, ◌≤◌, ◌++◌, 
 use Rattle.std.specs.Int.{div_ceil}
 use Rattle.aec_bits.specs.Codec.{AreHeld, code_of}
 use Rattle.aec_edit.specs.Index.{starts_of}
-use Rattle.aec_edit.specs.Fresh.{to_come, IsGathered, OpensAtMost}
+use Rattle.aec_edit.specs.Fresh.{to_come, OpensAtMost}
 use Rattle.aec_edit.proofs.workspace.Workspace.code_fresh.Given as goal
 
-abbrev pub invariant-loop-self : goal.invariant-loop-self
-invariant-loop-self g l =
+abbrev pub invariant-loop-left : goal.invariant-loop-left
+invariant-loop-left g l =
     let f = g.C.Codec.format l.fn.self.codec in
     let s = l.fn.self.samples in
     let all = to_come f.most s l.fn.fresh.front.items l.fn.fresh.values.now l.fn.fresh.back.items l.fn.fresh.next l.fn.fresh.end in
@@ -16,7 +16,8 @@ invariant-loop-self g l =
       samples : l.self.samples ≡ s;
       limit : l.self.limit ≡ l.fn.self.limit;
       held : AreHeld f rest;
-      gathered : IsGathered f.most l.fresh.front.items rest;
+      left : l.left ≡ length rest;
+      within : l.left ≤ l.fn.count;
       order : l.fresh.next ≤ l.fresh.end;
       end : l.fresh.end ≡ l.fn.fresh.end;
       bits : code_of f all ≡ l.coded.bits.list ++ code_of f rest;
@@ -26,7 +27,5 @@ invariant-loop-self g l =
       opens : OpensAtMost (l.fn.fresh.end - l.fn.fresh.next) (l.fresh.end - l.fresh.next) (g.C.Codec.read l.fn.self.codec) (g.C.Codec.read l.self.codec);
     }
 
-abbrev pub decreases-loop-self : goal.decreases-loop-self
-decreases-loop-self g l =
-    let f = g.C.Codec.format l.fn.self.codec in
-    length (to_come f.most l.fn.self.samples l.fresh.front.items l.fresh.values.now l.fresh.back.items l.fresh.next l.fresh.end)
+abbrev pub decreases-loop-left : goal.decreases-loop-left
+decreases-loop-left g l = l.left

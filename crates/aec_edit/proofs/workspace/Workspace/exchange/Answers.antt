@@ -1,7 +1,8 @@
 use Rattle.std.proofs.Common.{◌≡◌, ℕ, length, arith, ap, ◌∙◌}
 use Rattle.std.specs.Int.{div_ceil}
 use Rattle.aec_bits.specs.Codec.{Format}
-use Rattle.aec_edit.specs.Changes.{recoding_calls, recoding_openings, opened_ends}
+use Rattle.aec_edit.specs.Changes.{recoding_calls, recoding_openings}
+use Rattle.aec_edit.specs.Opened.{opened_ends}
 use Rattle.aec_edit.proofs.UpToLemmas.{up_to_last, same_calls, answer_at, reads_at}
 use Rattle.aec_edit.proofs.workspace.Workspace.exchange.Goals as goal
 

@@ -63,7 +63,8 @@ put-requires g c =
     let most = c.interval_len-most.ensures.value in (
       fresh_of f.most seen.samples c.args.first c.args.stop c.args.to c.args.values.now,
       code_came f seen.limit c.args.first c.args.stop c.args.to seen.samples c.args.values.now (g.C.Codec.lawful seen.codec)
-          c.interval_len-most.ensures.held c.requires _ _ _ _ _ _ _ _ _ _ _ _ _ _ got.read.format coded.same.format (coded.same.limit ∙ got.read.limit) got.read.samples
+          c.interval_len-most.ensures.held c.requires _ _ _ _ _ _ _ _ _ _ _ _ _ _ got.read.format coded.same.format
+          (coded.same.limit ∙ got.read.limit) got.read.samples
           coded.same.samples got.front got.values got.back got.next got.end (ap (λ n. c.args.first / n) most) coded.bits coded.starts
           (coded.count ∙ total_is _ f.most _ (length seen.samples) c.args.first c.args.stop c.args.to (length c.args.values.now) _ most
           c.count.ensures.value c.min.ensures),
@@ -98,7 +99,8 @@ returns-clause-ok g c =
     ap (λ w. w.samples) c.keep_lists.ensures.same
     ∙ c.in_ok-put.ensures.ok (fresh_of f.most seen.samples c.args.first c.args.stop c.args.to c.args.values.now)
     (code_came f seen.limit c.args.first c.args.stop c.args.to seen.samples c.args.values.now lawful held c.requires _ _ _ _ _ _ _ _ _ _ _ _ _ _
-    got.read.format coded.same.format (coded.same.limit ∙ got.read.limit) got.read.samples coded.same.samples got.front got.values got.back got.next got.end from_is
+    got.read.format coded.same.format
+    (coded.same.limit ∙ got.read.limit) got.read.samples coded.same.samples got.front got.values got.back got.next got.end from_is
     coded.bits coded.starts (coded.count ∙ total_is _ f.most _ (length seen.samples) c.args.first c.args.stop c.args.to (length c.args.values.now) _
     c.interval_len-most.ensures.value c.count.ensures.value c.min.ensures))
     ∙ put_came f seen.limit c.args.first c.args.stop c.args.to seen.samples c.args.values.now lawful held c.requires _ _ _ (coded.same.format ∙ got.read.format)

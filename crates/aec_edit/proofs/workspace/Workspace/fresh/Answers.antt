@@ -1,8 +1,8 @@
 use Rattle.std.proofs.Common.{◌≡◌, ◌-◌, ◌%◌, length, take, drop, arith, ap, ◌∙◌}
 use Rattle.std.proofs.lemmas.Result.{err_from_is_err_and}
 use Rattle.aec_bits.specs.Codec.{Format}
-use Rattle.aec_edit.specs.Changes.{end_samples}
-use Rattle.aec_edit.proofs.OpenLemmas.{ends_head, ends_tail, opened_some, touched_end}
+use Rattle.aec_edit.specs.Opened.{end_samples}
+use Rattle.aec_edit.proofs.EndSamplesLemmas.{ends_head, ends_tail, opened_some, touched_end}
 use Rattle.aec_edit.proofs.UpToLemmas.{some_calls, kept_more}
 use Rattle.aec_edit.proofs.workspace.Workspace.fresh.Goals as goal
 

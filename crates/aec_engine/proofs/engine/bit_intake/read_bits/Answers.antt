@@ -17,4 +17,5 @@ returns-then-byte_len-limit-clause-refuses g c =
 
 pub returns-clause-ok : goal.returns-clause-ok
 returns-clause-ok g c =
-    gave_whole_bits _ _ _ _ c.byte_len.result c.in_ok-bits.bits.list _ c.in_ok-bits.ensures.ok c.if-failed.false c.byte_len.ensures.bits c.if-byte_len-limit.false
+    gave_whole_bits _ _ _ _ c.byte_len.result c.in_ok-bits.bits.list _ c.in_ok-bits.ensures.ok c.if-failed.false c.byte_len.ensures.bits
+    c.if-byte_len-limit.false

@@ -3,8 +3,8 @@ use Rattle.aec_engine.specs.EditsAhead.{AreKnown, IsReady, left_in}
 use Rattle.aec_engine.proofs.LoadingLemmas.{LoadsSoFar}
 use Rattle.aec_engine.proofs.engine.loading.append_all.Given as goal
 
-abbrev pub invariant-loop-workspace : goal.invariant-loop-workspace
-invariant-loop-workspace g l = record {
+abbrev pub invariant-loop-spare : goal.invariant-loop-spare
+invariant-loop-spare g l = record {
   loads : LoadsSoFar l.fn.reader l.reader (g.C.Codec.format l.fn.workspace.codec) l.fn.workspace.limit (left_in l.fn.ahead) (left_in l.ahead)
       l.workspace.samples (g.C.Codec.called l.workspace.codec);
   limit : l.workspace.limit ≡ l.fn.workspace.limit;
@@ -13,5 +13,5 @@ invariant-loop-workspace g l = record {
   ready : IsReady l.ahead;
 }
 
-abbrev pub decreases-loop-workspace : goal.decreases-loop-workspace
-decreases-loop-workspace g l = 2 ^ 34 - l.reader.block
+abbrev pub decreases-loop-spare : goal.decreases-loop-spare
+decreases-loop-spare g l = 2 ^ 34 - l.reader.block

@@ -18,7 +18,8 @@ returns-in_err-judged g c =
     settles_refusal _ _ exit.0 c.in_err-judged.field-0.0 (g.W.Sink.taken c.args.sink.now) (g.W.Sink.mark c.args.sink.now)
     (g.W.Sink.begun c.args.sink.now) (g.W.Sink.failed c.args.sink.now)
     exit.1 exit.2
-    (subst (λ limit. CutsBits c.args.params.now c.args.count limit c.args.first c.args.len c.args.bits.now.list (Err c.in_err-judged.field-0.0)) c.samples.ensures.value
+    (subst (λ limit. CutsBits c.args.params.now c.args.count limit c.args.first c.args.len c.args.bits.now.list (Err c.in_err-judged.field-0.0))
+    c.samples.ensures.value
     (not_read c.in_err-judged.field-0.0 (refuses_reading _ _ _ _ c.in_ok-reader.reader c.in_err-judged.field-0.0 c.in_ok-reader.ensures.ok
     c.in_ok-reader.ensures.refuses c.in_err-judged.ensures.refuses)))
 
@@ -35,7 +36,8 @@ returns-in_err-judge_range g c =
 
 pub write_range-requires-clause-read : goal.write_range-requires-clause-read
 write_range-requires-clause-read g c =
-    let there = samples_there c.in_ok-reader.reader c.judge_samples.new.reader c.in_ok-judged.judged.total c.in_ok-judged.ensures.same c.in_ok-judged.ensures.ok in
+    let there = samples_there c.in_ok-reader.reader c.judge_samples.new.reader c.in_ok-judged.judged.total c.in_ok-judged.ensures.same
+    c.in_ok-judged.ensures.ok in
     samples_told c.judge_samples.new.reader c.in_ok-judged.judged.total there
 
 pub returns : goal.returns

@@ -11,7 +11,8 @@ loop-len-init c =
     let counts = counts_begun c.args.reader.now c.args.before c.args.first c.requires.begun in
     record {
       counts = counts;
-      noted = noted_here c.args.reader.now c.args.reader.now _ _ c.args.before c.args.first counts c.place.ensures.reached c.place.ensures.block c.place.ensures.bit
+      noted = noted_here c.args.reader.now c.args.reader.now _ _ c.args.before c.args.first counts c.place.ensures.reached c.place.ensures.block
+          c.place.ensures.bit
           c.requires.begun.at_most;
     }
 
@@ -37,7 +38,8 @@ loop-len-preserved c =
       counts = counts;
       noted = noted_later (λ (b : Begin). IsNoted c.args.reader.now b.place.block b.place.bit b.before c.args.first) c.loop-len.begin _ _ _ c.args.first
           c.last_begin-begin.ensures.here c.last_begin-begin.ensures.noted c.loop-len.invariant.noted
-          (noted_here c.args.reader.now c.skip.new.self _ _ _ c.args.first counts c.place-in-Some.ensures.reached c.place-in-Some.ensures.block c.place-in-Some.ensures.bit);
+          (noted_here c.args.reader.now c.skip.new.self _ _ _ c.args.first counts c.place-in-Some.ensures.reached c.place-in-Some.ensures.block
+          c.place-in-Some.ensures.bit);
     }
 
 pub go_back-requires : goal.go_back-requires

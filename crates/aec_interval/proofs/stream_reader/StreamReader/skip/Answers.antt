@@ -11,6 +11,7 @@ invariant_of-self c =
 pub returns-in-Ok-clause-skipped : goal.returns-in-Ok-clause-skipped
 returns-in-Ok-clause-skipped c =
     let wanted = sym c.wants_more.ensures ∙ c.if-not-wants_more.false in
-    place-skipped _ _ _ _ c.self.inside.reader.list _ _ c.self.inside.reader.pos _ _ _ _ c.self.view_is c.in-Ok.ensures.allowed c.pos.ensures.value c.in-Ok.ensures.list
+    place-skipped _ _ _ _ c.self.inside.reader.list _ _ c.self.inside.reader.pos _ _ _ _ c.self.view_is c.in-Ok.ensures.allowed c.pos.ensures.value
+    c.in-Ok.ensures.list
     (c.self.invariant.begins wanted) wanted c.in-Ok.ensures.ok c.in-Ok.ensures.over.forward c.in-Ok.ensures.over.within
     c.in-Ok.ensures.over.to_end c.count_asked.ensures

@@ -1,0 +1,95 @@
+//! Bits that begin within a word, copied and moved four words at a time.
+
+ghost use Rattle.std.specs.Prelude.{◌≡◌, ◌+◌, ◌*◌, ◌%◌, ◌<◌, ◌≤◌, length, take, drop};
+ghost use Rattle.aec_bits.specs.Words.{bits_of_words, HaveCopied};
+
+use std::simd::prelude::*;
+
+/// Overwrites four times so many words from word `place` on by the bits of other words from place
+/// `from` on.
+pub(crate) fn copy_fours(words: &mut [u64], place: usize, with: &[u64], from: u64, fours: usize)
+    requires shifted { 0 < from % 64 }
+    requires within { place + 4 * fours ≤ length words.old }
+    requires there { from + 256 * fours ≤ 64 * length with.now }
+    ensures bits { HaveCopied from (64 * place) (256 * fours) with.now words.old words.new }
+    ensures len { length words.new ≡ length words.old }
+{
+    let first = (from / 64) as usize;
+    let at = (from % 64) as u32;
+    for i in 0..fours {
+        copy_four(words, place + 4 * i, with, first + 4 * i, at);
+    }
+}
+
+/// Moves bits from place `from` on to word `place` and those after it, the first four words first.
+pub(crate) fn move_fours_down(words: &mut [u64], from: u64, place: usize, fours: usize)
+    requires shifted { 0 < from % 64 }
+    requires order { 64 * place ≤ from }
+    requires source { from + 256 * fours ≤ 64 * length words.old }
+    ensures bits { HaveCopied from (64 * place) (256 * fours) words.old words.old words.new }
+    ensures len { length words.new ≡ length words.old }
+{
+    let first = (from / 64) as usize;
+    let at = (from % 64) as u32;
+    for i in 0..fours {
+        move_four(words, first + 4 * i, at, place + 4 * i);
+    }
+}
+
+/// Moves bits from place `from` on to word `place` and those after it, the last four words first.
+pub(crate) fn move_fours_up(words: &mut [u64], from: u64, place: usize, fours: usize)
+    requires shifted { 0 < from % 64 }
+    requires order { from ≤ 64 * place }
+    requires target { place + 4 * fours ≤ length words.old }
+    ensures bits { HaveCopied from (64 * place) (256 * fours) words.old words.old words.new }
+    ensures len { length words.new ≡ length words.old }
+{
+    let first = (from / 64) as usize;
+    let at = (from % 64) as u32;
+    let mut left = fours;
+    while left > 0 {
+        left -= 1;
+        move_four(words, first + 4 * left, at, place + 4 * left);
+    }
+}
+
+/// The four words that begin at place `at` of word `from` and of those after it.
+#[inline(always)]
+fn joined_four(words: &[u64], from: usize, at: u32) -> u64x4
+    requires some { 0 < at }
+    requires inside { at < 64 }
+    requires within { from + 5 ≤ length words.now }
+    ensures bits { bits_of_words result
+        ≡ take 256 (drop (64 * from + at) (bits_of_words words.now)) }
+    ensures len { length result ≡ 4 }
+{
+    let first = u64x4::from_slice(&words[from..]);
+    let second = u64x4::from_slice(&words[from + 1..]);
+    (first << u64x4::splat(u64::from(at))) | (second >> u64x4::splat(u64::from(64 - at)))
+}
+
+/// Moves 256 bits from place `at` of word `from` on to word `place` and those after it.
+#[inline(always)]
+fn move_four(words: &mut [u64], from: usize, at: u32, place: usize)
+    requires some { 0 < at }
+    requires inside { at < 64 }
+    requires source { from + 5 ≤ length words.old }
+    requires target { place + 4 ≤ length words.old }
+    ensures bits { HaveCopied (64 * from + at) (64 * place) 256 words.old words.old words.new }
+    ensures len { length words.new ≡ length words.old }
+{
+    joined_four(words, from, at).copy_to_slice(&mut words[place..]);
+}
+
+/// The same from other words.
+#[inline(always)]
+fn copy_four(words: &mut [u64], place: usize, with: &[u64], from: usize, at: u32)
+    requires some { 0 < at }
+    requires inside { at < 64 }
+    requires there { from + 5 ≤ length with.now }
+    requires target { place + 4 ≤ length words.old }
+    ensures bits { HaveCopied (64 * from + at) (64 * place) 256 with.now words.old words.new }
+    ensures len { length words.new ≡ length words.old }
+{
+    joined_four(with, from, at).copy_to_slice(&mut words[place..]);
+}

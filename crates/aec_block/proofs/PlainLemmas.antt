@@ -1,0 +1,111 @@
+-- A coded data set of one block without a reference sample, whose values are written one by one.
+use Rattle.std.proofs.Common.{◌≡◌, ℕ, ◌+◌, ◌<◌, ◌^◌, Bool, true, false, Option, Some, None, Result, Ok, Err, IfOk, List, [], length, drop, refl, sym, ap, ◌∙◌, subst}
+use Rattle.std.specs.List.{AllByRecursion}
+use Rattle.aec_params.specs.declared.settings.Settings.{Settings}
+use Rattle.aec_params.specs.Params.{IsAllowed, id_len}
+use Rattle.aec_params.specs.Places.{block_of_values}
+use Rattle.aec_params.specs.CodedDataSets.{Body, uncompressed_values, value_pairs, split_values, zero_blocks, CodedDataSet, cds_bits, HasReference, written_count, has_small_values}
+use Rattle.aec_bits.specs.BitReader.{Cursor}
+use Rattle.aec_block.specs.declared.cds.Cds.{Cds}
+use Rattle.aec_block.specs.declared.cds.Cds.TheVariants.{Single, Zeros}
+use Rattle.aec_block.specs.declared.reading.Kind.{Kind}
+use Rattle.aec_block.specs.declared.reading.Kind.TheVariants.{ZeroBlocks, SecondExtension, Split, NoCompression}
+use Rattle.aec_block.specs.ReadAt.{Taken, nothing, taken, then_at, map_taken, binary_at, values_at, split_at, kind_at, body_at, cds_at, set_of, set_after_kind}
+use Rattle.aec_block.specs.Gathering.{bits_at, when, all_below, small_values, as_taken_by}
+use Rattle.aec_block.specs.ReadCds.{cds_of, checked, checked_body, is_plain, is_plain_body, is_plain_taken, begins_plain, IsReadAs, IsReadPlain}
+use Rattle.aec_block.proofs.CodewordLemmas.{map_taken-mapped}
+use Rattle.aec_block.proofs.JoiningLemmas.{below-from_test}
+use Rattle.aec_block.proofs.ReadCdsLemmas.{plain_body}
+use Rattle.aec_block.proofs.SetLemmas.{what_is_spelled_is_read}
+
+map_taken-map_taken : {X Y Z : Type 0} (g : X → Y) (f : Y → Z) (t : Taken X) → map_taken f (map_taken g t) ≡ map_taken (λ x. f (g x)) t
+map_taken-map_taken g f nothing = refl
+map_taken-map_taken g f (taken x rest) = refl
+
+-- what was read behind its identifier is the coded data set
+pub plain_set : (s : Settings) (kind : Kind) (start behind rest : List Bool) (answer : Option Cds) → kind_at (id_len s) start ≡ taken kind behind
+    → map_taken (checked_body s None) (body_at s false kind behind) ≡ taken answer rest → map_taken (checked s) (cds_at s false start) ≡ taken answer rest
+plain_set s kind start behind rest answer kind_read body_read =
+    ap (λ t. map_taken (checked s) (then_at t (set_after_kind s false))) kind_read
+    ∙ (map_taken-map_taken (set_of None) (checked s) (body_at s false kind behind) ∙ body_read)
+
+when_block : (b : Bool) (read values : List ℕ) → when b read ≡ Some values
+    → when b (Single (block_of_values None read)) ≡ Some (Single (block_of_values None values))
+when_block true read values is = let same : read ≡ values = cc in ap (λ vs. Some (Single (block_of_values None vs))) same
+when_block false read values is = absurd (cc)
+
+split_body : (s : Settings) (k : ℕ) (behind rest : List Bool) (values : List ℕ)
+    → map_taken (small_values (2 ^ s.bits)) (split_at k (written_count s false) behind) ≡ taken (Some values) rest
+    → map_taken (checked_body s None) (body_at s false (Split k) behind) ≡ taken (Some (Single (block_of_values None values))) rest
+split_body s k behind rest values read =
+    let m = map_taken-mapped (small_values (2 ^ s.bits)) (split_at k (written_count s false) behind) (Some values) rest read in
+    ap (λ t. map_taken (checked_body s None) (map_taken (split_values k) t)) m.before
+    ∙ ap (λ o. taken o rest) (when_block (all_below (2 ^ s.bits) m.value) m.value values m.after)
+
+pub split_set : {E : Type 0} (s : Settings) (kind : Kind) (k n : ℕ) (start behind rest : List Bool) (values : List ℕ) (result : Result Bool E) → kind ≡ Split k
+    → n ≡ s.block_size → kind_at (id_len s) start ≡ taken kind behind
+    → map_taken (small_values (2 ^ s.bits)) (split_at k n behind) ≡ as_taken_by (λ fit. when fit values) result rest
+    → IfOk result (λ fit. fit ≡ true → map_taken (checked s) (cds_at s false start) ≡ taken (Some (Single (block_of_values None values))) rest)
+split_set s kind k n start behind rest values (Err e) is_kind count kind_read read = tt
+split_set s kind k n start behind rest values (Ok false) is_kind count kind_read read = λ fit. absurd (cc)
+split_set s kind k n start behind rest values (Ok true) is_kind count kind_read read =
+    λ fit. plain_set s (Split k) start behind rest (Some (Single (block_of_values None values))) (kind_read ∙ ap (λ kind. taken kind behind) is_kind)
+    (split_body s k behind rest values (ap (λ n. map_taken (small_values (2 ^ s.bits)) (split_at k n behind)) (sym count) ∙ read))
+
+pub numbers_set : (s : Settings) (kind : Kind) (width n : ℕ) (start behind rest : List Bool) (values : List ℕ) → kind ≡ NoCompression
+    → width ≡ s.bits → n ≡ s.block_size → kind_at (id_len s) start ≡ taken kind behind → values_at (binary_at width) n behind ≡ taken values rest
+    → map_taken (checked s) (cds_at s false start) ≡ taken (Some (Single (block_of_values None values))) rest
+numbers_set s kind width n start behind rest values is_kind width_is count kind_read read =
+    plain_set s kind start behind rest (Some (Single (block_of_values None values))) kind_read
+    (plain_body s None kind behind rest (block_of_values None values) is_kind
+    (ap (λ n. map_taken (block_of_values None) (values_at (binary_at s.bits) n behind)) (sym count)
+    ∙ (ap (λ w. map_taken (block_of_values None) (values_at (binary_at w) n behind)) (sym width_is) ∙ ap (map_taken (block_of_values None)) read)))
+
+-- ---- what was read is plain
+
+-- behind the identifier of a plain body one stands
+plain_body_at : (s : Settings) (kind : Kind) (behind rest : List Bool) (body : Body) → is_plain kind ≡ true → body_at s false kind behind ≡ taken body rest
+    → is_plain_body body ≡ true
+plain_body_at s ZeroBlocks behind rest body plain read = absurd (cc)
+plain_body_at s SecondExtension behind rest body plain read = absurd (cc)
+plain_body_at s NoCompression behind rest body plain read =
+    ap is_plain_body (sym (map_taken-mapped uncompressed_values (values_at (binary_at s.bits) (written_count s false) behind) body rest read).after)
+plain_body_at s (Split k) behind rest body plain read =
+    ap is_plain_body (sym (map_taken-mapped (split_values k) (split_at k (written_count s false) behind) body rest read).after)
+
+plain-begun : (s : Settings) (bits : List Bool) (c : CodedDataSet) (rest : List Bool) → begins_plain s bits ≡ true → cds_at s false bits ≡ taken c rest
+    → is_plain_body c.body ≡ true
+plain-begun s bits c rest begins read = by_kind (kind_at (id_len s) bits) begins read
+  where
+    by_kind : (t : Taken Kind) → is_plain_taken t ≡ true → then_at t (set_after_kind s false) ≡ taken c rest → is_plain_body c.body ≡ true
+    by_kind nothing plain there = absurd (cc)
+    by_kind (taken kind behind) plain there =
+        let m = map_taken-mapped (set_of None) (body_at s false kind behind) c rest there in
+        ap (λ (c : CodedDataSet). is_plain_body c.body) (sym m.after) ∙ plain_body_at s kind behind rest m.value plain m.before
+
+pub plain-read : (s : Settings) (old new : Cursor) (values : List ℕ) → IsAllowed s → begins_plain s (bits_at old) ≡ true
+    → (c : CodedDataSet) × IsReadAs s false old new c (Single (block_of_values None values)) → IsReadPlain s old new values
+plain-read s old new values allowed begins read_there =
+    let c = read_there.0 in
+    let rest = drop (old.pos + length (cds_bits s c)) old.list in
+    record {
+      set = c;
+      plain = plain-begun s (bits_at old) c rest begins
+          (ap (cds_at s false) read_there.1.set.stands ∙ what_is_spelled_is_read s allowed false c rest read_there.1.set.shape);
+      read = read_there.1;
+    }
+
+abbrev values_in : Cds → List ℕ
+values_in (Single b) = b.values
+values_in (Zeros reference len) = []
+
+pub plain-below : (s : Settings) (old new : Cursor) (values : List ℕ) → IsReadPlain s old new values → AllByRecursion (λ v. v < 2 ^ s.bits) values
+plain-below s old new values read = by_body read.set.reference read.set.body read.read.set.shape.reference read.read.small (ap values_in read.read.answer)
+  where
+    by_body : (reference : Option ℕ) (body : Body) → HasReference s false reference → has_small_values s (set_of reference body) ≡ true
+        → values ≡ values_in (cds_of (set_of reference body)) → AllByRecursion (λ v. v < 2 ^ s.bits) values
+    by_body (Some r) body none small is = absurd none
+    by_body None (uncompressed_values found) none small is = below-from_test (2 ^ s.bits) values (ap (all_below (2 ^ s.bits)) is ∙ small)
+    by_body None (value_pairs found) none small is = below-from_test (2 ^ s.bits) values (ap (all_below (2 ^ s.bits)) is ∙ small)
+    by_body None (split_values k found) none small is = below-from_test (2 ^ s.bits) values (ap (all_below (2 ^ s.bits)) is ∙ small)
+    by_body None (zero_blocks m) none small is = subst (AllByRecursion (λ v. v < 2 ^ s.bits)) (sym is) tt

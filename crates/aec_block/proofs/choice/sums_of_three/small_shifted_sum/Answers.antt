@@ -1,0 +1,10 @@
+use Rattle.std.proofs.Common.{◌*◌, ◌/◌, arith, length}
+use Rattle.aec_block.proofs.LanesLemmas.{whole_and_rest}
+use Rattle.aec_block.proofs.choice.sums_of_three.small_shifted_sum.Goals as goal
+
+pub returns-clause-sum : goal.returns-clause-sum
+returns-clause-sum c = omega (arith, whole_and_rest c.args.k (8 * (length c.args.values.now / 8)) c.args.values.now)
+
+pub returns-clause-bound : goal.returns-clause-bound
+returns-clause-bound c =
+    omega (arith, whole_and_rest c.args.k (8 * (length c.args.values.now / 8)) c.args.values.now, c.requires.small)

@@ -1,6 +1,0 @@
-use Rattle.std.proofs.Common.{◌≡◌, length, take, map}
-use Rattle.aec_params.specs.Params.{sample_pattern}
-use Rattle.aec_block.proofs.mapped_blocks.put_patterns.Given as goal
-
-abbrev pub invariant-loop-i : goal.invariant-loop-i
-invariant-loop-i l = (take l.i l.values ≡ map (sample_pattern l.params) (take l.i l.samples)) × (length l.samples ≡ length l.values)

@@ -1,8 +1,0 @@
-use Rattle.aec_block.proofs.CursorLemmas.{numbers_taken}
-use Rattle.aec_block.proofs.reading_codewords.read_numbers.Goals as goal
-
-pub returns-clause-taken : goal.returns-clause-taken
-returns-clause-taken c =
-    numbers_taken c.args.width c.args.reader.now c.read_numbers.new.self c.args.numbers.now c.read_numbers.new.numbers c.read_numbers.result
-    c.read_numbers.ensures.bits c.read_numbers.ensures.below c.read_numbers.ensures.refuses c.read_numbers.ensures.len c.requires.within
-    c.read_numbers.ensures.list

@@ -1,8 +1,0 @@
-use Rattle.std.proofs.Common.{◌++◌, drop}
-use Rattle.aec_block.specs.Written.{high_parts}
-use Rattle.aec_block.proofs.WritingLemmas.{Appending}
-use Rattle.aec_block.proofs.writing_highs.put_each_high_part.Given as goal
-
-abbrev pub invariant-loop-v : goal.invariant-loop-v
-invariant-loop-v l =
-    Appending l.fn.out.list l.out.list (l.fn.gathered ++ high_parts l.k l.values) (l.gathered ++ high_parts l.k (drop l.v-index l.values)) l.fn.out.room l.out.room

@@ -1,0 +1,94 @@
+//! The length of each spelling of a block, as a sum, in bits of the whole coded data set.
+
+ghost use Rattle.std.specs.Prelude.{◌≡◌, ◌+◌, ◌*◌, ◌^◌, ◌≤◌, length, IfSome, IfNone};
+ghost use Rattle.aec_params.specs.Params.{IsAllowed, id_len as identifier_len};
+ghost use Rattle.aec_params.specs.CodedDataSets.{pair_number};
+ghost use Rattle.aec_params.specs.Spellings.{written_values};
+ghost use Rattle.aec_block.specs.BlockShape.{most_values};
+ghost use Rattle.aec_block.specs.Lengths.{head_length, pairs_length, uncompressed_length, paired_length};
+
+use crate::block::BlockRef;
+use aec_params::Params;
+
+/// An identifier of `id_len` bits, the usual length, and the reference sample where there is one.
+#[inline(always)]
+pub(crate) fn head_len(params: &Params, id_len: u32, reference: Option<u32>) -> u32
+    requires id_len { id_len ≡ identifier_len params.now }
+    ensures len { result ≡ head_length params.now reference }
+    ensures bound { result ≤ 37 }
+{
+    match reference {
+        None => id_len,
+        Some(_) => id_len + params.bits(),
+    }
+}
+
+/// The codeword of a pair.
+pub(crate) fn pair_len(a: u32, b: u32) -> u128
+    ensures len { result ≡ pair_number a b + 1 }
+    ensures bound { result ≤ 2 ^ 66 }
+{
+    let sum = u128::from(a) + u128::from(b);
+    sum * (sum + 1) / 2 + u128::from(b) + 1
+}
+
+/// The codeword of a pair whose sum is below 2^16. That of any other is longer than each block by
+/// no compression.
+#[tactic(auto, using(crate::proofs::LengthLemmas::great_pairs))]
+fn small_pair_len(a: u32, b: u32) -> Option<u64>
+    ensures some { IfSome result (λ len. (len ≡ pair_number a b + 1) × (len ≤ 2 ^ 32)) }
+    ensures none { IfNone result (2 ^ 31 ≤ pair_number a b) }
+{
+    let sum = u64::from(a) + u64::from(b);
+    if sum < 1 << 16 {
+        Some(sum * (sum + 1) / 2 + u64::from(b) + 1)
+    } else {
+        None
+    }
+}
+
+/// The codewords of consecutive pairs, or nothing at a pair whose codeword alone is too long.
+#[tactic(auto, using(crate::proofs::LengthLemmas::pair_steps))]
+#[inline(never)]
+fn pairs_len(values: &[u32]) -> Option<u64>
+    requires { length values.now ≤ most_values }
+    ensures some { IfSome result
+        (λ len. (len ≡ pairs_length values.now) × (len ≤ most_values * 2 ^ 32)) }
+    ensures none { IfNone result (2 ^ 31 ≤ pairs_length values.now) }
+{
+    let mut sum = 0u64;
+    for i in 0..values.len() / 2 {
+        sum += small_pair_len(values[2 * i], values[2 * i + 1])?;
+    }
+    Some(sum)
+}
+
+/// The length by no compression.
+#[inline(always)]
+pub(crate) fn uncompressed_len(
+    params: &Params,
+    id_len: u32,
+    block: &BlockRef,
+    values: &[u32],
+) -> u64
+    requires id_len { id_len ≡ identifier_len params.now }
+    requires values { values.now ≡ written_values block.now }
+    requires few { length values.now ≤ most_values }
+    ensures len { result ≡ uncompressed_length params.now block.now }
+    ensures bound { result ≤ 37 + 32 * most_values }
+{
+    u64::from(head_len(params, id_len, block.reference()))
+        + values.len() as u64 * u64::from(params.bits())
+}
+
+/// The length by the second extension, or nothing where a codeword alone is longer than each block
+/// by no compression.
+#[inline(always)]
+pub(crate) fn paired_len(params: &Params, id_len: u32, block: &BlockRef) -> Option<u64>
+    requires id_len { id_len ≡ identifier_len params.now }
+    ensures some { IfSome result (λ len. len ≡ paired_length params.now block.now) }
+    ensures none { IfNone result (2 ^ 31 ≤ paired_length params.now block.now) }
+{
+    let pairs = pairs_len(block.values())?;
+    Some(u64::from(head_len(params, id_len, block.reference())) + 1 + pairs)
+}

@@ -1,0 +1,171 @@
+//! The k with which a block's values are split.
+
+ghost use Rattle.std.specs.Prelude.{◌≡◌, ◌+◌, ◌*◌, ◌^◌, ◌<◌, ◌≤◌, ℕ, nat_lt, length};
+ghost use Rattle.std.specs.List.{AllByRecursion};
+ghost use Rattle.aec_block.specs.BlockShape.{most_values};
+ghost use Rattle.aec_block.specs.Lengths.{sum_of_shifted, split_values_length, IsBestSplit};
+
+use crate::choice::sums::shifted_sum;
+use crate::choice::sums_of_three::{small_shifted_sum, three_sums};
+
+/// A k, and the bits of the values that are split with it.
+#[derive(Clone, Copy, Debug, PartialEq, Eq)]
+pub(crate) struct Splitting {
+    pub(crate) k: u32,
+    pub(crate) bits: u64,
+}
+
+/// Whether so many values are shorter with one low bit more each, by the sums without the low bits,
+/// this time and next.
+#[inline(always)]
+fn is_shorter_next(sum: u64, next: u64, count: u64) -> bool
+    requires { next + count < 2 ^ 64 }
+    ensures { result ≡ nat_lt (next + count) sum }
+{
+    next + count < sum
+}
+
+/// The values that are split with `k`, by their sum without the low bits.
+#[inline(always)]
+fn with_k(sum: u64, count: usize, k: u32) -> Splitting
+    requires sum { sum ≤ 2 ^ 39 }
+    requires count { count ≤ most_values }
+    requires k { k < 32 }
+    ensures k { result.k ≡ k }
+    ensures bits { result.bits ≡ sum + count * (k + 1) }
+    ensures bound { result.bits ≤ 2 ^ 40 }
+{
+    Splitting {
+        k,
+        bits: sum + count as u64 * u64::from(k + 1),
+    }
+}
+
+/// Whether the sum of so many values is more than `3 * count * 2^k`; then one low bit more than `k`
+/// makes them shorter.
+#[inline(always)]
+fn is_past(sum: u64, count: u64, k: u32) -> bool
+    requires count { count ≤ most_values }
+    requires k { k < 32 }
+    ensures { result ≡ nat_lt (3 * count * 2 ^ k) sum }
+{
+    (3 * count) << k < sum
+}
+
+/// The k to begin with or the one before it, by the widths of two numbers.
+#[inline(always)]
+#[tactic(auto, using(crate::proofs::SplittingLemmas::widths))]
+fn near_first(sum: u64, count: u64) -> u32
+    requires count { count ≤ most_values }
+    ensures before { (j : ℕ) → j < result → 3 * count * 2 ^ j < sum }
+    ensures close { 0 < count → sum ≤ 3 * count * 2 ^ (result + 1) }
+    ensures bound { result ≤ 64 }
+{
+    let zeros = (3 * count).leading_zeros();
+    zeros.saturating_sub(sum.leading_zeros())
+}
+
+/// The k to begin with, by the sum of the values: each one before it is longer than the next.
+#[inline(always)]
+fn first_k(sum: u64, count: u64, last: u32) -> u32
+    requires count { count ≤ most_values }
+    requires none { count ≡ 0 → sum ≡ 0 }
+    requires last { last < 32 }
+    ensures within { result ≤ last }
+    ensures before { (j : ℕ) → j < result → 3 * count * 2 ^ j < sum }
+    ensures there { result < last → sum ≤ 3 * count * 2 ^ result }
+{
+    let near = near_first(sum, count);
+    if near >= last {
+        return last;
+    }
+    if is_past(sum, count, near) {
+        return near + 1;
+    }
+    near
+}
+
+/// The sum of values below `2^bits`: in lanes of 32 bits where 64 of them fit these.
+#[inline(always)]
+fn sum_of_values(values: &[u32], bits: u32) -> u64
+    requires len { length values.now ≤ most_values }
+    requires below { AllByRecursion (λ v. v < 2 ^ bits) values.now }
+    ensures sum { result ≡ sum_of_shifted 0 values.now }
+    ensures bound { result ≤ 2 ^ 39 }
+{
+    if bits <= 26 {
+        small_shifted_sum(values, 0)
+    } else {
+        shifted_sum(values, 0)
+    }
+}
+
+/// The sum of the values without their `k` low bits, where that of the values as they are is known.
+fn sum_from(values: &[u32], total: u64, k: u32) -> u64
+    requires total { total ≡ sum_of_shifted 0 values.now }
+    requires bound { total ≤ 2 ^ 39 }
+    requires k { k < 32 }
+    requires len { length values.now ≤ most_values }
+    ensures sum { result ≡ sum_of_shifted k values.now }
+    ensures bound { result ≤ 2 ^ 39 }
+{
+    if k == 0 {
+        return total;
+    }
+    shifted_sum(values, k)
+}
+
+/// The best k, where it is `first`, the next or the one behind that: each before is longer than the
+/// next, and the values add up to three times their number or less without `first` low bits.
+#[inline(always)]
+fn best_of_three(values: &[u32], first: u32) -> Splitting
+    requires first { first < 30 }
+    requires len { length values.now ≤ most_values }
+    requires before { (j : ℕ) → j < first
+        → 3 * length values.now * 2 ^ j < sum_of_shifted 0 values.now }
+    requires there { sum_of_shifted 0 values.now ≤ 3 * length values.now * 2 ^ first }
+    ensures best { (options : ℕ) → first + 2 < options → IsBestSplit options result.k values.now }
+    ensures bits { result.bits ≡ split_values_length result.k values.now }
+    ensures bound { result.bits ≤ 2 ^ 40 }
+{
+    let sums = three_sums(values, first);
+    let count = values.len();
+    if !is_shorter_next(sums.first, sums.second, count as u64) {
+        return with_k(sums.first, count, first);
+    }
+    if !is_shorter_next(sums.second, sums.third, count as u64) {
+        return with_k(sums.second, count, first + 1);
+    }
+    with_k(sums.third, count, first + 2)
+}
+
+/// The k below `options` with which values below `2^bits` have the fewest bits, and of equal ones
+/// the least; 0 where there are no options. The sums fall by half at least with each k, so what one
+/// more low bit gains never grows: at the first k that one more doesn't make shorter, no later one
+/// does. The sum of the values as they are says where to begin, and two further k are enough where
+/// it says so below the last.
+#[inline(always)]
+pub(crate) fn best_split(values: &[u32], bits: u32, options: u32) -> Splitting
+    requires below { AllByRecursion (λ v. v < 2 ^ bits) values.now }
+    requires options { options ≤ 32 }
+    requires len { length values.now ≤ most_values }
+    ensures best { 0 < options → IsBestSplit options result.k values.now }
+    ensures bits { result.bits ≡ split_values_length result.k values.now }
+    ensures bound { result.bits ≤ 2 ^ 40 }
+{
+    let last = options.saturating_sub(1);
+    let total = sum_of_values(values, bits);
+    let first = first_k(total, values.len() as u64, last);
+    if first + 2 <= last {
+        return best_of_three(values, first);
+    }
+    let mut sum = sum_from(values, total, first);
+    for k in first..last {
+        let next = sum_from(values, total, k + 1);
+        if !is_shorter_next(sum, next, values.len() as u64) {
+            return with_k(sum, values.len(), k);
+        }
+        sum = next;
+    }
+    with_k(sum, values.len(), last)
+}

@@ -1,0 +1,112 @@
+//! The values of a block without their low bits, added up in eight lanes of 64 bits.
+
+ghost use Rattle.std.specs.Prelude.{ℕ, ◌≡◌, ◌+◌, ◌*◌, ◌/◌, ◌^◌, ◌<◌, ◌≤◌, length, take};
+ghost use Rattle.std.specs.Simd.Lanes.{sum_l};
+ghost use Rattle.aec_block.specs.BlockShape.{most_values};
+ghost use Rattle.aec_block.specs.Lengths.{sum_of_shifted};
+
+use std::simd::prelude::*;
+
+/// Eight values without their `k` low bits.
+#[inline(always)]
+#[tactic(auto, using(crate::proofs::LanesLemmas::shifts))]
+fn shifted_lanes(values: &[u32], k: u32) -> u64x8
+    requires k { k < 32 }
+    requires len { length values.now ≡ 8 }
+    ensures len { length result ≡ 8 }
+    ensures sum { sum_l result ≡ sum_of_shifted k values.now }
+    ensures bound { sum_l result ≤ 8 * 2 ^ 32 }
+{
+    u32x8::from_slice(values).cast::<u64>() >> u64x8::splat(u64::from(k))
+}
+
+/// Adds lane to lane.
+#[inline(always)]
+#[tactic(auto, using(crate::proofs::LanesLemmas::additions))]
+fn added_lanes(sums: u64x8, values: u64x8) -> u64x8
+    requires lens { (length sums ≡ 8) × (length values ≡ 8) }
+    requires fits { sum_l sums + sum_l values < 2 ^ 64 }
+    ensures len { length result ≡ 8 }
+    ensures sum { sum_l result ≡ sum_l sums + sum_l values }
+{
+    sums.strict_add(values)
+}
+
+/// The lanes added up.
+#[inline(always)]
+#[tactic(auto, using(crate::proofs::LanesLemmas::additions))]
+fn sum_of_lanes(sums: u64x8) -> u64
+    requires fits { sum_l sums < 2 ^ 64 }
+    ensures sum { result ≡ sum_l sums }
+{
+    sums.strict_reduce_sum()
+}
+
+/// The sum of the values that fill lanes: all but the last few, fewer than eight.
+#[inline(always)]
+fn sum_by_eights(values: &[u32], k: u32) -> u64
+    requires k { k < 32 }
+    requires len { length values.now ≤ most_values }
+    ensures sum { result ≡ sum_of_shifted k (take (8 * (length values.now / 8)) values.now) }
+    ensures bound { result ≤ most_values * 2 ^ 32 }
+{
+    let mut sums = u64x8::splat(0);
+    for i in 0..values.len() / 8 {
+        sums = added_lanes(sums, shifted_lanes(&values[8 * i..8 * i + 8], k));
+    }
+    sum_of_lanes(sums)
+}
+
+/// The sum of a few values, one by one.
+#[inline(always)]
+pub(crate) fn sum_one_by_one(values: &[u32], k: u32) -> u64
+    requires k { k < 32 }
+    requires len { length values.now ≤ most_values }
+    ensures sum { result ≡ sum_of_shifted k values.now }
+    ensures bound { result ≤ most_values * 2 ^ 32 }
+{
+    let mut sum = 0u64;
+    for v in values {
+        sum += u64::from(*v >> k);
+    }
+    sum
+}
+
+/// Seven values behind a 0, which have the same sums and fill lanes.
+#[inline(always)]
+#[tactic(auto, using(crate::proofs::LanesLemmas::behind_zero))]
+pub(crate) fn seven_in_lanes(values: &[u32]) -> [u32; 8]
+    requires len { length values.now ≡ 7 }
+    ensures len { length result ≡ 8 }
+    ensures sums { (k : ℕ) → sum_of_shifted k result ≡ sum_of_shifted k values.now }
+{
+    [
+        0, values[0], values[1], values[2], values[3], values[4], values[5], values[6],
+    ]
+}
+
+/// The sum of a few values, fewer than eight: of seven in lanes.
+#[inline(always)]
+pub(crate) fn sum_of_few(values: &[u32], k: u32) -> u64
+    requires k { k < 32 }
+    requires few { length values.now < 8 }
+    ensures sum { result ≡ sum_of_shifted k values.now }
+    ensures bound { result ≤ most_values * 2 ^ 32 }
+{
+    if values.len() == 7 {
+        return sum_by_eights(&seven_in_lanes(values), k);
+    }
+    sum_one_by_one(values, k)
+}
+
+/// The values without their `k` low bits, added up.
+#[inline(always)]
+pub(crate) fn shifted_sum(values: &[u32], k: u32) -> u64
+    requires k { k < 32 }
+    requires len { length values.now ≤ most_values }
+    ensures sum { result ≡ sum_of_shifted k values.now }
+    ensures bound { result ≤ 2 * (most_values * 2 ^ 32) }
+{
+    let whole = 8 * (values.len() / 8);
+    sum_by_eights(values, k) + sum_of_few(&values[whole..], k)
+}

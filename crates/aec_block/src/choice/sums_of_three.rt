@@ -1,0 +1,151 @@
+//! The values of a block without some low bits, and those without one and two more, added up in one
+//! pass, where the sums fit eight lanes of 32 bits.
+
+ghost use Rattle.std.specs.Prelude.{◌≡◌, ◌+◌, ◌*◌, ◌/◌, ◌^◌, ◌<◌, ◌≤◌, length, take};
+ghost use Rattle.std.specs.Simd.Lanes.{sum_l};
+ghost use Rattle.aec_block.specs.BlockShape.{most_values};
+ghost use Rattle.aec_block.specs.Lengths.{sum_of_shifted};
+
+use crate::choice::sums::{seven_in_lanes, sum_of_few, sum_one_by_one};
+use std::simd::prelude::*;
+
+/// The sums of values without k low bits, without one more, and without two more.
+#[derive(Clone, Copy)]
+pub(crate) struct ThreeSums {
+    pub(crate) first: u64,
+    pub(crate) second: u64,
+    pub(crate) third: u64,
+}
+
+/// Eight values without their `k` low bits.
+#[inline(always)]
+#[tactic(auto, using(crate::proofs::LanesLemmas::shifts))]
+fn small_lanes(values: &[u32], k: u32) -> u32x8
+    requires k { k < 32 }
+    requires len { length values.now ≡ 8 }
+    ensures len { length result ≡ 8 }
+    ensures sum { sum_l result ≡ sum_of_shifted k values.now }
+{
+    u32x8::from_slice(values) >> u32x8::splat(k)
+}
+
+/// Adds lane to lane.
+#[inline(always)]
+#[tactic(auto, using(crate::proofs::ThreeSumsLemmas::additions))]
+fn small_added(sums: u32x8, values: u32x8) -> u32x8
+    requires lens { (length sums ≡ 8) × (length values ≡ 8) }
+    requires fits { sum_l sums + sum_l values < 2 ^ 32 }
+    ensures len { length result ≡ 8 }
+    ensures sum { sum_l result ≡ sum_l sums + sum_l values }
+{
+    sums.strict_add(values)
+}
+
+/// The lanes added up.
+#[inline(always)]
+#[tactic(auto, using(crate::proofs::ThreeSumsLemmas::additions))]
+fn small_sum(sums: u32x8) -> u64
+    requires fits { sum_l sums < 2 ^ 32 }
+    ensures sum { result ≡ sum_l sums }
+    ensures bound { result < 2 ^ 32 }
+{
+    u64::from(sums.strict_reduce_sum())
+}
+
+/// The sums of the values that fill lanes: of all but the last few, fewer than eight.
+#[inline(always)]
+fn three_by_eights(values: &[u32], k: u32) -> ThreeSums
+    requires k { k < 30 }
+    requires small { sum_of_shifted k values.now < 2 ^ 32 }
+    ensures first { result.first
+        ≡ sum_of_shifted k (take (8 * (length values.now / 8)) values.now) }
+    ensures second { result.second
+        ≡ sum_of_shifted (k + 1) (take (8 * (length values.now / 8)) values.now) }
+    ensures third { result.third
+        ≡ sum_of_shifted (k + 2) (take (8 * (length values.now / 8)) values.now) }
+    ensures bounds { (result.first < 2 ^ 32) × (result.second < 2 ^ 32) × (result.third < 2 ^ 32) }
+{
+    let mut first = u32x8::splat(0);
+    let mut second = u32x8::splat(0);
+    let mut third = u32x8::splat(0);
+    for i in 0..values.len() / 8 {
+        let eight = &values[8 * i..8 * i + 8];
+        first = small_added(first, small_lanes(eight, k));
+        second = small_added(second, small_lanes(eight, k + 1));
+        third = small_added(third, small_lanes(eight, k + 2));
+    }
+    ThreeSums {
+        first: small_sum(first),
+        second: small_sum(second),
+        third: small_sum(third),
+    }
+}
+
+/// The sums of a few values, fewer than eight: of seven in lanes.
+#[inline(always)]
+fn three_of_few(values: &[u32], k: u32) -> ThreeSums
+    requires k { k < 30 }
+    requires few { length values.now < 8 }
+    requires small { sum_of_shifted k values.now < 2 ^ 32 }
+    ensures first { result.first ≡ sum_of_shifted k values.now }
+    ensures second { result.second ≡ sum_of_shifted (k + 1) values.now }
+    ensures third { result.third ≡ sum_of_shifted (k + 2) values.now }
+    ensures bounds { (result.first ≤ 2 ^ 38) × (result.second ≤ 2 ^ 38) × (result.third ≤ 2 ^ 38) }
+{
+    if values.len() == 7 {
+        return three_by_eights(&seven_in_lanes(values), k);
+    }
+    ThreeSums {
+        first: sum_one_by_one(values, k),
+        second: sum_one_by_one(values, k + 1),
+        third: sum_one_by_one(values, k + 2),
+    }
+}
+
+/// The sums of values without `k` low bits, without one more, and without two more.
+#[inline(always)]
+pub(crate) fn three_sums(values: &[u32], k: u32) -> ThreeSums
+    requires k { k < 30 }
+    requires len { length values.now ≤ most_values }
+    requires small { sum_of_shifted k values.now < 2 ^ 32 }
+    ensures first { result.first ≡ sum_of_shifted k values.now }
+    ensures second { result.second ≡ sum_of_shifted (k + 1) values.now }
+    ensures third { result.third ≡ sum_of_shifted (k + 2) values.now }
+    ensures bounds { (result.first ≤ 2 ^ 39) × (result.second ≤ 2 ^ 39) × (result.third ≤ 2 ^ 39) }
+{
+    let eights = three_by_eights(values, k);
+    let few = three_of_few(&values[8 * (values.len() / 8)..], k);
+    ThreeSums {
+        first: eights.first + few.first,
+        second: eights.second + few.second,
+        third: eights.third + few.third,
+    }
+}
+
+/// The sum of the values that fill lanes, of all but the last few, fewer than eight.
+#[inline(always)]
+fn small_by_eights(values: &[u32], k: u32) -> u64
+    requires k { k < 32 }
+    requires small { sum_of_shifted k values.now < 2 ^ 32 }
+    ensures sum { result ≡ sum_of_shifted k (take (8 * (length values.now / 8)) values.now) }
+    ensures bound { result < 2 ^ 32 }
+{
+    let mut sums = u32x8::splat(0);
+    for i in 0..values.len() / 8 {
+        sums = small_added(sums, small_lanes(&values[8 * i..8 * i + 8], k));
+    }
+    small_sum(sums)
+}
+
+/// The values without their `k` low bits, added up, where the sum fits 32 bits.
+#[inline(always)]
+pub(crate) fn small_shifted_sum(values: &[u32], k: u32) -> u64
+    requires k { k < 32 }
+    requires len { length values.now ≤ most_values }
+    requires small { sum_of_shifted k values.now < 2 ^ 32 }
+    ensures sum { result ≡ sum_of_shifted k values.now }
+    ensures bound { result < 2 ^ 32 }
+{
+    let whole = 8 * (values.len() / 8);
+    small_by_eights(values, k) + sum_of_few(&values[whole..], k)
+}

@@ -1,0 +1,98 @@
+//! What is coded for samples, put into a list of values, whatever stood there before.
+
+ghost use Rattle.std.specs.Prelude.{◌≡◌, ◌<◌, ◌≤◌, true, length, map as list_map};
+ghost use Rattle.std.specs.List.{AllByRecursion};
+ghost use Rattle.aec_params.specs.Params.{IsHeld, sample_pattern};
+ghost use Rattle.aec_params.specs.Mapping.{mapped_after, mapped_values};
+ghost use Rattle.aec_block.specs.Offsets.{sample_offset, mapped_offsets};
+
+use crate::mapping::{greatest_offset, map_offset, offset_above, offset_of};
+use aec_params::Params;
+
+/// Puts how far samples lie above the least one into `values`.
+#[inline(always)]
+fn put_sample_offsets(params: &Params, samples: &[i64], values: &mut [u32])
+    requires held { AllByRecursion (IsHeld params.now) samples.now }
+    requires len { length samples.now ≡ length values.old }
+    ensures { values.new ≡ list_map (sample_offset params.now) samples.now }
+{
+    let least = params.x_min();
+    for i in 0..samples.len() {
+        values[i] = offset_above(least, samples[i]);
+    }
+}
+
+/// Puts what is coded for offsets in their place, each at the one before it, which is `previous`
+/// for the first.
+#[inline(always)]
+fn map_offsets(top: u32, previous: u32, values: &mut [u32])
+    requires prediction { previous ≤ top }
+    requires offsets { AllByRecursion (λ x. x ≤ top) values.old }
+    ensures { values.new ≡ mapped_offsets top previous values.old }
+{
+    let mut p = previous;
+    for i in 0..values.len() {
+        let x = values[i];
+        values[i] = map_offset(top, p, x);
+        p = x;
+    }
+}
+
+/// Puts what is coded for samples at their predictions, which are the samples before them, into
+/// `values`. In two loops, each of which the compiler can take several values at a time.
+#[inline(always)]
+fn map_predicted(params: &Params, previous: i64, samples: &[i64], values: &mut [u32])
+    requires on { params.now.preprocess ≡ true }
+    requires prediction { IsHeld params.now previous }
+    requires held { AllByRecursion (IsHeld params.now) samples.now }
+    requires len { length samples.now ≡ length values.old }
+    ensures { values.new ≡ mapped_after params.now previous samples.now }
+{
+    let top = greatest_offset(params);
+    let p = offset_of(params, previous);
+    put_sample_offsets(params, samples, values);
+    map_offsets(top, p, values);
+}
+
+/// Puts the patterns of samples into `values`.
+#[inline(always)]
+fn put_patterns(params: &Params, samples: &[i64], values: &mut [u32])
+    requires held { AllByRecursion (IsHeld params.now) samples.now }
+    requires len { length samples.now ≡ length values.old }
+    ensures { values.new ≡ list_map (sample_pattern params.now) samples.now }
+{
+    for i in 0..samples.len() {
+        values[i] = params.pattern(samples[i]);
+    }
+}
+
+/// Puts what is coded for samples into `values`, each predicted from the one before it, the first
+/// from `previous`. Without preprocessing their patterns are coded, and `previous`, which has to be
+/// a sample all the same, has no effect. Takes no memory.
+#[inline(always)]
+pub fn map_list(params: &Params, previous: i64, samples: &[i64], values: &mut [u32])
+    requires prediction { IsHeld params.now previous }
+    requires held { AllByRecursion (IsHeld params.now) samples.now }
+    requires len { length samples.now ≡ length values.old }
+    ensures { values.new ≡ mapped_after params.now previous samples.now }
+{
+    if params.preprocess() {
+        map_predicted(params, previous, samples, values);
+    } else {
+        put_patterns(params, samples, values);
+    }
+}
+
+/// Puts what is coded for the first samples of an interval into `values`: with preprocessing 0 in
+/// the reference place. Takes no memory.
+#[inline(always)]
+pub fn map_first(params: &Params, samples: &[i64], values: &mut [u32])
+    requires some { 0 < length samples.now }
+    requires held { AllByRecursion (IsHeld params.now) samples.now }
+    requires len { length samples.now ≡ length values.old }
+    ensures { values.new ≡ mapped_values params.now samples.now }
+{
+    // Called for its clause alone: the parameters are allowed.
+    let _len = params.interval_len();
+    map_list(params, samples[0], samples, values);
+}

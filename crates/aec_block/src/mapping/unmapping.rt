@@ -1,0 +1,147 @@
+//! Values taken back to the samples for which they are coded, put in the place of others.
+
+ghost use Rattle.std.specs.Prelude.{◌≡◌, ◌+◌, ◌*◌, ◌/◌, ◌<◌, ◌≤◌, ◌^◌, ◌+ℤ◌, ℤ, pos, true, false, [], length, take};
+ghost use Rattle.std.specs.List.{AllByRecursion};
+ghost use Rattle.aec_params.specs.Params.{IsHeld, x_min};
+ghost use Rattle.aec_block.specs.Offsets.{top_offset, AreNear};
+ghost use Rattle.aec_block.specs.Unmapping.{Unmaps, UnmapsTo};
+
+use crate::mapping::small_differences::{are_near, near_differences, near_place};
+use crate::mapping::{greatest_offset, offset_of, unmap_offset};
+use aec_params::Params;
+
+/// Puts the samples for which values are coded into `samples`, predicted from the sample at an
+/// offset on, and tells the offset of the last.
+fn put_each(params: &Params, offset: u32, values: &[u32], samples: &mut [i64]) -> u32
+    requires on { params.now.preprocess ≡ true }
+    requires within { offset ≤ top_offset params.now }
+    requires mapped { AllByRecursion (λ v. v < 2 ^ params.now.bits) values.now }
+    requires len { length samples.old ≡ length values.now }
+    ensures within { result ≤ top_offset params.now }
+    ensures items { UnmapsTo params.now (x_min params.now +ℤ pos offset)
+        (x_min params.now +ℤ pos result) values.now [] samples.new }
+    ensures len { length samples.new ≡ length samples.old }
+{
+    let top = greatest_offset(params);
+    let least = params.x_min();
+    let mut last = offset;
+    for i in 0..values.len() {
+        last = unmap_offset(top, last, values[i]);
+        samples[i] = least + i64::from(last);
+    }
+    last
+}
+
+/// Puts the samples for which eight near values are coded into `samples`, and tells the offset of
+/// the last.
+#[inline(always)]
+fn put_near(params: &Params, offset: u32, values: &[u32], samples: &mut [i64]) -> u32
+    requires on { params.now.preprocess ≡ true }
+    requires within { offset ≤ top_offset params.now }
+    requires near { AreNear (top_offset params.now) offset values.now }
+    requires eight { length values.now ≡ 8 }
+    requires len { length samples.old ≡ 8 }
+    ensures within { result ≤ top_offset params.now }
+    ensures items { UnmapsTo params.now (x_min params.now +ℤ pos offset)
+        (x_min params.now +ℤ pos result) values.now [] samples.new }
+    ensures len { length samples.new ≡ length samples.old }
+{
+    let least = params.x_min();
+    let differences = near_differences(values);
+    let mut place = offset;
+    for i in 0..8 {
+        place = near_place(place, differences[i]);
+        samples[i] = least + i64::from(place);
+    }
+    place
+}
+
+/// Puts the samples for which eight values are coded into `samples`, at once where all are near and
+/// else one by one, and tells the offset of the last.
+#[inline(always)]
+fn put_eight(params: &Params, offset: u32, values: &[u32], samples: &mut [i64]) -> u32
+    requires on { params.now.preprocess ≡ true }
+    requires within { offset ≤ top_offset params.now }
+    requires mapped { AllByRecursion (λ v. v < 2 ^ params.now.bits) values.now }
+    requires eight { length values.now ≡ 8 }
+    requires len { length samples.old ≡ 8 }
+    ensures within { result ≤ top_offset params.now }
+    ensures items { UnmapsTo params.now (x_min params.now +ℤ pos offset)
+        (x_min params.now +ℤ pos result) values.now [] samples.new }
+    ensures len { length samples.new ≡ length samples.old }
+{
+    if are_near(greatest_offset(params), offset, values) {
+        return put_near(params, offset, values, samples);
+    }
+    put_each(params, offset, values, samples)
+}
+
+/// Puts the samples of the values in front into the front of `samples`, eight at a time as long as
+/// there are eight, and tells the offset of the last.
+#[inline(always)]
+fn put_eights(params: &Params, offset: u32, values: &[u32], samples: &mut [i64]) -> u32
+    requires on { params.now.preprocess ≡ true }
+    requires within { offset ≤ top_offset params.now }
+    requires mapped { AllByRecursion (λ v. v < 2 ^ params.now.bits) values.now }
+    requires len { length samples.old ≡ length values.now }
+    ensures within { result ≤ top_offset params.now }
+    ensures items { UnmapsTo params.now (x_min params.now +ℤ pos offset)
+        (x_min params.now +ℤ pos result) (take (8 * (length values.now / 8)) values.now)
+        [] (take (8 * (length values.now / 8)) samples.new) }
+    ensures len { length samples.new ≡ length samples.old }
+{
+    let mut last = offset;
+    for i in 0..values.len() / 8 {
+        let part = &mut samples[8 * i..8 * i + 8];
+        last = put_eight(params, last, &values[8 * i..8 * i + 8], part);
+    }
+    last
+}
+
+/// Puts the samples for which values are coded into `samples`, where samples are predicted: eight
+/// at a time, and the last few, fewer than eight, one by one.
+#[inline(always)]
+fn put_offsets(params: &Params, previous: i64, values: &[u32], samples: &mut [i64])
+    requires on { params.now.preprocess ≡ true }
+    requires prediction { IsHeld params.now previous }
+    requires mapped { AllByRecursion (λ v. v < 2 ^ params.now.bits) values.now }
+    requires len { length samples.old ≡ length values.now }
+    ensures items { Unmaps params.now previous values.now [] samples.new }
+    ensures len { length samples.new ≡ length samples.old }
+{
+    let first = offset_of(params, previous);
+    let last = put_eights(params, first, values, samples);
+    let done = 8 * (values.len() / 8);
+    put_each(params, last, &values[done..], &mut samples[done..]);
+}
+
+/// Puts the samples of patterns into `samples`.
+fn put_values(params: &Params, patterns: &[u32], samples: &mut [i64])
+    requires off { params.now.preprocess ≡ false }
+    requires small { AllByRecursion (λ v. v < 2 ^ params.now.bits) patterns.now }
+    requires len { length samples.old ≡ length patterns.now }
+    ensures items { (p : ℤ) → Unmaps params.now p patterns.now [] samples.new }
+    ensures len { length samples.new ≡ length samples.old }
+{
+    for i in 0..patterns.len() {
+        samples[i] = params.value(patterns[i]);
+    }
+}
+
+/// Puts the samples for which values are coded into `samples`, whatever stood there, each predicted
+/// from the one before it, the first from `previous`. Without preprocessing the values are their
+/// patterns, and `previous`, which has to be a sample all the same, has no effect. Takes no memory.
+#[inline(always)]
+pub fn unmap_into(params: &Params, previous: i64, values: &[u32], samples: &mut [i64])
+    requires prediction { IsHeld params.now previous }
+    requires mapped { AllByRecursion (λ v. v < 2 ^ params.now.bits) values.now }
+    requires len { length samples.old ≡ length values.now }
+    ensures items { Unmaps params.now previous values.now [] samples.new }
+    ensures len { length samples.new ≡ length samples.old }
+{
+    if params.preprocess() {
+        put_offsets(params, previous, values, samples);
+    } else {
+        put_values(params, values, samples);
+    }
+}

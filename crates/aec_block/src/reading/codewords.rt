@@ -1,0 +1,120 @@
+//! Reads the codewords of a coded data set.
+
+ghost use Rattle.std.specs.Prelude.{◌≡◌, ◌≤◌, ◌<◌, ◌+◌, ◌^◌, true, false, length, IfOk, OnOk};
+ghost use Rattle.std.specs.List.{flat_map};
+ghost use Rattle.aec_params.specs.Codewords.{fs};
+ghost use Rattle.aec_bits.specs.BitReader.{AreBelow};
+ghost use Rattle.aec_block.specs.ReadAt.{taken, fs_at, binary_at, values_at, pair_with_number};
+ghost use Rattle.aec_block.specs.Gathering.{bits_at, as_taken, PutsNumbers};
+
+use aec_bits::BitReader;
+use aec_params::Fault;
+
+/// The number that the next `width` bits spell.
+#[inline(always)]
+pub(crate) fn read_number(reader: &mut BitReader, width: u32) -> Result<u64, Fault>
+    requires width { width ≤ 64 }
+    requires within { reader.old.pos ≤ length reader.old.list }
+    ensures taken { binary_at width (bits_at reader.old) ≡ as_taken result (bits_at reader.new) }
+    ensures list { reader.new.list ≡ reader.old.list }
+    ensures within { reader.new.pos ≤ length reader.new.list }
+    ensures bound { IfOk result (λ v. v < 2 ^ width) }
+{
+    reader.read(width)
+}
+
+/// The number of the fundamental sequence that comes next.
+pub(crate) fn read_sequence(reader: &mut BitReader) -> Result<u64, Fault>
+    ensures taken { fs_at (bits_at reader.old) ≡ as_taken result (bits_at reader.new) }
+    ensures list { reader.new.list ≡ reader.old.list }
+    ensures within { reader.new.pos ≤ length reader.new.list }
+{
+    reader.read_fs()
+}
+
+/// Puts the numbers that the next bits spell, each in `width` bits, into `numbers`.
+#[inline(always)]
+pub(crate) fn read_numbers(
+    reader: &mut BitReader,
+    width: u32,
+    numbers: &mut [u32],
+) -> Result<(), Fault>
+    requires width { width ≤ 32 }
+    requires within { reader.old.pos ≤ length reader.old.list }
+    ensures put { PutsNumbers width reader.old numbers.old result reader.new numbers.new }
+    ensures below { OnOk result (AreBelow (2 ^ width) numbers.new) }
+{
+    reader.read_numbers(width, numbers)
+}
+
+/// The same of `N` numbers, compiled for that many.
+#[inline(never)]
+fn read_known_numbers<const N: usize>(
+    reader: &mut BitReader,
+    width: u32,
+    numbers: &mut [u32],
+) -> Result<(), Fault>
+    requires width { width ≤ 32 }
+    requires within { reader.old.pos ≤ length reader.old.list }
+    requires count { length numbers.old ≡ N }
+    ensures { PutsNumbers width reader.old numbers.old result reader.new numbers.new }
+{
+    read_numbers(reader, width, &mut numbers[..N])
+}
+
+/// The same of as many values as a block has, compiled for the usual numbers of them.
+#[inline(always)]
+pub(crate) fn read_block_numbers(
+    reader: &mut BitReader,
+    width: u32,
+    numbers: &mut [u32],
+) -> Result<(), Fault>
+    requires width { width ≤ 32 }
+    requires within { reader.old.pos ≤ length reader.old.list }
+    ensures { PutsNumbers width reader.old numbers.old result reader.new numbers.new }
+{
+    // For speed alone: what the block sizes of the standard leave with a reference and without.
+    match numbers.len() {
+        7 => read_known_numbers::<7>(reader, width, numbers),
+        8 => read_known_numbers::<8>(reader, width, numbers),
+        15 => read_known_numbers::<15>(reader, width, numbers),
+        16 => read_known_numbers::<16>(reader, width, numbers),
+        31 => read_known_numbers::<31>(reader, width, numbers),
+        32 => read_known_numbers::<32>(reader, width, numbers),
+        63 => read_known_numbers::<63>(reader, width, numbers),
+        64 => read_known_numbers::<64>(reader, width, numbers),
+        _ => read_numbers(reader, width, numbers),
+    }
+}
+
+/// Puts the numbers of the fundamental sequences that come next into `numbers`, where all are
+/// short. Else false, and the reader stays.
+#[inline(always)]
+pub(crate) fn read_short_sequences(reader: &mut BitReader, numbers: &mut [u32]) -> bool
+    requires within { reader.old.pos ≤ length reader.old.list }
+    ensures taken { result ≡ true → values_at fs_at (length numbers.old) (bits_at reader.old)
+        ≡ taken numbers.new (bits_at reader.new) }
+    ensures gone { result ≡ true
+        → reader.new.pos ≡ reader.old.pos + length (flat_map fs numbers.new) }
+    ensures stays { result ≡ false → reader.new ≡ reader.old }
+    ensures len { length numbers.new ≡ length numbers.old }
+    ensures list { reader.new.list ≡ reader.old.list }
+    ensures within { reader.new.pos ≤ length reader.new.list }
+{
+    reader.read_sequences(numbers)
+}
+
+/// The two members of the pair with a number. As many steps are made as their sum is, fewer than
+/// the bits of the number's fundamental sequence.
+pub(crate) fn pair_of(number: u64) -> (u64, u64)
+    ensures first { result.0 ≡ (pair_with_number number).first }
+    ensures second { result.1 ≡ (pair_with_number number).second }
+{
+    let mut sum = 0;
+    let mut second = number;
+    while second > sum {
+        sum += 1;
+        second -= sum;
+    }
+    (sum - second, second)
+}

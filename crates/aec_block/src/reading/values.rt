@@ -1,0 +1,319 @@
+//! Reads values into a list. A value above the greatest that the width has is noted, and reading
+//! goes on behind it.
+
+ghost use Rattle.std.specs.Prelude.{◌≡◌, ◌≤◌, ◌<◌, ◌+◌, ◌-◌, ◌*◌, ◌/◌, ◌^◌, nat_lt, if◌then◌else◌, length, slice_set};
+ghost use Rattle.std.specs.List.{flat_map};
+ghost use Rattle.aec_params.specs.Codewords.{fs};
+ghost use Rattle.aec_bits.specs.BitReader.{AreBelow};
+ghost use Rattle.aec_block.specs.BlockShape.{most_values};
+ghost use Rattle.aec_block.specs.ReadAt.{map_taken, fs_at, values_at, members_at, joined_values};
+ghost use Rattle.aec_block.specs.Gathering.{bits_at, as_taken_by, when, all_below, small_values, kept_members, small_members, PutsSplit};
+
+use crate::block::MOST_VALUES;
+use crate::reading::codewords::{pair_of, read_numbers, read_sequence, read_short_sequences};
+use aec_bits::BitReader;
+use aec_params::{Fault, Params};
+
+/// The number above the greatest value that the width has.
+pub(crate) fn value_limit(params: &Params) -> u64
+    ensures value { result ≡ 2 ^ params.now.bits }
+    ensures least { 0 < result }
+    ensures most { result ≤ 2 ^ 32 }
+{
+    1 << params.bits()
+}
+
+/// The number above the greatest high part of a value below `limit`.
+pub(crate) fn high_limit(limit: u64, k: u32) -> u64
+    requires some { 0 < limit }
+    requires limit { limit ≤ 2 ^ 32 }
+    requires shift { k < 32 }
+    ensures value { result ≡ (limit - 1) / 2 ^ k + 1 }
+    ensures most { result ≤ 2 ^ 32 }
+{
+    ((limit - 1) >> k) + 1
+}
+
+/// Whether all values are below `limit`.
+fn are_below(values: &[u32], limit: u64) -> bool
+    requires { 0 < limit }
+    ensures { result ≡ all_below limit values.now }
+{
+    let mut most = 0;
+    for value in values {
+        most = most.max(*value);
+    }
+    u64::from(most) < limit
+}
+
+/// Puts a value at a place if it is below `limit`. Whether it is.
+fn put_value(values: &mut [u32], place: usize, value: u64, limit: u64) -> bool
+    requires place { place < length values.old }
+    requires limit { limit ≤ 2 ^ 32 }
+    ensures fits { result ≡ nat_lt value limit }
+    ensures values { values.new
+        ≡ (if nat_lt value limit then slice_set values.old place value else values.old) }
+{
+    if value >= limit {
+        return false;
+    }
+    values[place] = value as u32;
+    true
+}
+
+/// What stands in a place for the first member of a pair: 0 in the reference place, where that
+/// member is ignored.
+fn kept_member(in_reference_place: bool, member: u64) -> u64
+    ensures { result ≡ (if in_reference_place then 0 else member) }
+{
+    if in_reference_place { 0 } else { member }
+}
+
+/// Fills `values` with the members of the next pairs. Whether all are at most the greatest that the
+/// width has; else some stay as they are. Where the first value is the reference place it is 0, and
+/// any number may stand there.
+pub(crate) fn read_pairs(
+    params: &Params,
+    reader: &mut BitReader,
+    is_ref: bool,
+    values: &mut [u32],
+) -> Result<bool, Fault>
+    requires within { reader.old.pos ≤ length reader.old.list }
+    requires pairs { length values.old ≡ 2 * (length values.old / 2) }
+    requires some { 0 < length values.old }
+    requires placed { values.old ≡ kept_members is_ref values.old }
+    ensures taken { map_taken (small_members (2 ^ params.now.bits) is_ref)
+        (members_at (length values.old / 2) (bits_at reader.old))
+        ≡ as_taken_by (λ fit. when fit values.new) result (bits_at reader.new) }
+    ensures placed { values.new ≡ kept_members is_ref values.new }
+    ensures len { length values.new ≡ length values.old }
+    ensures list { reader.new.list ≡ reader.old.list }
+    ensures within { reader.new.pos ≤ length reader.new.list }
+{
+    let limit = value_limit(params);
+    let mut fit = true;
+    for i in 0..values.len() / 2 {
+        let (first, second) = pair_of(read_sequence(reader)?);
+        let kept = kept_member(is_ref & (i == 0), first);
+        fit &= put_value(values, 2 * i, kept, limit);
+        fit &= put_value(values, 2 * i + 1, second, limit);
+    }
+    Ok(fit)
+}
+
+/// Puts the next numbers into `highs`, one by one. Whether all are below `limit`; else some are
+/// left out.
+fn read_long_highs(reader: &mut BitReader, highs: &mut [u32], limit: u64) -> Result<bool, Fault>
+    requires within { reader.old.pos ≤ length reader.old.list }
+    requires limit { limit ≤ 2 ^ 32 }
+    ensures taken { map_taken (small_values limit)
+        (values_at fs_at (length highs.old) (bits_at reader.old))
+        ≡ as_taken_by (λ fit. when fit highs.new) result (bits_at reader.new) }
+    ensures len { length highs.new ≡ length highs.old }
+    ensures list { reader.new.list ≡ reader.old.list }
+    ensures within { reader.new.pos ≤ length reader.new.list }
+{
+    let mut fit = true;
+    for high in highs.iter_mut() {
+        let number = read_sequence(reader)?;
+        let fits = number < limit;
+        if fits {
+            *high = number as u32;
+        }
+        fit &= fits;
+    }
+    Ok(fit)
+}
+
+/// Whether all values are below `limit`, of which the fundamental sequences are `gone` bits in all.
+/// None is above their sum, which is what these bits are besides the ones; where that isn't below,
+/// each is judged.
+#[inline(always)]
+fn are_short(values: &[u32], gone: u64, limit: u64) -> bool
+    requires some { 0 < limit }
+    requires most { limit ≤ 2 ^ 32 }
+    requires gone { gone ≡ length (flat_map fs values.now) }
+    ensures { result ≡ all_below limit values.now }
+{
+    gone < limit + values.len() as u64 || are_below(values, limit)
+}
+
+/// Puts the next numbers into `highs`. Whether all are below `limit`; else some are left out.
+#[inline(always)]
+pub(crate) fn read_highs(
+    reader: &mut BitReader,
+    highs: &mut [u32],
+    limit: u64,
+) -> Result<bool, Fault>
+    requires within { reader.old.pos ≤ length reader.old.list }
+    requires least { 0 < limit }
+    requires limit { limit ≤ 2 ^ 32 }
+    ensures taken { map_taken (small_values limit)
+        (values_at fs_at (length highs.old) (bits_at reader.old))
+        ≡ as_taken_by (λ fit. when fit highs.new) result (bits_at reader.new) }
+    ensures len { length highs.new ≡ length highs.old }
+    ensures list { reader.new.list ≡ reader.old.list }
+    ensures within { reader.new.pos ≤ length reader.new.list }
+{
+    let start = reader.pos();
+    if read_short_sequences(reader, highs) {
+        return Ok(are_short(highs, reader.pos() - start, limit));
+    }
+    read_long_highs(reader, highs, limit)
+}
+
+/// A value from its high part and its lowest `k` bits.
+fn joined(high: u32, low: u32, k: u32) -> u32
+    requires shift { k < 32 }
+    requires high { high < 2 ^ (32 - k) }
+    requires low { low < 2 ^ k }
+    ensures { result ≡ high * 2 ^ k + low }
+{
+    (high << k) + low
+}
+
+/// Puts the lowest `k` bits behind each high part.
+fn join(values: &mut [u32], lows: &[u32], k: u32)
+    requires shift { k < 32 }
+    requires len { length values.old ≡ length lows.now }
+    requires highs { AreBelow (2 ^ (32 - k)) values.old }
+    requires lows { AreBelow (2 ^ k) lows.now }
+    ensures { values.new ≡ joined_values k values.old lows.now }
+{
+    for i in 0..values.len() {
+        values[i] = joined(values[i], lows[i], k);
+    }
+}
+
+/// Fills `values`, `M` at most, with the next values, split at bit `k`. Whether all are at most the
+/// greatest that the width has. Where `k` is at most the width, small high parts make small values.
+#[inline(always)]
+fn read_split<const M: usize>(
+    params: &Params,
+    reader: &mut BitReader,
+    k: u32,
+    values: &mut [u32],
+) -> Result<bool, Fault>
+    requires within { reader.old.pos ≤ length reader.old.list }
+    requires shift { k < 32 }
+    requires most { length values.old ≤ M }
+    requires small { M ≤ most_values }
+    ensures { PutsSplit params.now k reader.old values.old result reader.new values.new }
+{
+    let limit = value_limit(params);
+    let mut scratch = [0u32; M];
+    let lows = &mut scratch[..values.len()];
+    let highs_fit = read_highs(reader, values, high_limit(limit, k))?;
+    read_numbers(reader, k, lows)?;
+    if !highs_fit {
+        return Ok(false);
+    }
+    join(values, lows, k);
+    Ok(k <= params.bits() || are_below(values, limit))
+}
+
+/// The same of any number of values that a block has.
+#[inline(never)]
+fn read_any_split(
+    params: &Params,
+    reader: &mut BitReader,
+    k: u32,
+    values: &mut [u32],
+) -> Result<bool, Fault>
+    requires within { reader.old.pos ≤ length reader.old.list }
+    requires shift { k < 32 }
+    requires most { length values.old ≤ most_values }
+    ensures { PutsSplit params.now k reader.old values.old result reader.new values.new }
+{
+    read_split::<MOST_VALUES>(params, reader, k, values)
+}
+
+/// The same of `N` values, compiled for that many into the place of the call.
+#[inline(always)]
+fn read_exact_split<const N: usize>(
+    params: &Params,
+    reader: &mut BitReader,
+    k: u32,
+    values: &mut [u32],
+) -> Result<bool, Fault>
+    requires within { reader.old.pos ≤ length reader.old.list }
+    requires shift { k < 32 }
+    requires most { N ≤ most_values }
+    requires count { length values.old ≡ N }
+    ensures { PutsSplit params.now k reader.old values.old result reader.new values.new }
+{
+    read_split::<N>(params, reader, k, &mut values[..N])
+}
+
+/// The same, called.
+#[inline(never)]
+fn read_known_split<const N: usize>(
+    params: &Params,
+    reader: &mut BitReader,
+    k: u32,
+    values: &mut [u32],
+) -> Result<bool, Fault>
+    requires within { reader.old.pos ≤ length reader.old.list }
+    requires shift { k < 32 }
+    requires most { N ≤ most_values }
+    requires count { length values.old ≡ N }
+    ensures { PutsSplit params.now k reader.old values.old result reader.new values.new }
+{
+    read_exact_split::<N>(params, reader, k, values)
+}
+
+/// The same of as many values as a block has, compiled for the usual numbers of them.
+#[inline(always)]
+pub(crate) fn read_block_split(
+    params: &Params,
+    reader: &mut BitReader,
+    k: u32,
+    values: &mut [u32],
+) -> Result<bool, Fault>
+    requires within { reader.old.pos ≤ length reader.old.list }
+    requires shift { k < 32 }
+    requires most { length values.old ≤ most_values }
+    ensures { PutsSplit params.now k reader.old values.old result reader.new values.new }
+{
+    match values.len() {
+        7 => read_known_split::<7>(params, reader, k, values),
+        8 => read_known_split::<8>(params, reader, k, values),
+        15 => read_known_split::<15>(params, reader, k, values),
+        16 => read_known_split::<16>(params, reader, k, values),
+        31 => read_known_split::<31>(params, reader, k, values),
+        32 => read_known_split::<32>(params, reader, k, values),
+        63 => read_known_split::<63>(params, reader, k, values),
+        64 => read_known_split::<64>(params, reader, k, values),
+        _ => read_any_split(params, reader, k, values),
+    }
+}
+
+/// The same, compiled into the place of the call for the block sizes of the standard, and for the
+/// even ones that would else take much longer than the one below.
+#[inline(always)]
+pub(crate) fn read_usual_split(
+    params: &Params,
+    reader: &mut BitReader,
+    k: u32,
+    values: &mut [u32],
+) -> Result<bool, Fault>
+    requires within { reader.old.pos ≤ length reader.old.list }
+    requires shift { k < 32 }
+    requires most { length values.old ≤ most_values }
+    ensures { PutsSplit params.now k reader.old values.old result reader.new values.new }
+{
+    match values.len() {
+        8 => read_exact_split::<8>(params, reader, k, values),
+        10 => read_exact_split::<10>(params, reader, k, values),
+        12 => read_exact_split::<12>(params, reader, k, values),
+        14 => read_exact_split::<14>(params, reader, k, values),
+        16 => read_exact_split::<16>(params, reader, k, values),
+        18 => read_exact_split::<18>(params, reader, k, values),
+        20 => read_exact_split::<20>(params, reader, k, values),
+        22 => read_exact_split::<22>(params, reader, k, values),
+        24 => read_exact_split::<24>(params, reader, k, values),
+        32 => read_exact_split::<32>(params, reader, k, values),
+        64 => read_exact_split::<64>(params, reader, k, values),
+        _ => read_any_split(params, reader, k, values),
+    }
+}

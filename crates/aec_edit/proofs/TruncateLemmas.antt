@@ -1,0 +1,63 @@
+-- What a cut codes and decodes, as its definition has it and as the code has it.
+use Rattle.std.proofs.Common.{◌≡◌, ℕ, ◌+◌, ◌<◌, ◌≤◌, List, [], ◌++◌, length, take, ℤ, refl, ap, ◌∙◌, inl, inr, arith, Result}
+use Rattle.std.specs.Result.{MatchResult, OnOk, OnErr}
+use Rattle.std.specs.Int.{div_ceil}
+use Rattle.std.proofs.lemmas.Bool.{ne_eqb}
+use Rattle.std.proofs.lemmas.List.{append-nil, drop_all}
+use Rattle.aec_params.specs.declared.fault.Fault.{Fault}
+use Rattle.aec_params.specs.declared.edit.Edit.TheVariants.{Truncate}
+use Rattle.aec_params.specs.Edits.{cut_calls, inside_calls}
+use Rattle.aec_bits.specs.Codec.{Format}
+use Rattle.aec_bits.proofs.RefusalLaws.{truncate_fits}
+use Rattle.aec_edit.specs.Calls.{RisesAtMost}
+use Rattle.aec_edit.specs.Steps.{Applies}
+use Rattle.aec_edit.specs.Changes.{IsExchanged, IsNotExchanged, exchanged, exchange_calls, opened_by}
+use Rattle.aec_edit.specs.Opened.{opened_ends}
+use Rattle.aec_edit.proofs.ExchangeLemmas.{begins_before}
+use Rattle.aec_edit.proofs.AnswerLemmas.{from_exchange}
+use Rattle.aec_edit.proofs.MoveLemmas.{places}
+use Rattle.aec_edit.proofs.OpenedLemmas.{nothing_first, nothing_last, first_few, opened-count}
+
+-- a cut that takes a sample codes the interval that it leaves part of
+cut_inside : (n old stop : ℕ) → stop < old → cut_calls n old stop ≡ inside_calls n stop
+cut_inside n old stop less = rw (ne_eqb stop old (λ e. absurd (omega arith))) refl
+
+truncate_calls : (n old stop : ℕ) → 0 < n → stop < old → exchange_calls n stop 0 ≡ cut_calls n old stop
+truncate_calls n old stop h less =
+    let inside = cut_inside n old stop less in
+    let same : stop + 0 ≡ stop = omega arith in
+    let count = ap (λ m. div_ceil m n) same in
+    elim (places n stop h) [
+      | inl start ↦ omega (arith, inside, count, start.1, start.2)
+      | inr cut ↦ omega (arith, inside, count, cut.1, cut.2)
+    ]
+
+truncate_opens : (n old stop : ℕ) → 0 < n → stop < old → opened_ends n old stop old ≤ cut_calls n old stop
+truncate_opens n old stop h less =
+    let order : stop ≤ old = omega arith in
+    let inside = cut_inside n old stop less in
+    let count = opened-count n old stop old h order in
+    let none_last = ap length (nothing_last n old stop old h order (omega arith)) in
+    elim (places n stop h) [
+      | inl start ↦
+          let none_first = ap length (nothing_first n old stop old h order (omega (arith, start.0, (begins_before stop n h).2)) (omega arith)) in
+          omega (arith, count, inside)
+      | inr cut ↦ omega (arith, count, inside, cut.1, first_few n old stop old h order)
+    ]
+
+-- an exchange that is a cut
+pub truncated : (f : Format) (limit calls reads stop old : ℕ) (s : List ℤ) (r : Result ℕ Fault) (s' : List ℤ) (calls' reads' : ℕ) → 1 ≤ f.most
+    → old ≡ length s → stop < old
+    → MatchResult r (λ coded. IsExchanged (exchange_calls f.most stop 0) calls coded calls')
+    (λ fault. IsNotExchanged (exchange_calls f.most stop 0) calls fault calls')
+    → OnOk r (s' ≡ exchanged stop old [] s) → OnErr r (s' ≡ s)
+    → RisesAtMost (opened_by (exchange_calls f.most stop 0) calls (opened_ends f.most (length s) stop old)) reads reads'
+    → Applies f limit s calls reads (Truncate stop) r s' calls' reads'
+truncated f limit calls reads stop old s r s' calls' reads' h old_is less answer ok err rises =
+    from_exchange f limit calls reads s (Truncate stop) (exchange_calls f.most stop 0) (opened_ends f.most (length s) stop old)
+    (truncate_fits f limit stop s (omega arith)) (truncate_calls f.most (length s) stop h (omega arith))
+    (omega (arith, ap (opened_ends f.most (length s) stop) old_is, truncate_opens f.most (length s) stop h (omega arith)))
+    r s' calls' reads' answer (rw no_more at ok) err rises
+  where
+    no_more : exchanged stop old [] s ≡ take stop s
+    no_more = ap (λ l. take stop s ++ l) (drop_all old s (omega arith)) ∙ append-nil (take stop s)

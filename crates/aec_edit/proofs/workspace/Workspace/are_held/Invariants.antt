@@ -1,0 +1,9 @@
+use Rattle.std.proofs.Common.{◌≡◌, ◌&&◌, drop}
+use Rattle.std.specs.List.{list_all}
+use Rattle.aec_edit.proofs.workspace.Workspace.are_held.Given as goal
+
+-- those so far are samples, and those that are left: so all are
+abbrev pub invariant-loop-x : goal.invariant-loop-x
+invariant-loop-x g l =
+    let holds = (g.C.Codec.format l.self.codec).holds in
+    l.held && list_all holds (drop l.x-index l.values) ≡ list_all holds l.values

@@ -1,0 +1,83 @@
+//! Bytes in memory.
+
+use crate::asserts::{same, same_at};
+use aec_engine::{decode_bytes, encode_bytes};
+use aec_params::{Fault, Limits, Params, Settings};
+use std::alloc::Global;
+use std::process::Abort;
+use std::test::Fail;
+
+const RAMP: [u8; 8] = [0, 1, 2, 3, 4, 5, 6, 7];
+
+// The code of the ramp, from the examples of FORMAT.md.
+const RAMP_CODED: [u8; 4] = [0x20, 0x09, 0x24, 0x92];
+
+// What is decoded, or why it isn't: the clauses stay out of the tests' proofs.
+fn decoded(
+    alloc: Global,
+    params: &Params,
+    limits: Limits,
+    count: Option<u64>,
+    bytes: &[u8],
+) -> Result<Vec<u8>, Fault> {
+    decode_bytes(alloc, params, limits, count, bytes)
+}
+
+// The ramp from its code, with this count, has so many samples.
+fn expect_front(
+    rt: &impl Abort,
+    alloc: Global,
+    params: &Params,
+    count: Option<u64>,
+    len: usize,
+) -> Result<(), Fail> {
+    let limits = Limits::new(8, 8).ok_or("limits")?;
+    let bytes = decoded(alloc, params, limits, count, &RAMP_CODED)?;
+    same_at(rt, Some(bytes.as_slice()), RAMP.get(..len), &count);
+    Ok(())
+}
+
+#[test]
+fn bytes_are_coded_and_decoded(rt: HostRuntime) -> Result<(), Fail> {
+    let params = Params::new(Settings::USUAL)?;
+    let limits = Limits::new(8, 8).ok_or("limits")?;
+    let coded = encode_bytes(rt.alloc(), &params, limits, &RAMP)?;
+    same(&rt, coded.as_slice(), RAMP_CODED.as_slice());
+    for (count, len) in [(None, 8), (Some(8), 8), (Some(3), 3), (Some(0), 0)] {
+        expect_front(&rt, rt.alloc(), &params, count, len)?;
+    }
+    Ok(())
+}
+
+#[test]
+fn bytes_are_refused(rt: HostRuntime) -> Result<(), Fail> {
+    let five_bits = Params::new(Settings {
+        bits: 5,
+        ..Settings::USUAL
+    })?;
+    let params = Params::new(Settings::USUAL)?;
+    let limits = Limits::new(2, 3).ok_or("limits")?;
+    let coding = [
+        ([31, 32].as_slice(), Fault::SampleRange { index: 1 }),
+        ([31, 31, 32].as_slice(), Fault::TooManySamples { limit: 2 }),
+        ([32, 0, 0].as_slice(), Fault::SampleRange { index: 0 }),
+    ];
+    for (bytes, fault) in coding {
+        let refusal = encode_bytes(rt.alloc(), &five_bits, limits, bytes).err();
+        same_at(&rt, refusal, Some(fault), &bytes);
+    }
+    let decoding = [
+        (
+            RAMP_CODED.as_slice(),
+            None,
+            Fault::StreamTooLong { limit: 3 },
+        ),
+        (b"".as_slice(), Some(3), Fault::TooManySamples { limit: 2 }),
+        (b"\x20".as_slice(), Some(1), Fault::Truncated { bit: 0 }),
+    ];
+    for (coded, count, fault) in decoding {
+        let refusal = decoded(rt.alloc(), &params, limits, count, coded).err();
+        same_at(&rt, refusal, Some(fault), &coded);
+    }
+    Ok(())
+}

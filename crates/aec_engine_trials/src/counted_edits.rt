@@ -1,0 +1,110 @@
+//! Scripts carried out over a codec that is given: how often it is called, and what is left where
+//! its calls don't suffice.
+
+use crate::asserts::{holds, same, same_at};
+use crate::devices::{After, Marked, Pieces};
+use aec_bits::WriteSink;
+use aec_edit::Workspace;
+use aec_engine::{EditFault, carry_out, edit_over, script};
+use aec_interval::AecCodec;
+use aec_params::{Edit, Fault, Limits, Params, Samples, Settings};
+use std::alloc::Global;
+use std::process::Abort;
+use std::test::Fail;
+
+// The stream of 48 zeros, and of these with a 1 at place 20.
+const ZEROS: [u8; 6] = [0x00, 0x04, 0x00, 0x10, 0x00, 0x40];
+
+const ONE_CHANGED: [u8; 7] = [0x00, 0x04, 0x40, 0x30, 0xC2, 0x00, 0x08];
+
+// Behind the bytes `old` of a sink: begun there, and then written. The number of calls of the
+// coder: one for each of the three intervals of 48 zeros, and one for each interval that an edit
+// codes.
+fn counted<R: Abort>(rt: &R, alloc: Global, text: &str, calls: u64) -> Result<Vec<u8>, Fail> {
+    let params = Params::new(Settings::USUAL)?;
+    let limits = Limits::new(1 << 32, 1 << 40).ok_or("limits")?;
+    let mut script = Pieces::of(text.as_bytes(), 5, After::Ends);
+    let mut source = Pieces::of(&ZEROS, 3, After::Ends);
+    let mut sink = Marked::behind(alloc, b"old")?;
+    let codec = AecCodec::new(alloc, params);
+    let workspace = edit_over(
+        alloc,
+        codec,
+        &params,
+        limits,
+        None,
+        &mut script,
+        &mut source,
+        &mut sink,
+    )?;
+    let answer = workspace.calls();
+    same_at(rt, (answer, sink.mark), (calls, 3), &text);
+    Ok(sink.bytes)
+}
+
+#[test]
+fn calls_of_a_script_are_counted(rt: HostRuntime) -> Result<(), Fail> {
+    let bytes = counted(&rt, rt.alloc(), "overwrite 20 1", 4)?;
+    same(
+        &rt,
+        bytes.strip_prefix(b"old"),
+        Some(ONE_CHANGED.as_slice()),
+    );
+    for (text, calls) in [
+        ("", 3),
+        ("overwrite 15 1 2\noverwrite 20 1", 6),
+        ("append 1", 4),
+        ("truncate 40\ntruncate 16", 4),
+        ("insert 16 0 0 0 0 0 0 0 0 0 0 0 0 0 0 0 0\ninsert 20 0", 8),
+        ("remove 16 16\nremove 0 1", 5),
+    ] {
+        let _bytes = counted(&rt, rt.alloc(), text, calls)?;
+    }
+    Ok(())
+}
+
+// A workspace of 48 zeros, whose codec has four calls left before them, and so one behind them.
+fn with_one_call(alloc: Global) -> Result<Workspace<AecCodec>, Fault> {
+    let codec = AecCodec::with_calls(alloc, Params::new(Settings::USUAL)?, u64::MAX - 4);
+    let mut work = Workspace::new(alloc, codec, 65);
+    work.apply(&Edit::Append {
+        values: Samples::new(vec![in alloc; 0i64; 48]?),
+    })?;
+    Ok(work)
+}
+
+// What carrying out a script on a workspace answers.
+fn carried<R: Abort>(
+    rt: &R,
+    alloc: Global,
+    work: &mut Workspace<AecCodec>,
+    text: &str,
+) -> Result<Option<EditFault>, Fail> {
+    let script = script(alloc, text.as_bytes())?;
+    holds(rt, script.edits.len() <= script.lines.len());
+    Ok(carry_out(work, &script).err())
+}
+
+#[test]
+fn an_edit_without_calls_is_named_by_its_line(rt: HostRuntime) -> Result<(), Fail> {
+    let alloc = rt.alloc();
+    let mut work = with_one_call(alloc)?;
+    let text = "overwrite 20 1\n\nremove 0 16\ninsert 4 0\noverwrite 0 256";
+    let fault = Fault::Spent;
+    let line = Some(EditFault::Line { line: 4, fault });
+    same(&rt, carried(&rt, alloc, &mut work, text)?, line);
+    let mut sink = WriteSink::new(Vec::new(alloc));
+    work.write_to(&mut sink)?;
+    same(
+        &rt,
+        sink.into_inner().as_slice(),
+        [0x10, 0x0C, 0x30, 0x80, 0x02].as_slice(),
+    );
+    same(&rt, work.calls(), u64::MAX);
+    // One that doesn't fit is refused for that, and one that codes nothing is made.
+    let fault = Fault::OutOfRange { count: 32 };
+    let line = Some(EditFault::Line { line: 1, fault });
+    same(&rt, carried(&rt, alloc, &mut work, "insert 33 0")?, line);
+    same(&rt, carried(&rt, alloc, &mut work, "truncate 16")?, None);
+    Ok(())
+}

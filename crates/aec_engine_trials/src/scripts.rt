@@ -1,0 +1,221 @@
+//! Scripts, and the edits that their lines are read as.
+
+use crate::asserts::{holds, same, same_at};
+use aec_engine::{Script, script};
+use aec_params::{Edit, Fault};
+use std::alloc::{AllocError, Global};
+use std::fmt::Write;
+use std::test::Fail;
+
+// Each edit with its line, as `LINE NAME NUMBER..;`.
+fn shown(alloc: Global, script: &Script) -> Result<String, Fail> {
+    let mut text = String::new(alloc);
+    for (edit, line) in script.edits.iter().zip(script.lines.iter()) {
+        write!(text, "{line} ")?;
+        match edit {
+            Edit::Overwrite { first, values } => {
+                write!(text, "overwrite {first}")?;
+                show_values(&mut text, values.as_slice())?;
+            }
+            Edit::Append { values } => {
+                write!(text, "append")?;
+                show_values(&mut text, values.as_slice())?;
+            }
+            Edit::Truncate { count } => write!(text, "truncate {count}")?,
+            Edit::Insert { first, values } => {
+                write!(text, "insert {first}")?;
+                show_values(&mut text, values.as_slice())?;
+            }
+            Edit::Remove { first, len } => write!(text, "remove {first} {len}")?,
+        }
+        write!(text, ";")?;
+    }
+    Ok(text)
+}
+
+fn show_values(text: &mut String, values: &[i64]) -> Result<(), Fail> {
+    for value in values {
+        write!(text, " {value}")?;
+    }
+    Ok(())
+}
+
+// Scripts, and the edits that they have.
+const READ: [(&str, &str); 30] = [
+    ("", ""),
+    ("\n\n", ""),
+    ("\r", ""),
+    (" \t \r\n\t", ""),
+    (
+        "# p\noverwrite 20 1 -2\nappend\ntruncate 5\n",
+        "2 overwrite 20 1 -2;3 append;4 truncate 5;",
+    ),
+    ("append 007 -0\r", "1 append 7 0;"),
+    ("append 1\r\nappend 2\r\n", "1 append 1;2 append 2;"),
+    ("append 1\nappend 2", "1 append 1;2 append 2;"),
+    ("\t append\t1 \t 2\t", "1 append 1 2;"),
+    ("  # append 1\n#append 2\n#\nappend 3", "4 append 3;"),
+    ("overwrite 3", "1 overwrite 3;"),
+    (
+        "overwrite 18446744073709551615 1",
+        "1 overwrite 18446744073709551615 1;",
+    ),
+    (
+        "overwrite 00000000000000000000000000000004 1",
+        "1 overwrite 4 1;",
+    ),
+    (
+        "truncate 18446744073709551615",
+        "1 truncate 18446744073709551615;",
+    ),
+    ("truncate 0", "1 truncate 0;"),
+    (
+        "append -9223372036854775808",
+        "1 append -9223372036854775808;",
+    ),
+    (
+        "append 9223372036854775807",
+        "1 append 9223372036854775807;",
+    ),
+    ("append -000", "1 append 0;"),
+    ("append", "1 append;"),
+    ("append \r", "1 append;"),
+    ("append 1\n\r", "1 append 1;"),
+    ("append 1\n \n\nappend 2\n", "1 append 1;4 append 2;"),
+    ("insert 0", "1 insert 0;"),
+    (
+        "# p\ninsert 20 1 -2\nremove 3 5\n",
+        "2 insert 20 1 -2;3 remove 3 5;",
+    ),
+    ("\tinsert  007 \t-0 \r", "1 insert 7 0;"),
+    (
+        "insert 18446744073709551615 -9223372036854775808",
+        "1 insert 18446744073709551615 -9223372036854775808;",
+    ),
+    ("remove 0 0", "1 remove 0 0;"),
+    (" remove\t00  007\t\r\n", "1 remove 0 7;"),
+    (
+        "remove 0 18446744073709551615",
+        "1 remove 0 18446744073709551615;",
+    ),
+    (
+        "remove 18446744073709551615 18446744073709551615",
+        "1 remove 18446744073709551615 18446744073709551615;",
+    ),
+];
+
+// What a script has, or why it is refused: `script` without its clauses, which callers would be
+// proved with.
+fn read(alloc: Global, text: &[u8]) -> Result<Script, Fault> {
+    script(alloc, text)
+}
+
+#[test]
+fn edits_stand_on_their_lines(rt: HostRuntime) -> Result<(), Fail> {
+    for (text, edits) in READ {
+        let read = read(rt.alloc(), text.as_bytes())?;
+        same_at(&rt, shown(rt.alloc(), &read)?.as_str(), edits, &text);
+    }
+    Ok(())
+}
+
+// Scripts, and the number of their first line that is no edit.
+const REFUSED: [(&str, u64); 42] = [
+    ("append 1\n\ntruncate x\n", 3),
+    ("overwrite", 1),
+    ("overwrite x 1", 1),
+    ("overwrite -1 1", 1),
+    ("overwrite 18446744073709551616", 1),
+    ("truncate", 1),
+    ("truncate 1 2", 1),
+    ("truncate 18446744073709551616", 1),
+    ("truncate +1", 1),
+    ("Append 1", 1),
+    ("append +1", 1),
+    ("append - 1", 1),
+    ("append -", 1),
+    ("append --1", 1),
+    ("append 1 # one", 1),
+    ("append 1.0", 1),
+    ("append 1,2", 1),
+    ("append 9223372036854775808", 1),
+    ("append -9223372036854775809", 1),
+    ("appendix 1", 1),
+    ("append 1\r\r\nappend 2", 1),
+    ("append 1\rappend 2", 1),
+    ("append 1\n\u{b}\n", 2),
+    ("append 1\nappend \0", 2),
+    ("insert", 1),
+    ("insert x 1", 1),
+    ("insert -1 1", 1),
+    ("insert +1 1", 1),
+    ("insert 18446744073709551616", 1),
+    ("insert 0 9223372036854775808", 1),
+    ("insert 0 1 x", 1),
+    ("Insert 0 1", 1),
+    ("inserts 0 1", 1),
+    ("insert 0\n\ninsert", 3),
+    ("remove", 1),
+    ("remove 1", 1),
+    ("remove 1 2 3", 1),
+    ("remove -1 1", 1),
+    ("remove 1 -1", 1),
+    ("remove 0 18446744073709551616", 1),
+    ("remove 18446744073709551616 0", 1),
+    ("remove 0 0\nREMOVE 0 0", 2),
+];
+
+#[test]
+fn the_first_bad_line_is_named(rt: HostRuntime) -> Result<(), Fail> {
+    for (text, line) in REFUSED {
+        let refusal = read(rt.alloc(), text.as_bytes()).err();
+        same_at(&rt, refusal, Some(Fault::Script { line }), &text);
+    }
+    let no_text = read(rt.alloc(), b"append 1\nappend \xFF").err();
+    same(&rt, no_text, Some(Fault::Script { line: 2 }));
+    Ok(())
+}
+
+#[test]
+fn empty_lines_are_counted(rt: HostRuntime) -> Result<(), Fail> {
+    let mut text = vec![in rt.alloc(); b'\n'; 65536]?;
+    text.extend_from_slice(b"append x")?;
+    let refusal = script(rt.alloc(), &text).err();
+    same(&rt, refusal, Some(Fault::Script { line: 65537 }));
+    Ok(())
+}
+
+// A text that many times.
+fn repeated(alloc: Global, text: &[u8], times: usize) -> Result<Vec<u8>, AllocError> {
+    let mut bytes = Vec::new(alloc);
+    for _ in 0..times {
+        bytes.extend_from_slice(text)?;
+    }
+    Ok(bytes)
+}
+
+#[test]
+fn long_lines_are_read(rt: HostRuntime) -> Result<(), Fail> {
+    let mut line = Vec::new(rt.alloc());
+    line.extend_from_slice(b"append")?;
+    line.extend_from_slice(&repeated(rt.alloc(), b" -7", 100_000)?)?;
+    let read = read(rt.alloc(), &line)?;
+    same(&rt, read.lines.as_slice(), [1u64].as_slice());
+    match read.edits.first() {
+        Some(Edit::Append { values }) => {
+            same(&rt, values.as_slice().len(), 100_000);
+            holds(&rt, values.as_slice().iter().all(|x| *x == -7));
+        }
+        _ => panic!(rt; "no append"),
+    }
+    Ok(())
+}
+
+#[test]
+fn many_lines_are_read(rt: HostRuntime) -> Result<(), Fail> {
+    let text = repeated(rt.alloc(), b"truncate 0\n", 1_000_000)?;
+    let many = read(rt.alloc(), &text)?;
+    same(&rt, many.edits.len(), 1_000_000);
+    same(&rt, many.lines.last(), Some(&1_000_000));
+    Ok(())
+}

@@ -1,0 +1,205 @@
+-- Plain blocks: coded data sets of their own without a reference sample, which need no test of
+-- their place.
+use Rattle.std.proofs.Common.{length, take, ◌≡◌, ℕ, ◌+◌, ◌-◌, ◌*◌, ◌/◌, ◌%◌, ◌<◌, ◌≤◌, ◌==◌, ◌&&◌, Bool, true, false, if◌then◌else◌, min, Option, Some, None, IfSome, unwrap_or, ⊎_elim, ◌^◌, Ok, Err, ℤ, List, [], ◌∷◌, refl, sym, ap, ◌∙◌, subst, arith}
+use Rattle.std.proofs.Math.Nat.{mod-lt, mul-le-mul_right, le-mul_of_pos_right, div-mul-le_self, add-mul}
+use Rattle.std.proofs.lemmas.Grind.{div_ceil_times}
+use Rattle.std.proofs.lemmas.Bool.{cases_lt, and_right, ne_eqb, lt-ltb, le-ltb, le-leb, leb-true}
+use Rattle.std.proofs.lemmas.Slice.{take-put_mid}
+use borrow.Rule.Slice.PartMut.{put_mid}
+use Rattle.std.specs.List.{AllByRecursion}
+use Rattle.std.specs.Int.{div_ceil, next_multiple_of}
+use Rattle.aec_params.specs.declared.settings.Settings.{Settings}
+use Rattle.aec_params.specs.declared.fault.Fault.TheVariants.{RunTooLong, TooManySamples}
+use Rattle.aec_params.specs.Params.{IsAllowed, IsHeld}
+use Rattle.aec_params.specs.Places.{segment_left, is_reference_block, block_of_values}
+use Rattle.aec_params.specs.Reading.{is_wanted, keeps_limit, begin_of}
+use Rattle.aec_params.proofs.SettingLaws.{block_size-positive, interval-positive}
+use Rattle.aec_bits.specs.BitReader.{Cursor, has_one}
+use Rattle.aec_block.specs.declared.cds.RunLen.TheVariants.{Blocks}
+use Rattle.aec_block.specs.declared.cds.Cds.TheVariants.{Single}
+use Rattle.aec_block.specs.Gathering.{bits_at}
+use Rattle.aec_block.specs.ReadCds.{IsReadPlain}
+use Rattle.aec_block.specs.Unmapping.{Unmaps}
+use Rattle.aec_block.proofs.UnmappingLemmas.{unmaps-behind}
+use Rattle.aec_interval.specs.NextBlock.{last_sample, IsNextBlock, FillsNext}
+use Rattle.aec_interval.specs.NextSet.{block_behind, kept_count}
+use Rattle.aec_interval.specs.Steps.{IsUntestedEnd}
+use Rattle.aec_interval.specs.declared.reading.Wanted.{Wanted}
+use Rattle.aec_interval.specs.PlainBlocks.{IsUntestedAt, ReadsPlain}
+use Rattle.aec_interval.proofs.BlockLemmas.{all-append}
+use Rattle.aec_interval.proofs.ReadIntervalLemmas.{place-behind}
+use Rattle.aec_interval.proofs.NextFillLemmas.{fills_block_plain}
+use Rattle.aec_interval.proofs.ReadNextLemmas.{next-cds, reached-next}
+
+-- ---- where no test is needed
+
+-- blocks of an interval without the padding behind it, whose samples are within a count or the
+-- limit
+pub untested-within : (s : Settings) (count : Option ℕ) (limit first end pad last : ℕ) → IsAllowed s → limit ≤ 2 ^ 32 → IfSome count (λ n. n ≤ 2 ^ 32)
+    → end ≡ first + s.interval → pad ≡ (if s.pad then 1 else 0) → last ≤ end - pad → last * s.block_size ≤ unwrap_or count limit
+    → IsUntestedEnd s count limit first last
+untested-within s count limit first end pad last allowed low counted end_is pad_is within samples = record {
+  within = omega (arith, within, end_is);
+  unpadded = λ padded.
+      let one : pad ≡ 1 = pad_is ∙ ap (λ b. if b then 1 else 0) padded in
+      omega (arith, within, one, end_is, interval-positive s allowed);
+  needed = needed_by count samples;
+  keeps = keeps_by count samples;
+  few = few_by count counted samples;
+}
+  where
+    positive : 0 < s.block_size
+    positive = block_size-positive s allowed
+
+    needed_by : (count : Option ℕ) → last * s.block_size ≤ unwrap_or count limit → IfSome count (λ n. last ≤ div_ceil n s.block_size)
+    needed_by None few = tt
+    needed_by (Some n) few = ⊎_elim (λ (past : div_ceil n s.block_size < last).
+        let more : (div_ceil n s.block_size + 1) * s.block_size ≤ last * s.block_size = mul-le-mul_right s.block_size (omega (arith, past)) in
+        absurd (omega (arith, more, few, div_ceil_times n s.block_size positive, add-mul (div_ceil n s.block_size) 1 s.block_size, positive)))
+        (λ (kept : last ≤ div_ceil n s.block_size). kept) (cases_lt (div_ceil n s.block_size) last)
+
+    keeps_by : (count : Option ℕ) → last * s.block_size ≤ unwrap_or count limit → keeps_limit s count limit last ≡ true
+    keeps_by None few = le-leb (last * s.block_size) limit few
+    keeps_by (Some n) few = refl
+
+    few_by : (count : Option ℕ) → IfSome count (λ n. n ≤ 2 ^ 32) → last * s.block_size ≤ unwrap_or count limit → last < 2 ^ 34
+    few_by None counted few = omega (arith, low, few, le-mul_of_pos_right last positive)
+    few_by (Some n) counted few = omega (arith, counted, few, le-mul_of_pos_right last positive)
+
+pub few_samples : (count : Option ℕ) (limit : ℕ) → limit ≤ 2 ^ 32 → IfSome count (λ n. n ≤ 2 ^ 32) → unwrap_or count limit ≤ 2 ^ 32
+few_samples None limit low counted = low
+few_samples (Some n) limit low counted = counted
+
+-- a reading has come to a block that needs no test of its place, and a one is left
+module _ (s : Settings) (wanted : Wanted) (end i : ℕ) (old : Cursor) (samples : List ℤ) (allowed : IsAllowed s) (here : IsUntestedAt s wanted end i old samples)
+    (before : i < end) (one : has_one (bits_at old) ≡ true) where
+  wanted_by : (count : Option ℕ) → IsUntestedEnd s count wanted.limit wanted.first end → is_wanted s count old.list i old.pos ≡ true
+  wanted_by None ends = one
+  wanted_by (Some n) ends = lt-ltb i (div_ceil n s.block_size) (omega (arith, ends.needed, before))
+
+  wanted_here : is_wanted s wanted.count old.list i old.pos ≡ true
+  wanted_here = wanted_by wanted.count here.untested
+
+  place : i % s.interval ≡ i - wanted.first
+  place = place-behind s wanted.first i here.aligned (omega (arith, here.behind)) (omega (arith, before, here.untested.within))
+
+  due : false ≡ is_reference_block s (i % s.interval)
+  due = sym (and_right s.preprocess (i % s.interval == 0) (ne_eqb (i % s.interval) 0 (λ e. omega (arith, e, place, here.behind))))
+
+  fits : 1 ≤ segment_left s (i % s.interval)
+  fits = omega (arith, mod-lt i (interval-positive s allowed))
+
+  keeps_by : (count : Option ℕ) → keeps_limit s count wanted.limit end ≡ true → keeps_limit s count wanted.limit (i + 1) ≡ true
+  keeps_by None keeps =
+      let fewer : (i + 1) * s.block_size ≤ end * s.block_size = mul-le-mul_right s.block_size (omega (arith, before)) in
+      le-leb ((i + 1) * s.block_size) wanted.limit (omega (arith, fewer, leb-true (end * s.block_size) wanted.limit keeps))
+  keeps_by (Some n) keeps = refl
+
+  placed : Ok (i + 1) ≡ block_behind s wanted.count wanted.limit i 1 0
+  placed =
+      let keeps = keeps_by wanted.count here.untested.keeps in
+      sym (ap (λ b. if b then Err (RunTooLong 0)
+      else (if keeps_limit s wanted.count wanted.limit (i + 1) then Ok (i + 1) else Err (TooManySamples wanted.limit)))
+      (le-ltb (segment_left s (i % s.interval)) 1 fits)
+      ∙ ap (λ b. if b then Ok (i + 1) else Err (TooManySamples wanted.limit)) keeps)
+
+  unpadded : (pad : Bool) → (pad ≡ true → end < wanted.first + s.interval) → (pad && ((i + 1) % s.interval == 0)) ≡ false
+  unpadded false padded = refl
+  unpadded true padded =
+      let next : (i + 1) % s.interval ≡ i + 1 - wanted.first =
+      place-behind s wanted.first (i + 1) here.aligned (omega (arith, here.behind)) (omega (arith, before, padded refl)) in
+      ne_eqb ((i + 1) % s.interval) 0 (λ e. omega (arith, e, next, here.behind))
+
+  begins : (list : List Bool) (b : ℕ) → b ≡ begin_of s list (i + 1) b
+  begins list b = sym (ap (λ skips. if skips then min (next_multiple_of b 8) (length list) else b) (unpadded s.pad here.untested.unpadded))
+
+  -- there a plain block was read
+  module _ (new : Cursor) (values : List ℕ) (read : IsReadPlain s old new values) where
+    pub plain-next : IsNextBlock s samples (block_of_values None values)
+    plain-next =
+        next-cds s wanted.count wanted.limit wanted.first wanted.start old new i samples allowed here.reached wanted_here false
+        (Single (block_of_values None values)) (Blocks 1) due refl (read.set, read.read) 0 (i + 1) placed (kept_count s wanted.count i (i + 1 - i))
+        (i - wanted.first) here.aligned refl refl
+
+    pub place-next : (more : List ℤ) → FillsNext s samples more (block_of_values None values ∷ []) → IsUntestedAt s wanted end (i + 1) new more
+    place-next more fills = record {
+      reached = reached-next s wanted.count wanted.limit wanted.first wanted.start old new i samples allowed here.reached wanted_here false
+          (Single (block_of_values None values)) (Blocks 1) due refl (read.set, read.read) 0 (i + 1) placed (kept_count s wanted.count i (i + 1 - i))
+          more new.list new.pos refl fills refl (begins new.list new.pos);
+      aligned = here.aligned;
+      behind = omega (arith, here.behind);
+      untested = here.untested;
+    }
+
+-- the samples of a plain block put behind those before it
+plain-fills : (s : Settings) (all part : List ℤ) (values : List ℕ) (p : ℤ) (at k n : ℕ) → IsAllowed s
+    → IsNextBlock s (take at all) (block_of_values None values)
+    → p ≡ last_sample (take at all) → n ≡ at + k → at + k ≤ length all → length part ≡ k → Unmaps s p values [] part
+    → FillsNext s (take at all) (take n (put_mid at k all part)) (block_of_values None values ∷ [])
+plain-fills s all part values p at k n allowed next previous sum within len unmaps =
+    fills_block_plain s (take at all) (take n (put_mid at k all part)) (block_of_values None values) p values allowed next refl previous refl
+    (subst (Unmaps s p values (take at all)) (sym (take-put_mid at k all part n (omega (arith, sum, len)) (omega (arith, within))))
+    (unmaps-behind s p values (take at all) part unmaps))
+
+pub one_plain : (s : Settings) (old new : Cursor) (all part : List ℤ) (values : List ℕ) (p : ℤ) (at k n : ℕ) → IsAllowed s → IsReadPlain s old new values
+    → has_one (bits_at old) ≡ true → new.list ≡ old.list → AllByRecursion (IsHeld s) (take at all)
+    → p ≡ last_sample (take at all) → n ≡ at + k → at + k ≤ length all → length part ≡ k → Unmaps s p values [] part
+    → ReadsPlain s 1 old (take at all) new (take n (put_mid at k all part))
+one_plain s old new all part values p at k n allowed read one same held previous sum within len unmaps = record {
+  list = same;
+  held = subst (AllByRecursion (IsHeld s)) (sym (take-put_mid at k all part n (omega (arith, sum, len)) (omega (arith, within))))
+      (all-append (IsHeld s) (take at all) part held (subst (AllByRecursion (IsHeld s)) (sym unmaps.appended) unmaps.held));
+  leads = λ wanted end i some here.
+      let before : i < end = omega (arith, some) in
+      place-next s wanted end i old (take at all) allowed here before one new values read (take n (put_mid at k all part))
+      (plain-fills s all part values p at k n allowed (plain-next s wanted end i old (take at all) allowed here before one new values read)
+      previous sum within len unmaps);
+}
+
+-- ---- several blocks
+
+pub none_read : (s : Settings) (cursor : Cursor) (samples : List ℤ) → AllByRecursion (IsHeld s) samples → ReadsPlain s 0 cursor samples cursor samples
+none_read s cursor samples held = record {
+  list = refl;
+  held = held;
+  leads = λ wanted end i some here. let same : i ≡ i + 0 = omega arith in subst (λ j. IsUntestedAt s wanted end j cursor samples) same here;
+}
+
+pub more_read : (s : Settings) (n m : ℕ) (old mid new : Cursor) (samples front more : List ℤ) → ReadsPlain s n old samples mid front
+    → ReadsPlain s m mid front new more → ReadsPlain s (n + m) old samples new more
+more_read s n m old mid new samples front more first second = record {
+  list = second.list ∙ first.list;
+  held = second.held;
+  leads = λ wanted end i some here.
+      let place : i + n + m ≡ i + (n + m) = omega arith in
+      subst (λ j. IsUntestedAt s wanted end j new more) place
+      (second.leads wanted end (i + n) (omega (arith, some)) (first.leads wanted end i (omega (arith, some)) here));
+}
+
+-- the same by cursors that are equal
+pub read_between : (s : Settings) (n : ℕ) (old start new end : Cursor) (samples more : List ℤ) → start ≡ old → end ≡ new → ReadsPlain s n old samples new more
+    → ReadsPlain s n start samples end more
+read_between s n old start new end samples more begins ends read = rw (begins, ends) read
+
+-- one block more, of which the samples have their places in a list
+pub one_more_read : (s : Settings) (n at size : ℕ) (old mid new : Cursor) (samples front more : List ℤ) → size ≡ s.block_size
+    → ReadsPlain s n old samples mid front → ReadsPlain s 1 mid front new (take (at + s.block_size) more)
+    → ReadsPlain s (n + 1) old samples new (take (at + size) more)
+one_more_read s n at size old mid new samples front more is first second =
+    subst (λ j. ReadsPlain s (n + 1) old samples new (take (at + j) more)) (sym is)
+    (more_read s n 1 old mid new samples front (take (at + s.block_size) more) first second)
+
+-- ---- how many samples
+
+pub few_places : (blocks size j : ℕ) → size ≡ j → j ≤ 64 → blocks ≤ 2 + 120 / j → blocks * size ≤ 256
+few_places blocks size j is small few =
+    let most : blocks * j ≤ (2 + 120 / j) * j = mul-le-mul_right j few in
+    let both : (2 + 120 / j) * j ≡ 2 * j + 120 / j * j = add-mul 2 (120 / j) j in
+    omega (arith, ap (λ n. blocks * n) is, most, both, div-mul-le_self 120 j, small)
+
+pub one_block_more : (from at count size : ℕ) → at ≡ from + count * size → at + size ≡ from + (count + 1) * size
+one_block_more from at count size is =
+    let both : (count + 1) * size ≡ count * size + size = omega (arith, add-mul count 1 size) in omega (arith, is, both)
+
+pub len-joined : (old mid new count read size : ℕ) → mid ≤ old + count * size → new ≤ mid + read * size → new ≤ old + (count + read) * size
+len-joined old mid new count read size front more = omega (arith, front, more, add-mul count read size)

@@ -1,0 +1,15 @@
+use Rattle.std.proofs.Common.{◌-◌, ◌+◌, ◌*◌, ◌≡◌, ◌≤◌, take, length}
+use Rattle.aec_interval.specs.PlainBlocks.{ReadsPlain}
+use Rattle.aec_interval.proofs.reading.plain.fill_plain_blocks.Given as goal
+
+abbrev pub invariant-loop-count : goal.invariant-loop-count
+invariant-loop-count l = record {
+  reads : ReadsPlain l.own l.count l.fn.reader (take l.from l.fn.samples) l.reader (take l.at l.samples);
+  within : l.count ≤ l.most;
+  place : l.at ≡ l.from + l.count * l.size;
+  scratch : length l.scratch ≡ 64;
+  len : length l.samples ≡ length l.fn.samples;
+}
+
+abbrev pub decreases-loop-count : goal.decreases-loop-count
+decreases-loop-count l = l.most - l.count

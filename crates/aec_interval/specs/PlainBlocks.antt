@@ -1,0 +1,30 @@
+-- Plain blocks read one behind the other: what the private functions of `reading::plain` do for
+-- every reading that comes to the first of them.
+use Rattle.std.specs.Prelude.{◌≡◌, ◌<◌, ◌≤◌, ℕ, ◌+◌, ◌-◌, ◌/◌, ◌%◌, ℤ, List}
+use Rattle.std.specs.List.{AllByRecursion}
+use Rattle.aec_params.specs.declared.settings.Settings.{Settings}
+use Rattle.aec_params.specs.Params.{IsHeld}
+use Rattle.aec_bits.specs.BitReader.{Cursor}
+use Rattle.aec_interval.specs.declared.reading.Wanted.{Wanted}
+use Rattle.aec_interval.specs.Reached.{IsReached}
+use Rattle.aec_interval.specs.Steps.{IsUntestedEnd}
+
+-- a reading has come to block i at a cursor, with these samples. It began where an interval begins
+-- and is behind its first block, and before block `end` none needs a test of its place
+pub record IsUntestedAt (s : Settings) (wanted : Wanted) (end i : ℕ) (cursor : Cursor) (samples : List ℤ) : Type 0 where
+  pub reached : IsReached s wanted.count wanted.limit cursor.list wanted.first wanted.start i cursor.pos samples
+  pub aligned : wanted.first % s.interval ≡ 0
+  pub behind : wanted.first < i
+  pub untested : IsUntestedEnd s wanted.count wanted.limit wanted.first end
+
+-- n blocks further: the list is the same, the samples are held, and where none of the blocks needs
+-- a test, each reading that has come to the first with the old samples has come behind the last
+-- with the new ones
+pub record ReadsPlain (s : Settings) (n : ℕ) (old : Cursor) (samples : List ℤ) (new : Cursor) (more : List ℤ) : Type 0 where
+  pub list : new.list ≡ old.list
+  pub held : AllByRecursion (IsHeld s) more
+  pub leads : (wanted : Wanted) (end i : ℕ) → n ≤ end - i → IsUntestedAt s wanted end i old samples → IsUntestedAt s wanted end (i + n) new more
+
+-- for how many blocks room is made at once, at most
+abbrev pub most_at_once : Settings → ℕ
+most_at_once s = 2 + 120 / s.block_size

@@ -1,0 +1,245 @@
+//! Blocks read one behind the other, each a coded data set of its own without a reference sample,
+//! where none needs a test of its place.
+
+ghost use Rattle.std.specs.Prelude.{◌≡◌, ◌≤◌, ◌<◌, ◌+◌, ◌-◌, ◌*◌, ◌%◌, ◌^◌, true, false, max, length, take, vec_len, vec_capacity, IfSome};
+ghost use Rattle.std.specs.List.{AllByRecursion};
+ghost use Rattle.aec_params.specs.Params.{IsAllowed, IsHeld};
+ghost use Rattle.aec_block.specs.BlockShape.{most_values};
+ghost use Rattle.aec_interval.specs.Reached.{IsReached};
+ghost use Rattle.aec_interval.specs.Steps.{IsUntestedEnd};
+ghost use Rattle.aec_interval.specs.PlainBlocks.{ReadsPlain, most_at_once};
+
+use crate::MOST_IN_BLOCK;
+use crate::reading::Wanted;
+use crate::reading::samples::previous_of;
+use aec_bits::BitReader;
+use aec_block::{comes_plain, read_plain, unmap_into};
+use aec_params::Params;
+
+/// For so many blocks room is made at first, since often no more come that are plain.
+const BLOCKS_AT_FIRST: usize = 2;
+
+/// Then for the blocks of about so many samples more: places are cleared before they are filled, so
+/// those of blocks that aren't read take time in vain.
+const SAMPLES_AT_ONCE: usize = 120;
+
+/// What clears the places of samples that are to come: `BLOCKS_AT_FIRST` blocks and
+/// `SAMPLES_AT_ONCE` samples have fewer.
+static PLACES: [i64; 256] = [0; 256];
+
+/// A block before which none of the interval that ends at block `end` needs a test of its place:
+/// each keeps the limit and is needed, and no padding stands behind it.
+fn untested_end(params: &Params, wanted: Wanted, end: u64) -> u64
+    requires limit { wanted.limit ≤ 2 ^ 32 }
+    requires counted { IfSome wanted.count (λ count. count ≤ 2 ^ 32) }
+    requires end { end ≡ wanted.first + params.now.interval }
+    ensures { IsUntestedEnd params.now wanted.count wanted.limit wanted.first result }
+{
+    let size = u64::from(params.block_size());
+    let samples = wanted.count.unwrap_or(wanted.limit);
+    let unpadded = end - u64::from(params.pad());
+    // Of most intervals all blocks are within, which takes no division to tell.
+    if unpadded.saturating_mul(size) <= samples {
+        return unpadded;
+    }
+    unpadded.min(samples / size)
+}
+
+/// Reads the block that comes next into `values`, if it is a plain one, and puts its samples behind
+/// the first `at`. Else false, and the reader is where it was.
+#[inline(always)]
+fn fill_plain_block(
+    params: &Params,
+    reader: &mut BitReader,
+    values: &mut [u32],
+    samples: &mut [i64],
+    at: usize,
+) -> bool
+    requires held { AllByRecursion (IsHeld params.now) (take at samples.old) }
+    requires count { length values.old ≡ params.now.block_size }
+    requires room { at + params.now.block_size ≤ length samples.old }
+    ensures ok { result ≡ true → ReadsPlain params.now 1 reader.old (take at samples.old)
+        reader.new (take (at + params.now.block_size) samples.new) }
+    ensures stays { result ≡ false → reader.new ≡ reader.old }
+    ensures same { result ≡ false → samples.new ≡ samples.old }
+    ensures count { length values.new ≡ length values.old }
+    ensures len { length samples.new ≡ length samples.old }
+{
+    // Called for its clause alone: the parameters are allowed.
+    let _len = params.interval_len();
+    if !read_plain(params, reader, values) {
+        return false;
+    }
+    let previous = previous_of(&samples[..at]);
+    let end = at + values.len();
+    unmap_into(params, previous, values, &mut samples[at..end]);
+    true
+}
+
+/// Reads the blocks that come next, `most` of them, as long as they are plain ones, and puts their
+/// samples, `size` each, behind the first `from`. How many blocks were read.
+#[inline(always)]
+fn fill_plain_blocks(
+    params: &Params,
+    reader: &mut BitReader,
+    most: usize,
+    samples: &mut [i64],
+    from: usize,
+    size: usize,
+) -> usize
+    requires held { AllByRecursion (IsHeld params.now) (take from samples.old) }
+    requires size { size ≡ params.now.block_size }
+    requires small { size ≤ most_values }
+    requires room { from + most * size ≤ length samples.old }
+    ensures reads { ReadsPlain params.now result reader.old (take from samples.old) reader.new
+        (take (from + result * size) samples.new) }
+    ensures within { result ≤ most }
+    ensures len { length samples.new ≡ length samples.old }
+{
+    // A copy that no other call can see stays in registers.
+    let own = *params;
+    let mut scratch = [0u32; MOST_IN_BLOCK];
+    let mut count = 0;
+    let mut at = from;
+    while count < most {
+        if !fill_plain_block(&own, reader, &mut scratch[..size], samples, at) {
+            return count;
+        }
+        count += 1;
+        at += size;
+    }
+    count
+}
+
+/// The same, compiled for the usual block sizes.
+#[inline(never)]
+fn fill_usual_blocks(
+    params: &Params,
+    reader: &mut BitReader,
+    most: usize,
+    samples: &mut [i64],
+    from: usize,
+) -> usize
+    requires held { AllByRecursion (IsHeld params.now) (take from samples.old) }
+    requires room { from + most * params.now.block_size ≤ length samples.old }
+    ensures reads { ReadsPlain params.now result reader.old (take from samples.old) reader.new
+        (take (from + result * params.now.block_size) samples.new) }
+    ensures within { result ≤ most }
+    ensures len { length samples.new ≡ length samples.old }
+{
+    match params.block_size() {
+        8 => fill_plain_blocks(params, reader, most, samples, from, 8),
+        10 => fill_plain_blocks(params, reader, most, samples, from, 10),
+        12 => fill_plain_blocks(params, reader, most, samples, from, 12),
+        14 => fill_plain_blocks(params, reader, most, samples, from, 14),
+        16 => fill_plain_blocks(params, reader, most, samples, from, 16),
+        18 => fill_plain_blocks(params, reader, most, samples, from, 18),
+        20 => fill_plain_blocks(params, reader, most, samples, from, 20),
+        22 => fill_plain_blocks(params, reader, most, samples, from, 22),
+        24 => fill_plain_blocks(params, reader, most, samples, from, 24),
+        32 => fill_plain_blocks(params, reader, most, samples, from, 32),
+        64 => fill_plain_blocks(params, reader, most, samples, from, 64),
+        size => fill_plain_blocks(params, reader, most, samples, from, size as usize),
+    }
+}
+
+/// Reads the blocks that come next, `most` of them, as long as they are plain ones, and appends
+/// their samples. How many blocks were read: none where memory is refused.
+#[tactic(auto, using(crate::proofs::PlainLemmas::none_read))]
+fn push_plain_blocks(
+    params: &Params,
+    reader: &mut BitReader,
+    most: usize,
+    samples: &mut Vec<i64>,
+) -> usize
+    requires held { AllByRecursion (IsHeld params.now) samples.old.items }
+    requires few { most ≤ most_at_once params.now }
+    ensures reads { ReadsPlain params.now result reader.old samples.old.items reader.new
+        samples.new.items }
+    ensures within { result ≤ most }
+    ensures len { vec_len samples.new
+        ≤ vec_len samples.old + result * params.now.block_size }
+    ensures capacity { vec_capacity samples.old ≤ vec_capacity samples.new }
+{
+    let size = params.block_size() as usize;
+    let from = samples.len();
+    let places = &PLACES[..most * size];
+    if samples.extend_from_slice(places).is_err() {
+        return 0;
+    }
+    let all = samples.as_mut_slice();
+    let count = fill_usual_blocks(params, reader, most, all, from);
+    samples.truncate(from + count * size);
+    count
+}
+
+/// Reads the blocks that come next, `most` of them, as long as they are plain ones and memory for
+/// their samples isn't refused, and appends these. The first seems to be plain. How many blocks
+/// were read.
+#[inline(never)]
+fn read_most_plain(
+    params: &Params,
+    reader: &mut BitReader,
+    most: usize,
+    samples: &mut Vec<i64>,
+) -> usize
+    requires { AllByRecursion (IsHeld params.now) samples.old.items }
+    ensures reads { ReadsPlain params.now result reader.old samples.old.items reader.new
+        samples.new.items }
+    ensures within { result ≤ most }
+    ensures len { vec_len samples.new
+        ≤ vec_len samples.old + result * params.now.block_size }
+    ensures capacity { vec_capacity samples.old ≤ vec_capacity samples.new }
+{
+    let mut at_once = BLOCKS_AT_FIRST;
+    let mut count = 0;
+    while count < most {
+        let asked = at_once.min(most - count);
+        let read = push_plain_blocks(params, reader, asked, samples);
+        count += read;
+        if read < asked || count == most {
+            return count;
+        }
+        if !comes_plain(params, reader) {
+            return count;
+        }
+        at_once = BLOCKS_AT_FIRST + SAMPLES_AT_ONCE / params.block_size() as usize;
+    }
+    count
+}
+
+/// Reads the plain blocks that come next, before block `end`, where the interval ends, and appends
+/// their samples. The number of the block that comes then. Where memory is refused, no further one
+/// is read.
+#[inline(always)]
+pub(crate) fn read_plain_blocks(
+    params: &Params,
+    wanted: Wanted,
+    reader: &mut BitReader,
+    block: u64,
+    end: u64,
+    samples: &mut Vec<i64>,
+) -> u64
+    requires reached { IsReached params.now wanted.count wanted.limit reader.old.list wanted.first
+        wanted.start block reader.old.pos samples.old.items }
+    requires limit { wanted.limit ≤ 2 ^ 32 }
+    requires counted { IfSome wanted.count (λ count. count ≤ 2 ^ 32) }
+    requires end { end ≡ wanted.first + params.now.interval }
+    requires aligned { wanted.first % params.now.interval ≡ 0 }
+    requires after { wanted.first < block }
+    ensures reached { IsReached params.now wanted.count wanted.limit reader.new.list wanted.first
+        wanted.start result reader.new.pos samples.new.items }
+    ensures forward { block ≤ result }
+    ensures within { result ≤ max block end }
+    ensures few { block < 2 ^ 34 → result < 2 ^ 34 }
+    ensures list { reader.new.list ≡ reader.old.list }
+    ensures len { vec_len samples.new
+        ≤ vec_len samples.old + (result - block) * params.now.block_size }
+    ensures capacity { vec_capacity samples.old ≤ vec_capacity samples.new }
+{
+    if block >= end || !comes_plain(params, reader) {
+        return block;
+    }
+    let most = untested_end(params, wanted, end).saturating_sub(block);
+    block + read_most_plain(params, reader, most as usize, samples) as u64
+}
