@@ -7,12 +7,12 @@ use std::fmt::Debug;
 use std::process::Abort;
 
 /// The two are the same.
-pub fn same<T: Debug + Drop + PartialEq>(rt: &impl Abort, found: T, wanted: T) {
+pub(crate) fn same<T: Debug + Drop + PartialEq>(rt: &impl Abort, found: T, wanted: T) {
     assert_eq!(rt; found, wanted);
 }
 
 /// The two are the same in this case.
-pub fn same_at<T: Debug + Drop + PartialEq, C: Debug>(
+pub(crate) fn same_at<T: Debug + Drop + PartialEq, C: Debug>(
     rt: &impl Abort,
     found: T,
     wanted: T,
@@ -22,14 +22,14 @@ pub fn same_at<T: Debug + Drop + PartialEq, C: Debug>(
 }
 
 /// The condition holds.
-pub fn holds(rt: &impl Abort, condition: bool)
+pub(crate) fn holds(rt: &impl Abort, condition: bool)
     ensures it { condition ≡ true }
 {
     assert!(rt; condition);
 }
 
 /// The condition holds in this case.
-pub fn holds_at<C: Debug>(rt: &impl Abort, condition: bool, case: &C)
+pub(crate) fn holds_at<C: Debug>(rt: &impl Abort, condition: bool, case: &C)
     ensures it { condition ≡ true }
 {
     assert!(rt; condition, "at {case:?}");

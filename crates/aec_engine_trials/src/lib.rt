@@ -2,7 +2,8 @@
 //! the command share with them.
 #![tactic(auto)]
 
-pub mod asserts;
+#[cfg(test)]
+mod asserts;
 #[cfg(test)]
 mod bytes;
 #[cfg(test)]

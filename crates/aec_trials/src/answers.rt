@@ -2,10 +2,10 @@
 //! too; the limits of samples and of bytes; what the source gives, and `!` where it fails then,
 //! `..` where it gives zeros for ever; and what is written, or the refusal.
 
+use crate::asserts::holds_at;
 use crate::shared::{Outcome, job_of, run_engine};
 use crate::tables::{cell, spelled};
 use aec_cli::Job;
-use aec_engine_trials::asserts::holds_at;
 use aec_engine_trials::devices::{After, Basin, Pieces};
 use aec_params::Limits;
 use std::alloc::Global;

@@ -1,8 +1,8 @@
 //! The engines over devices in memory: what is written, and what is left where a device fails.
 
+use crate::asserts::same;
 use crate::shared::{DEFAULTS, Outcome, engine_into, run_engine};
 use aec_cli::{Action, encode};
-use aec_engine_trials::asserts::same;
 use aec_engine_trials::devices::{After, Basin, Marked, Pieces};
 use aec_params::{Fault, Limits, Params, Settings};
 use std::alloc::Global;

@@ -1,9 +1,9 @@
 //! Files as devices, step by step.
 
+use crate::asserts::{holds_at, same_at};
 use crate::tables::cell;
 use aec_bits::{Sink, Source};
 use aec_cli::{DestSink, FileSource};
-use aec_engine_trials::asserts::{holds_at, same_at};
 use aec_params::Fault;
 use std::alloc::{Alloc, AllocError, Global};
 use std::fs;

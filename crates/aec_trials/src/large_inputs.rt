@@ -1,8 +1,8 @@
 //! Inputs far above a piece, a block, an interval: a body that lacked memory there would be proved.
 
+use crate::asserts::{holds_at, same, same_at};
 use crate::shared::{DEFAULTS, run_engine, run_of};
 use aec_cli::Action;
-use aec_engine_trials::asserts::{holds_at, same, same_at};
 use aec_engine_trials::devices::{After, Basin, Pieces};
 use aec_params::{Limits, Params, Settings};
 use std::alloc::{Alloc, Global};

@@ -6,6 +6,8 @@
 #[cfg(test)]
 mod answers;
 #[cfg(test)]
+mod asserts;
+#[cfg(test)]
 mod coded_files;
 #[cfg(test)]
 mod cut_streams;

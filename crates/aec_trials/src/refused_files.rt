@@ -1,7 +1,7 @@
 //! Runs that are refused: what is printed, and that DEST is not made, or stays as it was.
 
+use crate::asserts::holds;
 use crate::runs::runs_end_so;
-use aec_engine_trials::asserts::holds;
 use std::fs;
 use std::test::Fail;
 

@@ -2,9 +2,9 @@
 //! what SOURCE holds, or `-` where it isn't there; the status; what DEST holds then or, with a
 //! status above 0, the line that is printed.
 
+use crate::asserts::same_at;
 use crate::shared::run_of;
 use crate::tables::{cell, spelled};
-use aec_engine_trials::asserts::same_at;
 use std::alloc::{Alloc, Global};
 use std::fs;
 use std::process::Abort;

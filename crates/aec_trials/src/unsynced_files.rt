@@ -1,7 +1,7 @@
 //! Files that take all bytes and then can't be synced, and files whose calls are interrupted.
 
+use crate::asserts::{same, same_at};
 use crate::shared::run_of;
-use aec_engine_trials::asserts::{same, same_at};
 use std::alloc::{Alloc, Allocator, Global};
 use std::cell::Cell;
 use std::fs::{Files, Metadata, OpenFile, OpenOptions};

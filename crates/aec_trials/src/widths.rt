@@ -1,9 +1,9 @@
 //! Samples of every storage, coded and decoded.
 
+use crate::asserts::same_at;
 use crate::shared::{DEFAULTS, run_engine};
 use crate::tables::{cell, spelled};
 use aec_cli::Action;
-use aec_engine_trials::asserts::same_at;
 use aec_engine_trials::devices::{After, Basin, Pieces};
 use aec_params::{Limits, Params, Settings};
 use std::alloc::{Alloc, Global};

@@ -1,8 +1,8 @@
 //! Words, the jobs that they ask for, and texts.
 
+use crate::asserts::{holds, holds_at, same, same_at};
 use crate::shared::{DEFAULTS, job_by, job_of, run_of, words_of};
 use aec_cli::{Action, Failure, StartFault, Usage, perform, status};
-use aec_engine_trials::asserts::{holds, holds_at, same, same_at};
 use aec_params::{Fault, Params, Settings};
 use std::io;
 use std::io::Write;
