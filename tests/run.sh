@@ -1,11 +1,11 @@
 #!/bin/sh
-# Every test: that the pages which are written by scripts are current, that files keep the limits of the house, the gate, and then
-# with the programs that it has built coded samples, coded data that is cut, damaged streams, refused memory in whole runs and in
-# calls of the libraries, files that fail, the round trips with the client of libaec, edits by generated scripts, the scripts of
-# examples/ with the page about them, the installation, and the worked rows, commands and pictures of the pages. Fails if one
-# fails. At the end it says how long each part took. The last line counts what passed and failed: the gate's where all have
-# passed, else that of the first part that failed, and before it the lines that say why. Run from the top of the repository by
-# `make test`.
+# Every test: that the pages which are written by scripts are current, that files keep the limits of the house, that each wrong
+# body can be made, the gate, and then with the programs that it has built coded samples, coded data that is cut, damaged streams,
+# refused memory in whole runs and in calls of the libraries, files that fail, the round trips with the client of libaec, edits by
+# generated scripts, the scripts of examples/ with the page about them, the installation, and the worked rows, commands and pictures
+# of the pages. Fails if one fails. At the end it says how long each part took. The last line counts what passed and failed: the
+# gate's where all have passed, else that of the first part that failed, and before it the lines that say why. Run from the top of
+# the repository by `make test`.
 export PYTHONDONTWRITEBYTECODE=1
 kept=$(mktemp -d)
 trap 'rm -rf "$kept"' EXIT
@@ -46,6 +46,7 @@ explain() {
 part pages python3 tools/pages.py --check
 part theorems python3 tools/theorem.py --check
 part limits python3 tests/limits.py
+part edits python3 tests/edits_apply.py
 part gate rt ci
 echo "== coded samples"
 part coded on_program tests/coded.py
@@ -72,7 +73,7 @@ part worked on_program tests/worked_pages.py
 part pictures python3 bench/pictures.py --check
 
 last=gate
-for name in pages theorems limits gate coded cuts damaged memory calls files trips scripts recipes installed worked pictures; do
+for name in pages theorems limits edits gate coded cuts damaged memory calls files trips scripts recipes installed worked pictures; do
     if ! has_passed "$name"; then
         last=$name
         break
