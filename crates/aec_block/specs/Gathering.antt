@@ -57,16 +57,17 @@ abbrev pub pair_block : ℕ → Option ℕ → List ℕ → Option Block
 pair_block limit reference members =
     when (all_below limit (judged_in reference (value_pairs members))) (block_of_members reference members)
 
--- as many numbers as there were come next, of so many bits each, and are put in the place of those;
--- an error where fewer come
+-- as many numbers come next as the list before has, of so many bits each, and take its place; an
+-- error where fewer come. The bits stay, and the place is within them
 pub record PutsNumbers {X E : Type 0} (width : ℕ) (old : Cursor) (before : List ℕ) (result : Result X E) (new : Cursor) (numbers : List ℕ) : Type 0 where
   pub taken : values_at (binary_at width) (length before) (bits_at old) ≡ as_taken_by (λ _. numbers) result (bits_at new)
   pub len : length numbers ≡ length before
   pub list : new.list ≡ old.list
   pub within : new.pos ≤ length new.list
 
--- as many values as there were come next, split at bit k, and are put in the place of those, where
--- all are at most 2^n - 1, which the result tells; an error where fewer come
+-- as many values come next as the list before has, split at bit k, and take its place, where all
+-- are at most 2^n - 1, which the result tells; an error where fewer come. The bits stay, and the
+-- place is within them
 pub record PutsSplit {E : Type 0} (s : Settings) (k : ℕ) (old : Cursor) (before : List ℕ) (result : Result Bool E) (new : Cursor) (values : List ℕ)
     : Type 0 where
   pub taken : map_taken (small_values (2 ^ s.bits)) (split_at k (length before) (bits_at old)) ≡ as_taken_by (λ fit. when fit values) result (bits_at new)

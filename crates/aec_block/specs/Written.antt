@@ -1,12 +1,15 @@
 -- What is written for a block's values and for a run, in parts.
-use Rattle.std.specs.Prelude.{ℕ, ◌/◌, ◌%◌, ◌^◌, Bool, Option, List, ◌++◌}
+use Rattle.std.specs.Prelude.{◌≡◌, ◌+◌, ◌<◌, ◌≤◌, ℕ, ◌/◌, ◌%◌, ◌^◌, Bool, Option, List, ◌++◌, length, Result, OnOk, OnErr, IfErr}
 use Rattle.std.specs.List.{flat_map}
+use Rattle.aec_params.specs.declared.fault.Fault.{Fault}
+use Rattle.aec_params.specs.declared.fault.Fault.TheVariants.{Memory}
 use Rattle.aec_params.specs.declared.settings.Settings.{Settings}
 use Rattle.aec_params.specs.Codewords.{fs, binary}
 use Rattle.aec_params.specs.Blocks.{Block}
 use Rattle.aec_params.specs.CodedDataSets.{zero_blocks, cds_bits}
 use Rattle.aec_params.specs.Spellings.{shortest_spelling}
 use Rattle.aec_params.specs.Runs.{run_code}
+use Rattle.aec_bits.specs.BitBuf.{Bits}
 
 -- the values without their k low bits, these bits, and both
 abbrev pub high_parts : ℕ → List ℕ → List Bool
@@ -25,3 +28,12 @@ shortest_bits s b = cds_bits s (shortest_spelling s b)
 -- the bits of a run of z zero blocks, which ends its segment or not
 abbrev pub run_bits : Settings → Option ℕ → ℕ → Bool → List Bool
 run_bits s reference z is_last = cds_bits s (record { reference = reference; body = zero_blocks (run_code z is_last) })
+
+-- bits are appended whole or not at all. Where they are, no more of the room is used than they
+-- take. Else memory was refused: nothing has changed, and there was no room for them
+pub record Appends (bits : List Bool) (old : Bits) (result : Result (Unit {0}) Fault) (new : Bits) : Type 0 where
+  pub ok : OnOk result (new.list ≡ old.list ++ bits)
+  pub room : OnOk result (old.room ≤ new.room + length bits)
+  pub err : OnErr result (new ≡ old)
+  pub full : OnErr result (old.room < length bits)
+  pub fault : IfErr result (λ e. e ≡ Memory)

@@ -5,7 +5,7 @@ use std::alloc::Global;
 use std::marker::Model;
 
 /// The most values of a block.
-pub(crate) const MOST_VALUES: usize = 64;
+pub const MOST_VALUES: usize = 64;
 
 /// A block of at most 64 mapped values, and the reference sample's pattern where it has one; then 0
 /// stands in the reference place, which is the first. The values lie in the block itself, so no

@@ -131,8 +131,8 @@ pub(crate) fn choose_among(params: &Params, id_len: u32, block: &BlockRef, value
 }
 
 /// The shortest option for a block of J values below `2^n`, with a reference below `2^n` where it
-/// has one. Of equal lengths the first in this order: no compression, second extension, splitting
-/// with the least k.
+/// has one. Of equal lengths (a tie) the first in this order: no compression, second extension,
+/// splitting with the least k.
 pub fn choose(params: &Params, block: &Block) -> Choice
     requires { IsFull params.now block.now }
     ensures { IsChoice params.now block.now result }

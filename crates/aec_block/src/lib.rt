@@ -12,7 +12,7 @@ mod shortest;
 mod skipping;
 mod writing;
 
-pub use block::Block;
+pub use block::{Block, MOST_VALUES};
 pub use cds::{Cds, Found, RunLen};
 pub use choice::{Choice, Coding, choose};
 pub use mapping::mapped_blocks::{map_first, map_list};

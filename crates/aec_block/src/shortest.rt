@@ -1,11 +1,10 @@
 //! The shortest coded data set of a block, compiled for each number of values that is known.
 
-ghost use Rattle.std.specs.Prelude.{◌≡◌, ◌+◌, ◌<◌, ◌≤◌, ◌++◌, Some, None, length, OnOk, OnErr, IfErr};
-ghost use Rattle.aec_params.specs.declared.fault.Fault.TheVariants.{Memory};
+ghost use Rattle.std.specs.Prelude.{◌≡◌, ◌≤◌, Some, None, length};
 ghost use Rattle.aec_params.specs.Spellings.{written_values};
 ghost use Rattle.aec_block.specs.BlockShape.{block_with, most_values, IsSound};
 ghost use Rattle.aec_block.specs.Choices.{IsFull};
-ghost use Rattle.aec_block.specs.Written.{shortest_bits};
+ghost use Rattle.aec_block.specs.Written.{shortest_bits, Appends};
 
 use crate::block::{Block, BlockRef};
 use crate::choice::choose_among;
@@ -25,12 +24,7 @@ fn write_chosen(
     requires full { IsFull params.now block.now }
     requires values { values.now ≡ written_values block.now }
     requires few { length values.now ≤ most_values }
-    ensures ok { OnOk result (out.new.list ≡ out.old.list ++ shortest_bits params.now block.now) }
-    ensures room { OnOk result
-        (out.old.room ≤ out.new.room + length (shortest_bits params.now block.now)) }
-    ensures err { OnErr result (out.new ≡ out.old) }
-    ensures full { OnErr result (out.old.room < length (shortest_bits params.now block.now)) }
-    ensures fault { IfErr result (λ e. e ≡ Memory) }
+    ensures { Appends (shortest_bits params.now block.now) out.old result out.new }
 {
     let id_len = params.id_len();
     let choice = choose_among(params, id_len, block, values);
@@ -42,12 +36,7 @@ fn write_chosen(
 /// where there is room for the coded data set.
 pub fn write_shortest(params: &Params, block: &Block, out: &mut BitBuf) -> Result<(), Fault>
     requires full { IsFull params.now block.now }
-    ensures ok { OnOk result (out.new.list ≡ out.old.list ++ shortest_bits params.now block.now) }
-    ensures room { OnOk result
-        (out.old.room ≤ out.new.room + length (shortest_bits params.now block.now)) }
-    ensures err { OnErr result (out.new ≡ out.old) }
-    ensures full { OnErr result (out.old.room < length (shortest_bits params.now block.now)) }
-    ensures fault { IfErr result (λ e. e ≡ Memory) }
+    ensures { Appends (shortest_bits params.now block.now) out.old result out.new }
 {
     write_shortest_values(params, block.reference(), block.values(), out)
 }
@@ -63,14 +52,8 @@ pub fn write_shortest_values(
 ) -> Result<(), Fault>
     requires full { IsFull params.now (block_with reference values.now) }
     requires sound { IsSound (block_with reference values.now) }
-    ensures ok { OnOk result (out.new.list ≡ out.old.list
-        ++ shortest_bits params.now (block_with reference values.now)) }
-    ensures room { OnOk result (out.old.room ≤ out.new.room
-        + length (shortest_bits params.now (block_with reference values.now))) }
-    ensures err { OnErr result (out.new ≡ out.old) }
-    ensures full { OnErr result
-        (out.old.room < length (shortest_bits params.now (block_with reference values.now))) }
-    ensures fault { IfErr result (λ e. e ≡ Memory) }
+    ensures { Appends (shortest_bits params.now (block_with reference values.now))
+        out.old result out.new }
 {
     let block = BlockRef::new(reference, values);
     write_chosen(params, &block, block.written(), out)
@@ -86,14 +69,8 @@ fn write_others<const N: usize>(
     requires full { IsFull params.now (block_with None values.now) }
     requires sound { IsSound (block_with None values.now) }
     requires len { length values.now ≡ N }
-    ensures ok { OnOk result (out.new.list ≡ out.old.list
-        ++ shortest_bits params.now (block_with None values.now)) }
-    ensures room { OnOk result (out.old.room ≤ out.new.room
-        + length (shortest_bits params.now (block_with None values.now))) }
-    ensures err { OnErr result (out.new ≡ out.old) }
-    ensures full { OnErr result
-        (out.old.room < length (shortest_bits params.now (block_with None values.now))) }
-    ensures fault { IfErr result (λ e. e ≡ Memory) }
+    ensures { Appends (shortest_bits params.now (block_with None values.now))
+        out.old result out.new }
 {
     let values = &values[..N];
     write_chosen(params, &BlockRef::new(None, values), values, out)
@@ -110,14 +87,8 @@ fn write_first<const N: usize>(
     requires full { IsFull params.now (block_with (Some pattern) values.now) }
     requires sound { IsSound (block_with (Some pattern) values.now) }
     requires len { length values.now ≡ N }
-    ensures ok { OnOk result (out.new.list ≡ out.old.list
-        ++ shortest_bits params.now (block_with (Some pattern) values.now)) }
-    ensures room { OnOk result (out.old.room ≤ out.new.room
-        + length (shortest_bits params.now (block_with (Some pattern) values.now))) }
-    ensures err { OnErr result (out.new ≡ out.old) }
-    ensures full { OnErr result
-        (out.old.room < length (shortest_bits params.now (block_with (Some pattern) values.now))) }
-    ensures fault { IfErr result (λ e. e ≡ Memory) }
+    ensures { Appends (shortest_bits params.now (block_with (Some pattern) values.now))
+        out.old result out.new }
 {
     let all = &values[..N];
     write_chosen(params, &BlockRef::new(Some(pattern), all), &all[1..N], out)
@@ -137,14 +108,8 @@ pub fn write_shortest_of<const N: usize>(
     requires full { IsFull params.now (block_with reference values.now) }
     requires sound { IsSound (block_with reference values.now) }
     requires len { length values.now ≡ N }
-    ensures ok { OnOk result (out.new.list ≡ out.old.list
-        ++ shortest_bits params.now (block_with reference values.now)) }
-    ensures room { OnOk result (out.old.room ≤ out.new.room
-        + length (shortest_bits params.now (block_with reference values.now))) }
-    ensures err { OnErr result (out.new ≡ out.old) }
-    ensures full { OnErr result
-        (out.old.room < length (shortest_bits params.now (block_with reference values.now))) }
-    ensures fault { IfErr result (λ e. e ≡ Memory) }
+    ensures { Appends (shortest_bits params.now (block_with reference values.now))
+        out.old result out.new }
 {
     match reference {
         None => write_others::<N>(params, values, out),

@@ -16,7 +16,7 @@ ghost use Rattle.aec_params.specs.Runs.{segment_len, run_code};
 ghost use Rattle.aec_block.specs.BlockShape.{most_values};
 ghost use Rattle.aec_block.specs.Lengths.{reference_len};
 ghost use Rattle.aec_block.specs.Choices.{FitsReference, IsFull, IsChoice};
-ghost use Rattle.aec_block.specs.Written.{high_parts, low_parts, split_parts, shortest_bits, run_bits};
+ghost use Rattle.aec_block.specs.Written.{high_parts, low_parts, split_parts, shortest_bits, run_bits, Appends};
 
 use crate::block::{Block, BlockRef};
 use crate::choice::lengths::{head_len, pair_len};
@@ -284,12 +284,7 @@ pub fn write_block(
 ) -> Result<(), Fault>
     requires full { IsFull params.now block.now }
     requires choice { IsChoice params.now block.now choice }
-    ensures ok { OnOk result (out.new.list ≡ out.old.list ++ shortest_bits params.now block.now) }
-    ensures room { OnOk result
-        (out.old.room ≤ out.new.room + length (shortest_bits params.now block.now)) }
-    ensures err { OnErr result (out.new ≡ out.old) }
-    ensures full { OnErr result (out.old.room < length (shortest_bits params.now block.now)) }
-    ensures fault { IfErr result (λ e. e ≡ Memory) }
+    ensures { Appends (shortest_bits params.now block.now) out.old result out.new }
 {
     let lent = block.lent();
     write_values(params, params.id_len(), &lent, lent.written(), choice, out)
@@ -324,13 +319,7 @@ pub fn write_run(
     requires reference { FitsReference params.now reference }
     requires least { 1 ≤ z }
     requires most { z ≤ (if to_end then segment_len else segment_len - 1) }
-    ensures ok { OnOk result
-        (out.new.list ≡ out.old.list ++ run_bits params.now reference z to_end) }
-    ensures room { OnOk result
-        (out.old.room ≤ out.new.room + length (run_bits params.now reference z to_end)) }
-    ensures err { OnErr result (out.new ≡ out.old) }
-    ensures full { OnErr result (out.old.room < length (run_bits params.now reference z to_end)) }
-    ensures fault { IfErr result (λ e. e ≡ Memory) }
+    ensures { Appends (run_bits params.now reference z to_end) out.old result out.new }
 {
     let code = code_of_run(z, to_end);
     let width = params.id_len();

@@ -8,13 +8,13 @@ use Rattle.aec_params.specs.declared.settings.Settings.{Settings}
 use Rattle.aec_params.specs.Params.{IsAllowed, IsHeld, sample_pattern}
 use Rattle.aec_params.specs.Cutting.{up_to_multiple}
 use Rattle.aec_params.specs.Mapping.{mapped_value, mapped_after}
-use Rattle.aec_params.specs.Blocks.{Block, filled_samples}
+use Rattle.aec_params.specs.Blocks.{filled_samples}
 use Rattle.aec_params.proofs.PatternLaws.{pattern-fits}
 use Rattle.aec_params.proofs.SettingLaws.{block_size-most}
 use Rattle.aec_params.specs.BlockShapes.{HasReferencePlace}
-use Rattle.aec_block.specs.BlockShape.{block_with, IsSound}
+use Rattle.aec_block.specs.BlockShape.{block_with}
 use Rattle.aec_block.specs.Choices.{FitsReference, IsFull}
-use Rattle.aec_interval.specs.Chunks.{values_after, reference_after, block_after, HoldsPrevious, AreSamplesAfter}
+use Rattle.aec_interval.specs.Chunks.{values_after, reference_after, block_after, HoldsPrevious, AreSamplesAfter, IsFilledBlock}
 use Rattle.aec_interval.proofs.BlockLemmas.{all-mapped_after, all-mapped_values, all-filled_samples}
 use Rattle.aec_interval.specs.NextBlock.{last_sample}
 use Rattle.aec_interval.proofs.MappedLemmas.{mapped_after-replicate}
@@ -68,12 +68,6 @@ first-placed false r v values = refl
 after-placed : (s : Settings) (o : Option ℤ) (x : ℤ) (xs more : List ℤ) → HasReferencePlace (reference_after s o (x ∷ xs)) (values_after s o (x ∷ more))
 after-placed s None x xs more = first-placed s.preprocess (sample_pattern s x) (sample_pattern s x) (mapped_after s x more)
 after-placed s (Some p) x xs more = refl
-
--- the block that samples fill
-pub record IsFilledBlock (s : Settings) (o : Option ℤ) (v : List ℤ) (b : Block) : Type 0 where
-  pub value : b ≡ block_after s o v
-  pub full : IsFull s b
-  pub sound : IsSound b
 
 pub is_filled : (s : Settings) (o : Option ℤ) (v : List ℤ) (last : ℤ) (reference : Option ℕ) (front behind values : List ℕ) (n : ℕ) → IsAllowed s
     → 0 < length v → AreSamplesAfter s o 1 v → length v + n ≡ s.block_size → last ≡ last_sample v → reference ≡ reference_after s o v

@@ -1,10 +1,13 @@
--- The end of a segment behind a run that is still to be written.
-use Rattle.std.proofs.Common.{◌≡◌, ℕ, zero, suc, Bool, true, Option, List, [], ◌++◌, length, take, sym, ap, ◌∙◌, refl, append-nil}
+-- A segment behind a run that is still to be written: a block that is none of zeros, and the end.
+use Rattle.std.proofs.Common.{◌≡◌, ℕ, zero, suc, Bool, true, false, Option, None, List, [], ◌∷◌, ◌++◌, if◌then◌else◌, length, take, sym, ap, ◌∙◌, refl, append-nil, append_assoc}
 use Rattle.std.specs.List.{flat_map}
 use Rattle.std.proofs.lemmas.List.{take_at}
 use Rattle.aec_params.specs.declared.settings.Settings.{Settings}
+use Rattle.aec_params.specs.Blocks.{Block, is_zero_block}
 use Rattle.aec_params.specs.CodedDataSets.{cds_bits}
+use Rattle.aec_params.specs.Runs.{Group, single_block, with_zero_block, groups_of}
 use Rattle.aec_params.specs.Intervals.{group_sets}
+use Rattle.aec_block.specs.Written.{shortest_bits}
 use Rattle.aec_interval.specs.declared.interval.zero_runs.Run.{Run}
 use Rattle.aec_interval.specs.Pending.{with_run, pending_bits, bits_of_run, IsKept}
 
@@ -14,6 +17,26 @@ bits-run_alone s reference (suc z) = append-nil (bits_of_run s reference (suc z)
 
 pub pending-end : (s : Settings) (run : Run) → pending_bits s run [] ≡ bits_of_run s run.reference run.blocks true
 pending-end s run = bits-run_alone s run.reference run.blocks
+
+bits-run_before : (s : Settings) (reference : Option ℕ) (z : ℕ) (b : Block) (groups : List Group)
+    → flat_map (cds_bits s) (group_sets s (with_run reference z (single_block b ∷ groups)))
+    ≡ bits_of_run s reference z false ++ (shortest_bits s b ++ flat_map (cds_bits s) (group_sets s groups))
+bits-run_before s reference zero b groups = refl
+bits-run_before s reference (suc z) b groups = refl
+
+-- the run is written, then the block, and nothing is left to be written
+pub pending-filled : (s : Settings) (run : Run) (b : Block) (rest : List Block) (old mid new : List Bool) → is_zero_block b ≡ false
+    → mid ≡ old ++ bits_of_run s run.reference run.blocks false → new ≡ mid ++ shortest_bits s b
+    → new ++ pending_bits s (record { reference = None; blocks = 0 }) rest ≡ old ++ pending_bits s run (b ∷ rest)
+pending-filled s run b rest old mid new filled is_mid is_new =
+    let before = bits_of_run s run.reference run.blocks false in
+    let more = flat_map (cds_bits s) (group_sets s (groups_of rest)) in
+    ap (λ l. l ++ more) (is_new ∙ ap (λ l. l ++ shortest_bits s b) is_mid)
+    ∙ (append_assoc (old ++ before) (shortest_bits s b) more
+    ∙ (append_assoc old before (shortest_bits s b ++ more)
+    ∙ ap (λ l. old ++ l) (sym (bits-run_before s run.reference run.blocks b (groups_of rest))
+    ∙ ap (λ g. flat_map (cds_bits s) (group_sets s (with_run run.reference run.blocks g))) (sym
+    (ap (λ t. if t then with_zero_block b.reference (groups_of rest) else single_block b ∷ groups_of rest) filled)))))
 
 -- ---- bits from before
 

@@ -1,12 +1,14 @@
 -- What the private functions of `interval::filled_blocks` compute: the blocks of samples behind
 -- others of their interval, or at its start.
-use Rattle.std.specs.Prelude.{ℕ, ◌*◌, ◌≤◌, ⊤, Option, Some, None, ℤ, List, length}
+use Rattle.std.specs.Prelude.{◌≡◌, ℕ, ◌*◌, ◌≤◌, ⊤, Option, Some, None, ℤ, List, length}
 use Rattle.std.specs.List.{AllByRecursion}
 use Rattle.aec_params.specs.declared.settings.Settings.{Settings}
 use Rattle.aec_params.specs.Params.{IsHeld}
 use Rattle.aec_params.specs.Cutting.{pieces_of}
 use Rattle.aec_params.specs.Mapping.{mapped_after, mapped_values}
 use Rattle.aec_params.specs.Blocks.{Block, filled_samples, reference_of, with_reference}
+use Rattle.aec_block.specs.BlockShape.{IsSound}
+use Rattle.aec_block.specs.Choices.{IsFull}
 
 -- the values of samples behind the sample before them; behind none an interval starts
 abbrev pub values_after : Settings → Option ℤ → List ℤ → List ℕ
@@ -21,6 +23,12 @@ reference_after s (Some previous) v = None
 abbrev pub block_after : Settings → Option ℤ → List ℤ → Block
 block_after s previous v =
     record { reference = reference_after s previous v; values = values_after s previous (filled_samples s v) }
+
+-- it is this one, which can be coded
+pub record IsFilledBlock (s : Settings) (previous : Option ℤ) (v : List ℤ) (b : Block) : Type 0 where
+  pub value : b ≡ block_after s previous v
+  pub full : IsFull s b
+  pub sound : IsSound b
 
 -- the samples as blocks, of which the last is filled up
 abbrev pub blocks_after : Settings → Option ℤ → List ℤ → List Block

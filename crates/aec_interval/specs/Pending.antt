@@ -1,14 +1,19 @@
 -- What the private functions of `interval::zero_runs` and `interval` compute: what is still to be
 -- written behind zero blocks that are counted.
-use Rattle.std.specs.Prelude.{◌≡◌, ℕ, zero, suc, ◌+◌, ◌==◌, ◌≤◌, Bool, length, take, if◌then◌else◌, Option, List, [], ◌∷◌}
+use Rattle.std.specs.Prelude.{◌≡◌, ℕ, ℤ, zero, suc, ◌+◌, ◌-◌, ◌==◌, ◌<◌, ◌≤◌, Bool, length, take, if◌then◌else◌, Option, List, [], ◌∷◌, ◌++◌, Result, IfOk, IfErr}
 use Rattle.std.specs.List.{flat_map}
+use Rattle.aec_params.specs.declared.fault.Fault.{Fault}
+use Rattle.aec_params.specs.declared.fault.Fault.TheVariants.{Memory}
 use Rattle.aec_params.specs.declared.settings.Settings.{Settings}
+use Rattle.aec_params.specs.Params.{IsAllowed}
 use Rattle.aec_params.specs.Blocks.{Block}
 use Rattle.aec_params.specs.CodedDataSets.{cds_bits}
-use Rattle.aec_params.specs.Runs.{Group, zero_run, groups_of}
+use Rattle.aec_params.specs.Runs.{Group, zero_run, groups_of, segment_len}
 use Rattle.aec_params.specs.Intervals.{group_sets}
+use Rattle.aec_bits.specs.BitBuf.{Bits}
 use Rattle.aec_block.specs.Choices.{FitsReference}
 use Rattle.aec_block.specs.Written.{run_bits}
+use Rattle.aec_interval.specs.Chunks.{AreSamplesAfter}
 use Rattle.aec_interval.specs.declared.interval.zero_runs.Run.{Run}
 
 -- a run of z blocks before groups: it joins a run that comes first
@@ -43,3 +48,18 @@ pub record IsRun (s : Settings) (most : ℕ) (run : Run) : Type 0 where
 -- the bits from before stand in front of what there is now
 abbrev pub IsKept : List Bool → List Bool → Type 0
 IsKept old new = take (length old) new ≡ old
+
+-- the samples of one block more of a segment stand behind a run
+pub record AreNext (s : Settings) (previous : Option ℤ) (samples : List ℤ) (before : Run) : Type 0 where
+  pub allowed : IsAllowed s
+  pub run : IsRun s (segment_len - 1) before
+  pub some : 0 < length samples
+  pub after : AreSamplesAfter s previous 1 samples
+
+-- a block is taken behind a run: whatever blocks come next, what is written with what is then still
+-- to be written are the bits of all. The bits from before stay, and memory alone is refused
+pub record TakesBlock (s : Settings) (block : Block) (before : Run) (old : Bits) (result : Result Run Fault) (new : Bits) : Type 0 where
+  pub ok : (rest : List Block) → IfOk result (λ next. new.list ++ pending_bits s next rest ≡ old.list ++ pending_bits s before (block ∷ rest))
+  pub run : IfOk result (λ next. IsRun s (before.blocks + 1) next)
+  pub kept : IsKept old.list new.list
+  pub fault : IfErr result (λ e. e ≡ Memory)

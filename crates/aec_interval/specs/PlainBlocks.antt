@@ -25,6 +25,7 @@ pub record ReadsPlain (s : Settings) (n : ℕ) (old : Cursor) (samples : List �
   pub held : AllByRecursion (IsHeld s) more
   pub leads : (wanted : Wanted) (end i : ℕ) → n ≤ end - i → IsUntestedAt s wanted end i old samples → IsUntestedAt s wanted end (i + n) new more
 
--- for how many blocks room is made at once, at most
+-- for how many blocks room is made at once, at most: `BLOCKS_AT_FIRST`, and those of
+-- `SAMPLES_AT_ONCE` samples
 abbrev pub most_at_once : Settings → ℕ
 most_at_once s = 2 + 120 / s.block_size

@@ -1,11 +1,13 @@
 -- What the private functions of `stream_coder::pieces` keep: a coder that was not refused anything,
 -- by its parts.
-use Rattle.std.specs.Prelude.{◌≡◌, ℕ, ◌+◌, ◌*◌, ◌%◌, ◌<◌, ◌≤◌, ◌⊎◌, Bool, Option, None, Result, MatchResult, ℤ, List, [], ◌++◌, length}
+use Rattle.std.specs.Prelude.{◌≡◌, ℕ, ◌+◌, ◌*◌, ◌%◌, ◌<◌, ◌≤◌, ◌⊎◌, Bool, Option, None, Result, MatchResult, OnOk, OnErr, IfErr, ℤ, List, [], ◌++◌, length}
 use Rattle.std.specs.List.{AllByRecursion}
 use Rattle.aec_params.specs.declared.settings.Settings.{Settings}
 use Rattle.aec_params.specs.declared.fault.Fault.{Fault}
+use Rattle.aec_params.specs.declared.fault.Fault.TheVariants.{Memory}
 use Rattle.aec_params.specs.Params.{IsAllowed, IsHeld, interval_len, storage_len}
-use Rattle.aec_interval.specs.Feeding.{Coder, Feeds, StopsFeeding}
+use Rattle.aec_params.specs.Streams.{stream_of}
+use Rattle.aec_interval.specs.Feeding.{Coder, Feeds, StopsFeeding, whole_front, left_behind}
 use Rattle.aec_interval.specs.declared.stream_coder.pieces.Progress.{Progress}
 use Rattle.aec_interval.specs.declared.stream_coder.pieces.Terms.{Terms}
 
@@ -36,6 +38,16 @@ pub record IsProgress (terms : Terms) (progress : Progress) : Type 0 where
 -- so many samples are fewer than an interval has, or those of whole intervals
 abbrev pub IsFewOrWhole : ℕ → ℕ → Type 0
 IsFewOrWhole interval count = (count < interval) ⊎ (count % interval ≡ 0)
+
+-- of these samples those of whole intervals are coded, and the others held; where memory is
+-- refused, nothing is coded
+pub record CodesWhole (s : Settings) (samples : List ℤ) (before : List Bool) (result : Result (Unit {0}) Fault) (held : List ℤ) (after : List Bool)
+    : Type 0 where
+  pub ok : OnOk result (held ≡ left_behind (interval_len s) samples)
+  pub bits : OnOk result (after ≡ before ++ stream_of s (whole_front (interval_len s) samples))
+  pub few : AreHeldFew s held
+  pub err : OnErr result (after ≡ before)
+  pub fault : IfErr result (λ e. e ≡ Memory)
 
 -- bytes of whole samples, at least one, which with those that are held are fewer than an interval
 -- has, or those of whole intervals

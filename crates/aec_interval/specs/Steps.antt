@@ -23,7 +23,7 @@ pub record ComesNext (s : Settings) (i next : ℕ) : Type 0 where
 
 -- block `last` is a bound, not always the greatest: no block of the interval that begins at block
 -- `first` needs a test of its place before it, since each is needed, where there is a count, and
--- keeps the limit, and behind none of them does padding follow
+-- keeps the limit, and behind none of them does padding follow. It is below 2^34, as all places are
 pub record IsUntestedEnd (s : Settings) (count : Option ℕ) (limit first last : ℕ) : Type 0 where
   pub within : last ≤ first + s.interval
   pub unpadded : s.pad ≡ true → last < first + s.interval

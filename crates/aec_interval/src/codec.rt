@@ -84,8 +84,7 @@ impl Codec for AecCodec {
     }
 
     fn holds(&self, x: i64) -> bool {
-        // What `Params::holds` answers, without a branch: an edit's values are judged one by one.
-        (self.params.x_min() <= x) & (x <= self.params.x_max())
+        self.params.holds(x)
     }
 
     fn calls(&self) -> u64 {
@@ -186,7 +185,7 @@ fn append_decoded(
 
 /// Puts the first `count` samples that the bits from this place on stand for, those of one interval
 /// at most, into an empty list.
-fn read_samples(
+fn read_counted(
     alloc: Global,
     params: &Params,
     stream: &BitBuf,
@@ -238,7 +237,7 @@ fn fill_empty(
     ensures fault { IfErr result (λ e. e ≡ Memory) }
     ensures err { OnErr result (out.new.items ≡ []) }
 {
-    match read_samples(alloc, params, stream, pos, count, out) {
+    match read_counted(alloc, params, stream, pos, count, out) {
         Ok(()) => Ok(()),
         Err(fault) => {
             out.clear();

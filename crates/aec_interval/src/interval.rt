@@ -13,11 +13,11 @@ ghost use Rattle.aec_params.specs.Runs.{segment_len};
 ghost use Rattle.aec_params.specs.Intervals.{unpadded_bits, interval_bits};
 ghost use Rattle.aec_interval.specs.Laws.{AreOfInterval};
 ghost use Rattle.aec_interval.specs.Chunks.{block_after, blocks_after, AreSamplesAfter};
-ghost use Rattle.aec_interval.specs.Pending.{pending_bits, segment_bits, IsRun, IsKept};
+ghost use Rattle.aec_interval.specs.Pending.{segment_bits, IsKept, AreNext, TakesBlock};
 
-use crate::MOST_IN_BLOCK;
 use crate::interval::zero_runs::{NO_RUN, Run, write_next};
 use aec_bits::BitBuf;
+use aec_block::MOST_VALUES;
 use aec_params::{Fault, Params};
 
 /// The blocks of a segment; the last of an interval may have fewer.
@@ -37,18 +37,11 @@ fn write_any(
     run: Run,
     out: &mut BitBuf,
 ) -> Result<Run, Fault>
-    requires run { IsRun params.now (segment_len - 1) run }
-    requires some { 0 < length samples.now }
-    requires samples { AreSamplesAfter params.now previous 1 samples.now }
-    requires allowed { IsAllowed params.now }
-    ensures ok { (rest : List Values) → IfOk result (λ next.
-        out.new.list ++ pending_bits params.now next rest ≡ out.old.list
-        ++ pending_bits params.now run (block_after params.now previous samples.now ∷ rest)) }
-    ensures run { IfOk result (λ next. IsRun params.now (run.blocks + 1) next) }
-    ensures kept { IsKept out.old.list out.new.list }
-    ensures fault { IfErr result (λ e. e ≡ Memory) }
+    requires { AreNext params.now previous samples.now run }
+    ensures { TakesBlock params.now (block_after params.now previous samples.now)
+        run out.old result out.new }
 {
-    let mut places = [0u32; MOST_IN_BLOCK];
+    let mut places = [0u32; MOST_VALUES];
     let values = &mut places[..params.block_size() as usize];
     write_next::<NOT_KNOWN>(params, previous, samples, values, run, out)
 }
@@ -62,16 +55,9 @@ fn write_chunk<const N: usize>(
     run: Run,
     out: &mut BitBuf,
 ) -> Result<Run, Fault>
-    requires run { IsRun params.now (segment_len - 1) run }
-    requires some { 0 < length samples.now }
-    requires samples { AreSamplesAfter params.now previous 1 samples.now }
-    requires allowed { IsAllowed params.now }
-    ensures ok { (rest : List Values) → IfOk result (λ next.
-        out.new.list ++ pending_bits params.now next rest ≡ out.old.list
-        ++ pending_bits params.now run (block_after params.now previous samples.now ∷ rest)) }
-    ensures run { IfOk result (λ next. IsRun params.now (run.blocks + 1) next) }
-    ensures kept { IsKept out.old.list out.new.list }
-    ensures fault { IfErr result (λ e. e ≡ Memory) }
+    requires { AreNext params.now previous samples.now run }
+    ensures { TakesBlock params.now (block_after params.now previous samples.now)
+        run out.old result out.new }
 {
     if samples.len() == N && params.block_size() as usize == N {
         let mut values = [0u32; N];

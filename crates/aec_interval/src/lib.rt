@@ -17,6 +17,3 @@ pub use reading::whole::decode_all;
 pub use stream_coder::StreamCoder;
 pub use stream_reader::StreamReader;
 pub use whole::encode_all;
-
-/// The most samples of a block.
-pub(crate) const MOST_IN_BLOCK: usize = 64;

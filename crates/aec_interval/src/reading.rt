@@ -101,7 +101,8 @@ fn within_limit(params: &Params, wanted: Wanted, blocks: u64) -> bool
     wanted.count.is_some() || blocks * u64::from(params.block_size()) <= wanted.limit
 }
 
-/// Behind a full interval, with padding, goes to the next byte.
+/// Behind a full interval, with padding, goes to the next byte: the padding skip. Blocks behind
+/// which it might be due are left to it by `untested_end` of `plain`.
 pub(crate) fn skip_padding(params: &Params, reader: &mut BitReader, block: u64)
     ensures list { reader.new.list ≡ reader.old.list }
     ensures pos { reader.new.pos ≡ begin_of params.now reader.old.list block reader.old.pos }

@@ -206,7 +206,8 @@ impl Params {
     pub fn holds(&self, x: i64) -> bool
         ensures { result ≡ is_held self.now x }
     {
-        self.x_min() <= x && x <= self.x_max()
+        // Without a branch: the values of an edit are judged one by one.
+        (self.x_min() <= x) & (x <= self.x_max())
     }
 
     /// The pattern of a sample: its two's complement in n bits, as an unsigned number.

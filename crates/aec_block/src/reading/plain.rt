@@ -77,6 +77,7 @@ pub fn read_plain(params: &Params, reader: &mut BitReader, values: &mut [u32]) -
     ensures refuses { result ≡ false → (c : CodedDataSet)
         → IsSetAt params.now false reader.old.list reader.old.pos c
         → is_plain_body c.body ≡ true → has_small_values params.now c ≡ false }
+    ensures seen { result ≡ true → begins_plain params.now (bits_at reader.old) ≡ true }
     ensures one { result ≡ true → has_one (bits_at reader.old) ≡ true }
     ensures stays { result ≡ false → reader.new ≡ reader.old }
     ensures len { length values.new ≡ length values.old }

@@ -1,12 +1,11 @@
 //! What is written for one block, compiled for the number of its values.
 
-ghost use Rattle.std.specs.Prelude.{◌≡◌, ◌⊎◌, ◌+◌, ◌<◌, ◌≤◌, ◌++◌, length, OnOk, OnErr, IfErr};
-ghost use Rattle.aec_params.specs.declared.fault.Fault.TheVariants.{Memory};
+ghost use Rattle.std.specs.Prelude.{◌≡◌, ◌⊎◌, ◌≤◌, length};
 ghost use Rattle.aec_params.specs.Params.{IsAllowed, id_len as identifier_len};
 ghost use Rattle.aec_params.specs.Spellings.{written_values};
 ghost use Rattle.aec_block.specs.BlockShape.{most_values};
 ghost use Rattle.aec_block.specs.Choices.{IsFull, IsChoice};
-ghost use Rattle.aec_block.specs.Written.{shortest_bits};
+ghost use Rattle.aec_block.specs.Written.{shortest_bits, Appends};
 
 use crate::block::BlockRef;
 use crate::choice::{Choice, Coding};
@@ -45,12 +44,7 @@ fn write_known_values<const N: usize>(
     requires few { length values.now ≤ most_values }
     requires choice { IsChoice params.now block.now choice }
     requires known { N ≡ 0 ⊎ length values.now ≡ N }
-    ensures ok { OnOk result (out.new.list ≡ out.old.list ++ shortest_bits params.now block.now) }
-    ensures room { OnOk result
-        (out.old.room ≤ out.new.room + length (shortest_bits params.now block.now)) }
-    ensures err { OnErr result (out.new ≡ out.old) }
-    ensures full { OnErr result (out.old.room < length (shortest_bits params.now block.now)) }
-    ensures fault { IfErr result (λ e. e ≡ Memory) }
+    ensures { Appends (shortest_bits params.now block.now) out.old result out.new }
 {
     let known = with_known_len::<N>(values);
     out.reserve(choice.bits)?;
@@ -79,12 +73,7 @@ pub(crate) fn write_values(
     requires values { values.now ≡ written_values block.now }
     requires few { length values.now ≤ most_values }
     requires choice { IsChoice params.now block.now choice }
-    ensures ok { OnOk result (out.new.list ≡ out.old.list ++ shortest_bits params.now block.now) }
-    ensures room { OnOk result
-        (out.old.room ≤ out.new.room + length (shortest_bits params.now block.now)) }
-    ensures err { OnErr result (out.new ≡ out.old) }
-    ensures full { OnErr result (out.old.room < length (shortest_bits params.now block.now)) }
-    ensures fault { IfErr result (λ e. e ≡ Memory) }
+    ensures { Appends (shortest_bits params.now block.now) out.old result out.new }
 {
     match values.len() {
         7 => write_known_values::<7>(params, id_len, block, values, choice, out),

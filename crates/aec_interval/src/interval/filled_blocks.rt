@@ -4,9 +4,8 @@ ghost use Rattle.std.specs.Prelude.{◌≡◌, ◌<◌, length, replicate};
 ghost use Rattle.std.specs.List.{AllByRecursion};
 ghost use Rattle.aec_params.specs.Params.{IsAllowed, IsHeld};
 ghost use Rattle.aec_params.specs.Mapping.{mapped_value};
-ghost use Rattle.aec_block.specs.BlockShape.{block_with, IsSound};
-ghost use Rattle.aec_block.specs.Choices.{IsFull};
-ghost use Rattle.aec_interval.specs.Chunks.{values_after, reference_after, block_after, HoldsPrevious, AreSamplesAfter};
+ghost use Rattle.aec_block.specs.BlockShape.{block_with};
+ghost use Rattle.aec_interval.specs.Chunks.{values_after, reference_after, HoldsPrevious, AreSamplesAfter, IsFilledBlock};
 
 use crate::reading::samples::previous_of;
 use aec_block::{map, map_first, map_list};
@@ -68,9 +67,8 @@ pub(crate) fn map_block(
     requires some { 0 < length samples.now }
     requires samples { AreSamplesAfter params.now previous 1 samples.now }
     requires len { length values.old ≡ params.now.block_size }
-    ensures value { block_with result values.new ≡ block_after params.now previous samples.now }
-    ensures full { IsFull params.now (block_with result values.new) }
-    ensures sound { IsSound (block_with result values.new) }
+    ensures filled { IsFilledBlock params.now previous samples.now
+        (block_with result values.new) }
     ensures len { length values.new ≡ length values.old }
 {
     let (front, behind) = values.split_at_mut(samples.len());

@@ -7,8 +7,8 @@ ghost use Rattle.aec_params.specs.Blocks.{Block as Values};
 ghost use Rattle.aec_params.specs.Runs.{segment_len};
 ghost use Rattle.aec_block.specs.BlockShape.{block_with, IsSound};
 ghost use Rattle.aec_block.specs.Choices.{FitsReference, IsFull};
-ghost use Rattle.aec_block.specs.Written.{shortest_bits};
-ghost use Rattle.aec_interval.specs.Pending.{pending_bits, bits_of_run, longer_run, IsRun, IsKept};
+ghost use Rattle.aec_block.specs.Written.{shortest_bits, Appends};
+ghost use Rattle.aec_interval.specs.Pending.{bits_of_run, longer_run, IsRun, AreNext, TakesBlock};
 ghost use Rattle.aec_params.specs.Params.{IsAllowed};
 ghost use Rattle.aec_interval.specs.Chunks.{block_after, AreSamplesAfter};
 
@@ -53,10 +53,8 @@ impl Run {
     #[inline(always)]
     pub(crate) fn write(self, params: &Params, to_end: bool, out: &mut BitBuf) -> Result<(), Fault>
         requires { IsRun params.now (if to_end then segment_len else segment_len - 1) self }
-        ensures ok { OnOk result (out.new.list
-            ≡ out.old.list ++ bits_of_run params.now self.reference self.blocks to_end) }
-        ensures err { OnErr result (out.new.list ≡ out.old.list) }
-        ensures fault { IfErr result (λ e. e ≡ Memory) }
+        ensures { Appends (bits_of_run params.now self.reference self.blocks to_end)
+            out.old result out.new }
     {
         if self.blocks == 0 {
             return Ok(());
@@ -73,10 +71,11 @@ fn are_zero(values: &[u32]) -> bool
     values.iter().all(|v| *v == 0)
 }
 
-/// Appends the shortest coded data set of a block, with code compiled for `N` values where they are
-/// so many. `Memory` where a growth was refused, and nothing has changed then.
+/// Appends the shortest coded data set of a block that is in no run, by code compiled for `N`
+/// values where they are so many. `Memory` where a growth was refused, and nothing has changed
+/// then.
 #[inline(always)]
-fn write_shortest<const N: usize>(
+fn write_nonzero_block<const N: usize>(
     params: &Params,
     reference: Option<u32>,
     values: &[u32],
@@ -84,10 +83,8 @@ fn write_shortest<const N: usize>(
 ) -> Result<(), Fault>
     requires full { IsFull params.now (block_with reference values.now) }
     requires sound { IsSound (block_with reference values.now) }
-    ensures ok { OnOk result (out.new.list ≡ out.old.list
-        ++ shortest_bits params.now (block_with reference values.now)) }
-    ensures err { OnErr result (out.new ≡ out.old) }
-    ensures fault { IfErr result (λ e. e ≡ Memory) }
+    ensures { Appends (shortest_bits params.now (block_with reference values.now))
+        out.old result out.new }
 {
     if values.len() == N {
         write_shortest_of::<N>(params, reference, values, out)
@@ -109,23 +106,16 @@ pub(crate) fn write_next<const N: usize>(
     run: Run,
     out: &mut BitBuf,
 ) -> Result<Run, Fault>
-    requires run { IsRun params.now (segment_len - 1) run }
-    requires some { 0 < length samples.now }
-    requires samples { AreSamplesAfter params.now previous 1 samples.now }
-    requires allowed { IsAllowed params.now }
+    requires next { AreNext params.now previous samples.now run }
     requires len { length values.old ≡ params.now.block_size }
-    ensures ok { (rest : List Values) → IfOk result (λ next.
-        out.new.list ++ pending_bits params.now next rest ≡ out.old.list
-        ++ pending_bits params.now run (block_after params.now previous samples.now ∷ rest)) }
-    ensures run { IfOk result (λ next. IsRun params.now (run.blocks + 1) next) }
-    ensures kept { IsKept out.old.list out.new.list }
-    ensures fault { IfErr result (λ e. e ≡ Memory) }
+    ensures { TakesBlock params.now (block_after params.now previous samples.now)
+        run out.old result out.new }
 {
     let reference = map_block(params, previous, samples, values);
     if are_zero(values) {
         return Ok(run.longer(reference));
     }
     run.write(params, false, out)?;
-    write_shortest::<N>(params, reference, values, out)?;
+    write_nonzero_block::<N>(params, reference, values, out)?;
     Ok(NO_RUN)
 }

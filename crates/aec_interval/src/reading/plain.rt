@@ -1,5 +1,7 @@
 //! Blocks read one behind the other, each a coded data set of its own without a reference sample,
-//! where none needs a test of its place.
+//! where none needs a test of its place: `read_most_plain` makes places for some more blocks,
+//! `push_plain_blocks` keeps those that were filled, `fill_plain_blocks` goes on while a plain one
+//! comes, `fill_plain_block` reads one.
 
 ghost use Rattle.std.specs.Prelude.{◌≡◌, ◌≤◌, ◌<◌, ◌+◌, ◌-◌, ◌*◌, ◌%◌, ◌^◌, true, false, max, length, take, vec_len, vec_capacity, IfSome};
 ghost use Rattle.std.specs.List.{AllByRecursion};
@@ -9,11 +11,10 @@ ghost use Rattle.aec_interval.specs.Reached.{IsReached};
 ghost use Rattle.aec_interval.specs.Steps.{IsUntestedEnd};
 ghost use Rattle.aec_interval.specs.PlainBlocks.{ReadsPlain, most_at_once};
 
-use crate::MOST_IN_BLOCK;
 use crate::reading::Wanted;
 use crate::reading::samples::previous_of;
 use aec_bits::BitReader;
-use aec_block::{comes_plain, read_plain, unmap_into};
+use aec_block::{MOST_VALUES, comes_plain, read_plain, unmap_into};
 use aec_params::Params;
 
 /// For so many blocks room is made at first, since often no more come that are plain.
@@ -98,7 +99,7 @@ fn fill_plain_blocks(
 {
     // A copy that no other call can see stays in registers.
     let own = *params;
-    let mut scratch = [0u32; MOST_IN_BLOCK];
+    let mut scratch = [0u32; MOST_VALUES];
     let mut count = 0;
     let mut at = from;
     while count < most {

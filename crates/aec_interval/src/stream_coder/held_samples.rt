@@ -78,7 +78,7 @@ impl HeldSamples {
 
     /// Puts the samples of bytes that hold no bad one, as `first_bad` tells, behind these. `Memory`
     /// where a growth was refused; they stay then.
-    pub(crate) fn append_samples(&mut self, params: &Params, bytes: &[u8]) -> Result<(), Fault>
+    pub(crate) fn push_stored(&mut self, params: &Params, bytes: &[u8]) -> Result<(), Fault>
         requires { result_err (samples_of_bytes params.now bytes.now) ≡ None }
         ensures ok { OnOk result (samples_behind self.old (samples_of_bytes params.now bytes.now)
             ≡ Ok self.new) }

@@ -1,15 +1,13 @@
 //! Stored samples joined to those of an interval that is not complete, which is coded once it is.
 
 ghost use Rattle.std.specs.Prelude.{◌≡◌, ◌+◌, ◌-◌, ◌*◌, ◌<◌, ◌≤◌, ◌%◌, ◌/◌, [], ◌∷◌, ◌++◌, None, length, take, OnOk, OnErr, IfOk, IfErr};
-ghost use Rattle.aec_params.specs.declared.fault.Fault.TheVariants.{Memory};
 ghost use Rattle.std.specs.List.{AllByRecursion};
 ghost use Rattle.std.specs.Result.{result_err};
 ghost use Rattle.aec_params.specs.Params.{IsHeld, interval_len, storage_len};
 ghost use Rattle.aec_params.specs.Stored.{samples_of_bytes};
-ghost use Rattle.aec_params.specs.Streams.{stream_of};
 ghost use Rattle.aec_interval.specs.Taking.{judged_sample};
-ghost use Rattle.aec_interval.specs.Feeding.{StopsFeeding, whole_front, left_behind};
-ghost use Rattle.aec_interval.specs.Progress.{IsProgress, AreHeldFew, ArePart, AnswersPiece, Joins, CompletesRest, IsFewOrWhole, coder_at};
+ghost use Rattle.aec_interval.specs.Feeding.{StopsFeeding};
+ghost use Rattle.aec_interval.specs.Progress.{IsProgress, AreHeldFew, ArePart, AnswersPiece, Joins, CompletesRest, IsFewOrWhole, CodesWhole, coder_at};
 
 use crate::interval::append_intervals;
 use crate::stream_coder::held_samples::HeldSamples;
@@ -39,13 +37,8 @@ pub(crate) struct Progress {
 fn code_complete(terms: &Terms, held: &mut HeldSamples, out: &mut BitBuf) -> Result<(), Fault>
     requires samples { AllByRecursion (IsHeld terms.now.params) held.old }
     requires whole { IsFewOrWhole (interval_len terms.now.params) (length held.old) }
-    ensures ok { OnOk result
-        (held.new ≡ left_behind (interval_len terms.now.params) held.old) }
-    ensures bits { OnOk result (out.new.list ≡ out.old.list ++ stream_of terms.now.params
-        (whole_front (interval_len terms.now.params) held.old)) }
-    ensures few { AreHeldFew terms.now.params held.new }
-    ensures err { OnErr result (out.new.list ≡ out.old.list) }
-    ensures fault { IfErr result (λ e. e ≡ Memory) }
+    ensures { CodesWhole terms.now.params held.old
+        out.old.list result held.new out.new.list }
 {
     if (held.len() as u64) < terms.params.interval_len() {
         return Ok(());
@@ -60,13 +53,8 @@ fn code_complete(terms: &Terms, held: &mut HeldSamples, out: &mut BitBuf) -> Res
 fn push_sample(terms: &Terms, held: &mut HeldSamples, x: i64, out: &mut BitBuf) -> Result<(), Fault>
     requires few { AreHeldFew terms.now.params held.old }
     requires sample { IsHeld terms.now.params x }
-    ensures ok { OnOk result
-        (held.new ≡ left_behind (interval_len terms.now.params) (held.old ++ x ∷ [])) }
-    ensures bits { OnOk result (out.new.list ≡ out.old.list ++ stream_of terms.now.params
-        (whole_front (interval_len terms.now.params) (held.old ++ x ∷ []))) }
-    ensures few { AreHeldFew terms.now.params held.new }
-    ensures err { OnErr result (out.new.list ≡ out.old.list) }
-    ensures fault { IfErr result (λ e. e ≡ Memory) }
+    ensures { CodesWhole terms.now.params (held.old ++ x ∷ [])
+        out.old.list result held.new out.new.list }
 {
     held.push(x)?;
     code_complete(terms, held, out)
@@ -136,7 +124,7 @@ fn join_good(
         progress.new out.new.list }
     ensures progress { IsProgress terms.now progress.new }
 {
-    progress.held.append_samples(&terms.params, part)?;
+    progress.held.push_stored(&terms.params, part)?;
     code_complete(terms, &mut progress.held, out)?;
     progress.count += (part.len() / terms.params.storage()) as u64;
     Ok(())

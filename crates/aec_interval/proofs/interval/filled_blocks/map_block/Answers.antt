@@ -11,26 +11,12 @@ fill-requires c =
     subst (λ (x : ℤ). IsHeld c.args.params.now x) (sym (to_z-of_z w64 _ fits ∙ c.previous_of.ensures))
     (held-last_sample c.args.params.now c.args.samples.now c.requires.allowed c.requires.samples.held)
 
-pub returns-clause-value : goal.returns-clause-value
-returns-clause-value c =
+pub returns-clause-filled : goal.returns-clause-filled
+returns-clause-filled c =
     let fits : FitsSigned w64 c.previous_of.result = search rules in
-    (is_filled c.args.params.now c.args.previous c.args.samples.now _ _ _ _ _ _ c.requires.allowed c.requires.some c.requires.samples
+    is_filled c.args.params.now c.args.previous c.args.samples.now _ _ _ _ _ _ c.requires.allowed c.requires.some c.requires.samples
     (omega (arith, c.split_at_mut-front.ensures.back_len, c.requires.len)) (to_z-of_z w64 _ fits ∙ c.previous_of.ensures) c.reference_of.ensures
-    refl c.map_samples.ensures c.fill.ensures).value
-
-pub returns-clause-full : goal.returns-clause-full
-returns-clause-full c =
-    let fits : FitsSigned w64 c.previous_of.result = search rules in
-    (is_filled c.args.params.now c.args.previous c.args.samples.now _ _ _ _ _ _ c.requires.allowed c.requires.some c.requires.samples
-    (omega (arith, c.split_at_mut-front.ensures.back_len, c.requires.len)) (to_z-of_z w64 _ fits ∙ c.previous_of.ensures) c.reference_of.ensures
-    refl c.map_samples.ensures c.fill.ensures).full
-
-pub returns-clause-sound : goal.returns-clause-sound
-returns-clause-sound c =
-    let fits : FitsSigned w64 c.previous_of.result = search rules in
-    (is_filled c.args.params.now c.args.previous c.args.samples.now _ _ _ _ _ _ c.requires.allowed c.requires.some c.requires.samples
-    (omega (arith, c.split_at_mut-front.ensures.back_len, c.requires.len)) (to_z-of_z w64 _ fits ∙ c.previous_of.ensures) c.reference_of.ensures
-    refl c.map_samples.ensures c.fill.ensures).sound
+    refl c.map_samples.ensures c.fill.ensures
 
 pub returns-clause-len : goal.returns-clause-len
-returns-clause-len c = (returns-clause-full c).len ∙ sym c.requires.len
+returns-clause-len c = (returns-clause-filled c).full.len ∙ sym c.requires.len

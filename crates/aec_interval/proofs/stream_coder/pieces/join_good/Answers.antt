@@ -3,11 +3,11 @@ use Rattle.aec_interval.proofs.RefusalLemmas.{of_answer}
 use Rattle.aec_interval.proofs.JoiningLemmas.{part_fed, part_no_memory}
 use Rattle.aec_interval.proofs.stream_coder.pieces.join_good.Goals as goal
 
-pub returns-in_err-append_samples-clause-joins : goal.returns-in_err-append_samples-clause-joins
-returns-in_err-append_samples-clause-joins c =
+pub returns-in_err-push_stored-clause-joins : goal.returns-in_err-push_stored-clause-joins
+returns-in_err-push_stored-clause-joins c =
     of_answer _ _ _ _ c.from_residual.ensures.1
     (part_no_memory c.args.terms.now c.args.progress.now c.args.part.now c.args.out.now.list _ _ c.requires.progress c.requires.samples
-    c.requires.good c.requires.within c.in_err-append_samples.ensures.fault refl)
+    c.requires.good c.requires.within c.in_err-push_stored.ensures.fault refl)
 
 pub returns-in_err-code_complete-clause-joins : goal.returns-in_err-code_complete-clause-joins
 returns-in_err-code_complete-clause-joins c =
@@ -17,6 +17,6 @@ returns-in_err-code_complete-clause-joins c =
 
 pub returns-clause-joins : goal.returns-clause-joins
 returns-clause-joins c =
-    part_fed c.args.terms.now c.args.progress.now c.code_complete.new.held c.append_samples.new.self _ c.storage.result
+    part_fed c.args.terms.now c.args.progress.now c.code_complete.new.held c.push_stored.new.self _ c.storage.result
     c.args.part.now c.args.out.now.list c.code_complete.new.out.list c.requires.progress c.requires.samples c.requires.good c.requires.within
-    c.storage.ensures.value c.in_ok-append_samples.ensures.ok c.in_ok-code_complete.ensures.ok refl c.in_ok-code_complete.ensures.bits
+    c.storage.ensures.value c.in_ok-push_stored.ensures.ok c.in_ok-code_complete.ensures.ok refl c.in_ok-code_complete.ensures.bits

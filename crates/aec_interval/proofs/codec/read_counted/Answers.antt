@@ -3,7 +3,7 @@ use Rattle.aec_interval.proofs.RefusalLemmas.{of_refusal}
 use Rattle.aec_interval.proofs.UpToLemmas.{up_to-reading}
 use Rattle.aec_interval.proofs.ReadNextLemmas.{reading-refuses}
 use Rattle.aec_interval.proofs.IntervalReadingLemmas.{counted-interval}
-use Rattle.aec_interval.proofs.codec.read_samples.Goals as goal
+use Rattle.aec_interval.proofs.codec.read_counted.Goals as goal
 
 pub returns-in_err-read_interval-clause-refuses : goal.returns-in_err-read_interval-clause-refuses
 returns-in_err-read_interval-clause-refuses c =

@@ -3,7 +3,7 @@ use Rattle.std.specs.List.{AllByRecursion}
 use Rattle.std.proofs.lemmas.List.{with_items_is}
 use Rattle.aec_params.specs.Params.{IsHeld}
 use Rattle.aec_interval.proofs.HeldLemmas.{held_behind}
-use Rattle.aec_interval.proofs.stream_coder.held_samples.HeldSamples.append_samples.Goals as goal
+use Rattle.aec_interval.proofs.stream_coder.held_samples.HeldSamples.push_stored.Goals as goal
 
 pub returns-clause-held : goal.returns-clause-held
 returns-clause-held c before =
