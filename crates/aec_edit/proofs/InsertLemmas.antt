@@ -16,7 +16,7 @@ use Rattle.aec_bits.proofs.RefusalLaws.{insert_fits}
 use Rattle.aec_edit.specs.Calls.{RisesAtMost}
 use Rattle.aec_edit.specs.Steps.{Applies}
 use Rattle.aec_edit.specs.Changes.{IsExchanged, IsNotExchanged, IsExchangeUpTo, exchanged, recoded_end, fresh_total, recoding_calls, recoding_openings, opened_by}
-use Rattle.aec_edit.specs.Opened.{opened_ends}
+use Rattle.aec_edit.specs.Opened.{opened_count}
 use Rattle.aec_edit.proofs.ExchangeLemmas.{begins_before, ceil_mono}
 use Rattle.aec_edit.proofs.AnswerLemmas.{from_exchange}
 use Rattle.aec_edit.proofs.MoveLemmas.{places, later_calls, length-filter-all, later_can, whole_can}
@@ -44,7 +44,7 @@ whole_calls n old first len h whole within =
 
 -- ---- how many are decoded
 
-ends_opened : (n old first : ℕ) → 0 < n → opened_ends n old first first ≤ inside_calls n first
+ends_opened : (n old first : ℕ) → 0 < n → opened_count n old first first ≤ inside_calls n first
 ends_opened n old first h =
     let begins = begins_before first n h in
     let same : first ≤ first = omega arith in

@@ -15,7 +15,7 @@ use Rattle.std.proofs.lemmas.List.Elements.{filter-append}
 use Rattle.aec_params.specs.Edits.{keeps_a_sample}
 use Rattle.aec_params.proofs.CountLaws.{ceil_bounds, before_end}
 use Rattle.aec_params.proofs.EditLaws.{length-filter-le}
-use Rattle.aec_edit.specs.Opened.{reached_intervals, opened_by_exchange, opened_first, opened_behind, opened_ends, samples_of, end_samples}
+use Rattle.aec_edit.specs.Opened.{reached_intervals, opened_by_exchange, opened_first, opened_behind, opened_count, samples_of, opened_samples}
 use Rattle.aec_edit.proofs.ExchangeLemmas.{begins_before, ceil_mono}
 
 -- ---- one interval
@@ -177,7 +177,7 @@ module _ (n count first stop : ℕ) (some : 0 < n) (order : first ≤ stop) wher
       let all : List ℕ = reached_intervals n first stop in
       ap (filter keeps) (sym (take-append-drop 1 all)) ∙ filter-append keeps (take 1 all) (drop 1 all)
 
-  pub opened-count : opened_ends n count first stop ≡ length (opened_first n count first stop) + length (opened_behind n count first stop)
+  pub opened-count : opened_count n count first stop ≡ length (opened_first n count first stop) + length (opened_behind n count first stop)
   opened-count = ap length opened-parts ∙ length-append (opened_first n count first stop) (opened_behind n count first stop)
 
   -- ---- as the code tests it, with m for the n that it is told
@@ -216,10 +216,10 @@ module _ (n count first stop : ℕ) (some : 0 < n) (order : first ≤ stop) wher
       last_within within = omega (arith, last_is.0, last_is.1, ceil_mono n stop count some within)
 
 -- the samples of both
-pub end_samples-parts : (n first stop : ℕ) (s : List ℤ) → 0 < n → first ≤ stop
-    → end_samples n first stop s
+pub opened_samples-parts : (n first stop : ℕ) (s : List ℤ) → 0 < n → first ≤ stop
+    → opened_samples n first stop s
     ≡ samples_of n s (opened_first n (length s) first stop) ++ samples_of n s (opened_behind n (length s) first stop)
-end_samples-parts n first stop s some order =
+opened_samples-parts n first stop s some order =
     ap (samples_of n s) (opened-parts n (length s) first stop some order)
     ∙ flat_map-append (λ k. take n (drop (k * n) s)) (opened_first n (length s) first stop) (opened_behind n (length s) first stop)
 

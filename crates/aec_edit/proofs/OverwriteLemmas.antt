@@ -14,7 +14,7 @@ use Rattle.aec_bits.proofs.RefusalLaws.{overwrite_fits}
 use Rattle.aec_edit.specs.Calls.{RisesAtMost}
 use Rattle.aec_edit.specs.Steps.{Applies}
 use Rattle.aec_edit.specs.Changes.{IsExchanged, IsNotExchanged, exchanged, exchange_calls, opened_by}
-use Rattle.aec_edit.specs.Opened.{reached_intervals, opened_ends}
+use Rattle.aec_edit.specs.Opened.{reached_intervals, opened_count}
 use Rattle.aec_params.proofs.CountLaws.{ceil_unique}
 use Rattle.aec_edit.proofs.ExchangeLemmas.{begins_before}
 use Rattle.aec_edit.proofs.AnswerLemmas.{from_exchange}
@@ -40,7 +40,7 @@ overwrite_calls n first len h some =
 -- ---- how many are decoded
 
 pub overwrite_opens : (n old first len : ℕ) → 0 < n → 0 < len
-    → opened_ends n old first (first + len) ≡ length (filter (keeps_a_sample n old first len) (touched_intervals n first len))
+    → opened_count n old first (first + len) ≡ length (filter (keeps_a_sample n old first len) (touched_intervals n first len))
 overwrite_opens n old first len h some =
     let last = ceil_last (first + len) n h (omega arith) in
     let later = last_after n first len h some in
@@ -60,10 +60,10 @@ pub overwritten : (f : Format) (limit calls reads first : ℕ) (s values : List 
     → MatchResult r (λ coded. IsExchanged (exchange_calls f.most first (length values)) calls coded calls')
     (λ fault. IsNotExchanged (exchange_calls f.most first (length values)) calls fault calls')
     → OnOk r (s' ≡ exchanged first (first + length values) values s) → OnErr r (s' ≡ s)
-    → RisesAtMost (opened_by (exchange_calls f.most first (length values)) calls (opened_ends f.most (length s) first (first + length values))) reads reads'
+    → RisesAtMost (opened_by (exchange_calls f.most first (length values)) calls (opened_count f.most (length s) first (first + length values))) reads reads'
     → Applies f limit s calls reads (Overwrite first values) r s' calls' reads'
 overwritten f limit calls reads first s values r s' calls' reads' h some held within answer ok err rises =
-    from_exchange f limit calls reads s (Overwrite first values) (exchange_calls f.most first (length values)) (opened_ends f.most (length s) first
+    from_exchange f limit calls reads s (Overwrite first values) (exchange_calls f.most first (length values)) (opened_count f.most (length s) first
     (first + length values))
     (overwrite_fits f limit first s values held within) (overwrite_calls f.most first (length values) h some)
     (omega (arith, overwrite_opens f.most (length s) first (length values) h some)) r s' calls' reads' answer ok err rises

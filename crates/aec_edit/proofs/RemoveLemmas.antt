@@ -18,7 +18,7 @@ use Rattle.aec_bits.proofs.RefusalLaws.{remove_fits}
 use Rattle.aec_edit.specs.Calls.{RisesAtMost}
 use Rattle.aec_edit.specs.Steps.{Applies}
 use Rattle.aec_edit.specs.Changes.{IsExchanged, IsNotExchanged, IsExchangeUpTo, exchanged, recoded_end, fresh_total, recoding_calls, recoding_openings, opened_by}
-use Rattle.aec_edit.specs.Opened.{opened_first, opened_behind, opened_ends}
+use Rattle.aec_edit.specs.Opened.{opened_first, opened_behind, opened_count}
 use Rattle.aec_edit.proofs.ExchangeLemmas.{begins_before, ceil_mono}
 use Rattle.aec_edit.proofs.AnswerLemmas.{from_exchange}
 use Rattle.aec_edit.proofs.OpenedLemmas.{keeps_tail, nothing_first, nothing_last, first_few, behind_few, opened-count}
@@ -77,7 +77,7 @@ whole_opened n old first len h whole within =
     order : first ≤ first + len
     order = omega arith
 
-    count : opened_ends n old first (first + len)
+    count : opened_count n old first (first + len)
         ≡ length (opened_first n old first (first + len)) + length (opened_behind n old first (first + len))
     count = opened-count n old first (first + len) h order
 

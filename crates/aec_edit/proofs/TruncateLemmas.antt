@@ -12,7 +12,7 @@ use Rattle.aec_bits.proofs.RefusalLaws.{truncate_fits}
 use Rattle.aec_edit.specs.Calls.{RisesAtMost}
 use Rattle.aec_edit.specs.Steps.{Applies}
 use Rattle.aec_edit.specs.Changes.{IsExchanged, IsNotExchanged, exchanged, exchange_calls, opened_by}
-use Rattle.aec_edit.specs.Opened.{opened_ends}
+use Rattle.aec_edit.specs.Opened.{opened_count}
 use Rattle.aec_edit.proofs.ExchangeLemmas.{begins_before}
 use Rattle.aec_edit.proofs.AnswerLemmas.{from_exchange}
 use Rattle.aec_edit.proofs.MoveLemmas.{places}
@@ -32,7 +32,7 @@ truncate_calls n old stop h less =
       | inr cut ↦ omega (arith, inside, count, cut.1, cut.2)
     ]
 
-truncate_opens : (n old stop : ℕ) → 0 < n → stop < old → opened_ends n old stop old ≤ cut_calls n old stop
+truncate_opens : (n old stop : ℕ) → 0 < n → stop < old → opened_count n old stop old ≤ cut_calls n old stop
 truncate_opens n old stop h less =
     let order : stop ≤ old = omega arith in
     let inside = cut_inside n old stop less in
@@ -51,12 +51,12 @@ pub truncated : (f : Format) (limit calls reads stop old : ℕ) (s : List ℤ) (
     → MatchResult r (λ coded. IsExchanged (exchange_calls f.most stop 0) calls coded calls')
     (λ fault. IsNotExchanged (exchange_calls f.most stop 0) calls fault calls')
     → OnOk r (s' ≡ exchanged stop old [] s) → OnErr r (s' ≡ s)
-    → RisesAtMost (opened_by (exchange_calls f.most stop 0) calls (opened_ends f.most (length s) stop old)) reads reads'
+    → RisesAtMost (opened_by (exchange_calls f.most stop 0) calls (opened_count f.most (length s) stop old)) reads reads'
     → Applies f limit s calls reads (Truncate stop) r s' calls' reads'
 truncated f limit calls reads stop old s r s' calls' reads' h old_is less answer ok err rises =
-    from_exchange f limit calls reads s (Truncate stop) (exchange_calls f.most stop 0) (opened_ends f.most (length s) stop old)
+    from_exchange f limit calls reads s (Truncate stop) (exchange_calls f.most stop 0) (opened_count f.most (length s) stop old)
     (truncate_fits f limit stop s (omega arith)) (truncate_calls f.most (length s) stop h (omega arith))
-    (omega (arith, ap (opened_ends f.most (length s) stop) old_is, truncate_opens f.most (length s) stop h (omega arith)))
+    (omega (arith, ap (opened_count f.most (length s) stop) old_is, truncate_opens f.most (length s) stop h (omega arith)))
     r s' calls' reads' answer (rw no_more at ok) err rises
   where
     no_more : exchanged stop old [] s ≡ take stop s

@@ -10,7 +10,7 @@ use Rattle.aec_edit.specs.Calls.{want_of_calls}
 use Rattle.aec_edit.specs.Steps.{LacksMemory}
 use Rattle.aec_edit.specs.Index.{starts_of}
 use Rattle.aec_edit.specs.Fresh.{to_come}
-use Rattle.aec_edit.specs.Opened.{opened_ends}
+use Rattle.aec_edit.specs.Opened.{opened_count}
 
 -- the samples with the places from first up to stop exchanged for values
 abbrev pub exchanged : ℕ → ℕ → List ℤ → List ℤ → List ℤ
@@ -80,7 +80,7 @@ recoding_calls n count first stop to len = div_ceil (fresh_total n count first s
 
 -- how many it decodes
 abbrev pub recoding_openings : ℕ → ℕ → ℕ → ℕ → ℕ → ℕ
-recoding_openings n count first stop to = opened_ends n count first stop + (to - div_ceil stop n)
+recoding_openings n count first stop to = opened_count n count first stop + (to - div_ceil stop n)
 
 -- the samples that it codes
 abbrev pub fresh_of : ℕ → List ℤ → ℕ → ℕ → ℕ → List ℤ → List ℤ

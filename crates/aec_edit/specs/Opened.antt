@@ -25,13 +25,13 @@ abbrev pub opened_behind : ℕ → ℕ → ℕ → ℕ → List ℕ
 opened_behind n count first stop = opened_of n count first stop (drop 1 (reached_intervals n first stop))
 
 -- how many an exchange decodes
-abbrev pub opened_ends : ℕ → ℕ → ℕ → ℕ → ℕ
-opened_ends n count first stop = length (opened_by_exchange n count first stop)
+abbrev pub opened_count : ℕ → ℕ → ℕ → ℕ → ℕ
+opened_count n count first stop = length (opened_by_exchange n count first stop)
 
 -- the samples of intervals of n
 abbrev pub samples_of : ℕ → List ℤ → List ℕ → List ℤ
 samples_of n s intervals = flat_map (λ k. take n (drop (k * n) s)) intervals
 
 -- the samples that an exchange decodes
-abbrev pub end_samples : ℕ → ℕ → ℕ → List ℤ → List ℤ
-end_samples n first stop s = samples_of n s (opened_by_exchange n (length s) first stop)
+abbrev pub opened_samples : ℕ → ℕ → ℕ → List ℤ → List ℤ
+opened_samples n first stop s = samples_of n s (opened_by_exchange n (length s) first stop)

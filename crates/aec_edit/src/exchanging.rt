@@ -12,7 +12,7 @@ impl<C: Codec> Workspace<C> {
     ghost use Rattle.aec_params.specs.Edits.{keeps_a_sample};
     ghost use Rattle.aec_edit.specs.Calls.{RisesAtMost};
     ghost use Rattle.aec_edit.specs.Changes.{IsExchange, IsExchanged, IsNotExchanged, exchanged, exchange_calls, head_of, tail_of, opened_by, recoding_calls, recoding_openings, IsExchangeUpTo};
-    ghost use Rattle.aec_edit.specs.Opened.{opened_first, opened_behind, opened_ends, samples_of, end_samples};
+    ghost use Rattle.aec_edit.specs.Opened.{opened_first, opened_behind, opened_count, samples_of, opened_samples};
     ghost use Rattle.aec_edit.specs.Unchanged.{KeepsRules, IsOnlyRead};
 
     /// Exchanges the samples from place `first` up to place `stop` for values, as many, or at the
@@ -32,7 +32,7 @@ impl<C: Codec> Workspace<C> {
         ensures reads { RisesAtMost
             (opened_by (exchange_calls (C.format self.old.codec).most first (length values.now))
             (C.called self.old.codec)
-            (opened_ends (C.format self.old.codec).most (length self.old.samples) first stop))
+            (opened_count (C.format self.old.codec).most (length self.old.samples) first stop))
             (C.read self.old.codec) (C.read self.new.codec) }
         ensures rules { KeepsRules C.format self.old self.new }
     {
@@ -109,7 +109,7 @@ impl<C: Codec> Workspace<C> {
             × (0 < recoding_calls (C.format self.old.codec).most (length self.old.samples) first
             stop to (length values.now))) }
         ensures read { IsOnlyRead C.format C.called C.read
-            (opened_ends (C.format self.old.codec).most (length self.old.samples) first stop)
+            (opened_count (C.format self.old.codec).most (length self.old.samples) first stop)
             self.old self.new }
     {
         let most = self.interval_len();
@@ -142,13 +142,13 @@ impl<C: Codec> Workspace<C> {
         requires ends { ends.old.items ≡ [] }
         requires spare { spare.old.items ≡ [] }
         ensures ok { OnOk result (ends.new.items
-            ≡ end_samples (C.format self.old.codec).most first stop self.old.samples) }
+            ≡ opened_samples (C.format self.old.codec).most first stop self.old.samples) }
         ensures spare { OnOk result (spare.new.items ≡ []) }
         ensures fault { IfErr result (λ e. (e ≡ Memory)
-            × (0 < opened_ends (C.format self.old.codec).most (length self.old.samples) first
+            × (0 < opened_count (C.format self.old.codec).most (length self.old.samples) first
             stop)) }
         ensures read { IsOnlyRead C.format C.called C.read
-            (opened_ends (C.format self.old.codec).most (length self.old.samples) first stop)
+            (opened_count (C.format self.old.codec).most (length self.old.samples) first stop)
             self.old self.new }
     {
         self.open_first(first, stop, ends)?;

@@ -2,7 +2,7 @@ use Rattle.std.proofs.Common.{◌≡◌, ℕ, length, arith, ap, ◌∙◌}
 use Rattle.std.specs.Int.{div_ceil}
 use Rattle.aec_bits.specs.Codec.{Format}
 use Rattle.aec_edit.specs.Changes.{recoding_calls, recoding_openings}
-use Rattle.aec_edit.specs.Opened.{opened_ends}
+use Rattle.aec_edit.specs.Opened.{opened_count}
 use Rattle.aec_edit.proofs.UpToLemmas.{up_to_last, same_calls, answer_at, reads_at}
 use Rattle.aec_edit.proofs.workspace.Workspace.exchange.Goals as goal
 
@@ -32,7 +32,7 @@ returns-clause-reads g c =
     let size : ℕ = length seen.samples in
     let to : c.div_ceil.result ≡ div_ceil c.args.stop f.most = c.div_ceil.ensures ∙ ap (div_ceil c.args.stop) c.interval_len-most.ensures.value in
     let no_more : recoding_openings f.most size c.args.first c.args.stop (div_ceil c.args.stop f.most)
-    ≡ opened_ends f.most size c.args.first c.args.stop = omega arith in
+    ≡ opened_count f.most size c.args.first c.args.stop = omega arith in
     reads_at _ _ _ _ _ _ _
     (ap (λ t. recoding_calls f.most size c.args.first c.args.stop t (length c.args.values.now)) to
     ∙ same_calls f seen.limit c.args.first c.args.stop seen.samples c.args.values.now (g.C.Codec.lawful seen.codec) c.interval_len-most.ensures.held c.requires)
