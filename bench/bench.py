@@ -1,13 +1,13 @@
 #!/usr/bin/env python3
-"""Time and memory of two programs side by side: bench.py PATH_OF_AEC [--quick]
+"""Time and memory of two programs side by side, as bench/tables.md has them: bench.py PATH_OF_AEC [--quick]
 
 Runs the program at PATH_OF_AEC ('ours') and the command-line client of libaec ('theirs', named by the environment
 variable LIBAEC, else /usr/bin/aec) on generated samples; both decode the stream that theirs has coded. Prints tables in
-Markdown: seconds of processor time (user and system, the least of nine runs in turn, starting included), peak memory (the
+Markdown: seconds of processor time (user and system, the least of three runs in turn, starting included), peak memory (the
 maximum resident set, as /usr/bin/time tells it), the ratios, and how both grow from 1 to 16 MiB of samples. A further table
-has the speeds of each input both ways, theirs divided by ours in seconds, and their geometric mean; the next one the seconds of
-ours with even block sizes, which theirs doesn't code; the last one the memory of both for 16 and 64 MiB of samples, and for a
-short stream of very many. Nothing is judged.
+has the speeds of each input both ways, theirs divided by ours in seconds; the next one their geometric means; then come the
+seconds of ours with even block sizes, which theirs doesn't code, and the memory of both for 16 and 64 MiB of samples, and for a
+short stream of very many. Nothing is judged. It takes some eight minutes.
 
 The inputs are one MiB of samples each, repeated for the greater sizes, so a coder that takes time in proportion to
 its input takes 16 times as long for 16 MiB. With --quick only 1 MiB is run, once.
@@ -24,11 +24,22 @@ import sys
 import tempfile
 
 MIB = 1 << 20
-SIZES = [1, 4, 16]
+SIZES = [1, 16]
+RUNS = 3
 SETTINGS = [(8, 128), (16, 128), (64, 128), (8, 4096), (16, 4096), (64, 4096), (8, 2), (8, 1)]
 EVEN_BLOCKS = [8, 10, 12, 16, 30, 32]
 # Which of these are compared: a block size, and the next power of two below.
 BESIDE = [(10, 8), (12, 8), (30, 16)]
+# Over which J and r the means are taken.
+GROUPS = [
+    ("all", lambda block, interval: True),
+    ("r 128 and 4096", lambda block, interval: interval >= 128),
+    ("J 8, r 128 and 4096", lambda block, interval: block == 8 and interval >= 128),
+    ("J 16, r 128 and 4096", lambda block, interval: block == 16),
+    ("J 64, r 128 and 4096", lambda block, interval: block == 64),
+    ("J 8, r 2", lambda block, interval: interval == 2),
+    ("J 8, r 1", lambda block, interval: interval == 1),
+]
 
 
 # Each input: the options of its samples, and a function that gives one MiB of stored samples, least byte first.
@@ -148,7 +159,7 @@ def speed(told):
 def table(job, ours, theirs, pieces, folder, sizes, runs):
     """Prints the table of a job over all inputs and settings. The speeds by input, J and r."""
     speeds = {}
-    print(f"### {job.capitalize()}, {sizes[-1]} MiB of samples\n")
+    print(f"## {job.capitalize()}, {sizes[-1]} MiB of samples\n")
     print("| Input | J | r | ours, s | theirs, s | ratio | ours, MiB | theirs, MiB | ratio | growth ours | theirs | memory |")
     print("|---|---|---|---|---|---|---|---|---|---|---|---|")
     for name, options, _ in INPUTS:
@@ -174,15 +185,24 @@ def geometric_mean(values):
 
 
 def summary(coding, decoding):
-    """Prints the speeds both ways, and their geometric means."""
-    print("### Times libaec's speed\n")
+    """Prints the speeds both ways."""
+    print("## Times libaec's speed\n")
     print("| Input | J | r | coding | decoding |")
     print("|---|---|---|---|---|")
     for name, block, interval in coding:
         key = name, block, interval
         print(f"| {name} | {block} | {interval} | {coding[key]:.2f} | {decoding[key]:.2f} |")
-    means = [geometric_mean(list(speeds.values())) for speeds in (coding, decoding)]
-    print(f"| geometric mean | | | {means[0]:.2f} | {means[1]:.2f} |")
+
+
+def means(coding, decoding):
+    """Prints geometric means of the speeds both ways, each with the least and the greatest of its rows."""
+    print("\n## Means of these, with the least and the greatest\n")
+    print("| Rows | coding | decoding |")
+    print("|---|---|---|")
+    for name, belongs in GROUPS:
+        rows = [[speed for (_, *setting), speed in speeds.items() if belongs(*setting)] for speeds in (coding, decoding)]
+        told = [f"{geometric_mean(row):.2f}, {min(row):.2f} to {max(row):.2f}" for row in rows]
+        print(f"| {name} | {told[0]} | {told[1]} |")
 
 
 def even_row(name, job, runs, commands, folder):
@@ -196,7 +216,7 @@ def even_row(name, job, runs, commands, folder):
 def even_table(ours, pieces, folder, size, runs):
     """Prints the seconds of ours with even block sizes, r 128. It decodes its own streams."""
     heads = [f"J {block}, s" for block in EVEN_BLOCKS] + [f"{block} / {power}" for block, power in BESIDE]
-    print(f"\n### Even block sizes, {size} MiB of samples\n")
+    print(f"\n## Even block sizes, {size} MiB of samples\n")
     print(f"| Input | Job | {' | '.join(heads)} |")
     print("|---" * (2 + len(heads)) + "|")
     raw, dest = os.path.join(folder, "raw"), os.path.join(folder, "dest")
@@ -222,7 +242,7 @@ def memory_row(job, what, ours, theirs, words, source, folder):
 
 def memory(ours, theirs, piece, folder, sizes, zeros):
     """Prints the memory for the detector's samples, and for a stream of runs of zero blocks."""
-    print("\n### Memory, in MiB\n")
+    print("\n## Memory, in MiB\n")
     print("| Job | Samples, J, r | bytes of SOURCE | ours | theirs |")
     print("|---|---|---|---|---|")
     raw, coded = os.path.join(folder, "raw"), os.path.join(folder, "coded")
@@ -248,15 +268,18 @@ def main():
     for path in ("/usr/bin/time", theirs):
         if not os.path.exists(path):
             raise SystemExit(f"no {path}: install Debian's packages time and libaec-tools")
-    sizes, runs = ([1], 1) if quick else (SIZES, 9)
+    sizes, runs = ([1], 1) if quick else (SIZES, RUNS)
     chance = random.Random(16)
     pieces = {name: make(chance) for name, _, make in INPUTS}
-    print(f"{datetime.date.today()}, {os.cpu_count()} cores, {platform.platform()}\n")
+    print("# Tables of time and memory\n")
+    print(f"`bench/bench.py` printed this page on {datetime.date.today()}, {os.cpu_count()} cores, {platform.platform()}; the seconds")
+    print(f"are the least of {runs} runs. [docs/SPEED.md](../docs/SPEED.md) says how it was measured and what the inputs are.\n")
     with tempfile.TemporaryDirectory() as folder:
         speeds = {
             job: table(job, ours, theirs, pieces, folder, sizes, runs) for job in ("decoding", "coding")
         }
         summary(speeds["coding"], speeds["decoding"])
+        means(speeds["coding"], speeds["decoding"])
         even_table(ours, pieces, folder, sizes[-1], runs)
         memory(ours, theirs, pieces["16-bit detector"], folder, [1] if quick else [16, 64], 1 if quick else 222)
 

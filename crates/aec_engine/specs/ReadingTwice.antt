@@ -31,8 +31,8 @@ pub record GaveWhole (before after : Option (List ℕ)) (failures limit : ℕ) (
 pub record AreSamplesOf (p : Place) (samples : List ℤ) : Type 0 where
   pub reading : IsReading p.settings p.count p.limit p.bits samples
 
--- Where more is wanted and an interval begins, samples were read up to another place: behind
--- whatever was read before them, all is what was read up to there.
+-- At place p more is wanted and an interval begins. From there samples were read up to place q:
+-- whatever was read up to p, that and these samples are what is read up to q.
 pub record ReadsOn (p : Place) (samples : List ℤ) (q : Place) : Type 0 where
   pub wanted : is_wanted_at p ≡ true
   pub begins : p.block % p.settings.interval ≡ 0
