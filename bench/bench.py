@@ -7,7 +7,7 @@ Markdown: seconds of processor time (user and system, the least of three runs in
 maximum resident set, as /usr/bin/time tells it), the ratios, and how both grow from 1 to 16 MiB of samples. A further table
 has the speeds of each input both ways, theirs divided by ours in seconds; the next one their geometric means; then come the
 seconds of ours with even block sizes, which theirs doesn't code, and the memory of both for 16 and 64 MiB of samples, and for a
-short stream of very many. Nothing is judged. It takes some eight minutes.
+short stream of very many. Nothing is judged.
 
 The inputs are one MiB of samples each, repeated for the greater sizes, so a coder that takes time in proportion to
 its input takes 16 times as long for 16 MiB. With --quick only 1 MiB is run, once.
