@@ -17,6 +17,7 @@ pub mod ShiftLemmas
 pub mod ByteLemmas
 pub mod LaneLemmas
 pub mod RunLemmas
+pub mod TopNumbersLemmas
 pub mod WindowLemmas
 pub mod GroupLemmas
 pub mod OnesLemmas

@@ -4,10 +4,11 @@ use Rattle.std.specs.Prelude.{bit_and, bit_or}
 use lib.Bits.{bit_xor, xor_add_and}
 use lib.Count.{count_leading_zeros}
 use Rattle.std.proofs.lemmas.Bool.{cases_lt}
-use Rattle.std.specs.Int.Bits.{or_add_and}
+use Rattle.std.specs.Int.Bits.{or_zero_r}
+use Rattle.std.proofs.Math.Nat.{zero-div}
 use Rattle.std.proofs.lemmas.Nat.{shr-shr, shr_high, mod_low, and_mask, one_shl, leading_top}
 use Rattle.std.proofs.lemmas.Nat.Bits.{and_high_mask}
-use Rattle.std.proofs.lemmas.List.{take_at, drop_at, take-append-drop, take-append-le, drop-append-le, drop-drop, drop-take, take-take, take-replicate, length-replicate, length-drop, replicate-append-replicate, get_or-take, get_or-append_right}
+use Rattle.std.proofs.lemmas.List.{take_at, drop_at, take-append-drop, take-append-le, drop-append-le, drop-drop, drop-take, take-take, take-replicate, length-replicate, length-drop, replicate-append-replicate, get_or-take, get_or-append_right, get_or_past}
 use Rattle.aec_params.specs.Codewords.{fs, binary}
 use Rattle.aec_params.proofs.CodewordLaws.{length-binary, length-fs, binary-same}
 use Rattle.aec_bits.specs.BitReader.{has_one}
@@ -70,6 +71,15 @@ padded_bits words start first second within fits is_first is_second =
     ∙ ap (λ n. drop at (word_bits n) ++ take at (word_bits second)) is_first
     ∙ ap (λ n. drop at (word_bits (get_or words (start / 64) 0)) ++ take at (word_bits n)) is_second)
 
+-- the same at the last word, and past the end
+pub padded_last : (words : List ℕ) (start first : ℕ) → start ≤ 64 * length words → length words ≤ start / 64 + 1
+    → first ≡ get_or words (start / 64) 0 → word_bits (first * 2 ^ (start % 64) % 2 ^ 64) ≡ bits_from start 64 (bits_of_words words)
+padded_last words start first within last is =
+    let none : 0 ≡ get_or words (start / 64 + 1) 0 = sym (get_or_past words (start / 64 + 1) 0 last) in
+    let zeros : 0 / 2 / 2 ^ (63 - start % 64) ≡ 0 = zero-div (2 ^ (63 - start % 64)) in
+    ap word_bits (sym (ap (λ n. bit_or (first * 2 ^ (start % 64) % 2 ^ 64) n) zeros ∙ or_zero_r (first * 2 ^ (start % 64) % 2 ^ 64)))
+    ∙ padded_bits words start first 0 within (omega arith) is none
+
 -- the words of a list and the list itself go on alike
 pub bits_from-packed : (words : List ℕ) (len start : ℕ) → ArePacked words len → start ≤ len
     → bits_from start 64 (bits_of_words words) ≡ bits_from start 64 (take len (bits_of_words words))
@@ -114,24 +124,19 @@ none_there list word left end start window whole place none =
 
 -- ---- the topmost one
 
--- the lowest bit is set, so that there is one in any case
-with_low_bit : (word : ℕ) → bit_or word 1 + word % 2 ≡ word + 1
-with_low_bit word = ap (λ n. bit_or word 1 + n) (sym (and_mask word 1)) ∙ or_add_and word 1
-
-top_kept : (word or top : ℕ) → 0 < word → or + word % 2 ≡ word + 1 → 2 ^ top ≤ or → 2 ^ top ≤ word
-top_kept word or zero some is least = omega arith
-top_kept word or (suc top) some is least = omega (arith, pow-suc 2 top)
+-- what a number below 64 lacks of 63
+lacks : (n : ℕ) → n < 64 → bit_xor n 63 ≡ 63 - n
+lacks n small = omega (arith, xor_add_and n 63, and_mask n 6, small)
 
 pub top_place : (word : ℕ) → 0 < word → word < 2 ^ 64
-    → (count_leading_zeros 64 (bit_or word 1) ≤ 63) × (2 ^ (63 - count_leading_zeros 64 (bit_or word 1)) ≤ word)
-    × (word < 2 ^ (63 - count_leading_zeros 64 (bit_or word 1) + 1))
+    → (bit_xor (count_leading_zeros 64 word) 63 < 64) × (2 ^ bit_xor (count_leading_zeros 64 word) 63 ≤ word)
+    × (word < 2 ^ (bit_xor (count_leading_zeros 64 word) 63 + 1))
 top_place word some fits =
-    let is = with_low_bit word in
-    let top = leading_top 64 (bit_or word 1) (omega (arith, is)) (omega (arith, is)) in
-    let e : top.0 ≡ 63 - count_leading_zeros 64 (bit_or word 1) = omega (arith, top.1) in
-    let f : suc top.0 ≡ 63 - count_leading_zeros 64 (bit_or word 1) + 1 = omega (arith, top.1) in
-    let below : word < 2 ^ suc top.0 = omega (arith, top.3, is) in
-    (omega (arith, top.1), rw e at (top_kept word (bit_or word 1) top.0 some is top.2), rw f at below)
+    let top = leading_top 64 word some fits in
+    let is : bit_xor (count_leading_zeros 64 word) 63 ≡ 63 - count_leading_zeros 64 word = lacks (count_leading_zeros 64 word) (omega (arith, top.1)) in
+    let e : top.0 ≡ bit_xor (count_leading_zeros 64 word) 63 = omega (arith, is, top.1) in
+    let f : suc top.0 ≡ bit_xor (count_leading_zeros 64 word) 63 + 1 = omega (arith, e) in
+    (omega (arith, is), rw e at top.2, rw f at top.3)
 
 -- it stands within as many bits as the number has
 pub top_below : (word left top : ℕ) → word < 2 ^ left → 2 ^ top ≤ word → top < left

@@ -78,7 +78,7 @@ binary-mod w v = binary-same w (v % 2 ^ w) v (mod-eq_of_lt (mod_below v (2 ^ w) 
 -- ---- a part of a word
 
 -- shifted to the top and then to the bottom
-part_value : (at width rest w : ℕ) → w * 2 ^ at % 2 ^ (width + (at + rest)) / 2 ^ (at + rest) ≡ w / 2 ^ rest % 2 ^ width
+pub part_value : (at width rest w : ℕ) → w * 2 ^ at % 2 ^ (width + (at + rest)) / 2 ^ (at + rest) ≡ w / 2 ^ rest % 2 ^ width
 part_value at width rest w =
     field_of (w * 2 ^ at) width (at + rest)
     ∙ ap (λ (n : ℕ). n % 2 ^ width) (sym (shr-shr (w * 2 ^ at) at rest) ∙ ap (λ (n : ℕ). n / 2 ^ rest) (shl-shr w at))

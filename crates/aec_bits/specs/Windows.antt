@@ -1,5 +1,5 @@
 -- The next bits of a list as a number, and the numbers that are read from it.
-use Rattle.std.specs.Prelude.{ℕ, ◌≡◌, ◌-◌, ◌^◌, ◌<◌, ◌≤◌, Bool, false, List, ◌++◌, length, take, drop, replicate}
+use Rattle.std.specs.Prelude.{ℕ, zero, suc, ◌≡◌, ◌-◌, ◌*◌, ◌/◌, ◌%◌, ◌^◌, ◌<◌, ◌≤◌, Bool, false, List, [], ◌∷◌, ◌++◌, length, take, drop, replicate}
 use Rattle.std.specs.List.{flat_map}
 use Rattle.aec_params.specs.Codewords.{fs, binary}
 use Rattle.aec_bits.specs.BitReader.{AreBelow}
@@ -25,3 +25,14 @@ pub record StandsBehind (list : List Bool) (place : ℕ) (numbers : List ℕ) (w
   pub window : IsWindow list word left end
   pub fits : word < 2 ^ left
   pub read : StandsBefore fs 64 numbers (drop (end - left) list) (drop place list)
+
+-- n numbers of w bits each, from the topmost of the lowest bits of a word on
+abbrev pub numbers_of_word : ℕ → ℕ → ℕ → ℕ → List ℕ
+numbers_of_word w zero left word = []
+numbers_of_word w (suc n) left word = (word / 2 ^ (left - w) % 2 ^ w) ∷ numbers_of_word w n (left - w) word
+
+-- the topmost w of 32 bits, once powers moved them there
+abbrev pub moved_to_top : ℕ → List ℕ → List ℕ → List ℕ
+moved_to_top w [] powers = []
+moved_to_top w (x ∷ xs) [] = []
+moved_to_top w (x ∷ xs) (p ∷ ps) = (x * p % 2 ^ 32 / 2 ^ (32 - w)) ∷ moved_to_top w xs ps

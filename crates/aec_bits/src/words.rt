@@ -88,9 +88,10 @@ pub(crate) fn padded_word_at(words: &[u64], start: u64) -> u64
 {
     let place = (start / 64) as usize;
     let at = (start % 64) as u32;
-    let first = word_or_zero(words, place);
-    let second = word_or_zero(words, place + 1);
-    (first << at) | (second >> 1 >> (63 - at))
+    if place + 1 < words.len() {
+        return (words[place] << at) | (words[place + 1] >> 1 >> (63 - at));
+    }
+    word_or_zero(words, place) << at
 }
 
 /// A word of which `width` bits from place `at` on were overwritten by a number.

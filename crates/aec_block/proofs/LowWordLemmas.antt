@@ -1,12 +1,20 @@
 -- The low bits of several values as one number.
-use Rattle.std.proofs.Common.{◌≡◌, ℕ, Fits, w64, ◌+◌, ◌*◌, ◌/◌, ◌%◌, ◌^◌, ◌<◌, ◌≤◌, ◌∷◌, ◌++◌, [], ap, ◌∙◌, sym, subst, refl, arith, Bool, List, length, take, drop, ◌-◌, get_or, append-nil, mod-lt}
+use Rattle.std.proofs.Common.{◌≡◌, ℕ, Fits, w64, ◌+◌, ◌*◌, ◌/◌, ◌%◌, ◌^◌, ◌<◌, ◌≤◌, ◌∷◌, ◌++◌, [], ap, ◌∙◌, sym, subst, refl, arith, ap₂, pow_mono, map, Bool, List, length, take, drop, ◌-◌, get_or, append-nil, mod-lt}
 use Rattle.std.proofs.lemmas.List.{take_more, take-append-drop, length-take-le, length-drop, drop-drop}
 use Rattle.std.proofs.lemmas.Grind.{flat_map-append}
-use Rattle.std.proofs.lemmas.Nat.{one_shl, pow_pos, mul-le}
+use Rattle.std.proofs.lemmas.Nat.{one_shl, pow_pos, mul-le, and_mask, shl_whole}
 use Rattle.std.proofs.Math.Facts.{Fits-of_lt}
 use Rattle.std.proofs.Math.Nat.{div-mul-le_self}
+use Rattle.std.specs.List.{AllByRecursion, flat_map}
+use Rattle.std.specs.Simd.Lanes.{zip2}
+use Rattle.std.specs.Prelude.{replicate, bit_and}
+use Rattle.std.proofs.lemmas.List.{take_all}
+use mir.Syntax.{w32}
+use mir.Syntax.{bit_and as and_op}
+use borrow.Rule.Simd.Lanes.{act2}
+use borrow.Table.Row.{s_int}
 use Rattle.aec_params.specs.Codewords.{binary}
-use Rattle.aec_block.specs.Written.{low_parts}
+use Rattle.aec_block.specs.Written.{low_parts, Spells}
 use Rattle.aec_block.proofs.GatheredLemmas.{IsJoined, is_joined_number}
 
 pub low-divisor : (width : ℕ) → width ≤ 32 → 1 * 2 ^ width % 2 ^ 64 ≡ 2 ^ width
@@ -67,3 +75,96 @@ low_parts-group width n i values word before is =
     ap (low_parts width) (sym (take-append-drop n here)) ∙ flat_map-append (λ (v : ℕ). binary width (v % 2 ^ width)) (take n here) (drop n here)
     ∙ ap (λ (bits : List Bool). bits ++ low_parts width (drop n here)) (sym spelled ∙ ap (λ m. binary (m * width) word) count)
     ∙ ap (λ (rest : List ℕ). binary (n * width) word ++ low_parts width rest) behind
+
+-- ---- eight at once
+
+-- two numbers of n bits each, joined as one of m
+joined_value : (n m x y : ℕ) → n + n ≡ m → m ≤ 32 → x < 2 ^ n → y < 2 ^ n → (x * 2 ^ n % 4294967296 + y) % 4294967296 ≡ x * 2 ^ n % 2 ^ 64 + y
+joined_value n m x y sum short high low =
+    let narrow : x * 2 ^ n % 2 ^ 32 ≡ x * 2 ^ n = shl_whole x n n 32 high (omega (arith, sum, short)) in
+    let wide : x * 2 ^ n % 2 ^ 64 ≡ x * 2 ^ n = shl_whole x n n 64 high (omega (arith, sum, short)) in
+    let next = is_joined_number n n x y (omega (arith, sum, short)) high low in
+    let most : 2 ^ (n + n) ≤ 2 ^ 32 = pow_mono {i = n + n} {j = 32} (omega (arith, sum, short)) in
+    omega (arith, narrow, wide, next.below, most)
+
+join_word : (k n m : ℕ) (vs us : List ℕ) (x y : ℕ) → n + n ≡ m → m ≤ 64 → Spells k n vs x → Spells k n us y → Spells k m (vs ++ us) (x * 2 ^ n % 2 ^ 64 + y)
+join_word k n m vs us x y sum short first second =
+    let next = is_joined_number n n x y (omega (arith, sum, short)) first.below second.below in
+    let value : ℕ = x * 2 ^ n % 2 ^ 64 + y in
+    record {
+      below = subst (λ (b : ℕ). value < 2 ^ b) sum next.below;
+      bits = ap (λ (b : ℕ). binary b value) (sym sum) ∙ next.bits ∙ ap₂ ◌++◌ first.bits second.bits ∙ sym (flat_map-append (binary k) vs us);
+    }
+
+join_lane : (k n m : ℕ) (vs us : List ℕ) (x y : ℕ) → n + n ≡ m → m ≤ 32 → Spells k n vs x → Spells k n us y
+    → Spells k m (vs ++ us) ((x * 2 ^ n % 4294967296 + y) % 4294967296)
+join_lane k n m vs us x y sum short first second =
+    subst (Spells k m (vs ++ us)) (sym (joined_value n m x y sum short first.below second.below))
+    (join_word k n m vs us x y sum (omega (arith, short)) first second)
+
+one_spells : (k v : ℕ) → v < 2 ^ k → Spells k k (v ∷ []) v
+one_spells k v small = record { below = small; bits = sym (append-nil (binary k v)) }
+
+abbrev two_of : ℕ → ℕ → ℕ → ℕ
+two_of n x y = (x * 2 ^ n % 4294967296 + y) % 4294967296
+
+pub eight_spell : (k : ℕ) (xs : List ℕ) (high low : ℕ) → k ≤ 7 → length xs ≡ 8 → AllByRecursion (λ v. v < 2 ^ k) xs
+    → high ≡ two_of (2 * k) (two_of k (get_or (xs ++ xs) 0 0) (get_or (xs ++ xs) 1 0)) (two_of k (get_or (xs ++ xs) 2 0) (get_or (xs ++ xs) 3 0))
+    → low ≡ two_of (2 * k) (two_of k (get_or (xs ++ xs) 4 0) (get_or (xs ++ xs) 5 0)) (two_of k (get_or (xs ++ xs) 6 0) (get_or (xs ++ xs) 7 0))
+    → Spells k (8 * k) xs (high * 2 ^ (4 * k) % 2 ^ 64 + low)
+eight_spell k (a ∷ b ∷ c ∷ d ∷ e ∷ f ∷ g ∷ h ∷ []) high low few long all high_is low_is =
+    let first = join_lane k k (2 * k) (a ∷ []) (b ∷ []) a b (omega arith) (omega arith) (one_spells k a all.0) (one_spells k b all.1.0) in
+    let second = join_lane k k (2 * k) (c ∷ []) (d ∷ []) c d (omega arith) (omega arith) (one_spells k c all.1.1.0) (one_spells k d all.1.1.1.0) in
+    let third = join_lane k k (2 * k) (e ∷ []) (f ∷ []) e f (omega arith) (omega arith) (one_spells k e all.1.1.1.1.0) (one_spells k f all.1.1.1.1.1.0) in
+    let fourth = join_lane k k (2 * k) (g ∷ []) (h ∷ []) g h (omega arith) (omega arith) (one_spells k g all.1.1.1.1.1.1.0) (one_spells k h all.1.1.1.1.1.1.1.0) in
+    let front : Spells k (4 * k) (a ∷ b ∷ c ∷ d ∷ []) high = subst (Spells k (4 * k) (a ∷ b ∷ c ∷ d ∷ [])) (sym high_is)
+    (join_lane k (2 * k) (4 * k) (a ∷ b ∷ []) (c ∷ d ∷ []) _ _ (omega arith) (omega arith) first second) in
+    let back : Spells k (4 * k) (e ∷ f ∷ g ∷ h ∷ []) low = subst (Spells k (4 * k) (e ∷ f ∷ g ∷ h ∷ [])) (sym low_is)
+    (join_lane k (2 * k) (4 * k) (e ∷ f ∷ []) (g ∷ h ∷ []) _ _ (omega arith) (omega arith) third fourth) in
+    join_word k (4 * k) (8 * k) (a ∷ b ∷ c ∷ d ∷ []) (e ∷ f ∷ g ∷ h ∷ []) high low (omega arith) (omega arith) front back
+eight_spell k [] high low few long all high_is low_is = absurd (omega arith)
+eight_spell k (a ∷ []) high low few long all high_is low_is = absurd (omega arith)
+eight_spell k (a ∷ b ∷ []) high low few long all high_is low_is = absurd (omega arith)
+eight_spell k (a ∷ b ∷ c ∷ []) high low few long all high_is low_is = absurd (omega arith)
+eight_spell k (a ∷ b ∷ c ∷ d ∷ []) high low few long all high_is low_is = absurd (omega arith)
+eight_spell k (a ∷ b ∷ c ∷ d ∷ e ∷ []) high low few long all high_is low_is = absurd (omega arith)
+eight_spell k (a ∷ b ∷ c ∷ d ∷ e ∷ f ∷ []) high low few long all high_is low_is = absurd (omega arith)
+eight_spell k (a ∷ b ∷ c ∷ d ∷ e ∷ f ∷ g ∷ []) high low few long all high_is low_is = absurd (omega arith)
+eight_spell k (a ∷ b ∷ c ∷ d ∷ e ∷ f ∷ g ∷ h ∷ i ∷ more) high low few long all high_is low_is = absurd (omega arith)
+
+pub spelled_fits : (k : ℕ) (xs : List ℕ) (number : ℕ) → k ≤ 7 → Spells k (8 * k) xs number → Fits w64 number
+spelled_fits k xs number few spelled =
+    let most : 2 ^ (8 * k) ≤ 2 ^ 64 = pow_mono {i = 8 * k} {j = 64} (omega (arith, few)) in
+    Fits-of_lt (omega (arith, most, spelled.below))
+
+masked : (k mask : ℕ) (xs : List ℕ) → mask ≡ 2 ^ k - 1
+    → zip2 (act2 and_op (s_int w32) (s_int w32) (s_int w32)) xs (replicate (length xs) mask) ≡ map (λ v. v % 2 ^ k) xs
+masked k mask [] is = refl
+masked k mask (x ∷ xs) is = ap₂ ◌∷◌ (ap (bit_and x) is ∙ and_mask x k) (masked k mask xs is)
+
+pub masked_eight : (k : ℕ) (xs : List ℕ) → k < 32 → length xs ≡ 8
+    → zip2 (act2 and_op (s_int w32) (s_int w32) (s_int w32)) (take 8 xs) (replicate 8 (1 * 2 ^ k % 4294967296 - 1)) ≡ map (λ v. v % 2 ^ k) xs
+masked_eight k xs few long =
+    let mask : ℕ = 1 * 2 ^ k % 4294967296 - 1 in
+    ap (λ (l : List ℕ). zip2 (act2 and_op (s_int w32) (s_int w32) (s_int w32)) l (replicate 8 mask)) (take_all 8 xs (omega arith))
+    ∙ ap (λ (n : ℕ). zip2 (act2 and_op (s_int w32) (s_int w32) (s_int w32)) xs (replicate n mask)) (sym long)
+    ∙ masked k mask xs (ap (λ (n : ℕ). n - 1) (one_shl k 32 (omega arith)))
+
+lows_small : (k : ℕ) (xs : List ℕ) → AllByRecursion (λ v. v < 2 ^ k) (map (λ v. v % 2 ^ k) xs)
+lows_small k [] = tt
+lows_small k (x ∷ xs) = (mod-lt x (pow_pos k), lows_small k xs)
+
+pub lows_below : (k : ℕ) (xs lows : List ℕ) → lows ≡ map (λ v. v % 2 ^ k) xs → AllByRecursion (λ v. v < 2 ^ k) lows
+lows_below k xs lows is = subst (AllByRecursion (λ v. v < 2 ^ k)) (sym is) (lows_small k xs)
+
+lows_spell : (k : ℕ) (xs : List ℕ) → flat_map (binary k) (map (λ v. v % 2 ^ k) xs) ≡ low_parts k xs
+lows_spell k [] = refl
+lows_spell k (x ∷ xs) = ap (λ l. binary k (x % 2 ^ k) ++ l) (lows_spell k xs)
+
+pub eight_low_word : (k n : ℕ) (xs lows : List ℕ) (number : ℕ) → n ≡ 8 → lows ≡ map (λ v. v % 2 ^ k) xs → Spells k (8 * k) lows number
+    → (number < 2 ^ (n * k)) × (binary (n * k) number ≡ low_parts k xs)
+eight_low_word k n xs lows number count is spelled =
+    let e : 8 * k ≡ n * k = ap (λ m. m * k) (sym count) in (
+      subst (λ m. number < 2 ^ m) e spelled.below,
+      ap (λ m. binary m number) (sym e) ∙ spelled.bits ∙ ap (flat_map (binary k)) is ∙ lows_spell k xs,
+    )

@@ -1,14 +1,13 @@
 -- Values that are near: where their differences lead, what a bound for all of them shows, and that
 -- a near value is that of its offset.
-use Rattle.std.proofs.Common.{◌≡◌, ℕ, suc, ◌+◌, ◌-◌, ◌*◌, ◌/◌, ◌%◌, ◌<◌, ◌≤◌, List, [], ◌∷◌, ◌++◌, length, map, take, drop, get_or, arith, subst, sym, ap, ◌∙◌, refl, drop-cons, add-one}
+use Rattle.std.proofs.Common.{◌≡◌, ℕ, suc, ◌+◌, ◌-◌, ◌*◌, ◌%◌, ◌<◌, ◌≤◌, List, [], ◌∷◌, ◌++◌, length, map, take, drop, get_or, arith, subst, sym, ap, ◌∙◌, refl, drop-cons, add-one}
 use Rattle.std.proofs.Math.Seq.{take-add}
-use Rattle.std.proofs.Math.Nat.{suc-mul}
-use Rattle.std.proofs.lemmas.List.{get_or-map}
+use Rattle.std.proofs.lemmas.List.{get_or-map, get_or-drop, drop-drop, length-map}
 use Rattle.std.proofs.lemmas.Bool.Decides.{nat_tests}
 use Rattle.aec_params.specs.declared.settings.Settings.{Settings}
 use Rattle.aec_params.specs.Params.{IsAllowed}
 use Rattle.aec_params.proofs.ParamsLemmas.{values-most}
-use Rattle.aec_block.specs.Offsets.{top_offset, offset_room, near_offset, near_difference, mapped_offset, AreNear}
+use Rattle.aec_block.specs.Offsets.{top_offset, offset_room, near_offset, near_difference, mapped_offset, places_before, places_after, AreNear}
 use Rattle.aec_block.proofs.MappingLemmas.{values-some}
 
 -- where a difference leads, modulo 2^32
@@ -28,28 +27,44 @@ AreNear-next top p values i within near =
     let cut : drop i values ≡ get_or values i 0 ∷ drop (i + 1) values = rw (add-one, drop-cons values i 0 within) refl in
     subst (AreNear top p) cut near
 
--- no value below b leads further than half of b
-room-left : (top p m b rest : ℕ) → p ≤ top → m < b → b + rest ≤ 2 * offset_room top p → rest ≤ 2 * offset_room top (near_offset p m)
-room-left top p m b rest within below room = grind (arith, nat_tests)
-
--- values below b are near where each has half of b left
-pub AreNear-below : (top p b : ℕ) (values : List ℕ) → p ≤ top → ((i : ℕ) → i < length values → get_or values i 0 < b)
-    → length values * b ≤ 2 * offset_room top p → AreNear top p values
-AreNear-below top p b [] within below room = tt
-AreNear-below top p b (m ∷ values) within below room =
-    let first : m < b = below 0 (omega arith) in
-    let shared : b + length values * b ≤ 2 * offset_room top p = omega (arith, room, suc-mul (length values) b) in
-    let near : m ≤ 2 * offset_room top p = omega (arith, first, shared) in (
+-- values are near where each is at its place, as far as that is an offset
+pub AreNear-at_places : (top p : ℕ) (values : List ℕ) → top < 4294967296 → p ≤ top
+    → ((i : ℕ) → i < length values → get_or (places_before p (map near_difference values)) i 0 ≤ top
+    → get_or values i 0 ≤ 2 * offset_room top (get_or (places_before p (map near_difference values)) i 0))
+    → AreNear top p values
+AreNear-at_places top p [] small within each = tt
+AreNear-at_places top p (m ∷ values) small within each =
+    let near : m ≤ 2 * offset_room top p = each 0 (omega arith) within in
+    let next : (p + near_difference m) % 4294967296 ≡ near_offset p m = near_offset-difference top p m (near_difference m) small within near refl in
+    let below : (p + near_difference m) % 4294967296 ≤ top = subst (λ (q : ℕ). q ≤ top) (sym next) (near_offset-le top p m within near) in (
       near,
-      AreNear-below top (near_offset p m) b values (near_offset-le top p m within near) (λ i later. below (suc i) (omega (arith, later)))
-          (room-left top p m b (length values * b) within first shared),
+      subst (λ (q : ℕ). AreNear top q values) next
+          (AreNear-at_places top ((p + near_difference m) % 4294967296) values small below (λ i later. each (suc i) (omega (arith, later)))),
     )
 
-pub AreNear-eight : (top p b : ℕ) (values : List ℕ) → p ≤ top → length values ≡ 8 → ((i : ℕ) → i < 8 → get_or values i 0 < b) → b ≡ offset_room top p / 4
-    → AreNear top p values
-AreNear-eight top p b values within long below is =
-    let enough : 8 * b ≤ 2 * offset_room top p = omega (arith, is) in
-    AreNear-below top p b values within (λ i lt. below i (omega (arith, lt, long))) (subst (λ (n : ℕ). n * b ≤ 2 * offset_room top p) (sym long) enough)
+-- where the differences from one on lead
+pub places_after-next : (p : ℕ) (ds all : List ℕ) (i : ℕ) → i < length ds → drop i all ≡ places_after p (drop i ds)
+    → (get_or all i 0 ≡ (p + get_or ds i 0) % 4294967296) × (drop (i + 1) all ≡ places_after (get_or all i 0) (drop (i + 1) ds))
+places_after-next p ds all i within is =
+    let cut : drop i ds ≡ get_or ds i 0 ∷ drop (i + 1) ds = rw (add-one, drop-cons ds i 0 within) refl in
+    let now : drop i all ≡ ((p + get_or ds i 0) % 4294967296) ∷ places_after ((p + get_or ds i 0) % 4294967296) (drop (i + 1) ds) = is ∙ ap (places_after p) cut in
+    let first : get_or all i 0 ≡ (p + get_or ds i 0) % 4294967296 =
+    sym (ap (λ (n : ℕ). get_or all n 0) (omega arith)) ∙ sym (get_or-drop i all 0 0) ∙ ap (λ (xs : List ℕ). get_or xs 0 0) now in (
+      first,
+      sym (drop-drop 1 i all) ∙ ap (drop 1) now ∙ ap (λ (q : ℕ). places_after q (drop (i + 1) ds)) (sym first),
+    )
+
+-- eight values of which each is near at its place
+pub AreNear-eight : (s : Settings) (p top : ℕ) (values before differences : List ℕ) → IsAllowed s → top ≡ top_offset s → p ≤ top_offset s → length values ≡ 8
+    → differences ≡ map near_difference values → before ≡ places_before p differences
+    → ((i : ℕ) → i < 8 → get_or before i 0 ≤ top → get_or values i 0 ≤ 2 * offset_room top (get_or before i 0))
+    → AreNear (top_offset s) p values
+AreNear-eight s p top values before differences allowed is within long all places each =
+    let small : top < 4294967296 = omega (arith, values-most s allowed, values-some s, is) in
+    let at : before ≡ places_before p (map near_difference values) = places ∙ ap (places_before p) all in
+    subst (λ (t : ℕ). AreNear t p values) is
+    (AreNear-at_places top p values small (omega (arith, is, within))
+    (λ i here. subst (λ (xs : List ℕ). get_or xs i 0 ≤ top → get_or values i 0 ≤ 2 * offset_room top (get_or xs i 0)) at (each i (omega (arith, here, long)))))
 
 -- one near value more in a loop over offsets
 near-step : (s : Settings) (values : List ℕ) (i place next : ℕ) → IsAllowed s → i < length values → place ≤ top_offset s
@@ -69,18 +84,21 @@ near-step s values i place next allowed here within led near =
       subst (λ (n : ℕ). AreNear (top_offset s) n (drop (i + 1) values)) (sym is) parts.1,
     )
 
--- the same where the difference comes from a list of those of all values
-pub near_difference-step : (s : Settings) (values differences : List ℕ) (i place next : ℕ) → IsAllowed s → i < length values → place ≤ top_offset s
-    → differences ≡ map near_difference values
-    → ((top value : ℕ) → top < 4294967296 → place ≤ top → value ≤ 2 * offset_room top place → get_or differences i 0 ≡ near_difference value
-    → next ≡ near_offset place value)
+-- the same where it is the next of the places to which the differences lead
+pub near_place-step : (s : Settings) (values places : List ℕ) (i place : ℕ) → IsAllowed s → i < length values → place ≤ top_offset s
+    → drop i places ≡ places_after place (drop i (map near_difference values))
     → AreNear (top_offset s) place (drop i values)
-    → (next ≤ top_offset s) × (next < 4294967296) × (mapped_offset (top_offset s) place next ≡ get_or values i 0)
-    × AreNear (top_offset s) next (drop (i + 1) values)
-near_difference-step s values differences i place next allowed here within all led near =
-    let is : get_or differences i 0 ≡ near_difference (get_or values i 0) =
-    ap (λ (ds : List ℕ). get_or ds i 0) all ∙ get_or-map near_difference values i 0 0 here in
-    near-step s values i place next allowed here within (λ top small inside room. led top (get_or values i 0) small inside room is) near
+    → ((get_or places i 0 ≤ top_offset s) × (get_or places i 0 < 4294967296)
+    × (mapped_offset (top_offset s) place (get_or places i 0) ≡ get_or values i 0)
+    × AreNear (top_offset s) (get_or places i 0) (drop (i + 1) values))
+    × (drop (i + 1) places ≡ places_after (get_or places i 0) (drop (i + 1) (map near_difference values)))
+near_place-step s values places i place allowed here within all near =
+    let more = places_after-next place (map near_difference values) places i (omega (arith, here, length-map values near_difference)) all in
+    let is : get_or (map near_difference values) i 0 ≡ near_difference (get_or values i 0) = get_or-map near_difference values i 0 0 here in (
+      near-step s values i place (get_or places i 0) allowed here within
+          (λ top small inside room. more.0 ∙ near_offset-difference top place (get_or values i 0) _ small inside room is) near,
+      more.1,
+    )
 
 -- eight values more
 pub take-eight : (values : List ℕ) (i : ℕ) → take (8 * i) values ++ take (8 * i + 8 - 8 * i) (drop (8 * i) values) ≡ take (8 * (i + 1)) values

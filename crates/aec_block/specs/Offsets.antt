@@ -42,3 +42,13 @@ near_difference m = if m % 2 == 0 then m / 2 else 2 ^ 32 - (m / 2 + 1)
 abbrev pub AreNear : ℕ → ℕ → List ℕ → Type 0
 AreNear top p [] = ⊤
 AreNear top p (m ∷ ms) = (m ≤ 2 * offset_room top p) × AreNear top (near_offset p m) ms
+
+-- from where differences lead that follow each other, the first from p on, modulo 2^32
+abbrev pub places_before : ℕ → List ℕ → List ℕ
+places_before p [] = []
+places_before p (d ∷ ds) = p ∷ places_before ((p + d) % 2 ^ 32) ds
+
+-- and where each leads
+abbrev pub places_after : ℕ → List ℕ → List ℕ
+places_after p [] = []
+places_after p (d ∷ ds) = ((p + d) % 2 ^ 32) ∷ places_after ((p + d) % 2 ^ 32) ds

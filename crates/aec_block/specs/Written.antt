@@ -18,6 +18,11 @@ high_parts k values = flat_map (λ v. fs (v / 2 ^ k)) values
 abbrev pub low_parts : ℕ → List ℕ → List Bool
 low_parts k values = flat_map (λ v. binary k (v % 2 ^ k)) values
 
+-- a number that n bits spell, which are those of values of k bits each
+pub record Spells (k n : ℕ) (values : List ℕ) (number : ℕ) : Type 0 where
+  pub below : number < 2 ^ n
+  pub bits : binary n number ≡ flat_map (binary k) values
+
 abbrev pub split_parts : ℕ → List ℕ → List Bool
 split_parts k values = high_parts k values ++ low_parts k values
 

@@ -1,12 +1,13 @@
 //! Several codewords read at once, from a word that holds the next bits.
 
-ghost use Rattle.std.specs.Prelude.{◌≡◌, ◌+◌, ◌-◌, ◌*◌, ◌/◌, ◌<◌, ◌≤◌, ◌^◌, ◌++◌, nat_le, false, length, take, drop, count_ones, MatchOption};
+ghost use Rattle.std.specs.Prelude.{◌≡◌, ◌+◌, ◌-◌, ◌*◌, ◌/◌, ◌<◌, ◌≤◌, ◌^◌, ◌++◌, ◌%◌, ◌∷◌, [], nat_le, false, length, take, drop, count_ones, MatchOption};
 ghost use Rattle.aec_params.specs.Codewords.{fs, binary};
 ghost use Rattle.aec_bits.specs.BitReader.{has_one, StopsBefore};
 ghost use Rattle.aec_bits.specs.WordBits.{word_bits};
-ghost use Rattle.aec_bits.specs.Windows.{IsWindow, StandsBefore, StandsBehind};
+ghost use Rattle.aec_bits.specs.Windows.{IsWindow, StandsBefore, StandsBehind, moved_to_top, numbers_of_word};
 
 use crate::bit_buf::BitBuf;
+use std::simd::prelude::*;
 
 /// The next bits of a list: the lowest `left` bits of a word, which stand before place `end`.
 #[derive(Clone, Copy)]
@@ -66,7 +67,7 @@ fn top_one(word: u64) -> u32
     ensures most { word < 2 ^ (result + 1) }
     ensures small { result < 64 }
 {
-    63 - (word | 1).leading_zeros()
+    word.leading_zeros() ^ 63
 }
 
 /// The number of the fundamental sequence that begins a window, and what is left behind it.
@@ -230,9 +231,79 @@ fn next_number(window: Window, width: u32) -> (u32, Window)
     ((window.word.wrapping_shr(left) & mask) as u32, rest)
 }
 
-/// Puts the numbers that `width` bits each of a word spell, from its first bit on, into `numbers`.
+/// What moves the second to the fourth of four numbers at a word's top there, by their width.
+static POWERS: [[u32; 4]; 9] = [
+    [1, 1, 1, 1],
+    [1, 2, 4, 8],
+    [1, 4, 16, 64],
+    [1, 8, 64, 512],
+    [1, 16, 256, 4096],
+    [1, 32, 1024, 32768],
+    [1, 64, 4096, 262144],
+    [1, 128, 16384, 2097152],
+    [1, 256, 65536, 16777216],
+];
+
+/// The row of a width.
 #[inline(always)]
-fn numbers_within(word: u64, width: u32, numbers: &mut [u32])
+fn powers_of(width: u32) -> [u32; 4]
+    requires { width ≤ 8 }
+    ensures { result ≡ 1 ∷ 2 ^ width ∷ 2 ^ (2 * width) ∷ 2 ^ (3 * width) ∷ [] }
+{
+    POWERS[width as usize]
+}
+
+/// The 32 bits of a word from place `at` on.
+#[inline(always)]
+fn half_from(word: u64, at: u32) -> u32
+    requires { at < 64 }
+    ensures { result ≡ word * 2 ^ at % 2 ^ 64 / 2 ^ 32 }
+{
+    ((word << at) >> 32) as u32
+}
+
+/// The numbers of so many bits that stand at the top of four lanes, once powers moved them there.
+#[inline(always)]
+fn top_numbers(halves: &[u32; 4], powers: &[u32; 4], width: u32) -> [u32; 4]
+    requires { width < 32 }
+    ensures { result ≡ moved_to_top width halves.now powers.now }
+{
+    let lanes = u32x4::from_array(*halves) * u32x4::from_array(*powers);
+    ((lanes >> u32x4::splat(1)) >> u32x4::splat(31 - width)).to_array()
+}
+
+/// The eight numbers of so many bits at the top of a word.
+#[inline(always)]
+fn eight_numbers(word: u64, width: u32) -> [u32; 8]
+    requires { width ≤ 8 }
+    ensures { result ≡ numbers_of_word width 8 64 word }
+{
+    let powers = powers_of(width);
+    let half = half_from(word, 0);
+    let first = top_numbers(&[half, half, half, half], &powers, width);
+    let next = half_from(word, 4 * width);
+    let second = top_numbers(&[next, next, next, next], &powers, width);
+    [
+        first[0], first[1], first[2], first[3], second[0], second[1], second[2], second[3],
+    ]
+}
+
+/// The four numbers of so many bits at the top of a word.
+#[inline(always)]
+fn four_numbers(word: u64, width: u32) -> [u32; 4]
+    requires { width ≤ 16 }
+    ensures { result ≡ numbers_of_word width 4 64 word }
+{
+    let power = 1 << width;
+    let half = half_from(word, 0);
+    let next = half_from(word, 2 * width);
+    top_numbers(&[half, half, next, next], &[1, power, 1, power], width)
+}
+
+/// Puts the numbers that `width` bits each of a word spell, from its first bit on, into `numbers`,
+/// one by one.
+#[inline(always)]
+fn any_numbers_within(word: u64, width: u32, numbers: &mut [u32])
     requires width { width ≤ 32 }
     requires there { width * length numbers.old ≤ 64 }
     ensures stand { StandsBefore (binary width) (2 ^ width) numbers.new
@@ -248,6 +319,24 @@ fn numbers_within(word: u64, width: u32, numbers: &mut [u32])
         let (value, rest) = next_number(window, width);
         numbers[i] = value;
         window = rest;
+    }
+}
+
+/// The same: eight or four at once.
+#[inline(always)]
+fn numbers_within(word: u64, width: u32, numbers: &mut [u32])
+    requires width { width ≤ 32 }
+    requires there { width * length numbers.old ≤ 64 }
+    ensures stand { StandsBefore (binary width) (2 ^ width) numbers.new
+        (binary (64 - width * length numbers.old) word) (word_bits word) }
+    ensures len { length numbers.new ≡ length numbers.old }
+{
+    if numbers.len() == 8 {
+        numbers.copy_from_slice(&eight_numbers(word, width));
+    } else if numbers.len() == 4 {
+        numbers.copy_from_slice(&four_numbers(word, width));
+    } else {
+        any_numbers_within(word, width, numbers);
     }
 }
 

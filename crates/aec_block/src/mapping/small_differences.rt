@@ -1,36 +1,14 @@
 //! Values taken back to samples eight at a time, where all of them stand for differences within the
-//! room on both sides of their prediction: there a difference is known from its value alone.
+//! room on both sides of their prediction: there a difference is known from its value alone, and
+//! the differences added up, modulo 2^32, are the offsets, whose rooms then show whether it was so.
 
-ghost use Rattle.std.specs.Prelude.{◌≡◌, ◌+◌, ◌*◌, ◌/◌, ◌^◌, ◌<◌, ◌≤◌, ◌+ℤ◌, true, pos, ℕ, length, take, map as list_map, get_or, vec_len, vec_capacity};
+ghost use Rattle.std.specs.Prelude.{◌≡◌, ◌+◌, ◌-◌, ◌*◌, ◌/◌, ◌^◌, ◌<◌, ◌≤◌, ◌+ℤ◌, true, pos, ℕ, length, take, map as list_map, get_or, vec_len, vec_capacity};
 ghost use Rattle.std.specs.List.{AllByRecursion};
 ghost use Rattle.aec_params.specs.Params.{x_min};
-ghost use Rattle.aec_block.specs.Offsets.{top_offset, offset_room, near_offset, near_difference, AreNear};
+ghost use Rattle.aec_block.specs.Offsets.{top_offset, offset_room, near_difference, places_before, places_after};
 ghost use Rattle.aec_block.specs.Unmapping.{UnmapsTo};
 
 use std::simd::prelude::*;
-
-/// True only where eight values are all below a bound; false says nothing. No branch depends on a
-/// single one.
-#[inline(always)]
-fn are_below(values: &[u32], bound: u32) -> bool
-    requires { length values.now ≡ 8 }
-    ensures { result ≡ true → (i : ℕ) → i < 8 → get_or values.now i 0 < bound }
-{
-    u32x8::from_slice(values).simd_lt(u32x8::splat(bound)).all()
-}
-
-/// True only where eight values are near, each predicted from the one before it; false says
-/// nothing. None of them leads further than half of what they all stay below, so eight of these
-/// halves have to lie within the room of the first prediction.
-#[inline(always)]
-pub(crate) fn are_near(top: u32, offset: u32, values: &[u32]) -> bool
-    requires within { offset ≤ top }
-    requires len { length values.now ≡ 8 }
-    ensures { result ≡ true → AreNear top offset values.now }
-{
-    let room = offset.min(top - offset);
-    are_below(values, room / 4)
-}
 
 /// The differences for which eight near values are coded, modulo 2^32: half of an even value, and
 /// for an odd one that half without the value.
@@ -46,12 +24,68 @@ pub(crate) fn near_differences(values: &[u32]) -> [u32; 8]
     (halves - (all & (u32x8::splat(0) - odd))).to_array()
 }
 
-/// The offset that lies a near value's difference from another one.
+/// From where eight differences lead that follow each other, the first from an offset: modulo 2^32.
 #[inline(always)]
-pub(crate) fn near_place(offset: u32, difference: u32) -> u32
-    ensures near { (top value : ℕ) → top < 2 ^ 32 → offset ≤ top
-        → value ≤ 2 * offset_room top offset
-        → difference ≡ near_difference value → result ≡ near_offset offset value }
+pub(crate) fn running_places(offset: u32, differences: &[u32; 8]) -> [u32; 8]
+    ensures { result ≡ places_before offset differences.now }
 {
-    offset.wrapping_add(difference)
+    let none = u32x8::splat(0);
+    let steps = u32x8::from_array(*differences);
+    let one = u32x8::splat(offset).shuffle(steps, [0, 8, 9, 10, 11, 12, 13, 14]);
+    let two = one + none.shuffle(one, [0, 8, 9, 10, 11, 12, 13, 14]);
+    let four = two + none.shuffle(two, [0, 1, 8, 9, 10, 11, 12, 13]);
+    (four + none.shuffle(four, [0, 1, 2, 3, 8, 9, 10, 11])).to_array()
+}
+
+/// Where each of eight differences leads from its place: modulo 2^32.
+#[inline(always)]
+pub(crate) fn next_places(before: &[u32; 8], differences: &[u32; 8]) -> [u32; 8]
+    ensures { (p : ℕ) → before.now ≡ places_before p differences.now
+        → result ≡ places_after p differences.now }
+{
+    (u32x8::from_array(*before) + u32x8::from_array(*differences)).to_array()
+}
+
+/// What eight near values at least need of room on both sides.
+#[inline(always)]
+#[tactic(auto, using(crate::proofs::NearLaneLemmas::room_lanes))]
+fn needed_rooms(values: &[u32]) -> [u32; 8]
+    requires { length values.now ≡ 8 }
+    ensures { result ≡ list_map (λ v. v - v / 2) values.now }
+{
+    let all = u32x8::from_slice(values);
+    (all - (all >> u32x8::splat(1))).to_array()
+}
+
+/// The room on both sides of those of eight places that are offsets.
+#[inline(always)]
+fn rooms_at(top: u32, places: &[u32; 8]) -> [u32; 8]
+    ensures { (i : ℕ) → i < 8 → get_or places.now i 0 ≤ top
+        → get_or result i 0 ≡ offset_room top (get_or places.now i 0) }
+{
+    let below = u32x8::from_array(*places);
+    below.simd_min(u32x8::splat(top) - below).to_array()
+}
+
+/// True only where none of eight numbers is above its bound; false says nothing. No branch depends
+/// on a single one.
+#[inline(always)]
+fn are_within(numbers: &[u32; 8], bounds: &[u32; 8]) -> bool
+    ensures { result ≡ true → (i : ℕ) → i < 8
+        → get_or numbers.now i 0 ≤ get_or bounds.now i 0 }
+{
+    u32x8::from_array(*numbers)
+        .simd_le(u32x8::from_array(*bounds))
+        .all()
+}
+
+/// True only where each of eight values is near at its place, if that is an offset; false says
+/// nothing.
+#[inline(always)]
+pub(crate) fn are_near(top: u32, values: &[u32], before: &[u32; 8]) -> bool
+    requires len { length values.now ≡ 8 }
+    ensures { result ≡ true → (i : ℕ) → i < 8 → get_or before.now i 0 ≤ top
+        → get_or values.now i 0 ≤ 2 * offset_room top (get_or before.now i 0) }
+{
+    are_within(&needed_rooms(values), &rooms_at(top, before))
 }

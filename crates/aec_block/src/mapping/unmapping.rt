@@ -1,12 +1,12 @@
 //! Values taken back to the samples for which they are coded, put in the place of others.
 
-ghost use Rattle.std.specs.Prelude.{◌≡◌, ◌+◌, ◌*◌, ◌/◌, ◌<◌, ◌≤◌, ◌^◌, ◌+ℤ◌, ℤ, pos, true, false, [], length, take};
+ghost use Rattle.std.specs.Prelude.{◌≡◌, ◌+◌, ◌*◌, ◌/◌, ◌<◌, ◌≤◌, ◌^◌, ◌+ℤ◌, ℤ, pos, true, false, [], length, take, map as list_map};
 ghost use Rattle.std.specs.List.{AllByRecursion};
 ghost use Rattle.aec_params.specs.Params.{IsHeld, x_min};
-ghost use Rattle.aec_block.specs.Offsets.{top_offset, AreNear};
+ghost use Rattle.aec_block.specs.Offsets.{top_offset, near_difference, places_after, AreNear};
 ghost use Rattle.aec_block.specs.Unmapping.{Unmaps, UnmapsTo};
 
-use crate::mapping::small_differences::{are_near, near_differences, near_place};
+use crate::mapping::small_differences::{are_near, near_differences, next_places, running_places};
 use crate::mapping::{greatest_offset, offset_of, unmap_offset};
 use aec_params::Params;
 
@@ -32,14 +32,21 @@ fn put_each(params: &Params, offset: u32, values: &[u32], samples: &mut [i64]) -
     last
 }
 
-/// Puts the samples for which eight near values are coded into `samples`, and tells the offset of
-/// the last.
+/// Puts the samples for which eight near values are coded, and whose offsets are given, into
+/// `samples`, and tells the offset of the last.
 #[inline(always)]
-fn put_near(params: &Params, offset: u32, values: &[u32], samples: &mut [i64]) -> u32
+fn put_near(
+    params: &Params,
+    offset: u32,
+    values: &[u32],
+    places: &[u32; 8],
+    samples: &mut [i64],
+) -> u32
     requires on { params.now.preprocess ≡ true }
     requires within { offset ≤ top_offset params.now }
     requires near { AreNear (top_offset params.now) offset values.now }
     requires eight { length values.now ≡ 8 }
+    requires places { places.now ≡ places_after offset (list_map near_difference values.now) }
     requires len { length samples.old ≡ 8 }
     ensures within { result ≤ top_offset params.now }
     ensures items { UnmapsTo params.now (x_min params.now +ℤ pos offset)
@@ -47,10 +54,9 @@ fn put_near(params: &Params, offset: u32, values: &[u32], samples: &mut [i64]) -
     ensures len { length samples.new ≡ length samples.old }
 {
     let least = params.x_min();
-    let differences = near_differences(values);
     let mut place = offset;
     for i in 0..8 {
-        place = near_place(place, differences[i]);
+        place = places[i];
         samples[i] = least + i64::from(place);
     }
     place
@@ -70,8 +76,11 @@ fn put_eight(params: &Params, offset: u32, values: &[u32], samples: &mut [i64]) 
         (x_min params.now +ℤ pos result) values.now [] samples.new }
     ensures len { length samples.new ≡ length samples.old }
 {
-    if are_near(greatest_offset(params), offset, values) {
-        return put_near(params, offset, values, samples);
+    let differences = near_differences(values);
+    let before = running_places(offset, &differences);
+    if are_near(greatest_offset(params), values, &before) {
+        let places = next_places(&before, &differences);
+        return put_near(params, offset, values, &places, samples);
     }
     put_each(params, offset, values, samples)
 }

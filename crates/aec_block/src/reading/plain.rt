@@ -35,7 +35,11 @@ pub fn comes_plain(params: &Params, reader: &mut BitReader) -> bool
 /// Puts the values of the coded data set that comes next into `values`, if they are written one by
 /// one and all are at most the greatest that the width has. Else false, or a fault.
 #[inline(always)]
-fn fill_plain(params: &Params, reader: &mut BitReader, values: &mut [u32]) -> Result<bool, Fault>
+fn fill_plain<const N: usize>(
+    params: &Params,
+    reader: &mut BitReader,
+    values: &mut [u32],
+) -> Result<bool, Fault>
     requires within { reader.old.pos ≤ length reader.old.list }
     requires count { length values.old ≡ params.now.block_size }
     ensures none { IfOk result (λ plain. plain ≡ false
@@ -57,7 +61,7 @@ fn fill_plain(params: &Params, reader: &mut BitReader, values: &mut [u32]) -> Re
             read_block_numbers(reader, params.bits(), values)?;
             Ok(true)
         }
-        Kind::Split(k) => read_usual_split(params, reader, k, values),
+        Kind::Split(k) => read_usual_split::<N>(params, reader, k, values),
         _ => Ok(false),
     }
 }
@@ -65,10 +69,15 @@ fn fill_plain(params: &Params, reader: &mut BitReader, values: &mut [u32]) -> Re
 /// Reads the coded data set that begins at the reader's place as one without a reference sample and
 /// goes behind it, if it is plain and its values are at most the greatest that the width has: they
 /// stand in `values` then. Else false, and the reader is where it was; what stands in `values`
-/// isn't said. Takes no memory.
+/// isn't said. Takes no memory. Compiled into the place of the call for blocks of `N` values;
+/// others are read as well.
 #[inline(always)]
 #[tactic(auto, using(crate::proofs::NoPlainLemmas::none_stands))]
-pub fn read_plain(params: &Params, reader: &mut BitReader, values: &mut [u32]) -> bool
+pub fn read_plain<const N: usize>(
+    params: &Params,
+    reader: &mut BitReader,
+    values: &mut [u32],
+) -> bool
     requires { length values.old ≡ params.now.block_size }
     ensures read { result ≡ true
         → IsReadPlain params.now reader.old reader.new values.new }
@@ -84,7 +93,7 @@ pub fn read_plain(params: &Params, reader: &mut BitReader, values: &mut [u32]) -
     ensures list { reader.new.list ≡ reader.old.list }
 {
     let start = reader.pos();
-    match fill_plain(params, reader, values) {
+    match fill_plain::<N>(params, reader, values) {
         Ok(true) => true,
         Ok(false) => {
             reader.seek(start);

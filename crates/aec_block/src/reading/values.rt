@@ -187,8 +187,9 @@ fn join(values: &mut [u32], lows: &[u32], k: u32)
 
 /// Fills `values`, `M` at most, with the next values, split at bit `k`. Whether all are at most the
 /// greatest that the width has. Where `k` is at most the width, small high parts make small values.
+/// Each `COPY` has one caller: the compiler takes a large function into the place of its only call.
 #[inline(always)]
-fn read_split<const M: usize>(
+fn read_split<const M: usize, const COPY: usize>(
     params: &Params,
     reader: &mut BitReader,
     k: u32,
@@ -225,12 +226,12 @@ fn read_any_split(
     requires most { length values.old ≤ most_values }
     ensures { PutsSplit params.now k reader.old values.old result reader.new values.new }
 {
-    read_split::<MOST_VALUES>(params, reader, k, values)
+    read_split::<MOST_VALUES, 0>(params, reader, k, values)
 }
 
 /// The same of `N` values, compiled for that many into the place of the call.
 #[inline(always)]
-fn read_exact_split<const N: usize>(
+fn read_exact_split<const N: usize, const COPY: usize>(
     params: &Params,
     reader: &mut BitReader,
     k: u32,
@@ -242,7 +243,7 @@ fn read_exact_split<const N: usize>(
     requires count { length values.old ≡ N }
     ensures { PutsSplit params.now k reader.old values.old result reader.new values.new }
 {
-    read_split::<N>(params, reader, k, &mut values[..N])
+    read_split::<N, COPY>(params, reader, k, &mut values[..N])
 }
 
 /// The same, called.
@@ -259,7 +260,7 @@ fn read_known_split<const N: usize>(
     requires count { length values.old ≡ N }
     ensures { PutsSplit params.now k reader.old values.old result reader.new values.new }
 {
-    read_exact_split::<N>(params, reader, k, values)
+    read_exact_split::<N, 1>(params, reader, k, values)
 }
 
 /// The same of as many values as a block has, compiled for the usual numbers of them.
@@ -288,10 +289,9 @@ pub(crate) fn read_block_split(
     }
 }
 
-/// The same, compiled into the place of the call for the block sizes of the standard, and for the
-/// even ones that would else take much longer than the one below.
+/// The same, compiled into the place of the call where there are `N` values.
 #[inline(always)]
-pub(crate) fn read_usual_split(
+pub(crate) fn read_usual_split<const N: usize>(
     params: &Params,
     reader: &mut BitReader,
     k: u32,
@@ -302,18 +302,8 @@ pub(crate) fn read_usual_split(
     requires most { length values.old ≤ most_values }
     ensures { PutsSplit params.now k reader.old values.old result reader.new values.new }
 {
-    match values.len() {
-        8 => read_exact_split::<8>(params, reader, k, values),
-        10 => read_exact_split::<10>(params, reader, k, values),
-        12 => read_exact_split::<12>(params, reader, k, values),
-        14 => read_exact_split::<14>(params, reader, k, values),
-        16 => read_exact_split::<16>(params, reader, k, values),
-        18 => read_exact_split::<18>(params, reader, k, values),
-        20 => read_exact_split::<20>(params, reader, k, values),
-        22 => read_exact_split::<22>(params, reader, k, values),
-        24 => read_exact_split::<24>(params, reader, k, values),
-        32 => read_exact_split::<32>(params, reader, k, values),
-        64 => read_exact_split::<64>(params, reader, k, values),
-        _ => read_any_split(params, reader, k, values),
+    if values.len() == N {
+        return read_exact_split::<N, 2>(params, reader, k, values);
     }
+    read_any_split(params, reader, k, values)
 }

@@ -49,7 +49,7 @@ fn untested_end(params: &Params, wanted: Wanted, end: u64) -> u64
 /// Reads the block that comes next into `values`, if it is a plain one, and puts its samples behind
 /// the first `at`. Else false, and the reader is where it was.
 #[inline(always)]
-fn fill_plain_block(
+fn fill_plain_block<const N: usize>(
     params: &Params,
     reader: &mut BitReader,
     values: &mut [u32],
@@ -68,7 +68,7 @@ fn fill_plain_block(
 {
     // Called for its clause alone: the parameters are allowed.
     let _len = params.interval_len();
-    if !read_plain(params, reader, values) {
+    if !read_plain::<N>(params, reader, values) {
         return false;
     }
     let previous = previous_of(&samples[..at]);
@@ -80,7 +80,7 @@ fn fill_plain_block(
 /// Reads the blocks that come next, `most` of them, as long as they are plain ones, and puts their
 /// samples, `size` each, behind the first `from`. How many blocks were read.
 #[inline(always)]
-fn fill_plain_blocks(
+fn fill_plain_blocks<const N: usize>(
     params: &Params,
     reader: &mut BitReader,
     most: usize,
@@ -103,7 +103,7 @@ fn fill_plain_blocks(
     let mut count = 0;
     let mut at = from;
     while count < most {
-        if !fill_plain_block(&own, reader, &mut scratch[..size], samples, at) {
+        if !fill_plain_block::<N>(&own, reader, &mut scratch[..size], samples, at) {
             return count;
         }
         count += 1;
@@ -112,8 +112,28 @@ fn fill_plain_blocks(
     count
 }
 
-/// The same, compiled for the usual block sizes.
+/// The same of blocks of `N` samples, compiled for that size.
 #[inline(never)]
+fn fill_known_blocks<const N: usize>(
+    params: &Params,
+    reader: &mut BitReader,
+    most: usize,
+    samples: &mut [i64],
+    from: usize,
+) -> usize
+    requires held { AllByRecursion (IsHeld params.now) (take from samples.old) }
+    requires size { N ≡ params.now.block_size }
+    requires small { N ≤ most_values }
+    requires room { from + most * N ≤ length samples.old }
+    ensures reads { ReadsPlain params.now result reader.old (take from samples.old) reader.new
+        (take (from + result * N) samples.new) }
+    ensures within { result ≤ most }
+    ensures len { length samples.new ≡ length samples.old }
+{
+    fill_plain_blocks::<N>(params, reader, most, samples, from, N)
+}
+
+/// The same, compiled for the usual block sizes.
 fn fill_usual_blocks(
     params: &Params,
     reader: &mut BitReader,
@@ -129,18 +149,18 @@ fn fill_usual_blocks(
     ensures len { length samples.new ≡ length samples.old }
 {
     match params.block_size() {
-        8 => fill_plain_blocks(params, reader, most, samples, from, 8),
-        10 => fill_plain_blocks(params, reader, most, samples, from, 10),
-        12 => fill_plain_blocks(params, reader, most, samples, from, 12),
-        14 => fill_plain_blocks(params, reader, most, samples, from, 14),
-        16 => fill_plain_blocks(params, reader, most, samples, from, 16),
-        18 => fill_plain_blocks(params, reader, most, samples, from, 18),
-        20 => fill_plain_blocks(params, reader, most, samples, from, 20),
-        22 => fill_plain_blocks(params, reader, most, samples, from, 22),
-        24 => fill_plain_blocks(params, reader, most, samples, from, 24),
-        32 => fill_plain_blocks(params, reader, most, samples, from, 32),
-        64 => fill_plain_blocks(params, reader, most, samples, from, 64),
-        size => fill_plain_blocks(params, reader, most, samples, from, size as usize),
+        8 => fill_known_blocks::<8>(params, reader, most, samples, from),
+        10 => fill_known_blocks::<10>(params, reader, most, samples, from),
+        12 => fill_known_blocks::<12>(params, reader, most, samples, from),
+        14 => fill_known_blocks::<14>(params, reader, most, samples, from),
+        16 => fill_known_blocks::<16>(params, reader, most, samples, from),
+        18 => fill_known_blocks::<18>(params, reader, most, samples, from),
+        20 => fill_known_blocks::<20>(params, reader, most, samples, from),
+        22 => fill_known_blocks::<22>(params, reader, most, samples, from),
+        24 => fill_known_blocks::<24>(params, reader, most, samples, from),
+        32 => fill_known_blocks::<32>(params, reader, most, samples, from),
+        64 => fill_known_blocks::<64>(params, reader, most, samples, from),
+        size => fill_plain_blocks::<0>(params, reader, most, samples, from, size as usize),
     }
 }
 

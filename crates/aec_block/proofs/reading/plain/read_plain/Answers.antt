@@ -7,7 +7,7 @@ use Rattle.aec_block.proofs.StandingLemmas.{read_as}
 use Rattle.aec_block.proofs.reading.plain.read_plain.Goals as goal
 
 pub returns-in-Ok-true-clause-read : goal.returns-in-Ok-true-clause-read
-returns-in-Ok-true-clause-read c =
+returns-in-Ok-true-clause-read g c =
     let filled = c.in-Ok-true.ensures in
     λ same. plain-read c.args.params.now c.args.reader.now c.fill_plain.new.reader c.fill_plain.new.values filled.allowed
     (filled.plain c.in-Ok-true.field-0-test)
@@ -15,9 +15,9 @@ returns-in-Ok-true-clause-read c =
     c.pos-start.ensures.within filled.within filled.list (filled.taken c.in-Ok-true.field-0-test))
 
 pub returns-in-Ok-true-clause-below : goal.returns-in-Ok-true-clause-below
-returns-in-Ok-true-clause-below c =
-    λ same. plain-below c.args.params.now c.args.reader.now c.fill_plain.new.reader c.fill_plain.new.values (returns-in-Ok-true-clause-read c same)
+returns-in-Ok-true-clause-below g c =
+    λ same. plain-below c.args.params.now c.args.reader.now c.fill_plain.new.reader c.fill_plain.new.values (returns-in-Ok-true-clause-read g c same)
 
 pub returns-in-Ok-false-clause-refuses : goal.returns-in-Ok-false-clause-refuses
-returns-in-Ok-false-clause-refuses c =
+returns-in-Ok-false-clause-refuses g c =
     λ same. none_stands c.args.params.now c.args.reader.now c.in-Ok-false.ensures.allowed (c.in-Ok-false.ensures.none c.in-Ok-false.field-0-test)

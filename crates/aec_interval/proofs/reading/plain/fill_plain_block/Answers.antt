@@ -6,13 +6,13 @@ use Rattle.aec_interval.proofs.PlainLemmas.{one_plain}
 use Rattle.aec_interval.proofs.reading.plain.fill_plain_block.Goals as goal
 
 pub unmap_into-requires-clause-prediction : goal.unmap_into-requires-clause-prediction
-unmap_into-requires-clause-prediction c =
+unmap_into-requires-clause-prediction g c =
     let fits : FitsSigned w64 c.previous_of-previous.result = search (rules, c.previous_of-previous.type_inv) in
     subst (λ (x : ℤ). IsHeld c.args.params.now x) (sym (to_z-of_z w64 c.previous_of-previous.result fits ∙ c.previous_of-previous.ensures))
     (held-last_sample c.args.params.now (take c.args.at c.args.samples.now) c.interval_len-len.ensures.allowed c.requires.held)
 
 pub returns-clause-ok : goal.returns-clause-ok
-returns-clause-ok c =
+returns-clause-ok g c =
     let at = c.args.at in
     let k = at + length c.read_plain.new.values - at in
     let fits : FitsSigned w64 c.previous_of-previous.result = search (rules, c.previous_of-previous.type_inv) in

@@ -4,7 +4,7 @@ use Rattle.aec_interval.proofs.PlainLemmas.{none_read, one_block_more, one_more_
 use Rattle.aec_interval.proofs.reading.plain.fill_plain_blocks.Goals as goal
 
 pub loop-count-init : goal.loop-count-init
-loop-count-init c = record {
+loop-count-init g c = record {
   reads = none_read _ _ _ c.requires.held;
   within = search rules;
   place = search rules;
@@ -13,10 +13,10 @@ loop-count-init c = record {
 }
 
 pub fill_plain_block-requires-clause-held : goal.fill_plain_block-requires-clause-held
-fill_plain_block-requires-clause-held c = c.loop-count.invariant.reads.held
+fill_plain_block-requires-clause-held g c = c.loop-count.invariant.reads.held
 
 pub loop-count-preserved : goal.loop-count-preserved
-loop-count-preserved c =
+loop-count-preserved g c =
     let more = c.if-not-fill_plain_block.ensures in
     record {
       reads = one_more_read _ _ _ _ _ _ _ _ _ _ c.requires.size c.loop-count.invariant.reads (more.ok refl);

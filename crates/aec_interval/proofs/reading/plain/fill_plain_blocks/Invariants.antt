@@ -3,7 +3,7 @@ use Rattle.aec_interval.specs.PlainBlocks.{ReadsPlain}
 use Rattle.aec_interval.proofs.reading.plain.fill_plain_blocks.Given as goal
 
 abbrev pub invariant-loop-count : goal.invariant-loop-count
-invariant-loop-count l = record {
+invariant-loop-count g l = record {
   reads : ReadsPlain l.own l.count l.fn.reader (take l.from l.fn.samples) l.reader (take l.at l.samples);
   within : l.count ≤ l.most;
   place : l.at ≡ l.from + l.count * l.size;
@@ -12,4 +12,4 @@ invariant-loop-count l = record {
 }
 
 abbrev pub decreases-loop-count : goal.decreases-loop-count
-decreases-loop-count l = l.most - l.count
+decreases-loop-count g l = l.most - l.count

@@ -2,7 +2,7 @@ use Rattle.std.proofs.Common.{◌≡◌, ◌+◌, ◌*◌, ◌^◌, take}
 use Rattle.aec_params.specs.Codewords.{binary}
 use Rattle.aec_bits.specs.WordBits.{word_bits}
 use Rattle.aec_bits.specs.Windows.{StandsBefore}
-use Rattle.aec_bits.proofs.bit_reader.windows.numbers_within.Given as goal
+use Rattle.aec_bits.proofs.bit_reader.windows.any_numbers_within.Given as goal
 
 abbrev pub invariant-loop-i : goal.invariant-loop-i
 invariant-loop-i l = record {
