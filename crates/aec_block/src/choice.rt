@@ -1,6 +1,7 @@
 //! The choice of the shortest option for a block.
 
 pub(crate) mod lengths;
+pub(crate) mod plain_choice;
 mod splitting;
 mod sums;
 pub(crate) mod sums_of_three;
@@ -13,7 +14,7 @@ ghost use Rattle.aec_block.specs.BlockShape.{most_values};
 ghost use Rattle.aec_block.specs.Lengths.{split_values_length, paired_length, split_length};
 ghost use Rattle.aec_block.specs.Choices.{IsFull, IsChoice, shorter_choice};
 
-use crate::block::{Block, BlockRef};
+use crate::block::BlockRef;
 use crate::choice::lengths::{head_len, paired_len, uncompressed_len};
 use crate::choice::splitting::{Splitting, best_split};
 use aec_params::Params;
@@ -128,15 +129,4 @@ pub(crate) fn choose_among(params: &Params, id_len: u32, block: &BlockRef, value
         return best;
     }
     shorter_of_split(params, id_len, block, best, split)
-}
-
-/// The shortest option for a block of J values below `2^n`, with a reference below `2^n` where it
-/// has one. Of equal lengths (a tie) the first in this order: no compression, second extension,
-/// splitting with the least k.
-pub fn choose(params: &Params, block: &Block) -> Choice
-    requires { IsFull params.now block.now }
-    ensures { IsChoice params.now block.now result }
-{
-    let lent = block.lent();
-    choose_among(params, params.id_len(), &lent, lent.written())
 }

@@ -14,12 +14,13 @@ mod writing;
 
 pub use block::{Block, MOST_VALUES};
 pub use cds::{Cds, Found, RunLen};
-pub use choice::{Choice, Coding, choose};
+pub use choice::plain_choice::choose;
+pub use choice::{Choice, Coding};
 pub use mapping::mapped_blocks::{map_first, map_list};
 pub use mapping::unmapping::unmap_into;
 pub use mapping::{map, unmap};
 pub use reading::plain::{comes_plain, read_plain};
 pub use reading::{read_cds, read_into};
-pub use shortest::{write_shortest, write_shortest_of, write_shortest_values};
+pub use shortest::write_shortest_of;
 pub use skipping::skip_cds;
 pub use writing::{write_block, write_run};

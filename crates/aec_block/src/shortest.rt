@@ -6,7 +6,7 @@ ghost use Rattle.aec_block.specs.BlockShape.{block_with, most_values, IsSound};
 ghost use Rattle.aec_block.specs.Choices.{IsFull};
 ghost use Rattle.aec_block.specs.Written.{shortest_bits, Appends};
 
-use crate::block::{Block, BlockRef};
+use crate::block::BlockRef;
 use crate::choice::choose_among;
 use crate::writing::known_counts::write_values;
 use aec_bits::BitBuf;
@@ -29,34 +29,6 @@ fn write_chosen(
     let id_len = params.id_len();
     let choice = choose_among(params, id_len, block, values);
     write_values(params, id_len, block, values, choice, out)
-}
-
-/// Appends the shortest coded data set of a block that is in no run: what `write_block` does by the
-/// option of `choose`. `Memory` where a growth was refused, and nothing has changed then; it is not
-/// where there is room for the coded data set.
-pub fn write_shortest(params: &Params, block: &Block, out: &mut BitBuf) -> Result<(), Fault>
-    requires full { IsFull params.now block.now }
-    ensures { Appends (shortest_bits params.now block.now) out.old result out.new }
-{
-    write_shortest_values(params, block.reference(), block.values(), out)
-}
-
-/// The same of the block of a reference, where there is one, and of values with the one in the
-/// reference place, however many they are.
-#[inline(never)]
-pub fn write_shortest_values(
-    params: &Params,
-    reference: Option<u32>,
-    values: &[u32],
-    out: &mut BitBuf,
-) -> Result<(), Fault>
-    requires full { IsFull params.now (block_with reference values.now) }
-    requires sound { IsSound (block_with reference values.now) }
-    ensures { Appends (shortest_bits params.now (block_with reference values.now))
-        out.old result out.new }
-{
-    let block = BlockRef::new(reference, values);
-    write_chosen(params, &block, block.written(), out)
 }
 
 /// Appends the shortest coded data set of a block of `N` values without a reference.
@@ -95,9 +67,9 @@ fn write_first<const N: usize>(
 }
 
 /// Appends the shortest coded data set of the block of a reference, where there is one, and of `N`
-/// values with the one in the reference place, compiled for that number: what
-/// `write_shortest_values` appends. `Memory` where a growth was refused, and nothing has changed
-/// then; it is not where there is room for the coded data set.
+/// values with the one in the reference place, compiled for that number: what `write_block` appends
+/// by the option of `choose`. `Memory` where a growth was refused, and nothing has changed then; it
+/// is not where there is room for the coded data set.
 #[inline(always)]
 pub fn write_shortest_of<const N: usize>(
     params: &Params,

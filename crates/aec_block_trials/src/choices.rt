@@ -9,9 +9,9 @@ use crate::asserts::{fails, holds, same, same_at};
 use crate::shared::expect_bits;
 use aec_bits::{BitBuf, BitReader};
 use aec_block::{
-    Block, Cds, Choice, Coding, choose, map, read_cds, unmap, write_block, write_shortest,
+    Block, Cds, Choice, Coding, choose, map, read_cds, unmap, write_block, write_shortest_of,
 };
-use aec_params::{Params, Settings};
+use aec_params::{Fault, Params, Settings};
 use std::alloc::Global;
 use std::process::Abort;
 use std::test::Fail;
@@ -56,6 +56,24 @@ fn is_full(params: &Params, block: &Block) -> bool
     all_below(block.values(), 1 << params.bits())
 }
 
+/// Appends the shortest coded data set of a block by code compiled for its number of values.
+fn write_compiled(params: &Params, block: &Block, out: &mut BitBuf) -> Result<(), Fault>
+    requires { IsFull params.now block.now }
+{
+    let (reference, values) = (block.reference(), block.values());
+    match values.len() {
+        8 => write_shortest_of::<8>(params, reference, values, out),
+        10 => write_shortest_of::<10>(params, reference, values, out),
+        12 => write_shortest_of::<12>(params, reference, values, out),
+        14 => write_shortest_of::<14>(params, reference, values, out),
+        16 => write_shortest_of::<16>(params, reference, values, out),
+        32 => write_shortest_of::<32>(params, reference, values, out),
+        62 => write_shortest_of::<62>(params, reference, values, out),
+        64 => write_shortest_of::<64>(params, reference, values, out),
+        _ => Ok(()),
+    }
+}
+
 #[test]
 fn maps_by_the_table(rt: HostRuntime) -> Result<(), Fail> {
     let params = Params::new(Settings::USUAL)?;
@@ -87,7 +105,7 @@ fn expect_written(
     write_block(&params, &block, choice, &mut out)?;
     expect_bits(rt, &out, wanted.bits, bytes);
     let mut shortest = BitBuf::new(alloc);
-    write_shortest(&params, &block, &mut shortest)?;
+    write_compiled(&params, &block, &mut shortest)?;
     expect_bits(rt, &shortest, wanted.bits, bytes);
     Ok(())
 }
@@ -314,6 +332,10 @@ fn compare_choices(
         write_block(params, &block, choice, &mut out)?;
         same_at(rt, out.len(), choice.bits, &case);
         expect_block(rt, alloc, params, &out, &block)?;
+        let mut compiled = BitBuf::new(alloc);
+        write_compiled(params, &block, &mut compiled)?;
+        same_at(rt, compiled.len(), choice.bits, &case);
+        expect_block(rt, alloc, params, &compiled, &block)?;
     }
     Ok(())
 }

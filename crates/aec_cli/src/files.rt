@@ -1,7 +1,7 @@
 //! Files as devices: a source that is opened by its first call, and a sink that is created by
 //! `begin`.
 
-ghost use Rattle.std.specs.Prelude.{◌≡◌, ◌≤◌, ◌<◌, false, IfOk, IfErr, IsOk, IsErr, length};
+ghost use Rattle.std.specs.Prelude.{◌≡◌, ◌≤◌, ◌<◌, ◌⊎◌, ◌↔◌, false, IfOk, IfErr, IsOk, IsErr, length};
 ghost use Rattle.std.specs.Io.KnownBytes.{WriteAppends};
 ghost use Rattle.aec_params.specs.declared.fault.Fault.TheVariants.{Write as WriteFault};
 ghost use Rattle.aec_bits.specs.Devices.{FailsOnce};
@@ -43,16 +43,26 @@ fn created<F: Files>(rt: &F, path: &str) -> Opening<WriteSink<Again<F::File>>>
     }
 }
 
+// What an error of a sync is: none where it says that the file can't be synced, as a pipe or a
+// terminal, which is done as it is.
+fn unsynced(kind: ErrorKind) -> Result<(), Fault>
+    ensures done { IsOk result
+        ↔ ((kind ≡ ErrorKind.InvalidInput) ⊎ (kind ≡ ErrorKind.Unsupported)) }
+    ensures fault { IfErr result (λ e. e ≡ WriteFault) }
+{
+    match kind {
+        ErrorKind::InvalidInput | ErrorKind::Unsupported => Ok(()),
+        _ => Err(Fault::Write),
+    }
+}
+
 // What an open file was given reaches the device below it, where it has one.
 fn synced<T: OpenFile>(file: &Again<T>) -> Result<(), Fault>
     ensures { IfErr result (λ e. e ≡ WriteFault) }
 {
     match file.sync() {
         Ok(()) => Ok(()),
-        Err(error) => match error.kind() {
-            ErrorKind::InvalidInput | ErrorKind::Unsupported => Ok(()),
-            _ => Err(Fault::Write),
-        },
+        Err(error) => unsynced(error.kind()),
     }
 }
 
@@ -105,6 +115,10 @@ impl<'a, F: Files> Source for FileSource<'a, F> {
     }
 }
 
+/// Says that a `DestSink` has ended well. Made by `DestSink::finish` alone.
+#[derive(Debug, PartialEq, Eq, Drop)]
+pub struct Done(());
+
 /// A file that is written. `begin` creates it, or empties it where it is there; a `put` before that
 /// is a failure, and so is any error, and a write that takes nothing of a piece. A write that a
 /// signal interrupts is made again, and so is the sync at the end. Contracts see how often the sink
@@ -135,7 +149,7 @@ impl<'a, F: Files> DestSink<'a, F> {
     /// Has the system write out what the file was given, and ends the sink. `Write` where that
     /// fails, and where the sink has failed. A file that can't be synced, as a pipe or a terminal,
     /// is done as it is, and so is a sink that neither was begun nor has failed.
-    pub fn finish(self) -> Result<(), Fault>
+    pub fn finish(self) -> Result<Done, Fault>
         ensures failed { ⟦<DestSink<'a, F> as Sink>⟧.failed self.entry ≡ 1 → IsErr result }
         ensures unbegun { ⟦<DestSink<'a, F> as Sink>⟧.begun self.entry ≡ 0
             → ⟦<DestSink<'a, F> as Sink>⟧.failed self.entry ≡ 0
@@ -144,8 +158,11 @@ impl<'a, F: Files> DestSink<'a, F> {
     {
         let DestSink { file, .. } = self;
         match file {
-            Opening::Unopened => Ok(()),
-            Opening::Open(file) if file.failures() == 0 => synced(&file.into_inner()),
+            Opening::Unopened => Ok(Done(())),
+            Opening::Open(file) if file.failures() == 0 => {
+                synced(&file.into_inner())?;
+                Ok(Done(()))
+            }
             _ => Err(Fault::Write),
         }
     }

@@ -16,7 +16,7 @@ pub use aec_engine::{
     encode, encode_bytes, laws, range, script,
 };
 pub use failure::{Failure, status};
-pub use files::{DestSink, FileSource};
+pub use files::{DestSink, Done, FileSource};
 pub use job::{Action, Job, settings};
 pub use program::perform;
 pub use start::{StartFault, fill_if_closed, process_words};

@@ -12,7 +12,7 @@ ghost use Rattle.aec_cli.specs.Statuses.{EndsByMistake, EndsByWords, parse_statu
 ghost use Rattle.aec_engine.specs.Transfers.{Taking, taking_of, Putting, putting_of, Leaves};
 
 use crate::failure::{Failure, status};
-use crate::files::{DestSink, FileSource};
+use crate::files::{DestSink, Done, FileSource};
 use crate::job::{Action, Job, settings};
 use crate::usage::Usage;
 use crate::words::parse;
@@ -102,8 +102,8 @@ fn act_by_script<Q: Source, R: Source, W: Sink>(
     edit(alloc, params, limits(), count, from, source, sink)
 }
 
-// Does a job with its files.
-fn run<F: Files>(rt: &F, alloc: Global, job: Job) -> Result<(), Failure>
+// Does a job with its files. It is done once its DEST has ended well.
+fn run<F: Files>(rt: &F, alloc: Global, job: Job) -> Result<Done, Failure>
     ensures { IfErr result (λ failure. status_of failure ≡ 1) }
 {
     let Job {
@@ -134,7 +134,7 @@ fn finish<F: Files, E: Write>(rt: &F, alloc: Global, job: Job, err: &mut E) -> u
     ensures { result ≤ 1 }
 {
     match run(rt, alloc, job) {
-        Ok(()) => 0,
+        Ok(Done { .. }) => 0,
         Err(failure) => report(failure, err),
     }
 }

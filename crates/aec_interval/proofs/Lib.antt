@@ -19,6 +19,7 @@ pub mod PendingLemmas
 pub mod ChunkLemmas
 pub mod MappedLemmas
 pub mod FillLemmas
+pub mod ShortBlockLemmas
 pub mod SegmentLemmas
 pub mod PaddingLemmas
 pub mod WholeLemmas

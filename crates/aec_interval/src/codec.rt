@@ -112,7 +112,7 @@ impl Codec for AecCodec {
         let Some(calls) = one_call_more(self.calls) else {
             return Err(Fault::Spent);
         };
-        append_interval(&self.params, samples, out)?;
+        append_interval(self.alloc, &self.params, samples, out)?;
         self.calls = calls;
         Ok(())
     }

@@ -1,6 +1,7 @@
 //! The code of one reference sample interval.
 
 mod filled_blocks;
+mod short_blocks;
 mod zero_runs;
 
 ghost use Rattle.std.specs.Prelude.{◌≡◌, ◌+◌, ◌-◌, ◌<◌, ◌++◌, ◌∷◌, List, None, length, OnOk, OnErr, IfOk, IfErr};
@@ -15,40 +16,23 @@ ghost use Rattle.aec_interval.specs.Laws.{AreOfInterval};
 ghost use Rattle.aec_interval.specs.Chunks.{block_after, blocks_after, AreSamplesAfter};
 ghost use Rattle.aec_interval.specs.Pending.{segment_bits, IsKept, AreNext, TakesBlock};
 
+use crate::interval::short_blocks::write_short;
 use crate::interval::zero_runs::{NO_RUN, Run, write_next};
 use aec_bits::BitBuf;
-use aec_block::MOST_VALUES;
 use aec_params::{Fault, Params};
+use std::alloc::Global;
 
 /// The blocks of a segment; the last of an interval may have fewer.
 pub(crate) const SEGMENT_BLOCKS: u32 = 64;
 
-/// Stands for the number of samples of a short block, which no code is compiled for: no whole block
-/// has so few.
+/// Stands for a block size that no code is compiled for: no whole block has so few samples.
 const NOT_KNOWN: usize = 0;
 
-/// Takes the samples of one block more of a segment behind a run, as `write_next` does, in places
-/// for the values of the greatest block.
-#[inline(never)]
-fn write_any(
-    params: &Params,
-    previous: Option<i64>,
-    samples: &[i64],
-    run: Run,
-    out: &mut BitBuf,
-) -> Result<Run, Fault>
-    requires { AreNext params.now previous samples.now run }
-    ensures { TakesBlock params.now (block_after params.now previous samples.now)
-        run out.old result out.new }
-{
-    let mut places = [0u32; MOST_VALUES];
-    let values = &mut places[..params.block_size() as usize];
-    write_next::<NOT_KNOWN>(params, previous, samples, values, run, out)
-}
-
-/// The same, with code compiled for `N` samples where they are those of a whole block of so many.
+/// Takes the samples of one block more of a segment behind a run, with code compiled for `N` samples
+/// where they are those of a whole block of so many.
 #[inline(always)]
 fn write_chunk<const N: usize>(
+    alloc: Global,
     params: &Params,
     previous: Option<i64>,
     samples: &[i64],
@@ -63,13 +47,14 @@ fn write_chunk<const N: usize>(
         let mut values = [0u32; N];
         return write_next::<N>(params, previous, &samples[..N], &mut values, run, out);
     }
-    write_any(params, previous, samples, run, out)
+    write_short(alloc, params, previous, samples, run, out)
 }
 
 /// Appends the code of a segment, whose samples stand behind `previous` or at an interval's start.
 /// `Memory` where a growth was refused; the bits from before are then still in front.
 #[inline(always)]
 fn write_segment<const N: usize>(
+    alloc: Global,
     params: &Params,
     previous: Option<i64>,
     samples: &[i64],
@@ -84,7 +69,7 @@ fn write_segment<const N: usize>(
     let mut preceding = previous;
     let mut run = NO_RUN;
     for chunk in samples.chunks(params.block_size() as usize) {
-        run = write_chunk::<N>(params, preceding, chunk, run, out)?;
+        run = write_chunk::<N>(alloc, params, preceding, chunk, run, out)?;
         preceding = chunk.last().copied();
     }
     run.write(params, true, out)
@@ -93,6 +78,7 @@ fn write_segment<const N: usize>(
 /// Appends the code of an interval without padding.
 #[inline(always)]
 fn write_segments<const N: usize>(
+    alloc: Global,
     params: &Params,
     samples: &[i64],
     out: &mut BitBuf,
@@ -104,7 +90,7 @@ fn write_segments<const N: usize>(
 {
     let mut preceding = None;
     for segment in samples.chunks((SEGMENT_BLOCKS * params.block_size()) as usize) {
-        write_segment::<N>(params, preceding, segment, out)?;
+        write_segment::<N>(alloc, params, preceding, segment, out)?;
         preceding = segment.last().copied();
     }
     Ok(())
@@ -114,6 +100,7 @@ fn write_segments<const N: usize>(
 /// where a growth was refused; the bits from before are then still in front.
 #[inline(always)]
 pub(crate) fn write_interval<const N: usize>(
+    alloc: Global,
     params: &Params,
     samples: &[i64],
     out: &mut BitBuf,
@@ -124,7 +111,7 @@ pub(crate) fn write_interval<const N: usize>(
     ensures fault { IfErr result (λ e. e ≡ Memory) }
 {
     let start = out.len();
-    write_segments::<N>(params, samples, out)?;
+    write_segments::<N>(alloc, params, samples, out)?;
     if params.pad() {
         let missing = (8 - (out.len() - start) % 8) % 8;
         out.push_bits(0, missing as u32)?;
@@ -137,6 +124,7 @@ pub(crate) fn write_interval<const N: usize>(
 /// from before are then still in front.
 #[inline(never)]
 fn write_known_intervals<const N: usize>(
+    alloc: Global,
     params: &Params,
     samples: &[i64],
     out: &mut BitBuf,
@@ -148,7 +136,7 @@ fn write_known_intervals<const N: usize>(
     ensures fault { IfErr result (λ e. e ≡ Memory) }
 {
     for interval in samples.chunks(params.interval_len() as usize) {
-        write_interval::<N>(params, interval, out)?;
+        write_interval::<N>(alloc, params, interval, out)?;
     }
     Ok(())
 }
@@ -156,6 +144,7 @@ fn write_known_intervals<const N: usize>(
 /// Appends the code of samples, interval by interval. `Memory` where a growth was refused; the bits
 /// from before are then still in front.
 pub(crate) fn write_intervals(
+    alloc: Global,
     params: &Params,
     samples: &[i64],
     out: &mut BitBuf,
@@ -168,42 +157,43 @@ pub(crate) fn write_intervals(
 {
     // For speed alone: by the way of short blocks zeros take up to 1.9 times as many instructions.
     match params.block_size() {
-        8 => write_known_intervals::<8>(params, samples, out),
-        10 => write_known_intervals::<10>(params, samples, out),
-        12 => write_known_intervals::<12>(params, samples, out),
-        14 => write_known_intervals::<14>(params, samples, out),
-        16 => write_known_intervals::<16>(params, samples, out),
-        18 => write_known_intervals::<18>(params, samples, out),
-        20 => write_known_intervals::<20>(params, samples, out),
-        22 => write_known_intervals::<22>(params, samples, out),
-        24 => write_known_intervals::<24>(params, samples, out),
-        26 => write_known_intervals::<26>(params, samples, out),
-        28 => write_known_intervals::<28>(params, samples, out),
-        30 => write_known_intervals::<30>(params, samples, out),
-        32 => write_known_intervals::<32>(params, samples, out),
-        34 => write_known_intervals::<34>(params, samples, out),
-        36 => write_known_intervals::<36>(params, samples, out),
-        38 => write_known_intervals::<38>(params, samples, out),
-        40 => write_known_intervals::<40>(params, samples, out),
-        42 => write_known_intervals::<42>(params, samples, out),
-        44 => write_known_intervals::<44>(params, samples, out),
-        46 => write_known_intervals::<46>(params, samples, out),
-        48 => write_known_intervals::<48>(params, samples, out),
-        50 => write_known_intervals::<50>(params, samples, out),
-        52 => write_known_intervals::<52>(params, samples, out),
-        54 => write_known_intervals::<54>(params, samples, out),
-        56 => write_known_intervals::<56>(params, samples, out),
-        58 => write_known_intervals::<58>(params, samples, out),
-        60 => write_known_intervals::<60>(params, samples, out),
-        62 => write_known_intervals::<62>(params, samples, out),
-        64 => write_known_intervals::<64>(params, samples, out),
-        _ => write_known_intervals::<NOT_KNOWN>(params, samples, out),
+        8 => write_known_intervals::<8>(alloc, params, samples, out),
+        10 => write_known_intervals::<10>(alloc, params, samples, out),
+        12 => write_known_intervals::<12>(alloc, params, samples, out),
+        14 => write_known_intervals::<14>(alloc, params, samples, out),
+        16 => write_known_intervals::<16>(alloc, params, samples, out),
+        18 => write_known_intervals::<18>(alloc, params, samples, out),
+        20 => write_known_intervals::<20>(alloc, params, samples, out),
+        22 => write_known_intervals::<22>(alloc, params, samples, out),
+        24 => write_known_intervals::<24>(alloc, params, samples, out),
+        26 => write_known_intervals::<26>(alloc, params, samples, out),
+        28 => write_known_intervals::<28>(alloc, params, samples, out),
+        30 => write_known_intervals::<30>(alloc, params, samples, out),
+        32 => write_known_intervals::<32>(alloc, params, samples, out),
+        34 => write_known_intervals::<34>(alloc, params, samples, out),
+        36 => write_known_intervals::<36>(alloc, params, samples, out),
+        38 => write_known_intervals::<38>(alloc, params, samples, out),
+        40 => write_known_intervals::<40>(alloc, params, samples, out),
+        42 => write_known_intervals::<42>(alloc, params, samples, out),
+        44 => write_known_intervals::<44>(alloc, params, samples, out),
+        46 => write_known_intervals::<46>(alloc, params, samples, out),
+        48 => write_known_intervals::<48>(alloc, params, samples, out),
+        50 => write_known_intervals::<50>(alloc, params, samples, out),
+        52 => write_known_intervals::<52>(alloc, params, samples, out),
+        54 => write_known_intervals::<54>(alloc, params, samples, out),
+        56 => write_known_intervals::<56>(alloc, params, samples, out),
+        58 => write_known_intervals::<58>(alloc, params, samples, out),
+        60 => write_known_intervals::<60>(alloc, params, samples, out),
+        62 => write_known_intervals::<62>(alloc, params, samples, out),
+        64 => write_known_intervals::<64>(alloc, params, samples, out),
+        _ => write_known_intervals::<NOT_KNOWN>(alloc, params, samples, out),
     }
 }
 
 /// Appends the code of samples, interval by interval. `Memory` where a growth was refused; the bits
 /// are then as before.
 pub(crate) fn append_intervals(
+    alloc: Global,
     params: &Params,
     samples: &[i64],
     out: &mut BitBuf,
@@ -214,7 +204,7 @@ pub(crate) fn append_intervals(
     ensures fault { IfErr result (λ e. e ≡ Memory) }
 {
     let start = out.len();
-    let written = write_intervals(params, samples, out);
+    let written = write_intervals(alloc, params, samples, out);
     if written.is_err() {
         out.truncate(start);
     }
@@ -224,6 +214,7 @@ pub(crate) fn append_intervals(
 /// Appends the code of an interval. `Memory` where a growth was refused; the bits are then as
 /// before.
 pub(crate) fn append_interval(
+    alloc: Global,
     params: &Params,
     samples: &[i64],
     out: &mut BitBuf,
@@ -233,5 +224,5 @@ pub(crate) fn append_interval(
     ensures err { OnErr result (out.new.list ≡ out.old.list) }
     ensures fault { IfErr result (λ e. e ≡ Memory) }
 {
-    append_intervals(params, samples, out)
+    append_intervals(alloc, params, samples, out)
 }

@@ -115,6 +115,7 @@ impl StreamCoder {
         if self.progress.held.len() == 0 {
             return Ok(());
         }
-        append_interval(&self.terms.params, self.progress.held.as_slice(), out)
+        let held = &self.progress.held;
+        append_interval(held.alloc(), &self.terms.params, held.as_slice(), out)
     }
 }

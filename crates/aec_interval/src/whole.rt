@@ -35,7 +35,7 @@ fn code_intervals(alloc: Global, params: &Params, samples: &[i64]) -> Result<Bit
     ensures fault { IfErr result (λ e. e ≡ Memory) }
 {
     let mut out = BitBuf::new(alloc);
-    write_intervals(params, samples, &mut out)?;
+    write_intervals(alloc, params, samples, &mut out)?;
     Ok(out)
 }
 

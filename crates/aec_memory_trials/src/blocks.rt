@@ -7,7 +7,7 @@ ghost use Rattle.aec_block.specs.Choices.{FitsReference, IsFull};
 
 use crate::trial::{Trial, print_bits, try_calls};
 use aec_bits::BitBuf;
-use aec_block::{Block, choose, write_block, write_run, write_shortest};
+use aec_block::{Block, choose, write_block, write_run, write_shortest_of};
 use aec_params::{Fault, Params, Settings};
 use std::alloc::Global;
 
@@ -56,7 +56,12 @@ impl Trial for Written {
             return Ok(());
         }
         if number == 2 {
-            return write_shortest(&self.params, &self.block, &mut self.bits);
+            let values = self.block.values();
+            if values.len() != 8 {
+                return Ok(());
+            }
+            let reference = self.block.reference();
+            return write_shortest_of::<8>(&self.params, reference, values, &mut self.bits);
         }
         let choice = choose(&self.params, &self.block);
         write_block(&self.params, &self.block, choice, &mut self.bits)
@@ -80,7 +85,7 @@ fn ramp(alloc: Global) -> Block {
 
 /// Each of them into a list with no room.
 pub fn try_blocks<R: Print + Eprint>(rt: &R, alloc: Global) -> Result<(), Fault> {
-    for call in [(0, "write_block"), (1, "write_run"), (2, "write_shortest")] {
+    for call in [(0, "write_block"), (1, "write_run"), (2, "write_shortest_of")] {
         let mut written = Written {
             params: Params::new(Settings::USUAL)?,
             block: ramp(alloc),

@@ -114,7 +114,7 @@ fn counts_of<W: Sink>(alloc: Global, sink: &W) -> Result<String, AllocError> {
 fn ends<F: Files + Alloc<A = Global>>(sink: DestSink<'_, F>, word: &str) -> bool {
     match word {
         "-" => true,
-        "ends" => sink.finish() == Ok(()),
+        "ends" => sink.finish().is_ok(),
         _ => sink.finish() == Err(Fault::Write),
     }
 }

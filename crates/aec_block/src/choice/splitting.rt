@@ -18,7 +18,7 @@ pub(crate) struct Splitting {
 /// Whether so many values are shorter with one low bit more each, by the sums without the low bits,
 /// this time and next.
 #[inline(always)]
-fn is_shorter_next(sum: u64, next: u64, count: u64) -> bool
+pub(crate) fn is_shorter_next(sum: u64, next: u64, count: u64) -> bool
     requires { next + count < 2 ^ 64 }
     ensures { result ≡ nat_lt (next + count) sum }
 {
@@ -27,7 +27,7 @@ fn is_shorter_next(sum: u64, next: u64, count: u64) -> bool
 
 /// The values that are split with `k`, by their sum without the low bits.
 #[inline(always)]
-fn with_k(sum: u64, count: usize, k: u32) -> Splitting
+pub(crate) fn with_k(sum: u64, count: usize, k: u32) -> Splitting
     requires sum { sum ≤ 2 ^ 39 }
     requires count { count ≤ most_values }
     requires k { k < 32 }

@@ -44,7 +44,7 @@ fn sum_of_lanes(sums: u64x8) -> u64
 
 /// The sum of the values that fill lanes: all but the last few, fewer than eight.
 #[inline(always)]
-fn sum_by_eights(values: &[u32], k: u32) -> u64
+pub(crate) fn sum_by_eights(values: &[u32], k: u32) -> u64
     requires k { k < 32 }
     requires len { length values.now ≤ most_values }
     ensures sum { result ≡ sum_of_shifted k (take (8 * (length values.now / 8)) values.now) }

@@ -5,16 +5,16 @@ ghost use Rattle.std.specs.List.{list_all};
 ghost use Rattle.aec_params.specs.declared.fault.Fault.TheVariants.{Memory};
 ghost use Rattle.aec_params.specs.Blocks.{Block as Values};
 ghost use Rattle.aec_params.specs.Runs.{segment_len};
-ghost use Rattle.aec_block.specs.BlockShape.{block_with, IsSound};
-ghost use Rattle.aec_block.specs.Choices.{FitsReference, IsFull};
-ghost use Rattle.aec_block.specs.Written.{shortest_bits, Appends};
+ghost use Rattle.aec_block.specs.BlockShape.{block_with};
+ghost use Rattle.aec_block.specs.Choices.{FitsReference};
+ghost use Rattle.aec_block.specs.Written.{Appends};
 ghost use Rattle.aec_interval.specs.Pending.{bits_of_run, longer_run, IsRun, AreNext, TakesBlock};
 ghost use Rattle.aec_params.specs.Params.{IsAllowed};
 ghost use Rattle.aec_interval.specs.Chunks.{block_after, AreSamplesAfter};
 
 use crate::interval::filled_blocks::map_block;
 use aec_bits::BitBuf;
-use aec_block::{write_run, write_shortest_of, write_shortest_values};
+use aec_block::{write_run, write_shortest_of};
 use aec_params::{Fault, Params};
 
 /// Zero blocks that have been counted and not yet written: the reference of the first, and how many
@@ -34,7 +34,7 @@ pub(crate) const NO_RUN: Run = Run {
 impl Run {
     /// The run with one zero block more, which has this reference.
     #[inline(always)]
-    fn longer(self, reference: Option<u32>) -> Run
+    pub(crate) fn longer(self, reference: Option<u32>) -> Run
         requires { self.blocks < segment_len }
         ensures { result ≡ longer_run self reference }
     {
@@ -71,32 +71,9 @@ fn are_zero(values: &[u32]) -> bool
     values.iter().all(|v| *v == 0)
 }
 
-/// Appends the shortest coded data set of a block that is in no run, by code compiled for `N`
-/// values where they are so many. `Memory` where a growth was refused, and nothing has changed
-/// then.
-#[inline(always)]
-fn write_nonzero_block<const N: usize>(
-    params: &Params,
-    reference: Option<u32>,
-    values: &[u32],
-    out: &mut BitBuf,
-) -> Result<(), Fault>
-    requires full { IsFull params.now (block_with reference values.now) }
-    requires sound { IsSound (block_with reference values.now) }
-    ensures { Appends (shortest_bits params.now (block_with reference values.now))
-        out.old result out.new }
-{
-    if values.len() == N {
-        write_shortest_of::<N>(params, reference, values, out)
-    } else {
-        write_shortest_values(params, reference, values, out)
-    }
-}
-
-/// Takes the samples of one block more of a segment behind a run, by way of places for its values:
-/// a zero block joins the run, before another one the run is written, each by code compiled for `N`
-/// values where they are so many. The run that is then still to be written, or `Memory` where a
-/// growth was refused.
+/// Takes the samples of one whole block more of a segment behind a run, by way of places for its
+/// values: a zero block joins the run, before another one the run is written, each by code compiled
+/// for `N` values. The run that is then still to be written, or `Memory` where a growth was refused.
 #[inline(always)]
 pub(crate) fn write_next<const N: usize>(
     params: &Params,
@@ -107,7 +84,9 @@ pub(crate) fn write_next<const N: usize>(
     out: &mut BitBuf,
 ) -> Result<Run, Fault>
     requires next { AreNext params.now previous samples.now run }
-    requires len { length values.old ≡ params.now.block_size }
+    requires whole { length samples.now ≡ N }
+    requires len { length values.old ≡ N }
+    requires known { params.now.block_size ≡ N }
     ensures { TakesBlock params.now (block_after params.now previous samples.now)
         run out.old result out.new }
 {
@@ -116,6 +95,6 @@ pub(crate) fn write_next<const N: usize>(
         return Ok(run.longer(reference));
     }
     run.write(params, false, out)?;
-    write_nonzero_block::<N>(params, reference, values, out)?;
+    write_shortest_of::<N>(params, reference, values, out)?;
     Ok(NO_RUN)
 }

@@ -40,6 +40,11 @@ impl HeldSamples {
         }
     }
 
+    /// What memory is taken from.
+    pub(crate) fn alloc(&self) -> Global {
+        *self.places.allocator()
+    }
+
     /// The number of samples.
     pub(crate) fn len(&self) -> usize
         ensures { result ≡ length self.now }

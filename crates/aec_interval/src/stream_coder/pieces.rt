@@ -43,7 +43,7 @@ fn code_complete(terms: &Terms, held: &mut HeldSamples, out: &mut BitBuf) -> Res
     if (held.len() as u64) < terms.params.interval_len() {
         return Ok(());
     }
-    let coded = append_intervals(&terms.params, held.as_slice(), out);
+    let coded = append_intervals(held.alloc(), &terms.params, held.as_slice(), out);
     held.clear();
     coded
 }

@@ -5,12 +5,12 @@ use Rattle.aec_interval.proofs.PendingLemmas.{pending-filled, kept-append}
 use Rattle.aec_interval.proofs.SegmentLemmas.{kept-trans}
 use Rattle.aec_interval.proofs.interval.zero_runs.write_next.Goals as goal
 
-pub returns-in_err-write_nonzero_block : goal.returns-in_err-write_nonzero_block
-returns-in_err-write_nonzero_block g c =
+pub returns-in_err-write_shortest_of : goal.returns-in_err-write_shortest_of
+returns-in_err-write_shortest_of g c =
     record {
       ok = search rules;
       run = search rules;
-      kept = kept-append _ _ _ (ap (λ o. o.list) c.in_err-write_nonzero_block.ensures.err ∙ c.in_ok-write.ensures.ok);
+      kept = kept-append _ _ _ (ap (λ o. o.list) c.in_err-write_shortest_of.ensures.err ∙ c.in_ok-write.ensures.ok);
       fault = search rules;
     }
 
@@ -18,11 +18,11 @@ pub returns : goal.returns
 returns g c =
     let b = block_with c.map_block-reference.result c.map_block-reference.new.values in
     record {
-      ok = λ rest. subst (λ block. c.write_nonzero_block.new.out.list ++ pending_bits c.args.params.now (record { reference = None; blocks = 0 }) rest
+      ok = λ rest. subst (λ block. c.write_shortest_of.new.out.list ++ pending_bits c.args.params.now (record { reference = None; blocks = 0 }) rest
           ≡ c.args.out.now.list ++ pending_bits c.args.params.now c.args.run (block ∷ rest)) c.map_block-reference.ensures.filled.value
           (pending-filled c.args.params.now c.args.run b rest _ _ _ (sym c.are_zero.ensures ∙ c.if-are_zero.false) c.in_ok-write.ensures.ok
-          c.in_ok-write_nonzero_block.ensures.ok);
+          c.in_ok-write_shortest_of.ensures.ok);
       run = search rules;
-      kept = kept-trans _ _ _ (kept-append _ _ _ c.in_ok-write.ensures.ok) (kept-append _ _ _ c.in_ok-write_nonzero_block.ensures.ok);
+      kept = kept-trans _ _ _ (kept-append _ _ _ c.in_ok-write.ensures.ok) (kept-append _ _ _ c.in_ok-write_shortest_of.ensures.ok);
       fault = search rules;
     }

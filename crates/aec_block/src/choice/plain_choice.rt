@@ -1,0 +1,70 @@
+//! The choice of the shortest option for a block of any number of values, each k from 0 on.
+
+ghost use Rattle.std.specs.Prelude.{◌≡◌, ◌*◌, ◌^◌, ◌<◌, ◌≤◌, length};
+ghost use Rattle.aec_block.specs.BlockShape.{most_values};
+ghost use Rattle.aec_block.specs.Lengths.{sum_of_shifted, split_values_length, IsBestSplit};
+ghost use Rattle.aec_block.specs.Choices.{IsFull, IsChoice};
+
+use crate::block::Block;
+use crate::choice::lengths::uncompressed_len;
+use crate::choice::splitting::{Splitting, is_shorter_next, with_k};
+use crate::choice::sums::{sum_by_eights, sum_one_by_one};
+use crate::choice::{Choice, Coding, shorter_of_pairs, shorter_of_split, split_options};
+use aec_params::Params;
+
+/// The values without their `k` low bits, added up: chunks of eight in eight lanes of 64 bits, and
+/// the rest of them one by one.
+fn sum_in_lanes(values: &[u32], k: u32) -> u64
+    requires k { k < 32 }
+    requires len { length values.now ≤ most_values }
+    ensures sum { result ≡ sum_of_shifted k values.now }
+    ensures bound { result ≤ 2 * (most_values * 2 ^ 32) }
+{
+    let whole = 8 * (values.len() / 8);
+    sum_by_eights(values, k) + sum_one_by_one(&values[whole..], k)
+}
+
+/// The k below `options` with which the values have the fewest bits, and of equal ones the least: k
+/// rises from 0 and stops at the first for which one more isn't shorter. What one more low bit gains
+/// never grows, so no later k is shorter.
+fn first_best(values: &[u32], options: u32) -> Splitting
+    requires some { 0 < options }
+    requires options { options ≤ 32 }
+    requires len { length values.now ≤ most_values }
+    ensures best { IsBestSplit options result.k values.now }
+    ensures bits { result.bits ≡ split_values_length result.k values.now }
+    ensures bound { result.bits ≤ 2 ^ 40 }
+{
+    let last = options - 1;
+    let mut sum = sum_in_lanes(values, 0);
+    for k in 0..last {
+        let next = sum_in_lanes(values, k + 1);
+        if !is_shorter_next(sum, next, values.len() as u64) {
+            return with_k(sum, values.len(), k);
+        }
+        sum = next;
+    }
+    with_k(sum, values.len(), last)
+}
+
+/// The shortest option for a block of J values below `2^n`, with a reference below `2^n` where it
+/// has one. Of equal lengths (a tie) the first in this order: no compression, second extension,
+/// splitting with the least k.
+pub fn choose(params: &Params, block: &Block) -> Choice
+    requires { IsFull params.now block.now }
+    ensures { IsChoice params.now block.now result }
+{
+    let id_len = params.id_len();
+    let lent = block.lent();
+    let values = lent.written();
+    let uncompressed = Choice {
+        coding: Coding::NoCompression,
+        bits: uncompressed_len(params, id_len, &lent, values),
+    };
+    let best = shorter_of_pairs(params, id_len, &lent, uncompressed);
+    let options = split_options(params, id_len);
+    if options == 0 {
+        return best;
+    }
+    shorter_of_split(params, id_len, &lent, best, first_best(values, options))
+}

@@ -1,0 +1,120 @@
+//! A block that has fewer samples than the others: it is filled up, and coded as a block of any
+//! number of values.
+
+ghost use Rattle.std.specs.Prelude.{◌≡◌, ◌+◌, ◌-◌, ◌<◌, ◌≤◌, ◌++◌, length, replicate};
+ghost use Rattle.std.specs.List.{AllByRecursion};
+ghost use Rattle.aec_params.specs.Params.{IsAllowed, IsHeld};
+ghost use Rattle.aec_params.specs.Mapping.{mapped_after};
+ghost use Rattle.aec_params.specs.Runs.{segment_len};
+ghost use Rattle.aec_block.specs.BlockShape.{most_values};
+ghost use Rattle.aec_block.specs.Choices.{IsFull};
+ghost use Rattle.aec_interval.specs.Chunks.{values_after, reference_after, block_after, HoldsPrevious, AreSamplesAfter, IsFilledBlock};
+ghost use Rattle.aec_interval.specs.Pending.{IsRun, AreNext, TakesBlock};
+
+use crate::interval::filled_blocks::reference_of;
+use crate::interval::zero_runs::{NO_RUN, Run};
+use crate::reading::samples::previous_of;
+use aec_bits::BitBuf;
+use aec_block::{Block, choose, map, write_block};
+use aec_params::{Fault, Params};
+use std::alloc::Global;
+
+/// Appends what is coded for samples to a block, each predicted from the one before it, the first
+/// from `previous`.
+fn push_mapped(params: &Params, previous: i64, samples: &[i64], block: &mut Block)
+    requires prediction { IsHeld params.now previous }
+    requires held { AllByRecursion (IsHeld params.now) samples.now }
+    requires room { length block.old.values + length samples.now ≤ most_values }
+    ensures { block.new ≡ record block.old {
+      values = block.old.values ++ mapped_after params.now previous samples.now;
+    } }
+{
+    let mut p = previous;
+    for i in 0..samples.len() {
+        let x = samples[i];
+        block.push(map(params, p, x));
+        p = x;
+    }
+}
+
+/// Appends a value so many times.
+fn push_repeated(block: &mut Block, value: u32, count: usize)
+    requires room { length block.old.values + count ≤ most_values }
+    ensures { block.new ≡ record block.old { values = block.old.values ++ replicate count value } }
+{
+    for i in 0..count {
+        block.push(value);
+    }
+}
+
+/// The block of samples behind `previous`, or at an interval's start, before it is filled up.
+fn mapped_block(alloc: Global, params: &Params, previous: Option<i64>, samples: &[i64]) -> Block
+    requires allowed { IsAllowed params.now }
+    requires previous { HoldsPrevious params.now previous }
+    requires some { 0 < length samples.now }
+    requires held { AllByRecursion (IsHeld params.now) samples.now }
+    requires few { length samples.now ≤ most_values }
+    ensures reference { result.reference ≡ reference_after params.now previous samples.now }
+    ensures values { result.values ≡ values_after params.now previous samples.now }
+{
+    let mut block = Block::new(alloc, reference_of(params, previous, samples));
+    // The first sample of an interval stands for itself, or is predicted from itself.
+    let first = previous.unwrap_or(samples[0]);
+    let behind = &samples[block.len()..];
+    push_mapped(params, first, behind, &mut block);
+    block
+}
+
+/// The block that samples fill behind `previous`, or at an interval's start, as if the last of them
+/// were repeated.
+fn filled_block(alloc: Global, params: &Params, previous: Option<i64>, samples: &[i64]) -> Block
+    requires allowed { IsAllowed params.now }
+    requires some { 0 < length samples.now }
+    requires samples { AreSamplesAfter params.now previous 1 samples.now }
+    ensures { IsFilledBlock params.now previous samples.now result }
+{
+    let mut block = mapped_block(alloc, params, previous, samples);
+    let last = previous_of(samples);
+    let filler = map(params, last, last);
+    push_repeated(
+        &mut block,
+        filler,
+        params.block_size() as usize - samples.len(),
+    );
+    block
+}
+
+/// Takes one block more of a segment behind a run: a zero block joins the run, before another one
+/// the run is written. The run that is then still to be written, or `Memory` where a growth was
+/// refused.
+fn write_behind(params: &Params, block: &Block, run: Run, out: &mut BitBuf) -> Result<Run, Fault>
+    requires full { IsFull params.now block.now }
+    requires run { IsRun params.now (segment_len - 1) run }
+    ensures { TakesBlock params.now block.now run out.old result out.new }
+{
+    if block.is_zero() {
+        return Ok(run.longer(block.reference()));
+    }
+    run.write(params, false, out)?;
+    write_block(params, block, choose(params, block), out)?;
+    Ok(NO_RUN)
+}
+
+/// Takes the samples of one block more of a segment behind a run, as `write_next` does, however few
+/// they are.
+#[inline(never)]
+pub(crate) fn write_short(
+    alloc: Global,
+    params: &Params,
+    previous: Option<i64>,
+    samples: &[i64],
+    run: Run,
+    out: &mut BitBuf,
+) -> Result<Run, Fault>
+    requires { AreNext params.now previous samples.now run }
+    ensures { TakesBlock params.now (block_after params.now previous samples.now)
+        run out.old result out.new }
+{
+    let block = filled_block(alloc, params, previous, samples);
+    write_behind(params, &block, run, out)
+}
