@@ -12,11 +12,13 @@ them, indented by four, what it has of these lines, each of which may go on belo
            of the trait; `Fault: from_gives` is a ghost item of a type
     wrong  must-fail edits of the crate
     test   tests of the trial crates, as `builds_and_edits` or `skipping::*`, or scripts of tests/
+    bare   in place of all these: public functions with no wrong body in the gate; the sentences say why
 
 docs/claims.txt has what stands around the claims; its line `@crates` gives way to them.
 
 Fails where a name is none; where an ensures clause of a public function (of no crate of tests), its premise, a must-fail
-edit, a test or a script of tests/ that make runs stands in no claim; where the README.md of a crate has no
+edit, a test or a script of tests/ that make runs stands in no claim; where a public function that is no law stands
+neither in a claim with an edit of the gate nor among the bare ones; where the README.md of a crate has no
 line on a module; and with --check, which writes nothing, where the page isn't what is written.
 """
 
@@ -29,7 +31,13 @@ from sources import TOP, all_crates, edits_of, files_below, text_of
 
 PAGE = "docs/PROOFS.md"
 FRAME = "docs/claims.txt"
-HEADS = {"given": "Premise", "by": "Carried by", "wrong": "Must-fail edits", "test": "Tests"}
+HEADS = {
+    "given": "Premise",
+    "by": "Carried by",
+    "wrong": "Must-fail edits",
+    "test": "Tests",
+    "bare": "Functions",
+}
 LINE = rf"^    ({'|'.join(HEADS)}) +(.*)"
 NAMELESS = "without a name"
 # Scripts of tests/ that try the proofs, and no promise.
@@ -77,6 +85,9 @@ class Names:
         runs = text_of("tests/run.sh") + text_of("Makefile")
         self.scripts = set(re.findall(r"tests/\w+\.py", runs)) - NO_TESTS
         self.edits = {name: edits_of(name) for name in self.crates}
+        self.gate = {name: set(edits_of(name, ["must-fail"])) for name in self.crates}
+        # Paths of functions beside whose claim the gate tries an edit, and of the bare ones.
+        self.guarded, self.bare = set(), set()
         self.words = set(re.findall(r"\w+", self.all_text()))
         self.named, self.wrongs = set(), []
 
@@ -92,7 +103,23 @@ class Names:
         ends = [one for one in among if ("::" + one.path()).endswith("::" + path)]
         return [one for one in ends if one.path() == f"{one.crate}::{path}"] or ends
 
-    def judge_carrier(self, crate, name, clauses, is_given):
+    def judge_bare(self, crate, name):
+        ones = self.found(name, crate.functions)
+        if len(ones) != 1:
+            self.wrongs.append(f"{crate.name}: {many(ones)} function {name}")
+        self.bare.update(one.path() for one in ones)
+
+    def judge_guards(self):
+        """Each public function has a wrong body in the gate, or is said to have none."""
+        for one in self.functions:
+            path = one.path()
+            is_left_out = one.is_declared or one.module == "laws" or one.crate.endswith("_trials")
+            if one.is_public and not is_left_out and path not in self.guarded | self.bare:
+                self.wrongs.append(f"neither with an edit of the gate nor bare: {path}")
+        for path in sorted(self.guarded & self.bare):
+            self.wrongs.append(f"bare, though the gate tries an edit beside it: {path}")
+
+    def judge_carrier(self, crate, name, clauses, is_given, is_guarded):
         meets = re.fullmatch(r"(\w+) meets (\w+)", name)
         if meets:
             if (meets[2], meets[1]) not in crate.impls:
@@ -110,6 +137,8 @@ class Names:
             self.named.add((ones[0].path(), clause))
         if is_given:
             self.named.add((ones[0].path(), "given"))
+        if is_guarded:
+            self.guarded.add(ones[0].path())
 
     def judge_edits(self, crate, names):
         for name in names:
@@ -190,26 +219,39 @@ def listed(names):
     return ", ".join(f"`{name}`" for name in names.split())
 
 
-def line_text(kind, line):
-    if kind == "by":
+def edits_text(line, gate):
+    """The edits that the gate tries, then the others."""
+    names = line.split()
+    tried = [name for name in names if name in gate]
+    others = [name for name in names if name not in gate]
+    if not tried:
+        return f"none in the gate; {listed(line)}"
+    more = f"; besides {listed(' '.join(others))}" if others else ""
+    return f"in the gate {listed(' '.join(tried))}{more}"
+
+
+def line_text(kind, line, gate):
+    if kind in ("by", "bare"):
         line = "; ".join(carrier_text(item) for item in line.split(";"))
+    elif kind == "wrong":
+        line = edits_text(line, gate)
     elif kind != "given":
         line = listed(line)
     return f"  - {HEADS[kind]}: {line}."
 
 
-def claim_text(claim):
-    lines = [line_text(kind, claim.lines[kind]) for kind in HEADS if kind in claim.lines]
+def claim_text(claim, gate):
+    lines = [line_text(kind, claim.lines[kind], gate) for kind in HEADS if kind in claim.lines]
     return "\n".join([f"- {claim.words}.", *lines])
 
 
-def page_of(parts, mark="### "):
+def page_of(parts, mark="### ", gate=()):
     """The parts as a page: claims that follow each other are one list."""
     page, last = "", None
     for part in parts:
         is_claim = isinstance(part, Claim)
         page += ("\n" if is_claim and isinstance(last, Claim) else "\n\n") if page else ""
-        page += claim_text(part) if is_claim else re.sub("^== ", mark, part)
+        page += claim_text(part, gate) if is_claim else re.sub("^== ", mark, part)
         last = part
     return page
 
@@ -227,13 +269,17 @@ def read_claims(path, crate, names):
 def judge_claim(lines, crate, names):
     names.judge_tests(lines.get("test", "").split())
     if crate:
-        names.judge_edits(crate, lines.get("wrong", "").split())
+        edits = lines.get("wrong", "").split()
+        names.judge_edits(crate, edits)
+        is_guarded = bool(names.gate[crate.name] & set(edits))
         for name, clauses in carriers_of(lines.get("by", "")):
-            names.judge_carrier(crate, name, clauses, "given" in lines)
+            names.judge_carrier(crate, name, clauses, "given" in lines, is_guarded)
+        for name, _ in carriers_of(lines.get("bare", "")):
+            names.judge_bare(crate, name)
 
 
 def counts_of(crate, parts):
-    claims = sum(isinstance(part, Claim) for part in parts)
+    claims = sum(isinstance(part, Claim) and "bare" not in part.lines for part in parts)
     public = sum(one.is_public for one in crate.functions)
     gate = len(files_below(f"crates/{crate.name}/must-fail", ".edit"))
     every = len(edits_of(crate.name))
@@ -247,7 +293,8 @@ def written_page(names):
         path = f"crates/{crate.name}/claims.txt"
         if os.path.exists(os.path.join(TOP, path)):
             parts = read_claims(path, crate, names)
-            pages.append(f"## {crate.name}\n\n{counts_of(crate, parts)}\n\n{page_of(parts)}")
+            text = page_of(parts, gate=names.gate[crate.name])
+            pages.append(f"## {crate.name}\n\n{counts_of(crate, parts)}\n\n{text}")
     return NOTE + page_of(frame, "## ").replace("@crates", "\n\n".join(pages)) + "\n"
 
 
@@ -255,6 +302,7 @@ def main():
     names = Names()
     page = written_page(names)
     names.judge_rest()
+    names.judge_guards()
     names.judge_readmes()
     if sys.argv[1:] == ["--check"]:
         if not os.path.exists(os.path.join(TOP, PAGE)) or text_of(PAGE) != page:

@@ -24,6 +24,8 @@ class Function(NamedTuple):
     premises: set
     is_public: bool
     is_test: bool
+    # Declared by a trait, so that impls alone have a body.
+    is_declared: bool
 
     def path(self):
         return "::".join(part for part in (self.crate, self.module, self.owner, self.name) if part)
@@ -83,7 +85,7 @@ def functions_in(path, crate, found):
             is_open = at[3] or module in opened or (owner or at[4]) in names
             is_public = bool(is_open) and (is_trait or at[2] == "pub ")
             path = (crate.name, module, owner, at[4])
-            found.append(Function(*path, *clauses.values(), is_public, is_test))
+            found.append(Function(*path, *clauses.values(), is_public, is_test, is_trait))
             is_test = False
         elif at := CLAUSE.match(line):
             clauses[at[1]].add(at[2] or "")
@@ -107,8 +109,7 @@ def all_crates():
     return {line[1]: crate_of(line[1]) for line in lines if line}
 
 
-def edits_of(crate):
+def edits_of(crate, folders=("must-fail", "more-must-fail")):
     """The names of the must-fail edits of a crate."""
-    folders = [f"crates/{crate}/{folder}" for folder in ("must-fail", "more-must-fail")]
-    paths = [path for folder in folders for path in files_below(folder, ".edit")]
+    paths = [it for folder in folders for it in files_below(f"crates/{crate}/{folder}", ".edit")]
     return [os.path.basename(path).removesuffix(".edit") for path in paths]

@@ -41,7 +41,7 @@ impl Model for BitBuf {
 
 #[tactic(auto, using(crate::proofs::PackedLemmas::packed_lengths))]
 impl BitBuf {
-    ghost use Rattle.std.specs.Prelude.{◌≡◌, ◌+◌, ◌-◌, ◌*◌, ◌%◌, ◌<◌, ◌≤◌, ◌^◌, [], ◌∷◌, ◌++◌, List, Bool, false, length, take, drop, replicate, slice_index, slice_index_or, IfOk, OnOk, OnErr, IfErr, MatchOption, is_some};
+    ghost use Rattle.std.specs.Prelude.{◌≡◌, ◌+◌, ◌-◌, ◌*◌, ◌%◌, ◌<◌, ◌≤◌, ◌^◌, [], ◌∷◌, ◌++◌, List, Bool, false, length, take, drop, replicate, slice_index, slice_index_or, IfOk, IsOk, OnOk, OnErr, IfErr, MatchOption, is_some};
     ghost use Rattle.std.specs.Int.{div_ceil};
     ghost use Rattle.aec_params.specs.declared.fault.Fault.TheVariants.{Memory};
     ghost use Rattle.aec_params.specs.Codewords.{fs, binary, bytes_of, bits_of_bytes, padded_to_byte};
@@ -263,14 +263,12 @@ impl BitBuf {
         Ok(())
     }
 
-    /// Appends zeros up to a multiple of 8 bits.
+    /// Appends zeros up to a multiple of 8 bits. Takes no memory and always succeeds: the words that
+    /// hold the bits hold the rest of their last byte too.
     pub fn pad_to_byte(&mut self) -> Result<(), Fault>
-        ensures ok { OnOk result (self.new.list ≡ padded_to_byte self.old.list) }
-        ensures room { OnOk result
-            (self.old.room ≤ self.new.room + up_to_multiple 8 (length self.old.list)) }
-        ensures err { OnErr result (self.new ≡ self.old) }
-        ensures full { OnErr result (self.old.room < up_to_multiple 8 (length self.old.list)) }
-        ensures fault { IfErr result (λ e. e ≡ Memory) }
+        ensures succeeds { IsOk result }
+        ensures list { self.new.list ≡ padded_to_byte self.old.list }
+        ensures room { self.old.room ≤ self.new.room + up_to_multiple 8 (length self.old.list) }
     {
         self.len += missing_bits(self.len);
         Ok(())

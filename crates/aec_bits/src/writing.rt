@@ -10,8 +10,9 @@ use crate::bit_buf::BitBuf;
 use crate::device::Sink;
 use aec_params::Fault;
 
-/// How many bytes are handed to a sink at a time.
-const PIECE_LEN: usize = 65536;
+/// The bytes that are handed to a sink at a time. They lie on the stack, and are fewer than those that
+/// an engine reads at a time: so writing, which comes last, doesn't make the stack grow any more.
+const PIECE_LEN: usize = 4096;
 
 impl BitBuf {
     /// Appends the bytes that the bits fill to what the sink has taken; zeros fill the last one.
