@@ -226,3 +226,9 @@ room_of_eight top xs small long i within offset =
     ∙ ap (λ (b : Bool). cond b (get_or xs i 0) (get_or ys i 0)) test
     ∙ ap (λ (y : ℕ). cond (nat_lt (get_or xs i 0) y) (get_or xs i 0) y) at
     ∙ lesser_room top (get_or xs i 0) small offset
+
+pub ruleset running = (running-list)
+
+pub ruleset next_lanes = (next_places)
+
+pub ruleset rooms = (room_of_eight)
