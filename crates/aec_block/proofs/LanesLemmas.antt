@@ -87,6 +87,11 @@ eight_more k i values =
     rw (more, eight) (ap (sum_of_shifted k) (take-add (8 * i) 8 values)
     ∙ sum_by-append (λ (v : ℕ). v / 2 ^ k) (take (8 * i) values) (take 8 (drop (8 * i) values)))
 
-pub whole_and_rest : (k w : ℕ) (values : List ℕ)
-    → sum_of_shifted k (take w values) + sum_of_shifted k (take (length values - w) (drop w values)) ≡ sum_of_shifted k values
-whole_and_rest k w values = rw (take_rest values w) (sum_by-take-drop (λ (v : ℕ). v / 2 ^ k) values w)
+-- the values that fill lanes, and those behind them
+pub lanes_and_rest : (k : ℕ) (values : List ℕ)
+    → sum_of_shifted k (take (8 * (length values / 8)) values) + sum_of_shifted k (drop (8 * (length values / 8)) values) ≡ sum_of_shifted k values
+lanes_and_rest k values = sum_by-take-drop (λ (v : ℕ). v / 2 ^ k) values (8 * (length values / 8))
+
+pub ruleset rests = (take_rest)
+
+pub ruleset joined_sums = (lanes_and_rest)

@@ -29,3 +29,4 @@ pub mod SkippingLemmas
 pub mod ShortestLemmas
 pub mod ThreeSumsLemmas
 pub mod WorkedEvenBlocks
+pub mod WorkedLanes

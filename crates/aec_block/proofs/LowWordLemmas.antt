@@ -116,7 +116,8 @@ eight_spell k (a ∷ b ∷ c ∷ d ∷ e ∷ f ∷ g ∷ h ∷ []) high low few 
     let first = join_lane k k (2 * k) (a ∷ []) (b ∷ []) a b (omega arith) (omega arith) (one_spells k a all.0) (one_spells k b all.1.0) in
     let second = join_lane k k (2 * k) (c ∷ []) (d ∷ []) c d (omega arith) (omega arith) (one_spells k c all.1.1.0) (one_spells k d all.1.1.1.0) in
     let third = join_lane k k (2 * k) (e ∷ []) (f ∷ []) e f (omega arith) (omega arith) (one_spells k e all.1.1.1.1.0) (one_spells k f all.1.1.1.1.1.0) in
-    let fourth = join_lane k k (2 * k) (g ∷ []) (h ∷ []) g h (omega arith) (omega arith) (one_spells k g all.1.1.1.1.1.1.0) (one_spells k h all.1.1.1.1.1.1.1.0) in
+    let fourth = join_lane k k (2 * k) (g ∷ []) (h ∷ []) g h (omega arith) (omega arith)
+    (one_spells k g all.1.1.1.1.1.1.0) (one_spells k h all.1.1.1.1.1.1.1.0) in
     let front : Spells k (4 * k) (a ∷ b ∷ c ∷ d ∷ []) high = subst (Spells k (4 * k) (a ∷ b ∷ c ∷ d ∷ [])) (sym high_is)
     (join_lane k (2 * k) (4 * k) (a ∷ b ∷ []) (c ∷ d ∷ []) _ _ (omega arith) (omega arith) first second) in
     let back : Spells k (4 * k) (e ∷ f ∷ g ∷ h ∷ []) low = subst (Spells k (4 * k) (e ∷ f ∷ g ∷ h ∷ [])) (sym low_is)

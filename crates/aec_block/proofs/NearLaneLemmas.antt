@@ -129,10 +129,18 @@ running-eight p a b c d e f g h fits =
     equal _ _ (p + a + b) (both (added (added b a) (added p 0)) 0 (p + a + b) 0 (p + a + b) four2 refl (omega arith)) at2 in
     let lane3 : added (added (added c b) (added a p)) 0 ≡ three =
     equal _ _ (p + a + b + c) (both (added (added c b) (added a p)) 0 (p + a + b + c) 0 (p + a + b + c) four3 refl (omega arith)) at3 in
-    let lane4 = equal _ _ (p + a + b + c + d) (both (added (added d c) (added b a)) (added (added p 0) 0) (a + b + c + d) p (p + a + b + c + d) four4 four0 (omega arith)) at4 in
-    let lane5 = equal _ _ (p + a + b + c + d + e) (both (added (added e d) (added c b)) (added (added a p) 0) (b + c + d + e) (p + a) (p + a + b + c + d + e) four5 four1 (omega arith)) at5 in
-    let lane6 = equal _ _ (p + a + b + c + d + e + f) (both (added (added f e) (added d c)) (added (added b a) (added p 0)) (c + d + e + f) (p + a + b) (p + a + b + c + d + e + f) four6 four2 (omega arith)) at6 in
-    let lane7 = equal _ _ (p + a + b + c + d + e + f + g) (both (added (added g f) (added e d)) (added (added c b) (added a p)) (d + e + f + g) (p + a + b + c) (p + a + b + c + d + e + f + g) four7 four3 (omega arith)) at7 in
+    let lane4 = equal _ _ (p + a + b + c + d)
+    (both (added (added d c) (added b a)) (added (added p 0) 0)
+    (a + b + c + d) p (p + a + b + c + d) four4 four0 (omega arith)) at4 in
+    let lane5 = equal _ _ (p + a + b + c + d + e)
+    (both (added (added e d) (added c b)) (added (added a p) 0)
+    (b + c + d + e) (p + a) (p + a + b + c + d + e) four5 four1 (omega arith)) at5 in
+    let lane6 = equal _ _ (p + a + b + c + d + e + f)
+    (both (added (added f e) (added d c)) (added (added b a) (added p 0))
+    (c + d + e + f) (p + a + b) (p + a + b + c + d + e + f) four6 four2 (omega arith)) at6 in
+    let lane7 = equal _ _ (p + a + b + c + d + e + f + g)
+    (both (added (added g f) (added e d)) (added (added c b) (added a p))
+    (d + e + f + g) (p + a + b + c) (p + a + b + c + d + e + f + g) four7 four3 (omega arith)) at7 in
     ap₂ ◌∷◌ lane0 (ap₂ ◌∷◌ lane1 (ap₂ ◌∷◌ lane2 (ap₂ ◌∷◌ lane3 (ap₂ ◌∷◌ lane4 (ap₂ ◌∷◌ lane5 (ap₂ ◌∷◌ lane6 (ap₂ ◌∷◌ lane7 refl)))))))
 
 -- the same of a list
@@ -141,8 +149,10 @@ pub running-list : (p : ℕ) (ds : List ℕ) → p < 4294967296 → length ds �
     ∷ (added (added (added (get_or ds 2 0) (get_or ds 1 0)) (added (get_or ds 0 0) p)) 0)
     ∷ (added (added (added (get_or ds 3 0) (get_or ds 2 0)) (added (get_or ds 1 0) (get_or ds 0 0))) (added (added p 0) 0))
     ∷ (added (added (added (get_or ds 4 0) (get_or ds 3 0)) (added (get_or ds 2 0) (get_or ds 1 0))) (added (added (get_or ds 0 0) p) 0))
-    ∷ (added (added (added (get_or ds 5 0) (get_or ds 4 0)) (added (get_or ds 3 0) (get_or ds 2 0))) (added (added (get_or ds 1 0) (get_or ds 0 0)) (added p 0)))
-    ∷ (added (added (added (get_or ds 6 0) (get_or ds 5 0)) (added (get_or ds 4 0) (get_or ds 3 0))) (added (added (get_or ds 2 0) (get_or ds 1 0)) (added (get_or ds 0 0) p))) ∷ []
+    ∷ (added (added (added (get_or ds 5 0) (get_or ds 4 0)) (added (get_or ds 3 0) (get_or ds 2 0)))
+    (added (added (get_or ds 1 0) (get_or ds 0 0)) (added p 0)))
+    ∷ (added (added (added (get_or ds 6 0) (get_or ds 5 0)) (added (get_or ds 4 0) (get_or ds 3 0)))
+    (added (added (get_or ds 2 0) (get_or ds 1 0)) (added (get_or ds 0 0) p))) ∷ []
     ≡ places_before p ds
 running-list p (a ∷ b ∷ c ∷ d ∷ e ∷ f ∷ g ∷ h ∷ []) fits long = running-eight p a b c d e f g h fits
 running-list p [] fits long = absurd (omega arith)
@@ -200,7 +210,8 @@ abbrev left_above : ℕ → List ℕ → List ℕ
 left_above top xs = zip2 (act2 wrap_sub (s_int w32) (s_int w32) (s_int w32)) (replicate 8 top) xs
 
 pub room_of_eight : (top : ℕ) (xs : List ℕ) → top < 4294967296 → length xs ≡ 8 → (i : ℕ) → i < 8 → get_or xs i 0 ≤ top
-    → get_or (sel_l (map (lane_top 31) (zip2 (act2 (mask (lt unsigned)) (s_int w32) (s_int w32) (s_int w32)) xs (left_above top xs))) xs (left_above top xs)) i 0
+    → get_or (sel_l (map (lane_top 31) (zip2 (act2 (mask (lt unsigned)) (s_int w32) (s_int w32) (s_int w32)) xs (left_above top xs)))
+    xs (left_above top xs)) i 0
     ≡ offset_room top (get_or xs i 0)
 room_of_eight top xs small long i within offset =
     let ys : List ℕ = left_above top xs in
@@ -215,3 +226,9 @@ room_of_eight top xs small long i within offset =
     ∙ ap (λ (b : Bool). cond b (get_or xs i 0) (get_or ys i 0)) test
     ∙ ap (λ (y : ℕ). cond (nat_lt (get_or xs i 0) y) (get_or xs i 0) y) at
     ∙ lesser_room top (get_or xs i 0) small offset
+
+pub ruleset running = (running-list)
+
+pub ruleset next_lanes = (next_places)
+
+pub ruleset rooms = (room_of_eight)

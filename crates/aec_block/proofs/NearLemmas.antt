@@ -47,7 +47,8 @@ pub places_after-next : (p : ℕ) (ds all : List ℕ) (i : ℕ) → i < length d
     → (get_or all i 0 ≡ (p + get_or ds i 0) % 4294967296) × (drop (i + 1) all ≡ places_after (get_or all i 0) (drop (i + 1) ds))
 places_after-next p ds all i within is =
     let cut : drop i ds ≡ get_or ds i 0 ∷ drop (i + 1) ds = rw (add-one, drop-cons ds i 0 within) refl in
-    let now : drop i all ≡ ((p + get_or ds i 0) % 4294967296) ∷ places_after ((p + get_or ds i 0) % 4294967296) (drop (i + 1) ds) = is ∙ ap (places_after p) cut in
+    let now : drop i all ≡ ((p + get_or ds i 0) % 4294967296) ∷ places_after ((p + get_or ds i 0) % 4294967296) (drop (i + 1) ds) =
+    is ∙ ap (places_after p) cut in
     let first : get_or all i 0 ≡ (p + get_or ds i 0) % 4294967296 =
     sym (ap (λ (n : ℕ). get_or all n 0) (omega arith)) ∙ sym (get_or-drop i all 0 0) ∙ ap (λ (xs : List ℕ). get_or xs 0 0) now in (
       first,

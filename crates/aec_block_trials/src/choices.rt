@@ -6,7 +6,7 @@ ghost use Rattle.std.specs.List.{AllByRecursion};
 ghost use Rattle.aec_block.specs.Choices.{FitsReference, IsFull};
 
 use crate::asserts::{fails, holds, same, same_at};
-use crate::shared::expect_bits;
+use crate::shared::{expect_bits, expect_same_bits};
 use aec_bits::{BitBuf, BitReader};
 use aec_block::{
     Block, Cds, Choice, Coding, choose, map, read_cds, unmap, write_block, write_shortest_of,
@@ -315,6 +315,8 @@ fn expect_block(
     Ok(())
 }
 
+/// Compares the choice for each fixed block with the one by plain lengths, and what is written by it
+/// with what the code compiled for the number of values writes.
 fn compare_choices(
     rt: &impl Abort,
     alloc: Global,
@@ -334,8 +336,7 @@ fn compare_choices(
         expect_block(rt, alloc, params, &out, &block)?;
         let mut compiled = BitBuf::new(alloc);
         write_compiled(params, &block, &mut compiled)?;
-        same_at(rt, compiled.len(), choice.bits, &case);
-        expect_block(rt, alloc, params, &compiled, &block)?;
+        expect_same_bits(rt, &compiled, &out, &case);
     }
     Ok(())
 }

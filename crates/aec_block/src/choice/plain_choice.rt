@@ -1,4 +1,4 @@
-//! The choice of the shortest option for a block of any number of values, each k from 0 on.
+//! The choice of the shortest option for a block of any number of values: k rises from 0.
 
 ghost use Rattle.std.specs.Prelude.{◌≡◌, ◌*◌, ◌^◌, ◌<◌, ◌≤◌, length};
 ghost use Rattle.aec_block.specs.BlockShape.{most_values};
@@ -8,25 +8,25 @@ ghost use Rattle.aec_block.specs.Choices.{IsFull, IsChoice};
 use crate::block::Block;
 use crate::choice::lengths::uncompressed_len;
 use crate::choice::splitting::{Splitting, is_shorter_next, with_k};
-use crate::choice::sums::{sum_by_eights, sum_one_by_one};
+use crate::choice::sums::{rest_of_lanes, sum_by_eights, sum_one_by_one};
 use crate::choice::{Choice, Coding, shorter_of_pairs, shorter_of_split, split_options};
 use aec_params::Params;
 
-/// The values without their `k` low bits, added up: chunks of eight in eight lanes of 64 bits, and
-/// the rest of them one by one.
+/// Adds up the values without their `k` low bits: eight at a time in eight lanes of 64 bits, and
+/// the rest one by one.
+#[tactic(auto, using(crate::proofs::LanesLemmas::joined_sums))]
 fn sum_in_lanes(values: &[u32], k: u32) -> u64
     requires k { k < 32 }
     requires len { length values.now ≤ most_values }
     ensures sum { result ≡ sum_of_shifted k values.now }
     ensures bound { result ≤ 2 * (most_values * 2 ^ 32) }
 {
-    let whole = 8 * (values.len() / 8);
-    sum_by_eights(values, k) + sum_one_by_one(&values[whole..], k)
+    sum_by_eights(values, k) + sum_one_by_one(rest_of_lanes(values), k)
 }
 
-/// The k below `options` with which the values have the fewest bits, and of equal ones the least: k
-/// rises from 0 and stops at the first for which one more isn't shorter. What one more low bit gains
-/// never grows, so no later k is shorter.
+/// Returns the k below `options` with which the values have the fewest bits, and of equal ones the
+/// least. k rises from 0 and stops at the first k whose successor isn't shorter. One more low bit
+/// never gains more than the one before it gained, so no later k is shorter.
 fn first_best(values: &[u32], options: u32) -> Splitting
     requires some { 0 < options }
     requires options { options ≤ 32 }

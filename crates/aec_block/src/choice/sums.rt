@@ -1,6 +1,6 @@
 //! The values of a block without their low bits, added up in eight lanes of 64 bits.
 
-ghost use Rattle.std.specs.Prelude.{ℕ, ◌≡◌, ◌+◌, ◌*◌, ◌/◌, ◌^◌, ◌<◌, ◌≤◌, length, take};
+ghost use Rattle.std.specs.Prelude.{ℕ, ◌≡◌, ◌+◌, ◌*◌, ◌/◌, ◌^◌, ◌<◌, ◌≤◌, length, take, drop};
 ghost use Rattle.std.specs.Simd.Lanes.{sum_l};
 ghost use Rattle.aec_block.specs.BlockShape.{most_values};
 ghost use Rattle.aec_block.specs.Lengths.{sum_of_shifted};
@@ -57,6 +57,15 @@ pub(crate) fn sum_by_eights(values: &[u32], k: u32) -> u64
     sum_of_lanes(sums)
 }
 
+/// Returns the values behind the last whole eight, fewer than eight.
+#[inline(always)]
+#[tactic(auto, using(crate::proofs::LanesLemmas::rests))]
+pub(crate) fn rest_of_lanes(values: &[u32]) -> &[u32]
+    ensures rest { result.now ≡ drop (8 * (length values.now / 8)) values.now }
+{
+    &values[8 * (values.len() / 8)..]
+}
+
 /// The sum of a few values, one by one.
 #[inline(always)]
 pub(crate) fn sum_one_by_one(values: &[u32], k: u32) -> u64
@@ -101,12 +110,12 @@ pub(crate) fn sum_of_few(values: &[u32], k: u32) -> u64
 
 /// The values without their `k` low bits, added up.
 #[inline(always)]
+#[tactic(auto, using(crate::proofs::LanesLemmas::joined_sums))]
 pub(crate) fn shifted_sum(values: &[u32], k: u32) -> u64
     requires k { k < 32 }
     requires len { length values.now ≤ most_values }
     ensures sum { result ≡ sum_of_shifted k values.now }
     ensures bound { result ≤ 2 * (most_values * 2 ^ 32) }
 {
-    let whole = 8 * (values.len() / 8);
-    sum_by_eights(values, k) + sum_of_few(&values[whole..], k)
+    sum_by_eights(values, k) + sum_of_few(rest_of_lanes(values), k)
 }

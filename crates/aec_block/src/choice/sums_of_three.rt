@@ -6,7 +6,7 @@ ghost use Rattle.std.specs.Simd.Lanes.{sum_l};
 ghost use Rattle.aec_block.specs.BlockShape.{most_values};
 ghost use Rattle.aec_block.specs.Lengths.{sum_of_shifted};
 
-use crate::choice::sums::{seven_in_lanes, sum_of_few, sum_one_by_one};
+use crate::choice::sums::{rest_of_lanes, seven_in_lanes, sum_of_few, sum_one_by_one};
 use std::simd::prelude::*;
 
 /// The sums of values without k low bits, without one more, and without two more.
@@ -104,6 +104,7 @@ fn three_of_few(values: &[u32], k: u32) -> ThreeSums
 
 /// The sums of values without `k` low bits, without one more, and without two more.
 #[inline(always)]
+#[tactic(auto, using(crate::proofs::LanesLemmas::joined_sums))]
 pub(crate) fn three_sums(values: &[u32], k: u32) -> ThreeSums
     requires k { k < 30 }
     requires len { length values.now ≤ most_values }
@@ -114,7 +115,7 @@ pub(crate) fn three_sums(values: &[u32], k: u32) -> ThreeSums
     ensures bounds { (result.first ≤ 2 ^ 39) × (result.second ≤ 2 ^ 39) × (result.third ≤ 2 ^ 39) }
 {
     let eights = three_by_eights(values, k);
-    let few = three_of_few(&values[8 * (values.len() / 8)..], k);
+    let few = three_of_few(rest_of_lanes(values), k);
     ThreeSums {
         first: eights.first + few.first,
         second: eights.second + few.second,
@@ -139,6 +140,7 @@ fn small_by_eights(values: &[u32], k: u32) -> u64
 
 /// The values without their `k` low bits, added up, where the sum fits 32 bits.
 #[inline(always)]
+#[tactic(auto, using(crate::proofs::LanesLemmas::joined_sums))]
 pub(crate) fn small_shifted_sum(values: &[u32], k: u32) -> u64
     requires k { k < 32 }
     requires len { length values.now ≤ most_values }
@@ -146,6 +148,5 @@ pub(crate) fn small_shifted_sum(values: &[u32], k: u32) -> u64
     ensures sum { result ≡ sum_of_shifted k values.now }
     ensures bound { result < 2 ^ 32 }
 {
-    let whole = 8 * (values.len() / 8);
-    small_by_eights(values, k) + sum_of_few(&values[whole..], k)
+    small_by_eights(values, k) + sum_of_few(rest_of_lanes(values), k)
 }

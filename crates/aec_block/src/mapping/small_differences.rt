@@ -26,6 +26,7 @@ pub(crate) fn near_differences(values: &[u32]) -> [u32; 8]
 
 /// From where eight differences lead that follow each other, the first from an offset: modulo 2^32.
 #[inline(always)]
+#[tactic(auto, using(crate::proofs::NearLaneLemmas::running))]
 pub(crate) fn running_places(offset: u32, differences: &[u32; 8]) -> [u32; 8]
     ensures { result ≡ places_before offset differences.now }
 {
@@ -39,6 +40,7 @@ pub(crate) fn running_places(offset: u32, differences: &[u32; 8]) -> [u32; 8]
 
 /// Where each of eight differences leads from its place: modulo 2^32.
 #[inline(always)]
+#[tactic(auto, using(crate::proofs::NearLaneLemmas::next_lanes))]
 pub(crate) fn next_places(before: &[u32; 8], differences: &[u32; 8]) -> [u32; 8]
     ensures { (p : ℕ) → before.now ≡ places_before p differences.now
         → result ≡ places_after p differences.now }
@@ -59,6 +61,7 @@ fn needed_rooms(values: &[u32]) -> [u32; 8]
 
 /// The room on both sides of those of eight places that are offsets.
 #[inline(always)]
+#[tactic(auto, using(crate::proofs::NearLaneLemmas::rooms))]
 fn rooms_at(top: u32, places: &[u32; 8]) -> [u32; 8]
     ensures { (i : ℕ) → i < 8 → get_or places.now i 0 ≤ top
         → get_or result i 0 ≡ offset_room top (get_or places.now i 0) }

@@ -28,14 +28,14 @@ loop-i-preserved c =
     let room : c.loop-i.i < length c.loop-i.samples = omega (arith, c.loop-i-test.true, c.requires.len, c.loop-i.invariant.len) in
     let step = near_place-step c.args.params.now c.args.values.now c.args.places.now c.loop-i.i c.loop-i.place c.x_min-least.ensures.allowed here
     c.loop-i.invariant.within c.loop-i.invariant.behind c.loop-i.invariant.near in
-    let fits : FitsSigned w64 c.x_min-least.result = search (rules, c.x_min-least.type_inv) in
     let above_fits : FitsSigned w64 c.from.result = search (rules, c.from.type_inv) in
-    let least_is = to_z-of_z w64 c.x_min-least.result fits ∙ c.x_min-least.ensures.value in
+    let least_is = to_z-of_z w64 c.x_min-least.result (search (rules, c.x_min-least.type_inv)) ∙ c.x_min-least.ensures.value in
     let above_is = to_z-of_z w64 c.from.result above_fits ∙ c.from.ensures in
     let sum_fits = sample_at-fits c.args.params.now _ _ (get_or c.args.places.now c.loop-i.i 0) c.x_min-least.ensures.allowed least_is above_is step.0.1 in
     record {
       unmaps = unmaps_to-offset _ _ _ _ _ (top_offset c.args.params.now) c.loop-i.place (get_or c.args.places.now c.loop-i.i 0) _ _ _
-          c.x_min-least.ensures.allowed c.requires.on refl c.loop-i.invariant.within step.0.0 here step.0.2 (to_z-of_z w64 _ sum_fits ∙ ap₂ ◌+ℤ◌ least_is above_is)
+          c.x_min-least.ensures.allowed c.requires.on refl c.loop-i.invariant.within step.0.0 here step.0.2
+          (to_z-of_z w64 _ sum_fits ∙ ap₂ ◌+ℤ◌ least_is above_is)
           (one_more c.loop-i.samples c.loop-i.i _ room) c.loop-i.invariant.unmaps;
       within = step.0.0;
       near = step.0.3;
