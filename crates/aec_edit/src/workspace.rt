@@ -65,6 +65,7 @@ impl<C: Codec> Workspace<C> {
         ensures samples { result.samples ≡ [] }
         ensures limit { result.limit ≡ limit }
         ensures codec { result.codec ≡ codec }
+        ensures room { (result.room.bits ≡ 0) × (result.room.intervals ≡ 0) }
     {
         let _reads = codec.reads();
         Workspace {
