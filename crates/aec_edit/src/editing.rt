@@ -19,8 +19,8 @@ impl<C: Codec> Workspace<C> {
     /// `Spent`, then with `Memory` where a growth was refused. An edit that codes no interval takes
     /// no memory.
     ///
-    /// `Spent` comes exactly where the edit fits, and the calls of the codec so far, with those that
-    /// the edit needs, pass `u64::MAX`. No call is made then.
+    /// `Spent` comes exactly where the edit fits, and the calls of the codec so far, with those
+    /// that the edit needs, pass `u64::MAX`. No call is made then.
     pub fn apply(&mut self, edit: &Edit) -> Result<u64, Fault>
         ensures answer { Answers (C.format self.old.codec) self.old.limit self.old.samples
             (C.called self.old.codec)
