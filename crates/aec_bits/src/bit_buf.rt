@@ -52,7 +52,8 @@ impl BitBuf {
 
     /// No bits. Takes no memory.
     pub fn new(alloc: Global) -> BitBuf
-        ensures { result.list ≡ [] }
+        ensures list { result.list ≡ [] }
+        ensures room { result.room ≡ 0 }
     {
         BitBuf {
             words: Vec::new(alloc),
@@ -66,6 +67,14 @@ impl BitBuf {
         ensures bound { length self.now.list ≤ 2 ^ 62 }
     {
         self.len
+    }
+
+    /// The number of bits by which the list can grow with no further memory.
+    pub fn room(&self) -> u64
+        ensures { result ≡ self.now.room }
+    {
+        let words = self.words.capacity() as u64;
+        words.saturating_mul(64).min(MOST_BITS) - self.len
     }
 
     /// The bit at place `i`.

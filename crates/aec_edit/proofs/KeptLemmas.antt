@@ -3,7 +3,7 @@ use Rattle.std.proofs.Common.{◌≡◌, ℕ, ◌-◌, ◌*◌, ◌<◌, ◌≤�
 use Rattle.aec_bits.specs.Codec.{Format, AreHeld, IsLawful, BeginsAt, code_of}
 use Rattle.aec_bits.proofs.CodeLaws.{code_of-nil, code_of_first, same_samples}
 use Rattle.std.proofs.lemmas.List.{length-take, length-drop, take_all}
-use Rattle.aec_edit.specs.Workspace.{Contents, interval_count, start_of}
+use Rattle.aec_edit.specs.Workspace.{Contents, Room, interval_count, start_of}
 use Rattle.aec_edit.specs.Index.{IsKeptCode, KeptSamples, kept_samples}
 use Rattle.aec_params.proofs.CountLaws.{before_end, past_end}
 use Rattle.aec_edit.proofs.HeldLemmas.{held-take, held-drop}
@@ -23,35 +23,34 @@ no_other {f} {s = s} kept lawful is =
     same_samples f (kept_samples kept) s lawful stood.held is.held (stood.count_is ∙ sym is.count_is) (sym stood.bits_are ∙ is.bits_are)
 
 -- as a caller sees them
-pub at_view : {C : Type 0} (format : C → Format) {codec : C} {count limit : ℕ} {bits : List Bool} {starts : List ℕ} (kept : KeptSamples
-    (format codec) count bits starts)
-    (seen : Contents C) → record { samples = kept_samples kept; limit = limit; codec = codec } ≡ seen
+pub at_view : {C : Type 0} (format : C → Format) {codec : C} {count limit : ℕ} {bits : List Bool} {starts : List ℕ} {room : Room}
+    (kept : KeptSamples (format codec) count bits starts)
+    (seen : Contents C) → record { samples = kept_samples kept; limit = limit; codec = codec; room = room } ≡ seen
     → IsKeptCode (format seen.codec) count bits starts seen.samples
 at_view format {count = count} {bits = bits} {starts = starts} kept seen e =
     subst (λ w. IsKeptCode (format w.codec) count bits starts w.samples) e (stands kept)
 
--- callers see the same where fields hold the same, as in other room
-pub seen_still : {C : Type 0} (format : C → Format) {codec : C} {count count_then limit : ℕ} {bits bits_then : List Bool}
-    {starts starts_then : List ℕ} (kept : KeptSamples (format codec) count bits starts)
-    (again : KeptSamples (format codec) count_then bits_then starts_then)
-    (seen : Contents C) → IsLawful (format codec) → count_then ≡ count → bits_then ≡ bits → starts_then ≡ starts
-    → record { samples = kept_samples kept; limit = limit; codec = codec } ≡ seen
-    → record { samples = kept_samples again; limit = limit; codec = codec } ≡ seen
-seen_still format {codec} {limit = limit} kept again seen lawful same_count same_bits same_starts e =
+-- callers see the same samples where fields hold the same, as in other room
+pub kept_still : {f : Format} {count count_then : ℕ} {bits bits_then : List Bool} {starts starts_then : List ℕ}
+    (kept : KeptSamples f count bits starts) (again : KeptSamples f count_then bits_then starts_then)
+    → IsLawful f → count_then ≡ count → bits_then ≡ bits → starts_then ≡ starts → kept_samples again ≡ kept_samples kept
+kept_still kept again lawful same_count same_bits same_starts =
     let stood = stands kept in
-    ap (λ s. record { samples = s; limit = limit; codec = codec }) (no_other again lawful record {
+    no_other again lawful record {
       held = stood.held;
       count_is = stood.count_is ∙ sym same_count;
       bits_are = same_bits ∙ stood.bits_are;
       starts_are = same_starts ∙ stood.starts_are;
-    }) ∙ e
+    }
 
--- and where the fields hold them still
-pub seen_again : {C : Type 0} (format : C → Format) {codec : C} {count limit : ℕ} {bits : List Bool} {starts : List ℕ} (kept again : KeptSamples
-    (format codec) count bits starts)
-    (seen : Contents C) → IsLawful (format codec) → record { samples = kept_samples kept; limit = limit; codec = codec } ≡ seen
-    → record { samples = kept_samples again; limit = limit; codec = codec } ≡ seen
-seen_again format kept again seen lawful e = seen_still format kept again seen lawful refl refl refl e
+-- and all where the fields hold them still
+pub seen_again : {C : Type 0} (format : C → Format) {codec : C} {count limit : ℕ} {bits : List Bool} {starts : List ℕ} {room : Room}
+    (kept again : KeptSamples (format codec) count bits starts)
+    (seen : Contents C) → IsLawful (format codec)
+    → record { samples = kept_samples kept; limit = limit; codec = codec; room = room } ≡ seen
+    → record { samples = kept_samples again; limit = limit; codec = codec; room = room } ≡ seen
+seen_again format {codec} {limit = limit} {room = room} kept again seen lawful e =
+    ap (λ s. record { samples = s; limit = limit; codec = codec; room = room }) (kept_still kept again lawful refl refl refl) ∙ e
 
 -- under a format that is the same, for a list that is
 pub kept_again : {f g : Format} {count : ℕ} {bits : List Bool} {starts : List ℕ} {s : List ℤ} (kept : KeptSamples f count bits starts)

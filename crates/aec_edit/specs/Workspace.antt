@@ -1,14 +1,31 @@
 -- A workspace as its callers see it.
-use Rattle.std.specs.Prelude.{◌≡◌, ℕ, ◌*◌, Bool, ℤ, List, ◌++◌, length, take}
+use Rattle.std.specs.Prelude.{◌≡◌, ℕ, ◌*◌, ◌≤◌, Bool, ℤ, List, ◌++◌, length, take}
 use Rattle.std.specs.Int.{div_ceil}
 use Rattle.aec_params.specs.Codewords.{bits_of_bytes}
 use Rattle.aec_bits.specs.Codec.{Format, AreHeld, code_of}
 
--- the samples, the most of them that there may be, and the codec with its counts of calls
+-- by how much code can grow with no further memory: by so many bits, and by the starts of so many
+-- intervals
+pub record Room : Type 0 where
+  pub bits : ℕ
+  pub intervals : ℕ
+
+-- the samples, the most of them that there may be, the codec with its counts of calls, and the room
+-- of the code
 pub record Contents (C : Type 0) : Type 0 where
   pub samples : List ℤ
   pub limit : ℕ
   pub codec : C
+  pub room : Room
+
+-- the room of the lists that an edit leaves to the next one, in intervals of n samples: for the
+-- samples of two of them in front and of one behind, for 128 bits a sample of two, and for no more
+-- starts than these have samples
+pub record IsScratchRoom (n front back bits starts : ℕ) : Type 0 where
+  pub front_fits : front ≤ 2 * n
+  pub back_fits : back ≤ n
+  pub bits_fit : bits ≤ 128 * (2 * n)
+  pub starts_fit : starts ≤ 2 * n
 
 -- how many intervals samples fill
 abbrev pub interval_count : Format → List ℤ → ℕ

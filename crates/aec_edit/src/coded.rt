@@ -1,6 +1,6 @@
 //! The code of samples, with an index of its intervals.
 
-ghost use Rattle.std.specs.Prelude.{◌≡◌, ℕ, ◌+◌, ◌-◌, ◌<◌, ◌≤◌, ◌++◌, [], length, map, take, drop, vec_len, slice_index, OnOk, OnErr, IfErr};
+ghost use Rattle.std.specs.Prelude.{◌≡◌, ℕ, ◌+◌, ◌-◌, ◌*◌, ◌<◌, ◌≤◌, ◌++◌, [], length, map, take, drop, vec_len, vec_capacity, slice_index, OnOk, OnErr, IfErr};
 ghost use Rattle.aec_params.specs.declared.fault.Fault.TheVariants.{Memory};
 
 use crate::index::replace_starts;
@@ -29,6 +29,7 @@ impl Coded {
         ensures bits { result.bits.list ≡ [] }
         ensures starts { result.starts.items ≡ [] }
         ensures count { result.count ≡ 0 }
+        ensures room { (result.bits.room ≡ 0) × (vec_capacity result.starts ≡ 0) }
     {
         Coded {
             bits: BitBuf::new(alloc),
@@ -43,6 +44,8 @@ impl Coded {
         ensures starts { self.new.starts.items ≡ self.old.starts.items }
         ensures count { self.new.count ≡ self.old.count }
         ensures room { OnOk result (bits ≤ self.new.bits.room) }
+        ensures room_of_starts { OnOk result
+            (vec_len self.new.starts + intervals ≤ vec_capacity self.new.starts) }
         ensures fault { IfErr result (λ e. (e ≡ Memory) × (0 < bits + intervals)) }
     {
         self.bits.reserve(bits)?;
@@ -51,19 +54,22 @@ impl Coded {
         Ok(())
     }
 
-    /// The code of no samples, in the same room; where this is the code of more than `most`
-    /// samples, its room is let go.
+    /// The code of no samples, in the same room. Room for more than 128 bits for each of `most`
+    /// samples, or for more than so many starts, is let go.
     pub fn emptied(mut self, alloc: Global, most: u64) -> Coded
+        requires { most ≤ 524288 }
         ensures bits { result.bits.list ≡ [] }
         ensures starts { result.starts.items ≡ [] }
         ensures count { result.count ≡ 0 }
+        ensures room { result.bits.room ≤ 128 * most }
+        ensures room_of_starts { vec_capacity result.starts ≤ most }
     {
-        if self.count > most {
-            return Coded::new(alloc);
-        }
         self.bits.truncate(0);
         self.starts.clear();
         self.count = 0;
+        if self.bits.room() > 128 * most || self.starts.capacity() as u64 > most {
+            return Coded::new(alloc);
+        }
         self
     }
 

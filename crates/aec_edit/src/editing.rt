@@ -12,12 +12,15 @@ impl<C: Codec> Workspace<C> {
     ghost use Rattle.aec_edit.specs.Steps.{Answers, Applies, samples_left, outcome_of};
     ghost use Rattle.aec_edit.specs.Unchanged.{KeepsRules};
 
-    /// Makes an edit, and answers how many intervals it has coded: the number that is defined. It
+    /// Makes an edit, and returns how many intervals it has coded: the number that is defined. It
     /// decodes at most as many as hold a sample that is kept and coded anew.
     ///
-    /// A refused edit changes no sample: one that doesn't fit is refused for that, then one that
-    /// codes more intervals than the codec has calls left with `Spent`, and one that fits with
-    /// `Memory` where a growth was refused. An edit that codes no interval takes no memory.
+    /// A refused edit changes no sample. An edit that doesn't fit is refused for that, then with
+    /// `Spent`, then with `Memory` where a growth was refused. An edit that codes no interval takes
+    /// no memory.
+    ///
+    /// `Spent` comes exactly where the edit fits, and the calls of the codec so far, with those
+    /// that the edit needs, pass `u64::MAX`. No call is made then.
     pub fn apply(&mut self, edit: &Edit) -> Result<u64, Fault>
         ensures answer { Answers (C.format self.old.codec) self.old.limit self.old.samples
             (C.called self.old.codec)

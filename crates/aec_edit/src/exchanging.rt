@@ -75,7 +75,7 @@ impl<C: Codec> Workspace<C> {
         let kept = self.count().min(to * most) - stop;
         let total = first % most + (values.len() as u64 + kept);
         let needed = total.div_ceil(most);
-        if needed > u64::MAX - self.calls() {
+        if self.are_spent(needed) {
             return Err(Fault::Spent);
         }
         let mut fresh = self.fresh(first, stop, to, values)?;

@@ -5,7 +5,7 @@ use aec_bits::Codec;
 use aec_params::Fault;
 
 impl<C: Codec> Workspace<C> {
-    ghost use Rattle.std.specs.Prelude.{◌≡◌, ◌+◌, ◌^◌, ◌<◌, ◌≤◌, None, Some, length, OnOk, IfErr};
+    ghost use Rattle.std.specs.Prelude.{◌≡◌, ◌+◌, ◌-◌, ◌^◌, ◌<◌, ◌≤◌, true, false, None, Some, length, OnOk, IfErr};
     ghost use Rattle.std.specs.List.{list_all};
     ghost use Rattle.aec_params.specs.declared.fault.Fault.TheVariants.{OutOfRange};
     ghost use Rattle.aec_bits.specs.Codec.{AreHeld};
@@ -25,6 +25,14 @@ impl<C: Codec> Workspace<C> {
             return Err(Fault::OutOfRange { count });
         }
         Ok(())
+    }
+
+    /// Whether fewer calls of the codec are left than are needed.
+    pub(crate) fn are_spent(&self, needed: u64) -> bool
+        ensures spent { result ≡ true → 2 ^ 64 - 1 < C.called self.now.codec + needed }
+        ensures enough { result ≡ false → C.called self.now.codec + needed ≤ 2 ^ 64 - 1 }
+    {
+        needed > u64::MAX - self.calls()
     }
 
     /// Whether values can come: the limit has room for them, and they are samples.

@@ -6,7 +6,7 @@ use aec_params::Fault;
 use std::alloc::Global;
 
 impl<C: Codec> Workspace<C> {
-    ghost use Rattle.std.specs.Prelude.{◌≡◌, ◌+◌, ◌-◌, ◌*◌, ◌<◌, ◌≤◌, ◌++◌, None, Err, length, take, drop, IfOk, OnOk, IfErr};
+    ghost use Rattle.std.specs.Prelude.{◌≡◌, ◌+◌, ◌-◌, ◌*◌, ◌^◌, ◌<◌, ◌≤◌, ◌++◌, None, Err, length, take, drop, IfOk, OnOk, IfErr};
     ghost use Rattle.aec_params.specs.Edits.{touched_intervals};
     ghost use Rattle.aec_params.specs.declared.fault.Fault.TheVariants.{Memory};
     ghost use Rattle.aec_edit.specs.Workspace.{interval_count};
@@ -29,10 +29,21 @@ impl<C: Codec> Workspace<C> {
             (length (touched_intervals (C.format self.old.codec).most first len))
             self.old self.new }
     {
-        let count = self.count();
-        if len > count || first > count - len {
-            return Err(Fault::OutOfRange { count });
-        }
+        self.check_places(first, len)?;
+        self.slice(alloc, first, len)
+    }
+
+    /// The `len` samples from place `first` on, which are there. `Memory` where a growth was
+    /// refused, but not for no samples.
+    fn slice(&mut self, alloc: Global, first: u64, len: u64) -> Result<Vec<i64>, Fault>
+        requires within { first + len ≤ length self.old.samples }
+        requires short { first + len ≤ 2 ^ 32 }
+        ensures ok { IfOk result (λ v. v.items ≡ take len (drop first self.old.samples)) }
+        ensures fault { IfErr result (λ e. (e ≡ Memory) × (0 < len)) }
+        ensures read { IsOnlyRead C.format C.called C.read
+            (length (touched_intervals (C.format self.old.codec).most first len))
+            self.old self.new }
+    {
         let mut out = Vec::new(alloc);
         if len == 0 {
             return Ok(out);

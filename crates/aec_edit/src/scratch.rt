@@ -2,6 +2,7 @@
 //! for no memory for them.
 
 ghost use Rattle.std.specs.Prelude.{◌≡◌, ◌*◌, ◌≤◌, [], vec_capacity};
+ghost use Rattle.aec_edit.specs.Workspace.{IsScratchRoom};
 
 use crate::coded::Coded;
 use std::alloc::Global;
@@ -22,7 +23,12 @@ pub(crate) struct Scratch {
 
 impl Scratch {
     /// Lists with no room. Takes no memory.
-    pub fn new(alloc: Global) -> Scratch {
+    pub fn new(alloc: Global) -> Scratch
+        ensures front { vec_capacity result.front ≡ 0 }
+        ensures back { vec_capacity result.back ≡ 0 }
+        ensures bits { result.coded.bits.room ≡ 0 }
+        ensures starts { vec_capacity result.coded.starts ≡ 0 }
+    {
         Scratch {
             front: Vec::new(alloc),
             back: Vec::new(alloc),
@@ -30,12 +36,12 @@ impl Scratch {
         }
     }
 
-    /// These lists, emptied. Those that are longer than edits of two intervals of `most` samples
+    /// These lists, emptied. Those with more room than edits of two intervals of `most` samples
     /// need are let go.
     pub fn of(alloc: Global, front: Vec<i64>, back: Vec<i64>, coded: Coded, most: usize) -> Scratch
         requires { most ≤ 262144 }
-        ensures front { vec_capacity result.front ≤ 2 * most }
-        ensures back { vec_capacity result.back ≤ most }
+        ensures room { IsScratchRoom most (vec_capacity result.front) (vec_capacity result.back)
+            result.coded.bits.room (vec_capacity result.coded.starts) }
     {
         Scratch {
             front: emptied(alloc, front, 2 * most),

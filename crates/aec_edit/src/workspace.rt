@@ -15,7 +15,7 @@ use std::alloc::Global;
 use std::marker::Model;
 
 /// Samples, kept as their code and the places where its intervals begin. The samples themselves
-/// aren't kept: between edits the scratch is empty, and keeps its room alone.
+/// aren't kept: between edits the scratch is empty, and keeps room for at most two intervals.
 #[derive(Debug, Drop)]
 pub struct Workspace<C: Codec> {
     coded: Coded,
@@ -27,17 +27,27 @@ pub struct Workspace<C: Codec> {
 }
 
 impl<C: Codec> Model for Workspace<C> {
-    ghost use Rattle.std.specs.Prelude.{◌^◌, ◌-◌, ◌≤◌};
-    ghost use Rattle.aec_edit.specs.Workspace.{Contents};
+    ghost use Rattle.std.specs.Prelude.{◌^◌, ◌-◌, ◌≤◌, vec_len, vec_capacity};
+    ghost use Rattle.aec_edit.specs.Workspace.{Contents, IsScratchRoom};
     ghost use Rattle.aec_edit.specs.Index.{kept_samples};
 
     ghost Value = { Contents C };
 
-    ghost view = { λ w.
-        record { samples = kept_samples w.written; limit = w.limit; codec = w.codec } };
+    ghost view = { λ w. record {
+      samples = kept_samples w.written;
+      limit = w.limit;
+      codec = w.codec;
+      room = record {
+        bits = w.coded.bits.room;
+        intervals = vec_capacity w.coded.starts - vec_len w.coded.starts;
+      };
+    } };
 
     ghost invariant = { λ w.
-        (w.coded.count ≤ w.limit) × (w.limit ≤ 2 ^ 32) × (C.read w.codec ≤ 2 ^ 64 - 1) };
+        (w.coded.count ≤ w.limit) × (w.limit ≤ 2 ^ 32) × (C.read w.codec ≤ 2 ^ 64 - 1)
+        × IsScratchRoom (C.format w.codec).most (vec_capacity w.scratch.front)
+        (vec_capacity w.scratch.back) w.scratch.coded.bits.room
+        (vec_capacity w.scratch.coded.starts) };
 }
 
 impl<C: Codec> Workspace<C> {
@@ -55,6 +65,7 @@ impl<C: Codec> Workspace<C> {
         ensures samples { result.samples ≡ [] }
         ensures limit { result.limit ≡ limit }
         ensures codec { result.codec ≡ codec }
+        ensures room { (result.room.bits ≡ 0) × (result.room.intervals ≡ 0) }
     {
         let _reads = codec.reads();
         Workspace {
@@ -69,7 +80,11 @@ impl<C: Codec> Workspace<C> {
     /// Takes room for so many more bits of code, and for the starts of so many more intervals.
     /// `Memory` where it is refused. Nothing that is kept changes.
     pub fn reserve(&mut self, bits: u64, intervals: u64) -> Result<(), Fault>
-        ensures same { self.new ≡ self.old }
+        ensures room { OnOk result
+            ((bits ≤ self.new.room.bits) × (intervals ≤ self.new.room.intervals)) }
+        ensures samples { self.new.samples ≡ self.old.samples }
+        ensures limit { self.new.limit ≡ self.old.limit }
+        ensures codec { self.new.codec ≡ self.old.codec }
         ensures fault { IfErr result (λ e. (e ≡ Memory) × (0 < bits + intervals)) }
     {
         self.coded.reserve(bits, intervals)

@@ -5,7 +5,8 @@ use crate::asserts::{holds_at, same};
 use crate::mixed_edits::some_edit;
 use crate::plain_lists::{Row, expect_edit};
 use crate::steps::{
-    apply, calls, expect_run, expect_steps, expect_stop, range, reads, start_of, stream,
+    apply, calls, counts, expect_run, expect_steps, expect_stop, range, reads, reserve, start_of,
+    stream,
 };
 use aec_bits::laws::Octets;
 use aec_bits::{Sink, WriteSink};
@@ -23,7 +24,7 @@ pub(crate) fn workspace(alloc: Global, calls: u64, limit: u64) -> Workspace<Octe
 }
 
 // The calls that a codec counts on from, the limit, and the steps from nothing on.
-const TABLES: [(u64, u64, &str); 9] = [
+const TABLES: [(u64, u64, &str); 10] = [
     (
         0,
         8,
@@ -53,7 +54,20 @@ overwrite 4      | 0 | 01 02 03 09 | 32 0 | 0
 truncate 3       | 1 | 01 02 03 | 24 0 | 1
 range 0 3        | 1 2 3 | 01 02 03 | 24 0 | 1",
     ),
-    // One call is left, and none.
+    // One call is left, and none. Edits that code nothing are made; the limit comes before calls.
+    (
+        18446744073709551614,
+        8,
+        "\
+append 1*5    | coder calls are spent | | 0 | 0
+append 1*4    | 1 | 01*4 | 32 0 | 0
+overwrite 0 2 | coder calls are spent | 01*4 | 32 0 | 0
+overwrite 4   | 0 | 01*4 | 32 0 | 0
+truncate 4    | 0 | 01*4 | 32 0 | 0
+truncate 0    | 0 | | 0 | 0
+append 1*9    | more than 8 samples | | 0 | 0",
+    ),
+    // The same with a sample that stays, and with more samples than have room behind those there.
     (
         18446744073709551614,
         8,
@@ -346,6 +360,18 @@ fn a_failing_sink_is_named(rt: HostRuntime) -> Result<(), Fail> {
     );
     same(&rt, edited.err(), Some(Fault::Write));
     same(&rt, sink.failures(), 1);
+    Ok(())
+}
+
+#[test]
+fn room_is_taken_beforehand(rt: HostRuntime) -> Result<(), Fail> {
+    let alloc = rt.alloc();
+    let mut work = workspace(alloc, 0, 8);
+    same(&rt, reserve(&mut work, 64, 2), Ok(()));
+    same(&rt, reserve(&mut work, u64::MAX, 0), Err(Fault::Memory));
+    same(&rt, reserve(&mut work, 0, u64::MAX), Err(Fault::Memory));
+    same(&rt, (counts(&work), calls(&work)), ((0, 0, 0), 0));
+    same(&rt, apply(&mut work, &zeros(alloc, 5)?), Ok(2));
     Ok(())
 }
 

@@ -24,6 +24,14 @@ pub(crate) fn range<C: Codec>(
     work.range(alloc, first, len)
 }
 
+pub(crate) fn reserve<C: Codec>(
+    work: &mut Workspace<C>,
+    bits: u64,
+    intervals: u64,
+) -> Result<(), Fault> {
+    work.reserve(bits, intervals)
+}
+
 /// The bytes of the stream.
 pub(crate) fn stream<C: Codec>(alloc: Global, work: &Workspace<C>) -> Result<Vec<u8>, Fault> {
     let mut sink = WriteSink::new(Vec::new(alloc));
@@ -228,7 +236,16 @@ fn run_text<C: Codec>(
     Ok(text)
 }
 
-/// The edits of a table in one run.
+// How many intervals the edits have coded that answers say were made.
+fn coded_by(answers: &str) -> u64 {
+    let mut coded = 0u64;
+    for answer in answers.lines() {
+        coded = coded.saturating_add(answer.parse::<u64>().unwrap_or(0));
+    }
+    coded
+}
+
+/// The edits of a table in one run. The calls rise by what its edits have coded.
 pub(crate) fn expect_run<R: Abort, C: Codec>(
     rt: &R,
     alloc: Global,
@@ -236,8 +253,11 @@ pub(crate) fn expect_run<R: Abort, C: Codec>(
     table: &str,
 ) -> Result<(), Fail> {
     let (edits, answers) = edits_of(alloc, table)?;
+    let before = calls(work);
     let text = run_text(alloc, work, &edits)?;
     same(rt, text, format!(in alloc; "77\n{answers}")?);
+    let after = before.saturating_add(coded_by(&answers));
+    same_at(rt, calls(work), after, &table);
     same_at(
         rt,
         stream(alloc, work)?,

@@ -1,6 +1,7 @@
 //! Workspaces over the coder itself, edit by edit.
 
-use crate::steps::{expect_run, expect_steps, expect_stop};
+use crate::asserts::same;
+use crate::steps::{calls, counts, expect_run, expect_steps, expect_stop};
 use aec_edit::Workspace;
 use aec_interval::AecCodec;
 use aec_params::{Params, Settings};
@@ -17,6 +18,13 @@ pub(crate) fn workspace(
     let codec = AecCodec::with_calls(alloc, params, calls);
     Workspace::new(alloc, codec, limit.min(1 << 32))
 }
+
+// The steps of a workspace whose codec has one call left.
+const ONE_CALL_LEFT: &str = "\
+append 0*17   | coder calls are spent | | 0 | 0
+append 0*16   | 1 | 00 04 | 14 0 | 0
+overwrite 0 1 | coder calls are spent | 00 04 | 14 0 | 0
+truncate 0    | 0 | | 0 | 0";
 
 // The calls that a codec counts on from, the limit, and the steps from nothing on.
 const TABLES: [(u64, u64, &str); 9] = [
@@ -53,15 +61,7 @@ append 7*5     | 1 | 00 78    | 13 0 | 0
 append 7 7 7 8 | 1 | 00 78 8F | 24 0 | 1
 truncate 5     | 1 | 00 78    | 13 0 | 1",
     ),
-    (
-        18446744073709551614,
-        4294967296,
-        "\
-append 0*17   | coder calls are spent | | 0 | 0
-append 0*16   | 1 | 00 04 | 14 0 | 0
-overwrite 0 1 | coder calls are spent | 00 04 | 14 0 | 0
-truncate 0    | 0 | | 0 | 0",
-    ),
+    (18446744073709551614, 4294967296, ONE_CALL_LEFT),
     // Four calls are left: three for the samples, and one. So an insertion is refused that needs
     // three, but for its place before that.
     (
@@ -184,5 +184,16 @@ fn workspaces_answer_step_by_step(rt: HostRuntime) -> Result<(), Fail> {
             table,
         )?;
     }
+    Ok(())
+}
+
+#[test]
+fn a_run_takes_the_last_call(rt: HostRuntime) -> Result<(), Fail> {
+    let alloc = rt.alloc();
+    let params = Params::new(Settings::USUAL)?;
+    let mut work = workspace(alloc, params, u64::MAX - 1, 1 << 32);
+    expect_run(&rt, alloc, &mut work, ONE_CALL_LEFT)?;
+    same(&rt, calls(&work), u64::MAX);
+    same(&rt, counts(&work), (0, 0, 0));
     Ok(())
 }

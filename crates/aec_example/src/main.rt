@@ -1,5 +1,7 @@
 //! A program that edits a coded stream in memory: forty-eight zeros, of which one is replaced. It
-//! prints what became of a refused edit and of one that is made, and the bytes of the stream.
+//! prints what became of a refused edit and of one that is made, the bytes of the stream, where its
+//! intervals begin, some samples read back out of it, and how many intervals all of it has coded
+//! and decoded.
 #![tactic(auto)]
 
 use aec_bits::WriteSink;
@@ -10,12 +12,8 @@ use std::alloc::Global;
 use std::process::ExitCode;
 
 fn main(rt: HostRuntime) -> ExitCode {
-    let mut outcomes = Vec::new(rt.alloc());
-    match edited_stream(rt.alloc(), &mut outcomes) {
-        Ok(stream) => {
-            print_all(&rt, &outcomes, &stream);
-            ExitCode::SUCCESS
-        }
+    match edit_and_print(&rt, rt.alloc()) {
+        Ok(()) => ExitCode::SUCCESS,
         Err(fault) => {
             let _ = eprintln!(rt; "aec_example: {fault}");
             ExitCode::FAILURE
@@ -23,9 +21,21 @@ fn main(rt: HostRuntime) -> ExitCode {
     }
 }
 
-/// The stream of 48 zeros, of which the one at place 20 is changed. An edit past their end is
+fn edit_and_print<R: Print>(rt: &R, alloc: Global) -> Result<(), Fault> {
+    let mut outcomes = Vec::new(alloc);
+    let mut workspace = edited_zeros(alloc, &mut outcomes)?;
+    print_outcomes(rt, &outcomes);
+    print_stream(rt, &stream(alloc, &workspace)?);
+    print_intervals(rt, &workspace);
+    print_samples(rt, &workspace.range(alloc, 19, 3)?);
+    let (coded, decoded) = (workspace.calls(), workspace.reads());
+    let _ = println!(rt; "intervals coded: {coded}, decoded: {decoded}");
+    Ok(())
+}
+
+/// The code of 48 zeros, of which the one at place 20 is changed. An edit past their end is
 /// refused, and the others are made all the same.
-fn edited_stream(alloc: Global, outcomes: &mut Vec<Outcome>) -> Result<Vec<u8>, Fault> {
+fn edited_zeros(alloc: Global, outcomes: &mut Vec<Outcome>) -> Result<Workspace<AecCodec>, Fault> {
     let params = Params::new(Settings::USUAL)?;
     let mut workspace = Workspace::new(alloc, AecCodec::new(alloc, params), 1 << 32);
     workspace.apply(&Edit::Append {
@@ -37,21 +47,49 @@ fn edited_stream(alloc: Global, outcomes: &mut Vec<Outcome>) -> Result<Vec<u8>, 
         values: Samples::new(vec![in alloc; 1i64; 1]?),
     };
     workspace.run(&[past, one], outcomes)?;
+    Ok(workspace)
+}
+
+/// The bytes of a workspace's stream.
+fn stream(alloc: Global, workspace: &Workspace<AecCodec>) -> Result<Vec<u8>, Fault> {
     let mut sink = WriteSink::new(Vec::new(alloc));
     workspace.write_to(&mut sink)?;
     Ok(sink.into_inner())
 }
 
-fn print_all<R: Print>(rt: &R, outcomes: &[Outcome], stream: &[u8]) {
+fn print_outcomes<R: Print>(rt: &R, outcomes: &[Outcome]) {
     for outcome in outcomes {
         let _ = match outcome {
             Outcome::Done { coded } => println!(rt; "made, intervals coded: {coded}"),
             Outcome::Refused { fault } => println!(rt; "refused: {fault}"),
         };
     }
+}
+
+fn print_stream<R: Print>(rt: &R, stream: &[u8]) {
     let _ = print!(rt; "stream:");
     for byte in stream {
         let _ = print!(rt; " {byte:02X}");
+    }
+    let _ = rt.println("");
+}
+
+/// Prints how many bits there are, and the bit where each interval begins.
+fn print_intervals<R: Print>(rt: &R, workspace: &Workspace<AecCodec>) {
+    let (bits, intervals) = (workspace.stream_bits(), workspace.intervals());
+    let _ = print!(rt; "{bits} bits, in {intervals} intervals from bits");
+    for i in 0..intervals {
+        if let Some(bit) = workspace.offset(i) {
+            let _ = print!(rt; " {bit}");
+        }
+    }
+    let _ = rt.println("");
+}
+
+fn print_samples<R: Print>(rt: &R, samples: &[i64]) {
+    let _ = print!(rt; "samples 19 to 21:");
+    for sample in samples {
+        let _ = print!(rt; " {sample}");
     }
     let _ = rt.println("");
 }

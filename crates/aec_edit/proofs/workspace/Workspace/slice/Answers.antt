@@ -1,6 +1,6 @@
 use Rattle.std.proofs.Common.{◌<◌, refl, arith}
 use Rattle.aec_edit.proofs.RangeLemmas.{range_is, range_reads}
-use Rattle.aec_edit.proofs.workspace.Workspace.range.Goals as goal
+use Rattle.aec_edit.proofs.workspace.Workspace.slice.Goals as goal
 
 pub returns-in_err-decode_intervals-clause-read : goal.returns-in_err-decode_intervals-clause-read
 returns-in_err-decode_intervals-clause-read g c =
