@@ -1,5 +1,7 @@
-//! Streams made to mislead a reader, and the answer that FORMAT.md has for each. The library and the
-//! plain reader have to give it.
+//! Streams made to mislead a reader, and the answer that FORMAT.md has for each. The library and
+//! the plain reader have to give this answer.
+
+ghost use Rattle.std.specs.Prelude.{◌≤◌, ◌^◌};
 
 use crate::compared::{Stream, expect_answer};
 use aec_params::{Fault, Settings};

@@ -1,8 +1,8 @@
 //! A plain reader of streams, over lists of `bool`.
 //!
-//! It was written from docs/FORMAT.md, and nobody who wrote it had read the library's decoder. It is
-//! proved to be safe and to end, and nothing else. Its sums saturate, so that no clause is needed:
-//! with the settings and streams of the tests none of them reaches an end of its type.
+//! Its author wrote it from docs/FORMAT.md and had not read the library's decoder. It is proved to
+//! be safe and to end, and nothing else. Its sums saturate, so that it needs no clause: with the
+//! settings and streams of the tests no sum reaches the end of its type.
 
 use crate::plain_bits::PlainBits;
 use crate::plain_sets::{CodedSet, Data};
