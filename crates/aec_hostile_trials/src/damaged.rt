@@ -37,6 +37,17 @@ const UNPROCESSED: Settings = Settings {
     ..USUAL
 };
 
+const ONE_BIT: Settings = Settings {
+    bits: 1,
+    ..UNPROCESSED
+};
+
+const NARROW: Settings = Settings {
+    bits: 3,
+    signed: true,
+    ..USUAL
+};
+
 const RESTRICTED: Settings = Settings {
     bits: 2,
     interval: 1,
@@ -57,8 +68,8 @@ const EXTREMES: [u8; 33] = [
     0xF8,
 ];
 
-/// Streams of worked examples, each with the number of its samples.
-fn streams() -> [Stream<'static>; 12] {
+/// Streams of worked examples, each with a number of samples.
+fn streams() -> [Stream<'static>; 20] {
     [
         stream(USUAL, &[0x00, 0x08], 8),
         stream(USUAL, &[0x20, 0x09, 0x24, 0x92], 8),
@@ -72,6 +83,22 @@ fn streams() -> [Stream<'static>; 12] {
         stream(USUAL, &[0x00, 0x04, 0x40, 0x30, 0xC2, 0x00, 0x08], 48),
         stream(SIGNED, &EXTREMES, 8),
         stream(WIDEST, &[0x00, 0x00, 0x84], 520),
+        stream(
+            UNPROCESSED,
+            &[0xE0, 0x00, 0x20, 0x40, 0x60, 0x80, 0xA0, 0xC0, 0xE0],
+            8,
+        ),
+        // Refused as they are: a value of 2 in one bit, and a run of 3 in an interval of 2 blocks.
+        stream(ONE_BIT, &[0x27, 0xF8], 8),
+        stream(USUAL, &[0x00, 0x02], 8),
+        // As no coder of this project writes them: splitting with k = 1 where k = 0 is as short, a
+        // first member of a first pair that isn't 0, ones as padding, splitting and no compression
+        // where another option is shorter.
+        stream(USUAL, &[0x40, 0x15, 0x55, 0x80], 8),
+        stream(USUAL, &[0x10, 0x07, 0x80], 8),
+        stream(PADDED, &[0x00, 0x07, 0x00, 0x08], 17),
+        stream(ONE_BIT, &[0x2A, 0xAA, 0xAF, 0xF0], 8),
+        stream(NARROW, &[0xF3, 0xEB, 0x1A, 0x20], 8),
     ]
 }
 
