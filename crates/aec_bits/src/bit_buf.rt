@@ -272,8 +272,8 @@ impl BitBuf {
         Ok(())
     }
 
-    /// Appends zeros up to a multiple of 8 bits. Takes no memory and always succeeds: the words that
-    /// hold the bits hold the rest of their last byte too.
+    /// Appends zeros up to a multiple of 8 bits. Takes no memory and always succeeds: the words of
+    /// the bits hold the rest of the last byte too.
     pub fn pad_to_byte(&mut self) -> Result<(), Fault>
         ensures succeeds { IsOk result }
         ensures list { self.new.list ≡ padded_to_byte self.old.list }

@@ -10,8 +10,8 @@ use crate::bit_buf::BitBuf;
 use crate::device::Sink;
 use aec_params::Fault;
 
-/// The bytes that are handed to a sink at a time. They lie on the stack, and are fewer than those that
-/// an engine reads at a time: so writing, which comes last, doesn't make the stack grow any more.
+/// How many bytes are handed to a sink at a time. They are on the stack, and fewer than those that
+/// an engine reads at a time. So the stack doesn't grow when writing begins.
 const PIECE_LEN: usize = 4096;
 
 impl BitBuf {
