@@ -69,7 +69,7 @@ const EXTREMES: [u8; 33] = [
 ];
 
 /// Streams of worked examples, each with a number of samples.
-fn streams() -> [Stream<'static>; 20] {
+fn streams() -> [Stream<'static>; 21] {
     [
         stream(USUAL, &[0x00, 0x08], 8),
         stream(USUAL, &[0x20, 0x09, 0x24, 0x92], 8),
@@ -92,10 +92,11 @@ fn streams() -> [Stream<'static>; 20] {
         stream(ONE_BIT, &[0x27, 0xF8], 8),
         stream(USUAL, &[0x00, 0x02], 8),
         // As no coder of this project writes them: splitting with k = 1 where k = 0 is as short, a
-        // first member of a first pair that isn't 0, ones as padding, splitting and no compression
-        // where another option is shorter.
+        // first member of a first pair that isn't 0, or that no sample has, ones as padding,
+        // splitting and no compression where another option is shorter.
         stream(USUAL, &[0x40, 0x15, 0x55, 0x80], 8),
         stream(USUAL, &[0x10, 0x07, 0x80], 8),
+        stream(RESTRICTED, &[0x60, 0x03, 0xC0], 8),
         stream(PADDED, &[0x00, 0x07, 0x00, 0x08], 17),
         stream(ONE_BIT, &[0x2A, 0xAA, 0xAF, 0xF0], 8),
         stream(NARROW, &[0xF3, 0xEB, 0x1A, 0x20], 8),
