@@ -1,0 +1,90 @@
+#!/usr/bin/env python3
+"""Sizes and times beside other compressors, as README has them: compare.py PATH_OF_AEC
+
+Compresses four kinds of generated samples, 8 MiB each, with the program at PATH_OF_AEC, with libaec's client (the variable LIBAEC, else
+/usr/bin/aec), flac, zstd, xz and gzip, and decompresses them again. Prints a table in Markdown: the bytes in percent of the samples'
+bytes, and the processor seconds of both ways, the least of three runs. A compressor that isn't installed, or can't take samples of
+this width, has a dash. Nothing is judged.
+"""
+
+import os
+import random
+import shutil
+import sys
+import tempfile
+
+from bench import MIB, detector, detector_12, run, walk, waves
+
+SIZE = 8
+# Each kind of samples: its name, a function that gives a MiB of them, bits and sign.
+KINDS = [
+    ("12-bit detector", detector_12, 12, False),
+    ("16-bit detector", detector, 16, False),
+    ("16-bit waves", waves, 16, True),
+    ("32-bit walk", walk, 32, True),
+]
+
+
+def sample_coder(path):
+    """The commands of a coder of samples, for a number of bits and a sign."""
+    return lambda bits, signed: [path, "-n", str(bits), *(["-s"] if signed else []), "-j", "16", "-r", "128"]
+
+
+def flac(bits, signed):
+    """flac of raw samples, which are of 16 bits; the others it can't take from two or four bytes."""
+    if bits > 16:
+        return None
+    sign = "signed" if signed else "unsigned"
+    form = ["--force-raw-format", "--endian=little", f"--sign={sign}", "--channels=1", "--bps=16", "--sample-rate=44100"]
+    return ["flac", "-8", "-s", "-f", *form]
+
+
+def commands(name, bits, signed, paths):
+    """How a compressor codes RAW to CODED and decodes that to BACK: two commands, or None."""
+    if name in ("aec", "libaec"):
+        words = sample_coder(paths[name])(bits, signed)
+        return [*words, "RAW", "CODED"], [*words, "-d", "CODED", "BACK"]
+    if name == "flac":
+        words = flac(bits, signed)
+        return words and ([*words, "-o", "CODED", "RAW"], ["flac", "-d", "-s", "-f", *words[4:7], "-o", "BACK", "CODED"])
+    shell = lambda words: ["sh", "-c", words]
+    return shell(f"{name} -c RAW > CODED"), shell(f"{name} -dc CODED > BACK")
+
+
+def measured(pair, raw, folder):
+    """Percent of the bytes, and the seconds of coding and of decoding."""
+    paths = {word: os.path.join(folder, word.lower()) for word in ("RAW", "CODED", "BACK")}
+    with open(paths["RAW"], "wb") as file:
+        file.write(raw)
+    seconds = []
+    for command in pair:
+        words = []
+        for word in command:
+            for name, path in paths.items():
+                word = word.replace(name, path)
+            words.append(word)
+        seconds.append(min(run(words, folder)[0] for _ in range(3)))
+    with open(paths["BACK"], "rb") as file:
+        if file.read() != raw:
+            raise SystemExit(f"{pair[1][0]} doesn't give the samples back")
+    return 100 * os.path.getsize(paths["CODED"]) / len(raw), *seconds
+
+
+def main():
+    paths = {"aec": os.path.abspath(sys.argv[1]), "libaec": os.environ.get("LIBAEC", "/usr/bin/aec")}
+    names = ["aec", "libaec", "flac", "zstd", "xz", "gzip"]
+    print("| Samples | " + " | ".join(f"{name}: % of the bytes, coding s, decoding s" for name in names) + " |")
+    print("|---" * (len(names) + 1) + "|")
+    with tempfile.TemporaryDirectory() as folder:
+        for kind, made, bits, signed in KINDS:
+            raw, cells = made(random.Random(1)) * SIZE, []
+            for name in names:
+                there = shutil.which(paths.get(name, name))
+                pair = commands(name, bits, signed, paths) if there else None
+                told = measured(pair, raw, folder) if pair else None
+                cells.append("{:.1f}, {:.2f}, {:.2f}".format(*told) if told else "-")
+            print(f"| {kind} | " + " | ".join(cells) + " |", flush=True)
+
+
+if __name__ == "__main__":
+    main()
