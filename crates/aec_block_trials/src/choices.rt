@@ -315,8 +315,8 @@ fn expect_block(
     Ok(())
 }
 
-/// Compares the choice for each fixed block with the one by plain lengths, and what is written by it
-/// with what the code compiled for the number of values writes.
+/// Compares the choice for each fixed block with the one by plain lengths, and the bits that are
+/// written by it with those of the code that is compiled for the number of values.
 fn compare_choices(
     rt: &impl Abort,
     alloc: Global,
