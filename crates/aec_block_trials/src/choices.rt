@@ -5,8 +5,8 @@ ghost use Rattle.std.specs.Bool.{OnTrue};
 ghost use Rattle.std.specs.List.{AllByRecursion};
 ghost use Rattle.aec_block.specs.Choices.{FitsReference, IsFull};
 
-use crate::asserts::{fails, holds, same, same_at};
-use crate::shared::{expect_bits, expect_same_bits};
+use crate::asserts::{fails, holds, holds_at, same, same_at};
+use crate::shared::{expect_bits, have_same_bits};
 use aec_bits::{BitBuf, BitReader};
 use aec_block::{
     Block, Cds, Choice, Coding, choose, map, read_cds, unmap, write_block, write_shortest_of,
@@ -315,8 +315,8 @@ fn expect_block(
     Ok(())
 }
 
-/// Compares the choice for each fixed block with the one by plain lengths, and what is written by it
-/// with what the code compiled for the number of values writes.
+/// Compares the choice for each fixed block with the one by plain lengths, and the bits that are
+/// written by it with those of the code that is compiled for the number of values.
 fn compare_choices(
     rt: &impl Abort,
     alloc: Global,
@@ -336,7 +336,7 @@ fn compare_choices(
         expect_block(rt, alloc, params, &out, &block)?;
         let mut compiled = BitBuf::new(alloc);
         write_compiled(params, &block, &mut compiled)?;
-        expect_same_bits(rt, &compiled, &out, &case);
+        holds_at(rt, have_same_bits(&compiled, &out), &case);
     }
     Ok(())
 }

@@ -2,7 +2,6 @@
 
 use crate::asserts::{holds, same, same_at};
 use aec_bits::BitBuf;
-use std::fmt::Debug;
 use std::process::Abort;
 
 /// Compares bits with those of bytes, of which the last is filled with zeros.
@@ -15,12 +14,15 @@ pub(crate) fn expect_bits(rt: &impl Abort, bits: &BitBuf, len: u64, bytes: &[u8]
     }
 }
 
-/// Compares the bits of two lists.
-pub(crate) fn expect_same_bits<C: Debug>(rt: &impl Abort, bits: &BitBuf, wanted: &BitBuf, case: &C) {
-    same_at(rt, bits.len(), wanted.len(), case);
-    same_at(rt, bits.byte_len(), wanted.byte_len(), case);
-    for i in 0..bits.byte_len() {
-        holds(rt, i < wanted.byte_len());
-        same_at(rt, bits.byte(i), wanted.byte(i), case);
+/// Whether two lists have the same bits.
+pub(crate) fn have_same_bits(bits: &BitBuf, wanted: &BitBuf) -> bool {
+    if bits.len() != wanted.len() || bits.byte_len() != wanted.byte_len() {
+        return false;
     }
+    for i in 0..bits.byte_len() {
+        if bits.byte(i) != wanted.byte(i) {
+            return false;
+        }
+    }
+    true
 }
