@@ -1,7 +1,7 @@
 //! Code that is compiled for one block size.
 
-/// Calls a function compiled for a block size, `call::<8>(..)`, if the size is one of those that are
-/// listed. For any other size it evaluates `$other`.
+/// Calls a function compiled for a block size, as `call::<8>(..)`, if the size is one of those that
+/// are listed. For any other size it evaluates `$other`.
 macro_rules! by_block_size {
     (
         $size:expr,
