@@ -8,11 +8,12 @@ mod filled_blocks;
 mod short_blocks;
 mod zero_runs;
 
-ghost use Rattle.std.specs.Prelude.{◌≡◌, ◌+◌, ◌-◌, ◌*◌, ◌<◌, ◌++◌, ◌∷◌, List, None, length, OnOk, OnErr, IfOk, IfErr};
+ghost use Rattle.std.specs.Prelude.{◌≡◌, ◌+◌, ◌-◌, ◌*◌, ◌<◌, ◌≤◌, ◌++◌, ◌∷◌, List, None, length, OnOk, OnErr, IfOk, IfErr};
 ghost use Rattle.aec_params.specs.declared.fault.Fault.TheVariants.{Memory};
 ghost use Rattle.std.specs.List.{AllByRecursion};
 ghost use Rattle.aec_params.specs.Params.{IsAllowed, IsHeld, interval_len};
 ghost use Rattle.aec_params.specs.Blocks.{Block as Values};
+ghost use Rattle.aec_params.specs.Cutting.{up_to_multiple};
 ghost use Rattle.aec_params.specs.Streams.{stream_of};
 ghost use Rattle.aec_params.specs.Runs.{segment_len};
 ghost use Rattle.aec_params.specs.Intervals.{unpadded_bits, interval_bits};
@@ -114,6 +115,15 @@ fn write_segments<const N: usize>(
     Ok(())
 }
 
+/// How many zero bits pad the bits from `start` up to `end` to whole bytes.
+fn missing_bits(start: u64, end: u64) -> u32
+    requires { start ≤ end }
+    ensures value { result ≡ up_to_multiple 8 (end - start) }
+    ensures few { result < 8 }
+{
+    ((8 - (end - start) % 8) % 8) as u32
+}
+
 /// Appends the code of an interval, padded by its own length where the parameters pad. `Memory`
 /// where a growth was refused; the bits from before are then still in front.
 #[inline(always)]
@@ -131,8 +141,7 @@ pub(crate) fn write_interval<const N: usize>(
     let start = out.len();
     write_segments::<N>(alloc, params, samples, out)?;
     if params.pad() {
-        let missing = (8 - (out.len() - start) % 8) % 8;
-        out.push_bits(0, missing as u32)?;
+        out.push_bits(0, missing_bits(start, out.len()))?;
     }
     Ok(())
 }
