@@ -1,7 +1,6 @@
 //! A short last block against the block that its last sample fills up. The first goes by the road
 //! for blocks of any size, the second by code compiled for that size.
 
-use crate::settings::even_blocks;
 use crate::streams::expect_code;
 use aec_bits::WriteSink;
 use aec_interval::encode_all;
@@ -22,7 +21,11 @@ const SETTINGS: [Settings; 5] = [
         block_size: 64,
         ..Settings::USUAL
     },
-    even_blocks(10, 2),
+    Settings {
+        block_size: 10,
+        even_blocks: true,
+        ..Settings::USUAL
+    },
     Settings {
         preprocess: false,
         ..Settings::USUAL
