@@ -92,4 +92,5 @@ def main():
         even_blocks(ours, folder)
 
 
-main()
+if __name__ == "__main__":
+    main()

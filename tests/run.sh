@@ -2,10 +2,10 @@
 # Every test: that the pages which are written by scripts are current, that files keep the limits of the house, that each wrong
 # body can be made, the gate, and then with the programs that it has built coded samples, coded data that is cut, damaged streams,
 # refused memory in whole runs and in calls of the libraries, files that fail, the round trips with the client of libaec, edits by
-# generated scripts, the scripts of examples/ with the page about them, the installation, and the worked rows, commands and pictures
-# of the pages. Fails if one fails. At the end it says how long each part took. The last line counts what passed and failed: the
-# gate's where all have passed, else that of the first part that failed, and before it the lines that say why. Run from the top of
-# the repository by `make test`.
+# generated scripts, the scripts of examples/ with the page about them, the installation, the worked rows, commands and pictures of the
+# pages, and how many instructions a sample takes. Fails if one fails. At the end it says how long each part took. The last line counts
+# what passed and failed: the gate's where all have passed, else that of the first part that failed, and before it the lines that say
+# why. Run from the top of the repository by `make test`.
 export PYTHONDONTWRITEBYTECODE=1
 kept=$(mktemp -d)
 trap 'rm -rf "$kept"' EXIT
@@ -71,9 +71,11 @@ part installed on_program tests/installed.py
 echo "== worked rows and commands of the pages, and their pictures"
 part worked on_program tests/worked_pages.py
 part pictures python3 bench/pictures.py --check
+echo "== instructions a sample"
+part instructions on_program tests/instructions_bounded.py
 
 last=gate
-for name in pages theorems limits edits gate coded cuts damaged memory calls files trips scripts recipes installed worked pictures; do
+for name in pages theorems limits edits gate coded cuts damaged memory calls files trips scripts recipes installed worked pictures instructions; do
     if ! has_passed "$name"; then
         last=$name
         break

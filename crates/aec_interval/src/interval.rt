@@ -1,14 +1,19 @@
-//! The code of one reference sample interval.
+//! The code of reference sample intervals, segment by segment, block by block.
+//!
+//! `short_blocks` codes a block of any size: it fills the block up, chooses the shortest option and
+//! writes it. `zero_runs::write_next` writes the same bits faster, by code compiled for the block
+//! size.
 
 mod filled_blocks;
 mod short_blocks;
 mod zero_runs;
 
-ghost use Rattle.std.specs.Prelude.{◌≡◌, ◌+◌, ◌-◌, ◌<◌, ◌++◌, ◌∷◌, List, None, length, OnOk, OnErr, IfOk, IfErr};
+ghost use Rattle.std.specs.Prelude.{◌≡◌, ◌+◌, ◌-◌, ◌*◌, ◌<◌, ◌≤◌, ◌++◌, ◌∷◌, List, None, length, OnOk, OnErr, IfOk, IfErr};
 ghost use Rattle.aec_params.specs.declared.fault.Fault.TheVariants.{Memory};
 ghost use Rattle.std.specs.List.{AllByRecursion};
-ghost use Rattle.aec_params.specs.Params.{IsAllowed, IsHeld};
+ghost use Rattle.aec_params.specs.Params.{IsAllowed, IsHeld, interval_len};
 ghost use Rattle.aec_params.specs.Blocks.{Block as Values};
+ghost use Rattle.aec_params.specs.Cutting.{up_to_multiple};
 ghost use Rattle.aec_params.specs.Streams.{stream_of};
 ghost use Rattle.aec_params.specs.Runs.{segment_len};
 ghost use Rattle.aec_params.specs.Intervals.{unpadded_bits, interval_bits};
@@ -16,6 +21,7 @@ ghost use Rattle.aec_interval.specs.Laws.{AreOfInterval};
 ghost use Rattle.aec_interval.specs.Chunks.{block_after, blocks_after, AreSamplesAfter};
 ghost use Rattle.aec_interval.specs.Pending.{segment_bits, IsKept, AreNext, TakesBlock};
 
+use crate::block_sizes::by_block_size;
 use crate::interval::short_blocks::write_short;
 use crate::interval::zero_runs::{NO_RUN, Run, write_next};
 use aec_bits::BitBuf;
@@ -25,11 +31,24 @@ use std::alloc::Global;
 /// The blocks of a segment; the last of an interval may have fewer.
 pub(crate) const SEGMENT_BLOCKS: u32 = 64;
 
-/// Stands for a block size that no code is compiled for: no whole block has so few samples.
-const NOT_KNOWN: usize = 0;
+/// How many samples each interval of a stream has; the last one may have fewer.
+fn interval_size(params: &Params) -> usize
+    ensures value { result ≡ interval_len params.now }
+    ensures allowed { IsAllowed params.now }
+{
+    params.interval_len() as usize
+}
 
-/// Takes the samples of one block more of a segment behind a run, with code compiled for `N` samples
-/// where they are those of a whole block of so many.
+/// How many samples each segment of an interval has; the last one may have fewer.
+fn segment_size(params: &Params) -> usize
+    ensures value { result ≡ params.now.block_size * segment_len }
+    ensures allowed { IsAllowed params.now }
+{
+    (params.block_size() * SEGMENT_BLOCKS) as usize
+}
+
+/// Takes the samples of the next block of a segment, after a run: by code compiled for `N` if they
+/// are a whole block of `N`, else by `write_short`.
 #[inline(always)]
 fn write_chunk<const N: usize>(
     alloc: Global,
@@ -43,11 +62,11 @@ fn write_chunk<const N: usize>(
     ensures { TakesBlock params.now (block_after params.now previous samples.now)
         run out.old result out.new }
 {
-    if samples.len() == N && params.block_size() as usize == N {
-        let mut values = [0u32; N];
-        return write_next::<N>(params, previous, &samples[..N], &mut values, run, out);
+    if samples.len() != N || params.block_size() as usize != N {
+        return write_short(alloc, params, previous, samples, run, out);
     }
-    write_short(alloc, params, previous, samples, run, out)
+    let mut values = [0u32; N];
+    write_next::<N>(params, previous, &samples[..N], &mut values, run, out)
 }
 
 /// Appends the code of a segment, whose samples stand behind `previous` or at an interval's start.
@@ -89,11 +108,20 @@ fn write_segments<const N: usize>(
     ensures fault { IfErr result (λ e. e ≡ Memory) }
 {
     let mut preceding = None;
-    for segment in samples.chunks((SEGMENT_BLOCKS * params.block_size()) as usize) {
+    for segment in samples.chunks(segment_size(params)) {
         write_segment::<N>(alloc, params, preceding, segment, out)?;
         preceding = segment.last().copied();
     }
     Ok(())
+}
+
+/// How many zero bits pad the bits from `start` up to `end` to whole bytes.
+fn missing_bits(start: u64, end: u64) -> u32
+    requires { start ≤ end }
+    ensures value { result ≡ up_to_multiple 8 (end - start) }
+    ensures few { result < 8 }
+{
+    ((8 - (end - start) % 8) % 8) as u32
 }
 
 /// Appends the code of an interval, padded by its own length where the parameters pad. `Memory`
@@ -113,15 +141,14 @@ pub(crate) fn write_interval<const N: usize>(
     let start = out.len();
     write_segments::<N>(alloc, params, samples, out)?;
     if params.pad() {
-        let missing = (8 - (out.len() - start) % 8) % 8;
-        out.push_bits(0, missing as u32)?;
+        out.push_bits(0, missing_bits(start, out.len()))?;
     }
     Ok(())
 }
 
 /// Appends the code of samples, interval by interval, with code compiled for whole blocks of `N`
-/// samples, where it is known that they have so many. `Memory` where a growth was refused; the bits
-/// from before are then still in front.
+/// samples. No block has 0 samples, so with 0 each goes by `write_short`. Fails with `Memory` if an
+/// allocation fails; `out` then still begins with its old bits.
 #[inline(never)]
 fn write_known_intervals<const N: usize>(
     alloc: Global,
@@ -135,7 +162,7 @@ fn write_known_intervals<const N: usize>(
     ensures kept { IsKept out.old.list out.new.list }
     ensures fault { IfErr result (λ e. e ≡ Memory) }
 {
-    for interval in samples.chunks(params.interval_len() as usize) {
+    for interval in samples.chunks(interval_size(params)) {
         write_interval::<N>(alloc, params, interval, out)?;
     }
     Ok(())
@@ -155,39 +182,13 @@ pub(crate) fn write_intervals(
     ensures kept { IsKept out.old.list out.new.list }
     ensures fault { IfErr result (λ e. e ≡ Memory) }
 {
-    // For speed alone: by the way of short blocks zeros take up to 1.9 times as many instructions.
-    match params.block_size() {
-        8 => write_known_intervals::<8>(alloc, params, samples, out),
-        10 => write_known_intervals::<10>(alloc, params, samples, out),
-        12 => write_known_intervals::<12>(alloc, params, samples, out),
-        14 => write_known_intervals::<14>(alloc, params, samples, out),
-        16 => write_known_intervals::<16>(alloc, params, samples, out),
-        18 => write_known_intervals::<18>(alloc, params, samples, out),
-        20 => write_known_intervals::<20>(alloc, params, samples, out),
-        22 => write_known_intervals::<22>(alloc, params, samples, out),
-        24 => write_known_intervals::<24>(alloc, params, samples, out),
-        26 => write_known_intervals::<26>(alloc, params, samples, out),
-        28 => write_known_intervals::<28>(alloc, params, samples, out),
-        30 => write_known_intervals::<30>(alloc, params, samples, out),
-        32 => write_known_intervals::<32>(alloc, params, samples, out),
-        34 => write_known_intervals::<34>(alloc, params, samples, out),
-        36 => write_known_intervals::<36>(alloc, params, samples, out),
-        38 => write_known_intervals::<38>(alloc, params, samples, out),
-        40 => write_known_intervals::<40>(alloc, params, samples, out),
-        42 => write_known_intervals::<42>(alloc, params, samples, out),
-        44 => write_known_intervals::<44>(alloc, params, samples, out),
-        46 => write_known_intervals::<46>(alloc, params, samples, out),
-        48 => write_known_intervals::<48>(alloc, params, samples, out),
-        50 => write_known_intervals::<50>(alloc, params, samples, out),
-        52 => write_known_intervals::<52>(alloc, params, samples, out),
-        54 => write_known_intervals::<54>(alloc, params, samples, out),
-        56 => write_known_intervals::<56>(alloc, params, samples, out),
-        58 => write_known_intervals::<58>(alloc, params, samples, out),
-        60 => write_known_intervals::<60>(alloc, params, samples, out),
-        62 => write_known_intervals::<62>(alloc, params, samples, out),
-        64 => write_known_intervals::<64>(alloc, params, samples, out),
-        _ => write_known_intervals::<NOT_KNOWN>(alloc, params, samples, out),
-    }
+    // For speed alone: `write_short` codes blocks of each size.
+    by_block_size!(
+        params.block_size(),
+        [8 10 12 14 16 18 20 22 24 26 28 30 32 34 36 38 40 42 44 46 48 50 52 54 56 58 60 62 64],
+        write_known_intervals(alloc, params, samples, out),
+        write_known_intervals::<0>(alloc, params, samples, out)
+    )
 }
 
 /// Appends the code of samples, interval by interval. `Memory` where a growth was refused; the bits

@@ -2,6 +2,7 @@
 //! them.
 #![tactic(auto)]
 
+mod block_sizes;
 mod codec;
 mod interval;
 pub mod laws;

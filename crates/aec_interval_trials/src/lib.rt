@@ -21,6 +21,8 @@ mod settings;
 #[cfg(test)]
 mod shared;
 #[cfg(test)]
+mod short_blocks;
+#[cfg(test)]
 mod skipping;
 #[cfg(test)]
 mod streams;

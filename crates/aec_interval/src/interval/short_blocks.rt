@@ -1,10 +1,11 @@
-//! A block that has fewer samples than the others: it is filled up, and coded as a block of any
-//! number of values.
+//! The plain road of a block: `filled_block` makes its values, `choose` finds the shortest option,
+//! `write_block` writes it. It codes a block of any size, and one that has fewer samples than the
+//! others.
 
 ghost use Rattle.std.specs.Prelude.{◌≡◌, ◌+◌, ◌-◌, ◌<◌, ◌≤◌, ◌++◌, length, replicate};
 ghost use Rattle.std.specs.List.{AllByRecursion};
 ghost use Rattle.aec_params.specs.Params.{IsAllowed, IsHeld};
-ghost use Rattle.aec_params.specs.Mapping.{mapped_after};
+ghost use Rattle.aec_params.specs.Mapping.{mapped_after, mapped_value};
 ghost use Rattle.aec_params.specs.Runs.{segment_len};
 ghost use Rattle.aec_block.specs.BlockShape.{most_values};
 ghost use Rattle.aec_block.specs.Choices.{IsFull};
@@ -19,8 +20,8 @@ use aec_block::{Block, choose, map, write_block};
 use aec_params::{Fault, Params};
 use std::alloc::Global;
 
-/// Appends what is coded for samples to a block, each predicted from the one before it, the first
-/// from `previous`.
+/// Appends the values of samples to a block. Each sample is predicted from the one before it, the
+/// first from `previous`.
 fn push_mapped(params: &Params, previous: i64, samples: &[i64], block: &mut Block)
     requires prediction { IsHeld params.now previous }
     requires held { AllByRecursion (IsHeld params.now) samples.now }
@@ -37,7 +38,7 @@ fn push_mapped(params: &Params, previous: i64, samples: &[i64], block: &mut Bloc
     }
 }
 
-/// Appends a value so many times.
+/// Appends a value `count` times.
 fn push_repeated(block: &mut Block, value: u32, count: usize)
     requires room { length block.old.values + count ≤ most_values }
     ensures { block.new ≡ record block.old { values = block.old.values ++ replicate count value } }
@@ -47,7 +48,7 @@ fn push_repeated(block: &mut Block, value: u32, count: usize)
     }
 }
 
-/// The block of samples behind `previous`, or at an interval's start, before it is filled up.
+/// The block of samples that follow `previous` or begin an interval, before it is filled up.
 fn mapped_block(alloc: Global, params: &Params, previous: Option<i64>, samples: &[i64]) -> Block
     requires allowed { IsAllowed params.now }
     requires previous { HoldsPrevious params.now previous }
@@ -58,15 +59,23 @@ fn mapped_block(alloc: Global, params: &Params, previous: Option<i64>, samples: 
     ensures values { result.values ≡ values_after params.now previous samples.now }
 {
     let mut block = Block::new(alloc, reference_of(params, previous, samples));
-    // The first sample of an interval stands for itself, or is predicted from itself.
+    // A sample in the reference place has no value of its own. It predicts the next one.
     let first = previous.unwrap_or(samples[0]);
-    let behind = &samples[block.len()..];
-    push_mapped(params, first, behind, &mut block);
+    let others = &samples[block.len()..];
+    push_mapped(params, first, others, &mut block);
     block
 }
 
-/// The block that samples fill behind `previous`, or at an interval's start, as if the last of them
-/// were repeated.
+/// The value that fills a block up after its last sample: that sample is repeated.
+fn filler(params: &Params, last: i64) -> u32
+    requires { IsHeld params.now last }
+    ensures { result ≡ mapped_value params.now last last }
+{
+    map(params, last, last)
+}
+
+/// The block of samples that follow `previous` or begin an interval. It is filled up with the last
+/// of them.
 fn filled_block(alloc: Global, params: &Params, previous: Option<i64>, samples: &[i64]) -> Block
     requires allowed { IsAllowed params.now }
     requires some { 0 < length samples.now }
@@ -74,20 +83,16 @@ fn filled_block(alloc: Global, params: &Params, previous: Option<i64>, samples: 
     ensures { IsFilledBlock params.now previous samples.now result }
 {
     let mut block = mapped_block(alloc, params, previous, samples);
-    let last = previous_of(samples);
-    let filler = map(params, last, last);
-    push_repeated(
-        &mut block,
-        filler,
-        params.block_size() as usize - samples.len(),
-    );
+    let value = filler(params, previous_of(samples));
+    let missing = params.block_size() as usize - samples.len();
+    push_repeated(&mut block, value, missing);
     block
 }
 
-/// Takes one block more of a segment behind a run: a zero block joins the run, before another one
-/// the run is written. The run that is then still to be written, or `Memory` where a growth was
-/// refused.
-fn write_behind(params: &Params, block: &Block, run: Run, out: &mut BitBuf) -> Result<Run, Fault>
+/// Takes the next block of a segment, after a run: a zero block joins the run, any other one is
+/// written after it. Returns the run that is then still to be written. Fails with `Memory` if an
+/// allocation fails.
+fn take_block(params: &Params, block: &Block, run: Run, out: &mut BitBuf) -> Result<Run, Fault>
     requires full { IsFull params.now block.now }
     requires run { IsRun params.now (segment_len - 1) run }
     ensures { TakesBlock params.now block.now run out.old result out.new }
@@ -100,8 +105,8 @@ fn write_behind(params: &Params, block: &Block, run: Run, out: &mut BitBuf) -> R
     Ok(NO_RUN)
 }
 
-/// Takes the samples of one block more of a segment behind a run, as `write_next` does, however few
-/// they are.
+/// Takes the samples of the next block of a segment, after a run, as `take_block` does. The block
+/// may have any size, and fewer samples than the others.
 #[inline(never)]
 pub(crate) fn write_short(
     alloc: Global,
@@ -116,5 +121,5 @@ pub(crate) fn write_short(
         run out.old result out.new }
 {
     let block = filled_block(alloc, params, previous, samples);
-    write_behind(params, &block, run, out)
+    take_block(params, &block, run, out)
 }

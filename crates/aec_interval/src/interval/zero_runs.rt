@@ -71,9 +71,10 @@ fn are_zero(values: &[u32]) -> bool
     values.iter().all(|v| *v == 0)
 }
 
-/// Takes the samples of one whole block more of a segment behind a run, by way of places for its
-/// values: a zero block joins the run, before another one the run is written, each by code compiled
-/// for `N` values. The run that is then still to be written, or `Memory` where a growth was refused.
+/// Takes the samples of a whole block of a segment, after a run, by code compiled for `N` values: a
+/// zero block joins the run, any other one is written after it. The block's values are put into
+/// `values`. Returns the run that is then still to be written. Fails with `Memory` if an allocation
+/// fails.
 #[inline(always)]
 pub(crate) fn write_next<const N: usize>(
     params: &Params,

@@ -11,6 +11,7 @@ ghost use Rattle.aec_interval.specs.Reached.{IsReached};
 ghost use Rattle.aec_interval.specs.Steps.{IsUntestedEnd};
 ghost use Rattle.aec_interval.specs.PlainBlocks.{ReadsPlain, most_at_once};
 
+use crate::block_sizes::by_block_size;
 use crate::reading::Wanted;
 use crate::reading::samples::previous_of;
 use aec_bits::BitReader;
@@ -148,20 +149,13 @@ fn fill_usual_blocks(
     ensures within { result ≤ most }
     ensures len { length samples.new ≡ length samples.old }
 {
-    match params.block_size() {
-        8 => fill_known_blocks::<8>(params, reader, most, samples, from),
-        10 => fill_known_blocks::<10>(params, reader, most, samples, from),
-        12 => fill_known_blocks::<12>(params, reader, most, samples, from),
-        14 => fill_known_blocks::<14>(params, reader, most, samples, from),
-        16 => fill_known_blocks::<16>(params, reader, most, samples, from),
-        18 => fill_known_blocks::<18>(params, reader, most, samples, from),
-        20 => fill_known_blocks::<20>(params, reader, most, samples, from),
-        22 => fill_known_blocks::<22>(params, reader, most, samples, from),
-        24 => fill_known_blocks::<24>(params, reader, most, samples, from),
-        32 => fill_known_blocks::<32>(params, reader, most, samples, from),
-        64 => fill_known_blocks::<64>(params, reader, most, samples, from),
-        size => fill_plain_blocks::<0>(params, reader, most, samples, from, size as usize),
-    }
+    let size = params.block_size();
+    by_block_size!(
+        size,
+        [8 10 12 14 16 18 20 22 24 32 64],
+        fill_known_blocks(params, reader, most, samples, from),
+        fill_plain_blocks::<0>(params, reader, most, samples, from, size as usize)
+    )
 }
 
 /// Reads the blocks that come next, `most` of them, as long as they are plain ones, and appends

@@ -1,9 +1,9 @@
 //! Stored samples joined to those of an interval that is not complete, which is coded once it is.
 
-ghost use Rattle.std.specs.Prelude.{◌≡◌, ◌+◌, ◌-◌, ◌*◌, ◌<◌, ◌≤◌, ◌%◌, ◌/◌, [], ◌∷◌, ◌++◌, None, length, take, OnOk, OnErr, IfOk, IfErr};
+ghost use Rattle.std.specs.Prelude.{◌≡◌, ◌+◌, ◌-◌, ◌*◌, ◌<◌, ◌≤◌, ◌%◌, ◌/◌, [], ◌∷◌, ◌++◌, true, false, None, length, take, OnOk, OnErr, IfOk, IfErr};
 ghost use Rattle.std.specs.List.{AllByRecursion};
 ghost use Rattle.std.specs.Result.{result_err};
-ghost use Rattle.aec_params.specs.Params.{IsHeld, interval_len, storage_len};
+ghost use Rattle.aec_params.specs.Params.{IsAllowed, IsHeld, interval_len, storage_len};
 ghost use Rattle.aec_params.specs.Stored.{samples_of_bytes};
 ghost use Rattle.aec_interval.specs.Taking.{judged_sample};
 ghost use Rattle.aec_interval.specs.Feeding.{StopsFeeding};
@@ -32,6 +32,15 @@ pub(crate) struct Progress {
     pub(crate) count: u64,
 }
 
+/// Whether the samples that are held are as many as an interval has, or more.
+fn are_complete(terms: &Terms, held: &HeldSamples) -> bool
+    ensures whole { result ≡ true → interval_len terms.now.params ≤ length held.now }
+    ensures few { result ≡ false → length held.now < interval_len terms.now.params }
+    ensures allowed { IsAllowed terms.now.params }
+{
+    held.len() as u64 >= terms.params.interval_len()
+}
+
 /// Appends the code of the samples that are held once they are those of whole intervals, and then
 /// none are held. `Memory` where a growth was refused; nothing is appended then.
 fn code_complete(terms: &Terms, held: &mut HeldSamples, out: &mut BitBuf) -> Result<(), Fault>
@@ -40,12 +49,12 @@ fn code_complete(terms: &Terms, held: &mut HeldSamples, out: &mut BitBuf) -> Res
     ensures { CodesWhole terms.now.params held.old
         out.old.list result held.new out.new.list }
 {
-    if (held.len() as u64) < terms.params.interval_len() {
-        return Ok(());
+    if are_complete(terms, held) {
+        let coded = append_intervals(held.alloc(), &terms.params, held.as_slice(), out);
+        held.clear();
+        return coded;
     }
-    let coded = append_intervals(held.alloc(), &terms.params, held.as_slice(), out);
-    held.clear();
-    coded
+    Ok(())
 }
 
 /// Holds a sample more. With the last sample of an interval its code is appended, and none are

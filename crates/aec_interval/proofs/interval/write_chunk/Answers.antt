@@ -4,8 +4,8 @@ use Rattle.aec_interval.specs.Chunks.{block_after}
 use Rattle.aec_interval.specs.Pending.{TakesBlock}
 use Rattle.aec_interval.proofs.interval.write_chunk.Goals as goal
 
-pub returns-then-block_size : goal.returns-then-block_size
-returns-then-block_size g c =
-    let all = take_all g.row.N c.args.samples.now (omega (arith, c.if-samples.true)) in
+pub returns : goal.returns
+returns g c =
+    let all = take_all g.row.N c.args.samples.now (omega (arith, c.if-samples.false)) in
     subst (λ (v : List ℤ). TakesBlock c.args.params.now (block_after c.args.params.now c.args.previous v) c.args.run c.args.out.now c.write_next.result
     c.write_next.new.out) all c.write_next.ensures

@@ -6,7 +6,7 @@ use Rattle.aec_interval.proofs.interval.write_segments.Goals as goal
 
 pub loop-segment-preserved : goal.loop-segment-preserved
 loop-segment-preserved g c =
-    let positive = block_size-positive c.args.params.now c.block_size.ensures.allowed in
+    let positive = block_size-positive c.args.params.now c.segment_size.ensures.allowed in
     let so_far = c.loop-segment.invariant.so_far in
     let steps = c.in-Some.ensures.steps in
     let size = c.loop-segment.invariant.size in
@@ -23,5 +23,5 @@ loop-segment-preserved g c =
 
 pub returns-clause-ok : goal.returns-clause-ok
 returns-clause-ok g c =
-    interval-end c.args.params.now _ _ _ _ _ (block_size-positive c.args.params.now c.block_size.ensures.allowed) c.in-None.ensures.steps.1.0
+    interval-end c.args.params.now _ _ _ _ _ (block_size-positive c.args.params.now c.segment_size.ensures.allowed) c.in-None.ensures.steps.1.0
     c.loop-segment.invariant.so_far

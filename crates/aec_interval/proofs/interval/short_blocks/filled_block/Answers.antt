@@ -8,14 +8,11 @@ use Rattle.aec_interval.proofs.NextFillLemmas.{held-last_sample}
 use Rattle.aec_interval.proofs.FillLemmas.{is_filled}
 use Rattle.aec_interval.proofs.interval.short_blocks.filled_block.Goals as goal
 
-pub map-filler-requires-clause-prediction : goal.map-filler-requires-clause-prediction
-map-filler-requires-clause-prediction c =
-    let fits : FitsSigned w64 c.previous_of-last.result = search (rules, c.previous_of-last.type_inv) in
-    subst (λ (x : ℤ). IsHeld c.args.params.now x) (sym (to_z-of_z w64 _ fits ∙ c.previous_of-last.ensures))
+pub filler-value-requires : goal.filler-value-requires
+filler-value-requires c =
+    let fits : FitsSigned w64 c.previous_of.result = search (rules, c.previous_of.type_inv) in
+    subst (λ (x : ℤ). IsHeld c.args.params.now x) (sym (to_z-of_z w64 _ fits ∙ c.previous_of.ensures))
     (held-last_sample c.args.params.now c.args.samples.now c.requires.allowed c.requires.samples.held)
-
-pub map-filler-requires-clause-sample : goal.map-filler-requires-clause-sample
-map-filler-requires-clause-sample c = map-filler-requires-clause-prediction c
 
 pub push_repeated-requires : goal.push_repeated-requires
 push_repeated-requires c =
@@ -32,9 +29,9 @@ push_repeated-requires c =
 
 pub returns : goal.returns
 returns c =
-    let fits : FitsSigned w64 c.previous_of-last.result = search (rules, c.previous_of-last.type_inv) in
+    let fits : FitsSigned w64 c.previous_of.result = search (rules, c.previous_of.type_inv) in
     let missing = c.block_size.result - length c.args.samples.now in
     is_filled c.args.params.now c.args.previous c.args.samples.now _ _ _ _ _ missing c.requires.allowed c.requires.some c.requires.samples
-    (omega (arith, c.block_size.ensures.value, c.requires.samples.few)) (to_z-of_z w64 _ fits ∙ c.previous_of-last.ensures)
+    (omega (arith, c.block_size.ensures.value, c.requires.samples.few)) (to_z-of_z w64 _ fits ∙ c.previous_of.ensures)
     (ap (λ (b : Block). b.reference) c.push_repeated.ensures ∙ c.mapped_block-block.ensures.reference)
-    (ap (λ (b : Block). b.values) c.push_repeated.ensures) c.mapped_block-block.ensures.values (ap (replicate missing) c.map-filler.ensures.value)
+    (ap (λ (b : Block). b.values) c.push_repeated.ensures) c.mapped_block-block.ensures.values (ap (replicate missing) c.filler-value.ensures)

@@ -1,7 +1,7 @@
 use Rattle.std.proofs.Common.{rules, ap, sym, ◌∙◌}
 use Rattle.aec_interval.proofs.PendingLemmas.{pending-filled, kept-append}
 use Rattle.aec_interval.proofs.SegmentLemmas.{kept-trans}
-use Rattle.aec_interval.proofs.interval.short_blocks.write_behind.Goals as goal
+use Rattle.aec_interval.proofs.interval.short_blocks.take_block.Goals as goal
 
 pub returns-in_err-write_block : goal.returns-in_err-write_block
 returns-in_err-write_block c =

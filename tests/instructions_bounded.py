@@ -1,0 +1,118 @@
+#!/usr/bin/env python3
+"""That the built program takes no more instructions than it took: instructions_bounded.py PATH_OF_AEC [--measure]
+
+Counts with `valgrind --tool=callgrind`, as bench/instructions.py does, the instructions that the program takes for each sample, starting
+included, to code generated samples and to decode what it has coded. Fails where a count is more than 3 % above the one that MEASURED has
+for it: a count doesn't differ from run to run, so a higher one says that the program does more, or that the compiler no longer inlines
+a function. Where a change takes fewer instructions, or more for a good reason, `--measure` prints the rows of MEASURED anew.
+
+Prints the counts that fail and, last, how many checks passed. Without valgrind all checks are skipped, with status 0; where the variable
+CI is set, that is a failure.
+"""
+
+import os
+import random
+import shutil
+import sys
+import tempfile
+from concurrent.futures import ThreadPoolExecutor
+
+from program import Tally
+
+BENCH = os.path.join(os.path.dirname(os.path.abspath(__file__)), "..", "bench")
+sys.path.insert(0, BENCH)
+from bench import detector, ramp_with_noise, walk
+from instructions import STORAGE, counted
+
+SAMPLES = 200_000
+MOST_ABOVE = 1.03
+SEED = 1
+
+
+def zeros(chance):
+    """16-bit samples: zeros alone."""
+    return bytes(2 * SAMPLES)
+
+
+# Each kind of samples: their bits, the options beside them, and the function that makes them.
+INPUTS = {
+    "detector": (16, [], detector),
+    "zeros": (16, [], zeros),
+    "walk": (32, ["-s"], walk),
+    "ramp": (8, [], ramp_with_noise),
+}
+
+# The kind of samples, J and r; and the instructions for each sample that the proved program took, coding and decoding.
+MEASURED = {
+    ("detector", 8, 128): (0.0, 0.0),
+    ("detector", 16, 128): (0.0, 0.0),
+    ("detector", 64, 128): (0.0, 0.0),
+    ("detector", 8, 2): (0.0, 0.0),
+    ("zeros", 8, 128): (0.0, 0.0),
+    ("walk", 16, 128): (0.0, 0.0),
+    ("ramp", 8, 128): (0.0, 0.0),
+}
+
+
+def instructions_of(path, cell):
+    """The instructions for each sample that the program takes to code the samples of a cell, and to decode them."""
+    kind, block_size, interval = cell
+    bits, more, made = INPUTS[kind]
+    options = ["-n", str(bits), *more, "-j", str(block_size), "-r", str(interval)]
+    with tempfile.TemporaryDirectory() as folder:
+        raw, coded, back = (os.path.join(folder, name) for name in ("raw", "coded", "back"))
+        with open(raw, "wb") as file:
+            file.write(made(random.Random(SEED))[: SAMPLES * STORAGE[bits]])
+        coding = counted([path, *options, raw, coded])
+        decoding = counted([path, "-d", *options, coded, back])
+    return coding / SAMPLES, decoding / SAMPLES
+
+
+def on_all_cells(path):
+    """The counts of each cell, made on all cores at once."""
+    with ThreadPoolExecutor(os.cpu_count() or 1) as pool:
+        found = pool.map(lambda cell: instructions_of(path, cell), MEASURED)
+        return dict(zip(MEASURED, found))
+
+
+def print_measured(found):
+    """Prints the rows of MEASURED."""
+    for (kind, block_size, interval), (coding, decoding) in found.items():
+        print(f'    ("{kind}", {block_size}, {interval}): ({coding:.1f}, {decoding:.1f}),')
+
+
+def compare(found):
+    """Checks each count against the one that was measured."""
+    tally = Tally()
+    for (kind, block_size, interval), counts in found.items():
+        for job, count, measured in zip(("coding", "decoding"), counts, MEASURED[kind, block_size, interval]):
+            what = f"{job} the {kind} with J {block_size}, r {interval}"
+            tally.holds(
+                count <= measured * MOST_ABOVE,
+                f"{what} takes {count:.1f} instructions a sample; {measured:.1f} were measured, and 3 % more are allowed",
+            )
+    return tally
+
+
+def without_valgrind():
+    """What is said where nothing can be counted."""
+    needed = "CI" in os.environ
+    print("valgrind isn't here: no instructions are counted")
+    print(f"0 passed, {int(needed)} failed")
+    sys.exit(needed)
+
+
+def main():
+    if not shutil.which("valgrind"):
+        without_valgrind()
+    found = on_all_cells(os.path.abspath(sys.argv[1]))
+    if "--measure" in sys.argv[2:]:
+        print_measured(found)
+        return
+    tally = compare(found)
+    tally.print()
+    sys.exit(tally.failed > 0)
+
+
+if __name__ == "__main__":
+    main()
