@@ -7,8 +7,9 @@ use aec_params::Fault;
 impl<C: Codec> Workspace<C> {
     ghost use Rattle.std.specs.Prelude.{◌≡◌, ◌+◌, ◌-◌, ◌^◌, ◌<◌, ◌≤◌, true, false, None, Some, length, OnOk, IfErr};
     ghost use Rattle.std.specs.List.{list_all};
-    ghost use Rattle.aec_params.specs.declared.fault.Fault.TheVariants.{OutOfRange};
+    ghost use Rattle.aec_params.specs.declared.fault.Fault.TheVariants.{OutOfRange, Spent};
     ghost use Rattle.aec_bits.specs.Codec.{AreHeld};
+    ghost use Rattle.aec_edit.specs.Calls.{want_of_calls};
     ghost use Rattle.aec_bits.specs.Refusals.{growth_refusal, values_refusal, first_unheld as first_unheld_of};
 
     /// Whether there are `len` samples from place `first` on.
@@ -29,7 +30,8 @@ impl<C: Codec> Workspace<C> {
 
     /// Whether fewer calls of the codec are left than are needed.
     pub(crate) fn are_spent(&self, needed: u64) -> bool
-        ensures spent { result ≡ true → 2 ^ 64 - 1 < C.called self.now.codec + needed }
+        ensures spent { result ≡ true
+            → want_of_calls (C.called self.now.codec) needed ≡ Some Spent }
         ensures enough { result ≡ false → C.called self.now.codec + needed ≤ 2 ^ 64 - 1 }
     {
         needed > u64::MAX - self.calls()
