@@ -1,5 +1,5 @@
 -- The front of a stream whose bytes are kept, and the rest of it that is put behind them.
-use Rattle.std.proofs.Common.{◌≡◌, ℕ, ◌+◌, ◌-◌, ◌%◌, ◌<◌, ◌^◌, true, Option, None, Result, Err, OnOk, IfErr, ℤ, List, [], ◌++◌, length, take, drop, refl, sym, ap, ap₂, ◌∙◌, subst, arith}
+use Rattle.std.proofs.Common.{◌≡◌, ℕ, ◌+◌, ◌-◌, ◌%◌, ◌<◌, ◌≤◌, ◌^◌, true, Option, None, Result, Err, OnOk, IfErr, ℤ, List, [], ◌++◌, length, take, drop, refl, sym, ap, ap₂, ◌∙◌, subst, arith}
 use Rattle.std.proofs.Math.Nat.{zero-mod}
 use Rattle.std.proofs.lemmas.List.{length-append, take_all}
 use Rattle.aec_params.specs.declared.settings.Settings.{Settings}
@@ -9,10 +9,11 @@ use Rattle.aec_params.specs.Params.{IsAllowed}
 use Rattle.aec_params.specs.Reading.{IsReading}
 use Rattle.aec_interval.specs.Reached.{count_refusal, RefusesReading}
 use Rattle.aec_interval.specs.Reached as reached
-use Rattle.aec_interval.specs.Pieces.{Place, is_wanted_at, ReadsInterval}
+use Rattle.aec_interval.specs.Pieces.{Place, IsPlace, is_wanted_at, ReadsInterval}
 use Rattle.aec_interval.proofs.PieceReadingLemmas.{has_read_nothing, has_read_more, has_read_front}
+use Rattle.aec_interval.proofs.ReachedPlaceLemmas.{place-within}
 use Rattle.aec_engine.specs.Output.{all_stored, samples_from}
-use Rattle.aec_engine.specs.ReadingTwice.{AreSamplesOf, HaveSamples, KeepsFront, DecodesBits, SettlesOne, PutsAllOrFront}
+use Rattle.aec_engine.specs.ReadingTwice.{AreFewKept, AreSamplesOf, HaveSamples, KeepsFront, DecodesBits, SettlesOne, PutsAllOrFront}
 use Rattle.aec_engine.specs.ReadingTwice as twice
 use Rattle.aec_engine.specs.Transfers.{Putting, IsBegunFirst}
 use Rattle.aec_engine.proofs.PutRangeLemmas.{all_stored-append, samples_from-append, samples_from-before}
@@ -56,6 +57,24 @@ keeps_more start p q s before len more bytes room bytes_then ys part a same keep
   few = few;
   begins = begins;
 }
+
+-- ---- how many bytes are kept
+
+-- none are few
+pub few_none : (kept interval bits : ℕ) → kept ≡ 0 → AreFewKept kept interval bits
+few_none kept interval bits none past = absurd (omega (arith, none, past))
+
+-- few bytes are few with more, where these are those of an interval and there was room for them
+pub few_more : (len kept interval most bits : ℕ) → (65536 < len → len ≤ most) → (65536 < len → len + interval ≤ 2 ^ 24) → kept ≤ len + interval
+    → most ≤ bits → AreFewKept kept interval bits
+few_more len kept interval most bits within few adds at_most past =
+    let behind : 65536 < len = omega (arith, past, adds) in
+    (omega (arith, adds, few behind), omega (arith, adds, within behind, at_most))
+
+-- a reader is within the bits that it began on
+pub bit-within : (start p : Place) → p ≡ place_from start p.block p.bit → IsPlace p → p.bit ≤ length start.bits
+bit-within start p same is =
+    place-within start.settings start.count start.limit start.bits p.block p.bit (subst IsPlace same is)
 
 -- ---- kept bytes and those of the rest
 

@@ -1,19 +1,19 @@
 //! Coded bits whose samples are written: the bytes of those in front are kept while the bits are
 //! judged, and only the bits behind them are read twice.
 
-ghost use Rattle.std.specs.Prelude.{◌≡◌, ◌+◌, ◌*◌, ◌≤◌, ◌^◌, None, true, vec_len, vec_capacity, IfOk, IfErr, OnOk};
-ghost use Rattle.aec_params.specs.Params.{interval_len};
+ghost use Rattle.std.specs.Prelude.{◌≡◌, ◌+◌, ◌*◌, ◌<◌, ◌≤◌, ◌^◌, ◌⊎◌, None, true, length, vec_len, vec_capacity, IfOk, IfErr, OnOk};
+ghost use Rattle.aec_params.specs.Params.{interval_len, storage_len};
 ghost use Rattle.aec_interval.specs.Reached.{count_refusal, RefusesReading};
-ghost use Rattle.aec_interval.specs.Pieces.{place_at};
+ghost use Rattle.aec_interval.specs.Pieces.{IsPlace, place_at};
 ghost use Rattle.aec_engine.specs.Transfers.{Putting, putting_of};
-ghost use Rattle.aec_engine.specs.ReadingTwice.{DecodesBits, KeepsFront, SettlesOne};
+ghost use Rattle.aec_engine.specs.ReadingTwice.{AreFewKept, DecodesBits, KeepsFront, SettlesOne};
 
-use crate::engine::two_readings::{append_stored, deliver_range, judge_from};
+use crate::engine::two_readings::{WAITING, append_stored, deliver_range, judge_from};
 use aec_bits::Sink;
 use aec_interval::StreamReader;
 use aec_params::{Fault, Params};
 
-/// More memory is taken for at most so many bytes that are kept.
+/// More memory than decoding needs in any case is taken for at most so many bytes that are kept.
 const KEPT: usize = 1 << 24;
 
 /// And only where a block has at most so many bytes: judging longer ones again takes less time than
@@ -22,28 +22,45 @@ const SHORT: usize = 32;
 
 /// How many bytes may be kept for the bits that were read: one for each, if blocks are short. So
 /// what a few bytes stand for takes little memory.
-fn most_kept(params: &Params, reader: &StreamReader) -> u64 {
+fn most_kept(params: &Params, reader: &StreamReader) -> u64
+    ensures bits { result ≤ reader.now.bit }
+    ensures long { 32 < storage_len params.now * params.now.block_size → result ≡ 0 }
+    ensures reached { IsPlace reader.now }
+{
+    let read = reader.place().bit;
     if params.storage() * params.block_size() as usize > SHORT {
         return 0;
     }
-    reader.place().bit
+    read
 }
 
-/// Makes room for so many more bytes to keep, if `most` are not passed yet; room that is there is
-/// used in any case. False where there is none.
+/// Whether there is room for so many more bytes to keep. Up to a piece they are kept in the room
+/// that was made for any decoding, and none is asked for. Behind a piece they are kept as long as
+/// `most` are not passed, and more room is asked for: decoding goes on where it is refused.
 fn has_room(bytes: &mut Vec<u8>, more: usize, most: u64) -> bool
     ensures room { result ≡ true → vec_len bytes.new + more ≤ vec_capacity bytes.new }
+    ensures most { result ≡ true → 65536 < vec_len bytes.old → vec_len bytes.old ≤ most }
+    ensures few { result ≡ true → 65536 < vec_len bytes.old → vec_len bytes.old + more ≤ 2 ^ 24 }
+    ensures grown { (vec_capacity bytes.new ≡ vec_capacity bytes.old)
+        ⊎ ((vec_len bytes.old ≤ most) × ((vec_capacity bytes.new ≤ 2 ^ 24)
+        × (vec_capacity bytes.new ≤ 2 * most + more))) }
     ensures items { bytes.new.items ≡ bytes.old.items }
     ensures len { vec_len bytes.new ≡ vec_len bytes.old }
     ensures capacity { vec_capacity bytes.old ≤ vec_capacity bytes.new }
 {
     let len = bytes.len();
-    if more <= bytes.capacity() - len {
-        return true;
+    let is_there = more <= bytes.capacity() - len;
+    if len <= WAITING {
+        return is_there;
     }
-    let left = KEPT.saturating_sub(len);
+    let Some(left) = KEPT.checked_sub(len) else {
+        return false;
+    };
     if len as u64 > most || more > left {
         return false;
+    }
+    if is_there {
+        return true;
     }
     bytes.reserve_exact(len.clamp(more, left)).is_ok()
 }
@@ -62,6 +79,8 @@ fn keep_front(
     requires bit { reader.old.bit ≡ 0 }
     requires empty { vec_len bytes.old ≡ 0 }
     ensures kept { IfOk result (λ before. KeepsFront reader.new params.now before bytes.new.items) }
+    ensures few { AreFewKept (vec_len bytes.new) (4 * interval_len params.now)
+        (length reader.old.bits) }
     ensures same { OnOk result (let old = reader.old in
         reader.new ≡ place_at old.settings old.count old.limit old.bits reader.new.block
         reader.new.bit) }
