@@ -64,12 +64,11 @@ keeps_more start p q s before len more bytes room bytes_then ys part a same keep
 pub few_none : (kept interval bits : ℕ) → kept ≡ 0 → AreFewKept kept interval bits
 few_none kept interval bits none past = absurd (omega (arith, none, past))
 
--- few bytes are few with more, where these are those of an interval and there was room for them
-pub few_more : (len kept interval most bits : ℕ) → (65536 < len → len ≤ most) → (65536 < len → len + interval ≤ 2 ^ 24) → kept ≤ len + interval
-    → most ≤ bits → AreFewKept kept interval bits
-few_more len kept interval most bits within few adds at_most past =
-    let behind : 65536 < len = omega (arith, past, adds) in
-    (omega (arith, adds, few behind), omega (arith, adds, within behind, at_most))
+-- what fits into room for few bytes is few
+pub few_within : (kept room interval bits : ℕ) → kept ≤ room → AreFewKept room interval bits → AreFewKept kept interval bits
+few_within kept room interval bits within few past =
+    let room_few = few (omega (arith, past, within)) in
+    (omega (arith, within, room_few.0), omega (arith, within, room_few.1))
 
 -- a reader is within the bits that it began on
 pub bit-within : (start p : Place) → p ≡ place_from start p.block p.bit → IsPlace p → p.bit ≤ length start.bits

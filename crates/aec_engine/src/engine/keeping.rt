@@ -1,7 +1,7 @@
 //! Coded bits whose samples are written: the bytes of those in front are kept while the bits are
 //! judged, and only the bits behind them are read twice.
 
-ghost use Rattle.std.specs.Prelude.{◌≡◌, ◌+◌, ◌*◌, ◌<◌, ◌≤◌, ◌^◌, ◌⊎◌, None, true, length, vec_len, vec_capacity, IfOk, IfErr, OnOk};
+ghost use Rattle.std.specs.Prelude.{◌≡◌, ℕ, ◌+◌, ◌*◌, ◌<◌, ◌≤◌, ◌^◌, ◌⊎◌, None, true, length, vec_len, vec_capacity, IfOk, IfErr, OnOk};
 ghost use Rattle.aec_params.specs.Params.{interval_len, storage_len};
 ghost use Rattle.aec_interval.specs.Reached.{count_refusal, RefusesReading};
 ghost use Rattle.aec_interval.specs.Pieces.{IsPlace, place_at};
@@ -20,8 +20,8 @@ const KEPT: usize = 1 << 24;
 /// memory does.
 const SHORT: usize = 32;
 
-/// How many bytes may be kept for the bits that were read: one for each, if blocks are short. So
-/// what a few bytes stand for takes little memory.
+/// How many bytes may be kept before more room is made, by the bits that were read: one for each, if
+/// blocks are short. So what a few bytes stand for takes little memory.
 fn most_kept(params: &Params, reader: &StreamReader) -> u64
     ensures bits { result ≤ reader.now.bit }
     ensures long { 32 < storage_len params.now * params.now.block_size → result ≡ 0 }
@@ -34,13 +34,12 @@ fn most_kept(params: &Params, reader: &StreamReader) -> u64
     read
 }
 
-/// Whether there is room for so many more bytes to keep. Up to a piece they are kept in the room
-/// that was made for any decoding, and none is asked for. Behind a piece they are kept as long as
-/// `most` are not passed, and more room is asked for: decoding goes on where it is refused.
-fn has_room(bytes: &mut Vec<u8>, more: usize, most: u64) -> bool
-    ensures room { result ≡ true → vec_len bytes.new + more ≤ vec_capacity bytes.new }
-    ensures most { result ≡ true → 65536 < vec_len bytes.old → vec_len bytes.old ≤ most }
-    ensures few { result ≡ true → 65536 < vec_len bytes.old → vec_len bytes.old + more ≤ 2 ^ 24 }
+/// Up to how many bytes there is room for what is kept, `more` of them behind those that are there;
+/// fewer where there is none. Up to a piece it is the room that was made for any decoding. Behind a
+/// piece more is asked for, as long as `most` are not passed; where that is refused there is none.
+fn make_room(bytes: &mut Vec<u8>, more: usize, most: u64) -> usize
+    ensures there { result ≤ vec_capacity bytes.new }
+    ensures few { AreFewKept result more most }
     ensures grown { (vec_capacity bytes.new ≡ vec_capacity bytes.old)
         ⊎ ((vec_len bytes.old ≤ most) × ((vec_capacity bytes.new ≤ 2 ^ 24)
         × (vec_capacity bytes.new ≤ 2 * most + more))) }
@@ -49,20 +48,38 @@ fn has_room(bytes: &mut Vec<u8>, more: usize, most: u64) -> bool
     ensures capacity { vec_capacity bytes.old ≤ vec_capacity bytes.new }
 {
     let len = bytes.len();
-    let is_there = more <= bytes.capacity() - len;
     if len <= WAITING {
-        return is_there;
+        return bytes.capacity().min(more.saturating_add(WAITING));
     }
     let Some(left) = KEPT.checked_sub(len) else {
-        return false;
+        return 0;
     };
     if len as u64 > most || more > left {
-        return false;
+        return 0;
     }
-    if is_there {
+    let added = len.clamp(more, left);
+    match bytes.reserve_exact(added) {
+        Ok(()) => len + added,
+        Err(_refused) => 0,
+    }
+}
+
+/// Whether so many more bytes can be kept in the room that there is, or in more that is made then.
+fn has_room(bytes: &mut Vec<u8>, room: &mut usize, more: usize, most: u64) -> bool
+    ensures room { result ≡ true → vec_len bytes.new + more ≤ room.new }
+    ensures there { room.old ≤ vec_capacity bytes.old → room.new ≤ vec_capacity bytes.new }
+    ensures few { (bits : ℕ) → AreFewKept room.old more bits → most ≤ bits
+        → AreFewKept room.new more bits }
+    ensures items { bytes.new.items ≡ bytes.old.items }
+    ensures len { vec_len bytes.new ≡ vec_len bytes.old }
+    ensures capacity { vec_capacity bytes.old ≤ vec_capacity bytes.new }
+{
+    let len = bytes.len();
+    if len <= *room && more <= *room - len {
         return true;
     }
-    bytes.reserve_exact(len.clamp(more, left)).is_ok()
+    *room = make_room(bytes, more, most);
+    len <= *room && more <= *room - len
 }
 
 /// Reads the samples of a stream from its first bit on, and keeps the bytes of those in front, as
@@ -90,8 +107,9 @@ fn keep_front(
     ensures buffer { vec_capacity bytes.old ≤ vec_capacity bytes.new }
 {
     let more = 4 * params.interval_len() as usize;
+    let mut room = 0;
     let mut before = 0;
-    while has_room(bytes, more, most_kept(params, reader)) && reader.next(samples)? {
+    while has_room(bytes, &mut room, more, most_kept(params, reader)) && reader.next(samples)? {
         append_stored(params, samples, bytes);
         before += samples.len() as u64;
     }

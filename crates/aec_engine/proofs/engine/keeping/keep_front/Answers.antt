@@ -1,10 +1,10 @@
-use Rattle.std.proofs.Common.{◌≤◌, ◌*◌, length, vec_len, arith, refl, sym, ap, ◌∙◌, subst}
+use Rattle.std.proofs.Common.{◌≤◌, ◌*◌, length, arith, refl, sym, ap, ◌∙◌, subst}
 use Rattle.std.proofs.lemmas.List.{nil_from_length}
 use Rattle.std.proofs.lemmas.Result.{err_from_is_err_and}
 use Rattle.aec_params.specs.Params.{IsAllowed, interval_len}
 use Rattle.aec_engine.specs.ReadingTwice.{AreFewKept}
 use Rattle.aec_engine.proofs.ReadTwiceLemmas.{settings-same, same_next, counts_more, counts_few, counts_refused}
-use Rattle.aec_engine.proofs.KeepingLemmas.{bit-within, counts_kept, few_more, few_none, keeps_none, keeps_more}
+use Rattle.aec_engine.proofs.KeepingLemmas.{bit-within, counts_kept, few_none, few_within, keeps_none, keeps_more}
 use Rattle.aec_engine.proofs.engine.keeping.keep_front.Goals as goal
 
 pub loop-reader-init : goal.loop-reader-init
@@ -12,6 +12,8 @@ loop-reader-init c = record {
   keeps = keeps_none c.args.reader.now c.args.params.now c.args.bytes.now.items c.requires.block c.requires.bit
       (nil_from_length c.args.bytes.now.items (omega (arith, c.args.bytes.now.ok, c.requires.empty)));
   same = refl;
+  there = omega arith;
+  spare = few_none 0 _ _ refl;
   few = few_none _ _ _ c.requires.empty;
   room = omega arith;
   buffer = omega arith;
@@ -40,16 +42,29 @@ loop-reader-preserved c =
     let most : length c.next.new.samples.items ≤ interval_len c.args.params.now =
     subst (λ s. length c.next.new.samples.items ≤ interval_len s)
     (settings-same c.args.reader.now c.loop-reader.reader c.loop-reader.invariant.same ∙ c.requires.settings) step.few in
+    let room : AreFewKept c.has_room.new.room (4 * interval_len c.args.params.now) (length c.args.reader.now.bits) =
+    subst (λ n. AreFewKept c.has_room.new.room (4 * n) (length c.args.reader.now.bits)) c.interval_len.ensures.value
+    (c.has_room.ensures.few (length c.args.reader.now.bits)
+    (subst (λ n. AreFewKept c.loop-reader.room (4 * n) (length c.args.reader.now.bits)) (sym c.interval_len.ensures.value) c.loop-reader.invariant.spare)
+    (omega (arith, c.most_kept.ensures.bits, bit-within c.args.reader.now c.loop-reader.reader c.loop-reader.invariant.same c.most_kept.ensures.reached))) in
     record {
       keeps = keeps_more c.args.reader.now c.loop-reader.reader c.next.new.self c.args.params.now c.loop-reader.before c.len.result _ c.loop-reader.bytes.items
           c.has_room.new.bytes.items c.append_stored.new.bytes.items c.next.new.samples.items c.deref.result.now a c.loop-reader.invariant.same
           c.loop-reader.invariant.keeps step c.next.ensures.few c.next.ensures.ends c.has_room.ensures.items c.append_stored.ensures.items c.deref.ensures.value
           (omega (arith, c.len.ensures, c.next.new.samples.ok)) refl;
       same = same_next c.args.reader.now c.loop-reader.reader c.next.new.self c.loop-reader.invariant.same step.piece.same;
-      few = subst (λ n. AreFewKept (vec_len c.append_stored.new.bytes) (4 * n) (length c.args.reader.now.bits)) c.interval_len.ensures.value
-          (few_more _ _ _ _ _ (c.has_room.ensures.most c.loop-reader-test.true) (c.has_room.ensures.few c.loop-reader-test.true)
-          (omega (arith, c.has_room.ensures.len, c.append_stored.ensures.len, ap length c.deref.ensures.value, most, c.interval_len.ensures.value))
-          (omega (arith, c.most_kept.ensures.bits, bit-within c.args.reader.now c.loop-reader.reader c.loop-reader.invariant.same c.most_kept.ensures.reached)));
+      there = omega (arith, c.has_room.ensures.there c.loop-reader.invariant.there, c.append_stored.ensures.capacity);
+      spare = room;
+      few = few_within _ c.has_room.new.room _ _
+          (omega (
+            arith,
+            c.has_room.ensures.room c.loop-reader-test.true,
+            c.has_room.ensures.len,
+            c.append_stored.ensures.len,
+            ap length c.deref.ensures.value,
+            most,
+            c.interval_len.ensures.value,
+          )) room;
       room = omega (arith, c.loop-reader.invariant.room, c.next.ensures.capacity);
       buffer = omega (arith, c.loop-reader.invariant.buffer, c.has_room.ensures.capacity, c.append_stored.ensures.capacity);
     }
