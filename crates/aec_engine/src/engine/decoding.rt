@@ -51,9 +51,9 @@ fn decode_bits<W: Sink>(
 ///
 /// The bytes of the samples in front are kept while the bits are judged, where there is room for
 /// them; what lies behind is read twice, so that it is not kept. Any decoding takes memory for the
-/// bytes of the source, for one interval of samples and their bytes, and for a piece of 64 KiB; where
-/// that is refused it ends with `Memory`, or with the refusal of the bits. Behind that piece it
-/// takes more for kept bytes, 16 MiB at most; where that is refused it goes on and keeps no more.
+/// bytes of the source, for one interval of samples and their bytes, and for a piece of 64 KiB: if
+/// that is refused, it ends with `Memory`, or with the refusal of the bits. Behind that piece more
+/// is taken for kept bytes, 16 MiB at most: if that is refused, decoding goes on and keeps no more.
 pub fn decode<R: Source, W: Sink>(
     alloc: Global,
     params: &Params,

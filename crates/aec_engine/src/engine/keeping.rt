@@ -20,8 +20,8 @@ const KEPT: usize = 1 << 24;
 /// memory does.
 const SHORT: usize = 32;
 
-/// How many bytes may be kept before more room is made, by the bits that were read: one for each, if
-/// blocks are short. So what a few bytes stand for takes little memory.
+/// How many bytes may be kept before more room is made: one for each bit that was read, if blocks
+/// are short. So what a few bytes stand for takes little memory.
 fn most_kept(params: &Params, reader: &StreamReader) -> u64
     ensures bits { result ≤ reader.now.bit }
     ensures long { 32 < storage_len params.now * params.now.block_size → result ≡ 0 }
