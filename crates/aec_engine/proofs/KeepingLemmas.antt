@@ -1,11 +1,11 @@
 -- The front of a stream whose bytes are kept, and the rest of it that is put behind them.
-use Rattle.std.proofs.Common.{◌≡◌, ℕ, ◌+◌, ◌-◌, ◌%◌, ◌<◌, ◌≤◌, ◌^◌, true, Option, None, Result, Err, OnOk, IfErr, ℤ, List, [], ◌++◌, length, take, drop, refl, sym, ap, ap₂, ◌∙◌, subst, arith}
+use Rattle.std.proofs.Common.{◌≡◌, ℕ, ◌+◌, ◌*◌, ◌-◌, ◌%◌, ◌<◌, ◌≤◌, ◌^◌, true, Option, None, Result, Err, OnOk, IfErr, ℤ, List, [], ◌++◌, length, take, drop, refl, sym, ap, ap₂, ◌∙◌, subst, arith}
 use Rattle.std.proofs.Math.Nat.{zero-mod}
 use Rattle.std.proofs.lemmas.List.{length-append, take_all}
 use Rattle.aec_params.specs.declared.settings.Settings.{Settings}
 use Rattle.aec_params.specs.declared.fault.Fault.{Fault}
 use Rattle.aec_params.specs.declared.fault.Fault.TheVariants.{Write}
-use Rattle.aec_params.specs.Params.{IsAllowed}
+use Rattle.aec_params.specs.Params.{IsAllowed, interval_len}
 use Rattle.aec_params.specs.Reading.{IsReading}
 use Rattle.aec_interval.specs.Reached.{count_refusal, RefusesReading}
 use Rattle.aec_interval.specs.Reached as reached
@@ -74,6 +74,22 @@ few_within kept room interval bits within few past =
 pub bit-within : (start p : Place) → p ≡ place_from start p.block p.bit → IsPlace p → p.bit ≤ length start.bits
 bit-within start p same is =
     place-within start.settings start.count start.limit start.bits p.block p.bit (subst IsPlace same is)
+
+-- room for few bytes is room for few once more is made
+pub few_then : (start p : Place) (room made len interval most : ℕ) → p ≡ place_from start p.block p.bit → IsPlace p → most ≤ p.bit → len ≡ interval
+    → ((bits : ℕ) → AreFewKept room (4 * len) bits → most ≤ bits → AreFewKept made (4 * len) bits) → AreFewKept room (4 * interval) (length start.bits)
+    → AreFewKept made (4 * interval) (length start.bits)
+few_then start p room made len interval most same there at_most is asks few =
+    subst (λ n. AreFewKept made (4 * n) (length start.bits)) is
+    (asks (length start.bits) (subst (λ n. AreFewKept room (4 * n) (length start.bits)) (sym is) few)
+    (omega (arith, at_most, bit-within start p same there)))
+
+-- no more samples are read than an interval has
+pub few_read : (start p q : Place) (s : Settings) (len : ℕ) (part ys : List ℤ) → p ≡ place_from start p.block p.bit → start.settings ≡ s
+    → len ≡ interval_len s → part ≡ ys → ReadsInterval p ys q → length part ≤ len
+few_read start p q s len part ys same is counted all step =
+    let few : length ys ≤ interval_len s = subst (λ s. length ys ≤ interval_len s) (settings-same start p same ∙ is) step.few in
+    omega (arith, few, counted, ap length all)
 
 -- ---- kept bytes and those of the rest
 

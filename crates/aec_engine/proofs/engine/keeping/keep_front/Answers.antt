@@ -1,10 +1,9 @@
-use Rattle.std.proofs.Common.{◌≤◌, ◌*◌, length, arith, refl, sym, ap, ◌∙◌, subst}
+use Rattle.std.proofs.Common.{arith, refl, sym, subst}
 use Rattle.std.proofs.lemmas.List.{nil_from_length}
 use Rattle.std.proofs.lemmas.Result.{err_from_is_err_and}
-use Rattle.aec_params.specs.Params.{IsAllowed, interval_len}
-use Rattle.aec_engine.specs.ReadingTwice.{AreFewKept}
-use Rattle.aec_engine.proofs.ReadTwiceLemmas.{settings-same, same_next, counts_more, counts_few, counts_refused}
-use Rattle.aec_engine.proofs.KeepingLemmas.{bit-within, counts_kept, few_none, few_within, keeps_none, keeps_more}
+use Rattle.aec_params.specs.Params.{IsAllowed}
+use Rattle.aec_engine.proofs.ReadTwiceLemmas.{same_next, counts_more, counts_few, counts_refused}
+use Rattle.aec_engine.proofs.KeepingLemmas.{counts_kept, few_none, few_read, few_then, few_within, keeps_none, keeps_more}
 use Rattle.aec_engine.proofs.engine.keeping.keep_front.Goals as goal
 
 pub loop-reader-init : goal.loop-reader-init
@@ -39,14 +38,10 @@ pub loop-reader-preserved : goal.loop-reader-preserved
 loop-reader-preserved c =
     let a = subst IsAllowed (sym c.requires.settings) c.interval_len.ensures.allowed in
     let step = c.in_ok-next.ensures.read c.if-branch.true in
-    let most : length c.next.new.samples.items ≤ interval_len c.args.params.now =
-    subst (λ s. length c.next.new.samples.items ≤ interval_len s)
-    (settings-same c.args.reader.now c.loop-reader.reader c.loop-reader.invariant.same ∙ c.requires.settings) step.few in
-    let room : AreFewKept c.has_room.new.room (4 * interval_len c.args.params.now) (length c.args.reader.now.bits) =
-    subst (λ n. AreFewKept c.has_room.new.room (4 * n) (length c.args.reader.now.bits)) c.interval_len.ensures.value
-    (c.has_room.ensures.few (length c.args.reader.now.bits)
-    (subst (λ n. AreFewKept c.loop-reader.room (4 * n) (length c.args.reader.now.bits)) (sym c.interval_len.ensures.value) c.loop-reader.invariant.spare)
-    (omega (arith, c.most_kept.ensures.bits, bit-within c.args.reader.now c.loop-reader.reader c.loop-reader.invariant.same c.most_kept.ensures.reached))) in
+    let most = few_read c.args.reader.now c.loop-reader.reader c.next.new.self _ _ _ _ c.loop-reader.invariant.same c.requires.settings
+    c.interval_len.ensures.value c.deref.ensures.value step in
+    let spare = few_then c.args.reader.now c.loop-reader.reader c.loop-reader.room c.has_room.new.room _ _ _ c.loop-reader.invariant.same
+    c.most_kept.ensures.reached c.most_kept.ensures.bits c.interval_len.ensures.value c.has_room.ensures.few c.loop-reader.invariant.spare in
     record {
       keeps = keeps_more c.args.reader.now c.loop-reader.reader c.next.new.self c.args.params.now c.loop-reader.before c.len.result _ c.loop-reader.bytes.items
           c.has_room.new.bytes.items c.append_stored.new.bytes.items c.next.new.samples.items c.deref.result.now a c.loop-reader.invariant.same
@@ -54,17 +49,8 @@ loop-reader-preserved c =
           (omega (arith, c.len.ensures, c.next.new.samples.ok)) refl;
       same = same_next c.args.reader.now c.loop-reader.reader c.next.new.self c.loop-reader.invariant.same step.piece.same;
       there = omega (arith, c.has_room.ensures.there c.loop-reader.invariant.there, c.append_stored.ensures.capacity);
-      spare = room;
-      few = few_within _ c.has_room.new.room _ _
-          (omega (
-            arith,
-            c.has_room.ensures.room c.loop-reader-test.true,
-            c.has_room.ensures.len,
-            c.append_stored.ensures.len,
-            ap length c.deref.ensures.value,
-            most,
-            c.interval_len.ensures.value,
-          )) room;
+      spare = spare;
+      few = few_within _ c.has_room.new.room _ _ (omega (arith, c.has_room.ensures.room c.loop-reader-test.true, c.has_room.ensures.len, c.append_stored.ensures.len, most)) spare;
       room = omega (arith, c.loop-reader.invariant.room, c.next.ensures.capacity);
       buffer = omega (arith, c.loop-reader.invariant.buffer, c.has_room.ensures.capacity, c.append_stored.ensures.capacity);
     }
