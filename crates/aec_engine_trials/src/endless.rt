@@ -30,16 +30,7 @@ fn answer(
     let result = match engine {
         Engine::Encode => encode(alloc, &params, limits, &mut source, &mut sink),
         Engine::Decode => decode(alloc, &params, limits, None, &mut source, &mut sink),
-        Engine::Range => range(
-            alloc,
-            &params,
-            limits,
-            None,
-            0,
-            1,
-            &mut source,
-            &mut sink,
-        ),
+        Engine::Range => range(alloc, &params, limits, None, 0, 1, &mut source, &mut sink),
     };
     same_at(rt, sink.begins(), 0, &engine);
     same(rt, sink.bytes.as_slice(), b"".as_slice());
