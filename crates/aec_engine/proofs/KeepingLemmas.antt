@@ -1,18 +1,19 @@
 -- The front of a stream whose bytes are kept, and the rest of it that is put behind them.
-use Rattle.std.proofs.Common.{◌≡◌, ℕ, ◌+◌, ◌-◌, ◌%◌, ◌<◌, ◌^◌, true, Option, None, Result, Err, OnOk, IfErr, ℤ, List, [], ◌++◌, length, take, drop, refl, sym, ap, ap₂, ◌∙◌, subst, arith}
+use Rattle.std.proofs.Common.{◌≡◌, ℕ, ◌+◌, ◌*◌, ◌-◌, ◌%◌, ◌<◌, ◌≤◌, ◌^◌, true, Option, None, Result, Err, OnOk, IfErr, ℤ, List, [], ◌++◌, length, take, drop, refl, sym, ap, ap₂, ◌∙◌, subst, arith}
 use Rattle.std.proofs.Math.Nat.{zero-mod}
 use Rattle.std.proofs.lemmas.List.{length-append, take_all}
 use Rattle.aec_params.specs.declared.settings.Settings.{Settings}
 use Rattle.aec_params.specs.declared.fault.Fault.{Fault}
 use Rattle.aec_params.specs.declared.fault.Fault.TheVariants.{Write}
-use Rattle.aec_params.specs.Params.{IsAllowed}
+use Rattle.aec_params.specs.Params.{IsAllowed, interval_len}
 use Rattle.aec_params.specs.Reading.{IsReading}
 use Rattle.aec_interval.specs.Reached.{count_refusal, RefusesReading}
 use Rattle.aec_interval.specs.Reached as reached
-use Rattle.aec_interval.specs.Pieces.{Place, is_wanted_at, ReadsInterval}
+use Rattle.aec_interval.specs.Pieces.{Place, IsPlace, is_wanted_at, ReadsInterval}
 use Rattle.aec_interval.proofs.PieceReadingLemmas.{has_read_nothing, has_read_more, has_read_front}
+use Rattle.aec_interval.proofs.ReachedPlaceLemmas.{place-within}
 use Rattle.aec_engine.specs.Output.{all_stored, samples_from}
-use Rattle.aec_engine.specs.ReadingTwice.{AreSamplesOf, HaveSamples, KeepsFront, DecodesBits, SettlesOne, PutsAllOrFront}
+use Rattle.aec_engine.specs.ReadingTwice.{AreFewKept, AreSamplesOf, HaveSamples, KeepsFront, DecodesBits, SettlesOne, PutsAllOrFront}
 use Rattle.aec_engine.specs.ReadingTwice as twice
 use Rattle.aec_engine.specs.Transfers.{Putting, IsBegunFirst}
 use Rattle.aec_engine.proofs.PutRangeLemmas.{all_stored-append, samples_from-append, samples_from-before}
@@ -56,6 +57,39 @@ keeps_more start p q s before len more bytes room bytes_then ys part a same keep
   few = few;
   begins = begins;
 }
+
+-- ---- how many bytes are kept
+
+-- none are few
+pub few_none : (kept interval bits : ℕ) → kept ≡ 0 → AreFewKept kept interval bits
+few_none kept interval bits none past = absurd (omega (arith, none, past))
+
+-- what fits into room for few bytes is few
+pub few_within : (kept room interval bits : ℕ) → kept ≤ room → AreFewKept room interval bits → AreFewKept kept interval bits
+few_within kept room interval bits within few past =
+    let room_few = few (omega (arith, past, within)) in
+    (omega (arith, within, room_few.0), omega (arith, within, room_few.1))
+
+-- a reader is within the bits that it began on
+pub bit-within : (start p : Place) → p ≡ place_from start p.block p.bit → IsPlace p → p.bit ≤ length start.bits
+bit-within start p same is =
+    place-within start.settings start.count start.limit start.bits p.block p.bit (subst IsPlace same is)
+
+-- room for few bytes is room for few once more is made
+pub few_then : (start p : Place) (room made len interval most : ℕ) → p ≡ place_from start p.block p.bit → IsPlace p → most ≤ p.bit → len ≡ interval
+    → ((bits : ℕ) → AreFewKept room (4 * len) bits → most ≤ bits → AreFewKept made (4 * len) bits) → AreFewKept room (4 * interval) (length start.bits)
+    → AreFewKept made (4 * interval) (length start.bits)
+few_then start p room made len interval most same there at_most is asks few =
+    subst (λ n. AreFewKept made (4 * n) (length start.bits)) is
+    (asks (length start.bits) (subst (λ n. AreFewKept room (4 * n) (length start.bits)) (sym is) few)
+    (omega (arith, at_most, bit-within start p same there)))
+
+-- no more samples are read than an interval has
+pub few_read : (start p q : Place) (s : Settings) (len : ℕ) (part ys : List ℤ) → p ≡ place_from start p.block p.bit → start.settings ≡ s
+    → len ≡ interval_len s → part ≡ ys → ReadsInterval p ys q → length part ≤ len
+few_read start p q s len part ys same is counted all step =
+    let few : length ys ≤ interval_len s = subst (λ s. length ys ≤ interval_len s) (settings-same start p same ∙ is) step.few in
+    omega (arith, few, counted, ap length all)
 
 -- ---- kept bytes and those of the rest
 

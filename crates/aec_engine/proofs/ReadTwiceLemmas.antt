@@ -12,7 +12,7 @@ use Rattle.aec_interval.specs.Reached.{RefusesReading, wrong_before}
 use Rattle.aec_interval.specs.Pieces.{Place, place_at, is_wanted_at, IsPlace, ReadsInterval, HasRead, RefusesAt}
 use Rattle.aec_interval.specs.Skipping.{HasInterval, IsFaultAt}
 use Rattle.aec_interval.proofs.PieceReadingLemmas.{has_read_nothing, has_read_more, has_read_all, has_read_refused, has_read_few}
-use Rattle.aec_engine.specs.ReadingTwice.{HaveSamples, IsBegun}
+use Rattle.aec_engine.specs.ReadingTwice.{EndsAt, HaveSamples, IsBegun}
 
 -- a place that was come to from another one
 abbrev pub place_from : Place → ℕ → ℕ → Place
@@ -70,6 +70,15 @@ counts_all start p total a so_far done =
       reading = subst (λ (p : Place). IsReading p.settings p.count p.limit p.bits so_far.samples) so_far.same whole;
       counted = so_far.counted;
     }
+
+-- where no more is wanted all is read
+pub ends_at : (start p : Place) (total bit : ℕ) → CountsSoFar start p total → is_wanted_at p ≡ false → bit ≡ p.bit → EndsAt start bit
+ends_at start p total bit so_far done is = subst (EndsAt start) (sym is) (record {
+  block = p.block;
+  samples = so_far.samples;
+  read = subst (λ p. HasRead p so_far.samples) so_far.same so_far.read;
+  done = subst (λ p. is_wanted_at p ≡ false) so_far.same done;
+})
 
 pub at_start_again : (start p q : Place) → p ≡ place_from start p.block p.bit → q ≡ place_from p 0 0 → start.block ≡ 0 → start.bit ≡ 0 → q ≡ start
 at_start_again start p q same again block bit =

@@ -1,5 +1,5 @@
 -- What the parts of decoding give: the bits of a source, and what their two readings answer.
-use Rattle.std.specs.Prelude.{◌≡◌, ℕ, ◌+◌, ◌%◌, ◌^◌, ◌<◌, ◌≤◌, Bool, true, Option, None, Result, Ok, Err, MatchResult, ℤ, List, ◌++◌, length}
+use Rattle.std.specs.Prelude.{◌≡◌, ℕ, ◌+◌, ◌*◌, ◌%◌, ◌^◌, ◌<◌, ◌≤◌, Bool, true, false, Option, None, Result, Ok, Err, MatchResult, ℤ, List, ◌++◌, length}
 use Rattle.std.specs.List.{AllByRecursion}
 use Rattle.std.specs.Io.KnownBytes.{Appends}
 use Rattle.aec_params.specs.declared.settings.Settings.{Settings}
@@ -63,6 +63,18 @@ pub record KeepsFront (p : Place) (s : Settings) (before : ℕ) (bytes : List �
   pub kept : bytes ≡ all_stored s samples
   pub few : p.block < 2 ^ 34
   pub begins : is_wanted_at p ≡ true → p.block % p.settings.interval ≡ 0
+
+-- so many kept bytes are few: those that don't fit into a piece and an interval are at most 16 MiB,
+-- and beside an interval two for each bit
+abbrev pub AreFewKept : ℕ → ℕ → ℕ → Type 0
+AreFewKept kept interval bits = 65536 + interval < kept → (kept ≤ 2 ^ 24) × (kept ≤ 2 * bits + interval)
+
+-- all samples are read up to this bit, where no more is wanted
+pub record EndsAt (p : Place) (bit : ℕ) : Type 0 where
+  pub block : ℕ
+  pub samples : List ℤ
+  pub read : HasRead (place_at p.settings p.count p.limit p.bits block bit) samples
+  pub done : is_wanted_at (place_at p.settings p.count p.limit p.bits block bit) ≡ false
 
 -- bits are read as so many samples
 pub record HaveSamples (p : Place) (total : ℕ) : Type 0 where

@@ -1,7 +1,7 @@
 //! Bytes in memory.
 
 use crate::asserts::{same, same_at};
-use aec_engine::{decode_bytes, encode_bytes};
+use aec_engine::{decode_bytes, encode_bytes, range_bytes};
 use aec_params::{Fault, Limits, Params, Settings};
 use std::alloc::Global;
 use std::process::Abort;
@@ -78,6 +78,27 @@ fn bytes_are_refused(rt: HostRuntime) -> Result<(), Fail> {
     for (coded, count, fault) in decoding {
         let refusal = decoded(rt.alloc(), &params, limits, count, coded).err();
         same_at(&rt, refusal, Some(fault), &coded);
+    }
+    Ok(())
+}
+
+// A part of the ramp from its code, which isn't longer than the limit.
+fn cut(alloc: Global, first: u64, len: u64) -> Result<Vec<u8>, Fault> {
+    let params = Params::new(Settings::USUAL)?;
+    let limits = Limits::new(8, 4).unwrap();
+    range_bytes(alloc, &params, limits, None, first, len, &RAMP_CODED)
+}
+
+#[test]
+fn ranges_are_cut_out_of_bytes(rt: HostRuntime) -> Result<(), Fail> {
+    for (first, len) in [(0, 8), (2, 3), (7, 1), (8, 0)] {
+        let bytes = cut(rt.alloc(), first, len)?;
+        let wanted = RAMP.get(first as usize..(first + len) as usize);
+        same_at(&rt, Some(bytes.as_slice()), wanted, &first);
+    }
+    for (first, len) in [(6, 3), (9, 0)] {
+        let refusal = cut(rt.alloc(), first, len).err();
+        same_at(&rt, refusal, Some(Fault::OutOfRange { count: 8 }), &first);
     }
     Ok(())
 }

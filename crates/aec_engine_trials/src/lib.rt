@@ -14,4 +14,6 @@ mod edited_streams;
 #[cfg(test)]
 mod edits;
 #[cfg(test)]
+mod endless;
+#[cfg(test)]
 mod scripts;

@@ -50,8 +50,10 @@ fn decode_bits<W: Sink>(
 /// and a front of the answer has been written.
 ///
 /// The bytes of the samples in front are kept while the bits are judged, where there is room for
-/// them; what lies behind is read twice, so that it is not kept. Memory is taken for the bytes of
-/// the source, for one interval of samples and their bytes, and for at most 16 MiB of kept bytes.
+/// them; what lies behind is read twice, so that it is not kept. Any decoding takes memory for the
+/// bytes of the source, for one interval of samples and their bytes, and for a piece of 64 KiB: if
+/// that is refused, it ends with `Memory`, or with the refusal of the bits. Behind that piece more
+/// is taken for kept bytes, 16 MiB at most: if that is refused, decoding goes on and keeps no more.
 pub fn decode<R: Source, W: Sink>(
     alloc: Global,
     params: &Params,

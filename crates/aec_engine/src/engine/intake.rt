@@ -8,8 +8,8 @@ use aec_bits::Source;
 use aec_params::Fault;
 use std::alloc::Global;
 
-/// How many bytes are asked of a source at a time.
-pub(crate) const PIECE: usize = 65536;
+/// How many bytes are asked of a source at a time: few enough for the stack.
+pub(crate) const PIECE: usize = 8192;
 
 /// The bytes of a source up to its end, up to its failure, or past `limit` bytes, and whether it
 /// failed. `Memory` alone is refused.

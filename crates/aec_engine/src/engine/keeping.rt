@@ -1,51 +1,85 @@
 //! Coded bits whose samples are written: the bytes of those in front are kept while the bits are
 //! judged, and only the bits behind them are read twice.
 
-ghost use Rattle.std.specs.Prelude.{◌≡◌, ◌+◌, ◌*◌, ◌≤◌, ◌^◌, None, true, vec_len, vec_capacity, IfOk, IfErr, OnOk};
-ghost use Rattle.aec_params.specs.Params.{interval_len};
+ghost use Rattle.std.specs.Prelude.{◌≡◌, ℕ, ◌+◌, ◌*◌, ◌<◌, ◌≤◌, ◌^◌, ◌⊎◌, None, true, length, vec_len, vec_capacity, IfOk, IfErr, OnOk};
+ghost use Rattle.aec_params.specs.Params.{interval_len, storage_len};
 ghost use Rattle.aec_interval.specs.Reached.{count_refusal, RefusesReading};
-ghost use Rattle.aec_interval.specs.Pieces.{place_at};
+ghost use Rattle.aec_interval.specs.Pieces.{IsPlace, place_at};
 ghost use Rattle.aec_engine.specs.Transfers.{Putting, putting_of};
-ghost use Rattle.aec_engine.specs.ReadingTwice.{DecodesBits, KeepsFront, SettlesOne};
+ghost use Rattle.aec_engine.specs.ReadingTwice.{AreFewKept, DecodesBits, KeepsFront, SettlesOne};
 
-use crate::engine::two_readings::{append_stored, deliver_range, judge_from};
+use crate::engine::two_readings::{WAITING, append_stored, deliver_range, judge_from};
 use aec_bits::Sink;
 use aec_interval::StreamReader;
 use aec_params::{Fault, Params};
 
-/// More memory is taken for at most so many bytes that are kept.
+/// More memory than decoding needs in any case is taken for at most so many bytes that are kept.
 const KEPT: usize = 1 << 24;
 
 /// And only where a block has at most so many bytes: judging longer ones again takes less time than
 /// memory does.
 const SHORT: usize = 32;
 
-/// How many bytes may be kept for the bits that were read: one for each, if blocks are short. So
-/// what a few bytes stand for takes little memory.
-fn most_kept(params: &Params, reader: &StreamReader) -> u64 {
+/// How many bytes may be kept before more room is made: one for each bit that was read, if blocks
+/// are short. So what a few bytes stand for takes little memory.
+fn most_kept(params: &Params, reader: &StreamReader) -> u64
+    ensures bits { result ≤ reader.now.bit }
+    ensures long { 32 < storage_len params.now * params.now.block_size → result ≡ 0 }
+    ensures reached { IsPlace reader.now }
+{
+    let read = reader.place().bit;
     if params.storage() * params.block_size() as usize > SHORT {
         return 0;
     }
-    reader.place().bit
+    read
 }
 
-/// Makes room for so many more bytes to keep, if `most` are not passed yet; room that is there is
-/// used in any case. False where there is none.
-fn has_room(bytes: &mut Vec<u8>, more: usize, most: u64) -> bool
-    ensures room { result ≡ true → vec_len bytes.new + more ≤ vec_capacity bytes.new }
+/// Up to how many bytes there is room for what is kept, `more` of them behind those that are there;
+/// fewer where there is none. Up to a piece it is the room that was made for any decoding. Behind a
+/// piece more is asked for, as long as `most` are not passed; where that is refused there is none.
+fn make_room(bytes: &mut Vec<u8>, more: usize, most: u64) -> usize
+    ensures there { result ≤ vec_capacity bytes.new }
+    ensures few { AreFewKept result more most }
+    ensures grown { (vec_capacity bytes.new ≡ vec_capacity bytes.old)
+        ⊎ ((vec_len bytes.old ≤ most) × ((vec_capacity bytes.new ≤ 2 ^ 24)
+        × (vec_capacity bytes.new ≤ 2 * most + more))) }
     ensures items { bytes.new.items ≡ bytes.old.items }
     ensures len { vec_len bytes.new ≡ vec_len bytes.old }
     ensures capacity { vec_capacity bytes.old ≤ vec_capacity bytes.new }
 {
     let len = bytes.len();
-    if more <= bytes.capacity() - len {
+    if len <= WAITING {
+        return bytes.capacity().min(more.saturating_add(WAITING));
+    }
+    let Some(left) = KEPT.checked_sub(len) else {
+        return 0;
+    };
+    if len as u64 > most || more > left {
+        return 0;
+    }
+    let added = len.clamp(more, left);
+    match bytes.reserve_exact(added) {
+        Ok(()) => len + added,
+        Err(_refused) => 0,
+    }
+}
+
+/// Whether so many more bytes can be kept in the room that there is, or in more that is made then.
+fn has_room(bytes: &mut Vec<u8>, room: &mut usize, more: usize, most: u64) -> bool
+    ensures room { result ≡ true → vec_len bytes.new + more ≤ room.new }
+    ensures there { room.old ≤ vec_capacity bytes.old → room.new ≤ vec_capacity bytes.new }
+    ensures few { (bits : ℕ) → AreFewKept room.old more bits → most ≤ bits
+        → AreFewKept room.new more bits }
+    ensures items { bytes.new.items ≡ bytes.old.items }
+    ensures len { vec_len bytes.new ≡ vec_len bytes.old }
+    ensures capacity { vec_capacity bytes.old ≤ vec_capacity bytes.new }
+{
+    let len = bytes.len();
+    if len <= *room && more <= *room - len {
         return true;
     }
-    let left = KEPT.saturating_sub(len);
-    if len as u64 > most || more > left {
-        return false;
-    }
-    bytes.reserve_exact(len.clamp(more, left)).is_ok()
+    *room = make_room(bytes, more, most);
+    len <= *room && more <= *room - len
 }
 
 /// Reads the samples of a stream from its first bit on, and keeps the bytes of those in front, as
@@ -62,6 +96,8 @@ fn keep_front(
     requires bit { reader.old.bit ≡ 0 }
     requires empty { vec_len bytes.old ≡ 0 }
     ensures kept { IfOk result (λ before. KeepsFront reader.new params.now before bytes.new.items) }
+    ensures few { AreFewKept (vec_len bytes.new) (4 * interval_len params.now)
+        (length reader.old.bits) }
     ensures same { OnOk result (let old = reader.old in
         reader.new ≡ place_at old.settings old.count old.limit old.bits reader.new.block
         reader.new.bit) }
@@ -71,8 +107,9 @@ fn keep_front(
     ensures buffer { vec_capacity bytes.old ≤ vec_capacity bytes.new }
 {
     let more = 4 * params.interval_len() as usize;
+    let mut room = 0;
     let mut before = 0;
-    while has_room(bytes, more, most_kept(params, reader)) && reader.next(samples)? {
+    while has_room(bytes, &mut room, more, most_kept(params, reader)) && reader.next(samples)? {
         append_stored(params, samples, bytes);
         before += samples.len() as u64;
     }

@@ -2,15 +2,16 @@
 //! script made on them: those that only overwrite samples which are there already are made
 //! meanwhile, while little of the stream stands behind them.
 
-ghost use Rattle.std.specs.Prelude.{◌≡◌, ◌<◌, ◌≤◌, ◌%◌, ◌^◌, ◌++◌, true, false, [], None, List, ℤ, IfOk, IfErr, OnOk, Ok};
+ghost use Rattle.std.specs.Prelude.{◌≡◌, ◌<◌, ◌≤◌, ◌*◌, ◌%◌, ◌^◌, ◌++◌, true, false, [], None, List, ℤ, IfOk, IfErr, OnOk, Ok};
 ghost use Rattle.aec_params.specs.declared.fault.Fault.TheVariants.{Memory};
+ghost use Rattle.aec_params.specs.Params.{interval_len};
 ghost use Rattle.aec_params.specs.Reading.{IsReading};
 ghost use Rattle.aec_interval.specs.IntervalFormat.{interval_format};
 ghost use Rattle.aec_interval.specs.Reached.{count_refusal, RefusesDecoding};
 ghost use Rattle.aec_engine.specs.Transfers.{answer_by};
 ghost use Rattle.aec_engine.specs.EditingSteps.{recoded_of};
 ghost use Rattle.aec_interval.specs.Pieces.{is_wanted_at};
-ghost use Rattle.aec_engine.specs.ReadingTwice.{AreSamplesOf, ReadsOn, LacksMemoryAlone};
+ghost use Rattle.aec_engine.specs.ReadingTwice.{AreSamplesOf, EndsAt, ReadsOn, LacksMemoryAlone};
 ghost use Rattle.aec_engine.specs.Scripts.{listing_of};
 ghost use Rattle.aec_engine.specs.EditsAhead.{AreKnown, IsReady, left_in};
 ghost use Rattle.aec_engine.specs.EarlyEdits.{LoadsAll, StopsLoading, EditsBits, EditsSamples};
@@ -130,6 +131,7 @@ fn judged_reader<'a>(
     ensures read { IfOk result (λ read. (xs : List ℤ) × AreSamplesOf read.0 xs) }
     ensures samples { IfOk result (λ read. (xs : List ℤ) → AreSamplesOf read.0 xs
         → IsReading params.now count limits.samples bits.now.list xs) }
+    ensures bits { IfOk result (λ read. EndsAt read.0 read.1.bits) }
     ensures refuses { IfErr result
         (λ fault. RefusesDecoding params.now count limits.samples bits.now.list fault) }
 {
@@ -155,7 +157,10 @@ struct Room {
 
 impl Room {
     /// Room for the samples that were judged, and a sixteenth more bits for what edits put.
-    fn of(params: &Params, judged: Judged) -> Room {
+    fn of(params: &Params, judged: Judged) -> Room
+        ensures bits { judged.bits ≤ result.bits }
+        ensures intervals { judged.total ≤ result.intervals * interval_len params.now }
+    {
         Room {
             bits: judged.bits.saturating_add(judged.bits / 16),
             intervals: judged.total.div_ceil(params.interval_len()),

@@ -7,12 +7,11 @@ ghost use Rattle.aec_params.specs.declared.fault.Fault.TheVariants.{Memory, Writ
 ghost use Rattle.aec_params.specs.Params.{IsAllowed, IsHeld, interval_len};
 ghost use Rattle.aec_bits.specs.Devices.{counted, AppendsFront};
 ghost use Rattle.aec_interval.specs.Reached.{RefusesReading};
-ghost use Rattle.aec_interval.specs.Pieces.{place_at};
+ghost use Rattle.aec_interval.specs.Pieces.{IsPlace, place_at};
 ghost use Rattle.aec_engine.specs.Output.{all_stored, samples_from};
 ghost use Rattle.aec_engine.specs.Transfers.{Putting, putting_of};
-ghost use Rattle.aec_engine.specs.ReadingTwice.{AreSamplesOf, HaveSamples, IsBegun, PutsPart, PutsAllOrFront, SettlesOne, StoresPart};
+ghost use Rattle.aec_engine.specs.ReadingTwice.{AreSamplesOf, EndsAt, HaveSamples, IsBegun, PutsPart, PutsAllOrFront, SettlesOne, StoresPart};
 
-use crate::engine::intake::PIECE;
 use aec_bits::{Sink, put_all};
 use aec_interval::{ReachedPlace, StreamReader};
 use aec_params::{Fault, Params, put_samples};
@@ -32,6 +31,19 @@ fn last_begin(noted: Begin, here: Begin, first: u64) -> Begin
     ensures noted { first < here.before → result ≡ noted }
 {
     if here.before <= first { here } else { noted }
+}
+
+/// Goes back to a place. The bit where the reader was until then.
+fn come_back(reader: &mut StreamReader, place: ReachedPlace) -> u64
+    requires reached { let old = reader.old in
+        IsPlace (place_at old.settings old.count old.limit old.bits place.block place.bit) }
+    ensures bit { result ≡ reader.old.bit }
+    ensures back { let old = reader.old in
+        reader.new ≡ place_at old.settings old.count old.limit old.bits place.block place.bit }
+{
+    let end = reader.place().bit;
+    reader.go_back(place);
+    end
 }
 
 /// What judging tells: how many samples there are, how many of them lie before the place that was
@@ -54,6 +66,7 @@ pub(crate) fn judge_from(
     requires settings { reader.old.settings ≡ params.now }
     requires begun { IsBegun reader.old before first }
     ensures ok { IfOk result (λ judged. HaveSamples reader.old judged.total) }
+    ensures bits { IfOk result (λ judged. EndsAt reader.old judged.bits) }
     ensures begun { IfOk result (λ judged. IsBegun reader.new judged.before first) }
     ensures same { OnOk result (let old = reader.old in
         reader.new ≡ place_at old.settings old.count old.limit old.bits reader.new.block
@@ -76,8 +89,7 @@ pub(crate) fn judge_from(
         };
         begin = last_begin(begin, here, first);
     }
-    let bits = reader.place().bit;
-    reader.go_back(begin.place);
+    let bits = come_back(reader, begin.place);
     Ok(Judged {
         total,
         before: begin.before,
@@ -95,6 +107,7 @@ pub(crate) fn judge_samples(
     requires block { reader.old.block ≡ 0 }
     requires bit { reader.old.bit ≡ 0 }
     ensures ok { IfOk result (λ judged. HaveSamples reader.old judged.total) }
+    ensures bits { IfOk result (λ judged. EndsAt reader.old judged.bits) }
     ensures begun { IfOk result (λ judged. IsBegun reader.new judged.before first) }
     ensures same { OnOk result (let old = reader.old in
         reader.new ≡ place_at old.settings old.count old.limit old.bits reader.new.block
@@ -111,6 +124,7 @@ pub(crate) fn judge_all(params: &Params, reader: &mut StreamReader) -> Result<Ju
     requires block { reader.old.block ≡ 0 }
     requires bit { reader.old.bit ≡ 0 }
     ensures ok { IfOk result (λ judged. HaveSamples reader.old judged.total) }
+    ensures bits { IfOk result (λ judged. EndsAt reader.old judged.bits) }
     ensures refuses { IfErr result
         (λ fault. RefusesReading reader.old.settings reader.old.count reader.old.limit
         reader.old.bits 0 0 fault) }
@@ -178,6 +192,9 @@ fn append_part(params: &Params, samples: &[i64], bytes: &mut Vec<u8>)
     put_samples(params, samples, &mut bytes[start..]);
 }
 
+/// So many bytes wait at most before they are put.
+pub(crate) const WAITING: usize = 65536;
+
 /// Puts all bytes that wait, and then none do.
 fn put_waiting<W: Sink>(bytes: &mut Vec<u8>, sink: &mut W) -> Result<(), Fault>
     ensures ok { OnOk result (Appends (W.taken sink.old) (W.taken sink.new) bytes.old.items) }
@@ -218,7 +235,7 @@ fn put_part<W: Sink>(
     ensures capacity { vec_capacity bytes.old ≤ vec_capacity bytes.new }
 {
     append_stored(params, samples, bytes);
-    if bytes.len() >= PIECE {
+    if bytes.len() >= WAITING {
         put_waiting(bytes, sink)?;
     }
     Ok(())
@@ -320,7 +337,7 @@ pub(crate) fn buffers(alloc: Global, params: &Params) -> Result<(Vec<i64>, Vec<u
 {
     let len = params.interval_len() as usize;
     let samples = Vec::with_capacity(alloc, len)?;
-    let bytes = Vec::with_capacity(alloc, PIECE + 4 * len)?;
+    let bytes = Vec::with_capacity(alloc, WAITING + 4 * len)?;
     Ok((samples, bytes))
 }
 

@@ -3,7 +3,7 @@ use Rattle.std.proofs.lemmas.List.{nil_from_length}
 use Rattle.std.proofs.lemmas.Result.{err_from_is_err_and}
 use Rattle.aec_params.specs.Params.{IsAllowed}
 use Rattle.aec_engine.proofs.ReadTwiceLemmas.{same_next, counts_more, counts_few, counts_refused}
-use Rattle.aec_engine.proofs.KeepingLemmas.{counts_kept, keeps_none, keeps_more}
+use Rattle.aec_engine.proofs.KeepingLemmas.{counts_kept, few_none, few_read, few_then, few_within, keeps_none, keeps_more}
 use Rattle.aec_engine.proofs.engine.keeping.keep_front.Goals as goal
 
 pub loop-reader-init : goal.loop-reader-init
@@ -11,6 +11,9 @@ loop-reader-init c = record {
   keeps = keeps_none c.args.reader.now c.args.params.now c.args.bytes.now.items c.requires.block c.requires.bit
       (nil_from_length c.args.bytes.now.items (omega (arith, c.args.bytes.now.ok, c.requires.empty)));
   same = refl;
+  there = omega arith;
+  spare = few_none 0 _ _ refl;
+  few = few_none _ _ _ c.requires.empty;
   room = omega arith;
   buffer = omega arith;
 }
@@ -33,14 +36,21 @@ overflow_add-before c =
 
 pub loop-reader-preserved : goal.loop-reader-preserved
 loop-reader-preserved c =
-    let a = subst IsAllowed (sym c.requires.settings) c.interval_len.ensures.allowed in
     let step = c.in_ok-next.ensures.read c.if-branch.true in
+    let most = few_read c.args.reader.now c.loop-reader.reader c.next.new.self _ _ _ _ c.loop-reader.invariant.same c.requires.settings
+    c.interval_len.ensures.value c.deref.ensures.value step in
+    let spare = few_then c.args.reader.now c.loop-reader.reader c.loop-reader.room c.has_room.new.room _ _ _ c.loop-reader.invariant.same
+    c.most_kept.ensures.reached c.most_kept.ensures.bits c.interval_len.ensures.value c.has_room.ensures.few c.loop-reader.invariant.spare in
     record {
       keeps = keeps_more c.args.reader.now c.loop-reader.reader c.next.new.self c.args.params.now c.loop-reader.before c.len.result _ c.loop-reader.bytes.items
-          c.has_room.new.bytes.items c.append_stored.new.bytes.items c.next.new.samples.items c.deref.result.now a c.loop-reader.invariant.same
-          c.loop-reader.invariant.keeps step c.next.ensures.few c.next.ensures.ends c.has_room.ensures.items c.append_stored.ensures.items c.deref.ensures.value
+          _ _ _ _ (subst IsAllowed (sym c.requires.settings) c.interval_len.ensures.allowed) c.loop-reader.invariant.same c.loop-reader.invariant.keeps step
+          c.next.ensures.few c.next.ensures.ends c.has_room.ensures.items c.append_stored.ensures.items c.deref.ensures.value
           (omega (arith, c.len.ensures, c.next.new.samples.ok)) refl;
       same = same_next c.args.reader.now c.loop-reader.reader c.next.new.self c.loop-reader.invariant.same step.piece.same;
+      there = omega (arith, c.has_room.ensures.there c.loop-reader.invariant.there, c.append_stored.ensures.capacity);
+      spare = spare;
+      few = few_within _ c.has_room.new.room _ _
+          (omega (arith, c.has_room.ensures.room c.loop-reader-test.true, c.has_room.ensures.len, c.append_stored.ensures.len, most)) spare;
       room = omega (arith, c.loop-reader.invariant.room, c.next.ensures.capacity);
       buffer = omega (arith, c.loop-reader.invariant.buffer, c.has_room.ensures.capacity, c.append_stored.ensures.capacity);
     }

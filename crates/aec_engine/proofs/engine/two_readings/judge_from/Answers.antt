@@ -2,8 +2,9 @@ use Rattle.std.proofs.Common.{arith, refl, sym, subst, ap, ◌∙◌}
 use Rattle.std.specs.Option.{is_some}
 use Rattle.std.proofs.lemmas.Result.{err_from_is_err_and}
 use Rattle.aec_params.specs.Params.{IsAllowed}
+use Rattle.aec_interval.specs.Pieces.{Place}
 use Rattle.aec_engine.specs.declared.engine.two_readings.Begin.{Begin}
-use Rattle.aec_engine.proofs.ReadTwiceLemmas.{counts_begun, some_interval, counts_interval, counts_within, counts_wrong, IsNoted, noted_here, noted_later, noted_place, counts_all}
+use Rattle.aec_engine.proofs.ReadTwiceLemmas.{counts_begun, some_interval, counts_interval, counts_within, counts_wrong, IsNoted, noted_here, noted_later, noted_place, counts_all, ends_at}
 use Rattle.aec_engine.proofs.engine.two_readings.judge_from.Goals as goal
 
 pub loop-len-init : goal.loop-len-init
@@ -42,8 +43,8 @@ loop-len-preserved c =
           c.place-in-Some.ensures.bit);
     }
 
-pub go_back-requires : goal.go_back-requires
-go_back-requires c = record {
+pub come_back-bits-requires : goal.come_back-bits-requires
+come_back-bits-requires c = record {
   reached = noted_place c.args.reader.now c.loop-len.reader c.skip.new.self _ _ _ c.args.first c.loop-len.invariant.counts.same
       (c.in_ok-len.ensures.done (ap is_some c.in_default.is)) c.loop-len.invariant.noted;
 }
@@ -52,3 +53,8 @@ pub returns-clause-ok : goal.returns-clause-ok
 returns-clause-ok c =
     counts_all c.args.reader.now c.loop-len.reader c.loop-len.total (subst IsAllowed (sym c.requires.settings) c.interval_len-len.ensures.allowed)
     c.loop-len.invariant.counts (sym c.in_ok-len.ensures.more ∙ ap is_some c.in_default.is)
+
+pub returns-clause-bits : goal.returns-clause-bits
+returns-clause-bits c = ends_at c.args.reader.now c.loop-len.reader c.loop-len.total c.come_back-bits.result c.loop-len.invariant.counts
+    (sym c.in_ok-len.ensures.more ∙ ap is_some c.in_default.is)
+    (c.come_back-bits.ensures.bit ∙ ap (λ (p : Place). p.bit) (c.in_ok-len.ensures.done (ap is_some c.in_default.is)))
