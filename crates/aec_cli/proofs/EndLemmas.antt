@@ -21,7 +21,7 @@ begun-Leaves answers source enough sink r (no_answer nothing) = tt
 begun-Leaves answers source enough sink r (not_written input bytes gave is front begun failed) = tt
 
 begun-LeavesRecoded : (s : Settings) (caps : Caps) (count : Option ℕ) (from source : Taking) (sink : Putting) (r : Result ℕ EditFault)
-    → LeavesRecoded s caps count from source sink r → IfOk (answer_by (λ calls. tt) r) (λ _. 0 < sink.begun_after)
+    → LeavesRecoded s caps count from source sink r → IfOk (answer_by (λ calls. tt {0}) r) (λ _. 0 < sink.begun_after)
 begun-LeavesRecoded s caps count from source sink r (editing.written made gives appends begun sound) =
     counted-pos sink.begun_before sink.begun_after begun.once
 begun-LeavesRecoded s caps count from source sink r (editing.refused fault gives nothing) = tt

@@ -172,7 +172,11 @@ const ENDS: [(Option<ErrorKind>, u8, &str); 8] = [
     (Some(ErrorKind::StorageFull), 1, "aec: write failed\n"),
     (Some(ErrorKind::QuotaExceeded), 1, "aec: write failed\n"),
     (Some(ErrorKind::Uncategorized), 1, "aec: write failed\n"),
-    (Some(ErrorKind::ReadOnlyFilesystem), 1, "aec: write failed\n"),
+    (
+        Some(ErrorKind::ReadOnlyFilesystem),
+        1,
+        "aec: write failed\n",
+    ),
     (
         Some(ErrorKind::StaleNetworkFileHandle),
         1,
