@@ -1,11 +1,11 @@
 -- A run that is done has begun its sink.
-use Rattle.std.proofs.Common.{◌≡◌, ◌<◌, ◌+◌, ◌-◌, ◌^◌, ℕ, Bool, List, Option, Result, Ok, Err, IfOk, min, sym, subst, arith}
+use Rattle.std.proofs.Common.{◌≡◌, ◌<◌, ℕ, Bool, List, Option, Result, IfOk, sym, subst, arith}
 use Rattle.aec_params.specs.declared.settings.Settings.{Settings}
 use Rattle.aec_params.specs.declared.fault.Fault.{Fault}
 use Rattle.aec_params.specs.Limits.{Caps}
 use Rattle.aec_bits.specs.Devices.{counted}
 use Rattle.aec_engine.specs.declared.scripts.EditFault.{EditFault}
-use Rattle.aec_engine.specs.Transfers.{Input, Taking, Putting, IsBegunFirst, answer_by, Leaves, written, refused, no_answer, not_written}
+use Rattle.aec_engine.specs.Transfers.{Input, Taking, Putting, answer_by, Leaves, written, refused, no_answer, not_written}
 use Rattle.aec_engine.specs.Editing as editing
 use Rattle.aec_engine.specs.Editing.{LeavesRecoded, LeavesEdited}
 
