@@ -102,7 +102,6 @@ def same_pieces(program, name, piece, times):
 def try_resident(program, tally):
     """Streams of short blocks, 40 MiB of samples that no option makes shorter, and of 64 MiB of zeros. What this process holds
     counts too, since the system counts it as the run's until the run begins."""
-    own = resource.getrusage(resource.RUSAGE_SELF).ru_maxrss * KIB + MIB
     noise = bytes((x * x // 7 + 101 * x) % 256 for x in range(MIB))
     for what, piece, times, options in (
         ("noise", noise, 40, ["-N"]),
@@ -113,6 +112,7 @@ def try_resident(program, tally):
     ):
         write_pieces(program, "samples", piece, times)
         coded = most_resident(program, *options, "samples", "stream")
+        own = resource.getrusage(resource.RUSAGE_SELF).ru_maxrss * KIB + MIB
         bound = max(own, os.path.getsize(program.file("stream")) + FEW)
         tally.holds(coded[0] == 0 and coded[1] <= bound, f"coding {what}: {coded}, the bound {bound}")
         for words in ["-d"], ["--range", f"5:{MIB}"]:
