@@ -3,6 +3,7 @@
 
 Has the program at PATH_OF_AEC code samples, and compares each byte with the plain coder of plain_coder.py. In turn
   - the worked examples, whose bytes are known by hand: the plain coder has to give them too;
+  - runs of each action in which each option and sample count tells;
   - samples by chance, with settings by chance: coded from a file whose unused bits are lawful ones, or aren't and are refused,
     and as the stream of another coder's choices that an empty script edits, which has to become the same bytes.
 
@@ -18,6 +19,7 @@ import foreign_writer
 import plain_coder
 from damaged_cases import some_samples, some_settings
 from program import Program, Tally, asked_of, on_each_core, said
+from telling_jobs import try_telling_jobs
 from worked_streams import EXAMPLES
 
 
@@ -75,6 +77,7 @@ def main():
     asked, tally = asked_of("Codes samples, and compares with a plain coder.", 2000), Tally()
     with tempfile.TemporaryDirectory() as folder:
         try_worked(Program(asked.program, folder), tally)
+        try_telling_jobs(Program(asked.program, folder), tally)
     for part in on_each_core(try_part, asked.program, asked.numbers, asked.seed):
         tally.add(part)
     tally.print()

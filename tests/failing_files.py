@@ -1,15 +1,17 @@
 #!/usr/bin/env python3
 """Files and devices that fail: failing_files.py PATH_OF_AEC
 
-Runs the program at PATH_OF_AEC on files that can't be opened, read, created or written, and compares status, what is printed
-and DEST with docs/COMMAND.md: a full device, a pipe whose reader goes away, a limit of a file's size, files without permission
-(as another user where the test runs as root), folders in the place of files, folders that aren't there or go away, one file as
-SOURCE and DEST, standard streams that can't be written or are closed, and words that are no text. Where DEST may hold a front of
-the answer, it has to be one.
+Runs the program at PATH_OF_AEC on files that can't be opened, read, created, written or synced, and compares status, what is
+printed and DEST with docs/COMMAND.md: a full device, a pipe whose reader goes away, a limit of a file's size, a disk that fails
+at the sync (by a library that is loaded before the C library), files without permission (as another user where the test runs as
+root), folders in the place of files, folders that aren't there or go away, one file as SOURCE and DEST, standard streams that
+can't be written or are closed, names of descriptors that aren't open, words that are no text, and jobs in which each option
+tells. Where DEST may hold a front of the answer, it has to be one.
 
 Prints the checks that fail and, last, how many passed. Ends with 1 where one failed.
 """
 
+import errno
 import os
 import resource
 import shutil
@@ -20,6 +22,10 @@ import tempfile
 
 from jobs import CHANGED, CHANGED_STREAM, JOBS, LARGE_JOBS, STILL_STREAM, Job
 from program import SECONDS, Program, Tally, said
+from refusing import NO_COMPILER, has_compiler
+from telling_jobs import try_telling_jobs
+from unsynced import ALL, OF_A_DEVICE, OF_A_KIND, Syncs
+from unsynced import build as build_unsynced
 
 OLD = b"what DEST held before"
 NOBODY = 65534
@@ -84,6 +90,29 @@ def limit_files(most):
         resource.setrlimit(resource.RLIMIT_FSIZE, (most, most))
 
     return limit
+
+
+def try_syncs(program, tally):
+    """DEST is synced once, whole and last; where its sync fails as a disk's, so does the run, whatever it did."""
+    if not has_compiler():
+        print("skipped: files whose sync fails, since there is " + NO_COMPILER)
+        return
+    syncs = Syncs(program, build_unsynced(program.folder))
+    for job in JOBS + LARGE_JOBS:
+        once = [f"fsync {program.file('dest')} {len(job.answer)}"]
+        ends = [(0, 0, DONE, 1), (errno.EINTR, 3, DONE, 4)]
+        ends += [(error, ALL, UNWRITTEN, 1) for error in OF_A_DEVICE] + [(error, ALL, DONE, 1) for error in OF_A_KIND]
+        for error, failing, answer, calls in ends:
+            prepare(program, job, OLD)
+            what = f"{job.what} whose first {failing} syncs fail by {errno.errorcode.get(error)}"
+            tally.check(what, syncs.fail(error, failing, *job.words, "source", "dest"), (answer, once * calls))
+            tally.check(f"{what}: DEST", program.read("dest"), job.answer)
+    prepare(program, JOBS[0])
+    program.write("source", JOBS[0].source[:0])
+    empty = syncs.fail(errno.EIO, ALL, "source", "dest")
+    tally.check("no samples, and a sync that fails", empty, (UNWRITTEN, [f"fsync {program.file('dest')} 0"]))
+    refused = syncs.fail(errno.EIO, ALL, "-n", "1", "script", "dest")
+    tally.check("a refused run syncs nothing", refused, (said("sample 0 is out of range"), []))
 
 
 def try_limits(program, tally):
@@ -270,6 +299,23 @@ def try_streams_that_stay_closed(program, tally):
             tally.check(f"{what}: DEST", program.read("dest"), OLD)
 
 
+def try_numbers(program, tally):
+    """The names of descriptors that aren't open: none of them leads to a file that the program itself has open."""
+    for number in range(3, 10):
+        name = f"/dev/fd/{number}"
+        for job in JOBS:
+            by_name = [name if word == "script" else word for word in job.words]
+            cases = [(job.words, "source", name, UNWRITTEN), (job.words, name, "dest", UNREAD), (job.words, name, name, UNREAD)]
+            if by_name != job.words:
+                cases += [(by_name, "source", "dest", UNREAD), (by_name, "source", name, UNREAD), (by_name, name, "dest", UNREAD)]
+            for words, source, dest, answer in cases:
+                prepare(program, job, OLD)
+                what = f"{' '.join(words)} {source} {dest}"
+                tally.check(what, program.run(*words, source, dest), answer)
+                held = [program.read(file) for file in ("source", "script", "dest")]
+                tally.check(f"{what}: files", held, [job.source, job.script or NO_EDITS, OLD])
+
+
 def try_words_that_are_no_text(program, tally):
     """A name, an option or a value that isn't UTF-8."""
     words = [[b"\xe9", "dest"], ["source", b"\xe9"], ["source", "dest", b"-\x80"], ["--edit", b"\xed\xa0\x80", "source", "dest"]]
@@ -296,7 +342,7 @@ def main():
         os.mkdir(os.path.join(folder, "files"))
         program = Program(own, os.path.join(folder, "files"))
         groups = [try_devices, try_pipes, try_limits, try_permissions, try_folders, try_going_folders, try_one_file]
-        groups += [try_standard_streams, try_closed_streams, try_streams_that_stay_closed, try_words_that_are_no_text]
+        groups += [try_syncs, try_numbers, try_telling_jobs, try_standard_streams, try_closed_streams, try_streams_that_stay_closed, try_words_that_are_no_text]
         for group in groups:
             group(program, tally)
     tally.print()

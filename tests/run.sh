@@ -1,11 +1,8 @@
 #!/bin/sh
-# Every test: that the pages which are written by scripts are current, that files keep the limits of the house, that each wrong
-# body can be made, the gate, and then with the programs that it has built coded samples, coded data that is cut, damaged streams,
-# refused memory in whole runs and in calls of the libraries, files that fail, the round trips with the client of libaec, edits by
-# generated scripts, the scripts of examples/ with the page about them, the installation, the worked rows, commands and pictures of the
-# pages, and how many instructions a sample takes. Fails if one fails. At the end it says how long each part took. The last line counts
-# what passed and failed: the gate's where all have passed, else that of the first part that failed, and before it the lines that say
-# why. Run from the top of the repository by `make test`.
+# Runs every test, from the top of the repository, for `make test`: that generated pages are current, that files keep the limits of
+# the house, that each wrong body can be made, then the gate, then the scripts of tests/ on the programs that the gate has built.
+# Fails if one part fails. At the end it prints the seconds of each part. The last line counts what passed and failed: that of the
+# gate if all parts have passed, else that of the first part that failed; the lines that say why stand before it.
 export PYTHONDONTWRITEBYTECODE=1
 kept=$(mktemp -d)
 trap 'rm -rf "$kept"' EXIT
@@ -60,6 +57,8 @@ echo "== refused memory in calls of the libraries"
 part calls on_program tests/refused_calls.py aec_memory_trials
 echo "== files that fail"
 part files on_program tests/failing_files.py
+echo "== too little stack or address space"
+part small on_program tests/small_memory.py
 echo "== round trips with libaec's client"
 part trips on_program tests/interop.py
 echo "== edits by generated scripts"
@@ -75,7 +74,7 @@ echo "== instructions a sample"
 part instructions on_program tests/instructions_bounded.py
 
 last=gate
-for name in pages theorems limits edits gate coded cuts damaged memory calls files trips scripts recipes installed worked pictures instructions; do
+for name in pages theorems limits edits gate coded cuts damaged memory calls files small trips scripts recipes installed worked pictures instructions; do
     if ! has_passed "$name"; then
         last=$name
         break

@@ -1,3 +1,4 @@
 pub mod JobLemmas
 pub mod StatusLemmas
 pub mod WordLemmas
+pub mod EndLemmas

@@ -5,3 +5,4 @@ pub mod Asked
 pub mod Openings
 pub mod Statuses
 pub mod Actions
+pub mod Ends

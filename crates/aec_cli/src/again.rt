@@ -1,6 +1,6 @@
 //! Calls of a file that are made again where a signal interrupts them.
 
-ghost use Rattle.std.specs.Prelude.{◌≡◌, ◌≢◌, ◌↔◌, IfErr, IsTrue};
+ghost use Rattle.std.specs.Prelude.{◌≡◌, ◌≢◌, ◌↔◌, IfErr, IsTrue, MatchResult, false};
 ghost use Rattle.std.specs.Io.{ReadsAtMost, WritesAtMost};
 ghost use Rattle.std.specs.Io.KnownBytes.{Keeps, ReadConsumes, WriteAppends};
 ghost use Rattle.std.specs.IoError.{error_kind};
@@ -14,6 +14,17 @@ fn is_interrupted(error: &Error) -> bool
     ensures { IsTrue result ↔ (error_kind error.now ≡ ErrorKind.Interrupted) }
 {
     error.kind() == ErrorKind::Interrupted
+}
+
+// Whether a sync failed because a signal interrupted it.
+fn was_interrupted(answer: &io::Result<()>) -> bool
+    ensures { MatchResult answer.now (λ _. result ≡ false)
+        (λ e. IsTrue result ↔ (error_kind e ≡ ErrorKind.Interrupted)) }
+{
+    match answer {
+        Ok(()) => false,
+        Err(error) => is_interrupted(error),
+    }
 }
 
 // What is answered where a call was interrupted `u64::MAX` times.
@@ -40,22 +51,37 @@ impl<T> Again<T> {
     }
 }
 
+/// What the last call of a sync answered. Only `Again::sync` makes it.
+#[derive(Drop)]
+pub(crate) struct SyncAnswer {
+    result: io::Result<()>,
+}
+
+impl SyncAnswer {
+    ghost use Rattle.std.specs.Prelude.{◌≡◌};
+
+    pub(crate) fn into_result(self) -> io::Result<()>
+        ensures { result ≡ self.result }
+    {
+        let SyncAnswer { result } = self;
+        result
+    }
+}
+
 impl<T: OpenFile> Again<T> {
     /// Has the system write out what the file was given.
-    pub(crate) fn sync(&self) -> io::Result<()>
-        ensures again { IfErr result (λ e. error_kind e ≢ ErrorKind.Interrupted) }
+    pub(crate) fn sync(&self) -> SyncAnswer
+        ensures again { IfErr result.result (λ e. error_kind e ≢ ErrorKind.Interrupted) }
     {
         for _ in 0..u64::MAX {
-            match self.file.sync_all() {
-                Ok(()) => return Ok(()),
-                Err(error) => {
-                    if !is_interrupted(&error) {
-                        return Err(error);
-                    }
-                }
+            let result = self.file.sync_all();
+            if !was_interrupted(&result) {
+                return SyncAnswer { result };
             }
         }
-        Err(too_many_tries())
+        SyncAnswer {
+            result: Err(too_many_tries()),
+        }
     }
 }
 

@@ -1,21 +1,30 @@
 //! Files as devices: a source that is opened by its first call, and a sink that is created by
 //! `begin`.
 
-ghost use Rattle.std.specs.Prelude.{◌≡◌, ◌≤◌, ◌<◌, ◌⊎◌, ◌↔◌, false, IfOk, IfErr, IsOk, IsErr, length};
-ghost use Rattle.std.specs.Io.KnownBytes.{WriteAppends};
-ghost use Rattle.aec_params.specs.declared.fault.Fault.TheVariants.{Write as WriteFault};
+ghost use Rattle.std.specs.Prelude.{◌≡◌, ◌≤◌, ◌<◌, false, [], Some, IfOk, IfErr, IsOk, IsErr, length};
+ghost use Rattle.std.specs.Io.KnownBytes.{ReadConsumes, WriteAppends};
+ghost use Rattle.aec_params.specs.declared.fault.Fault.TheVariants.{Read as ReadFault, Write as WriteFault};
 ghost use Rattle.aec_bits.specs.Devices.{FailsOnce};
-ghost use Rattle.aec_cli.specs.Openings.{is_open, IsTried};
+ghost use Rattle.aec_cli.specs.Ends.{HasSynced};
+ghost use Rattle.aec_cli.specs.Openings.{is_open, is_unopened, IsTried, IsTriedReading};
 
 use crate::again::Again;
+use crate::done::{Done, write_out};
 use aec_bits::{ReadSource, Sink, Source, WriteSink};
 use aec_params::Fault;
 use std::fs;
-use std::fs::OpenFile;
-use std::io::ErrorKind;
 use std::rt::Files;
 
-// What has become of the file of a device.
+// What has become of the file of a source. It is closed once its end was read.
+#[derive(Drop)]
+enum Reading<T: Drop> {
+    Unopened,
+    Open(T),
+    Closed,
+    Failed,
+}
+
+// What has become of the file of a sink.
 #[derive(Drop)]
 enum Opening<T: Drop> {
     Unopened,
@@ -24,12 +33,12 @@ enum Opening<T: Drop> {
 }
 
 // What a file that is opened has become: it is open and has not failed, or it can't be opened.
-fn opened<F: Files>(rt: &F, path: &str) -> Opening<ReadSource<Again<F::File>>>
-    ensures { IsTried ⟦<ReadSource<Again<F::File>> as Source>⟧.failed result }
+fn opened<F: Files>(rt: &F, path: &str) -> Reading<ReadSource<Again<F::File>>>
+    ensures { IsTriedReading ⟦<ReadSource<Again<F::File>> as Source>⟧.failed result }
 {
     match fs::open(rt, path) {
-        Ok(file) => Opening::Open(ReadSource::new(Again::new(file))),
-        Err(_) => Opening::Failed,
+        Ok(file) => Reading::Open(ReadSource::new(Again::new(file))),
+        Err(_) => Reading::Failed,
     }
 }
 
@@ -43,37 +52,15 @@ fn created<F: Files>(rt: &F, path: &str) -> Opening<WriteSink<Again<F::File>>>
     }
 }
 
-// What an error of a sync is: none where it says that the file can't be synced, as a pipe or a
-// terminal, which is done as it is.
-fn unsynced(kind: ErrorKind) -> Result<(), Fault>
-    ensures done { IsOk result
-        ↔ ((kind ≡ ErrorKind.InvalidInput) ⊎ (kind ≡ ErrorKind.Unsupported)) }
-    ensures fault { IfErr result (λ e. e ≡ WriteFault) }
-{
-    match kind {
-        ErrorKind::InvalidInput | ErrorKind::Unsupported => Ok(()),
-        _ => Err(Fault::Write),
-    }
-}
-
-// What an open file was given reaches the device below it, where it has one.
-fn synced<T: OpenFile>(file: &Again<T>) -> Result<(), Fault>
-    ensures { IfErr result (λ e. e ≡ WriteFault) }
-{
-    match file.sync() {
-        Ok(()) => Ok(()),
-        Err(error) => unsynced(error.kind()),
-    }
-}
-
-/// The bytes of a file. The first `take` opens it. A file that can't be opened, and any error of a
-/// read, is a failure; a read that a signal interrupts is made again. Contracts see how often the
-/// source has failed, 0 or 1.
+/// The bytes of a file. The first `take` opens it, and the one that finds its end closes it: from
+/// then on each `take` returns 0. A file that can't be opened, and any error of a read, is a
+/// failure; a read that a signal interrupts is made again. Contracts see how often the source has
+/// failed, 0 or 1.
 #[derive(Drop)]
 pub struct FileSource<'a, F: Files> {
     rt: &'a F,
     path: String,
-    file: Opening<ReadSource<Again<F::File>>>,
+    file: Reading<ReadSource<Again<F::File>>>,
 }
 
 impl<'a, F: Files> FileSource<'a, F> {
@@ -84,40 +71,51 @@ impl<'a, F: Files> FileSource<'a, F> {
         FileSource {
             rt,
             path,
-            file: Opening::Unopened,
+            file: Reading::Unopened,
         }
     }
 }
 
 impl<'a, F: Files> Source for FileSource<'a, F> {
-    ghost use Rattle.aec_cli.specs.Openings.{bytes_known, failures_of};
+    ghost use Rattle.aec_cli.specs.Openings.{bytes_left, failures_read};
 
-    ghost left = { λ s. bytes_known ⟦<ReadSource<Again<F::File>> as Source>⟧.left s.file };
+    ghost left = { λ s. bytes_left ⟦<ReadSource<Again<F::File>> as Source>⟧.left s.file };
 
-    ghost failed = { λ s. failures_of ⟦<ReadSource<Again<F::File>> as Source>⟧.failed s.file };
+    ghost failed = { λ s. failures_read ⟦<ReadSource<Again<F::File>> as Source>⟧.failed s.file };
 
-    fn take(&mut self, buf: &mut [u8]) -> Result<usize, Fault> {
-        if let Opening::Unopened = &self.file {
+    fn take(&mut self, buf: &mut [u8]) -> Result<usize, Fault>
+        ensures bound { IfOk result (λ k. k ≤ length buf.new) }
+        ensures bytes { ReadConsumes (⟦<FileSource<'a, F> as Source>⟧.left self.old)
+            (⟦<FileSource<'a, F> as Source>⟧.left self.new) result buf.new }
+        ensures closed { IfOk result (λ k. k ≡ 0 → 0 < length buf.new
+            → ⟦<FileSource<'a, F> as Source>⟧.left self.new ≡ Some []) }
+        ensures failure { FailsOnce ReadFault (⟦<FileSource<'a, F> as Source>⟧.failed self.old)
+            (⟦<FileSource<'a, F> as Source>⟧.failed self.new) result }
+    {
+        if let Reading::Unopened = &self.file {
             self.file = opened(self.rt, self.path.as_str());
         }
         match &mut self.file {
-            Opening::Open(file) => file.take(buf),
+            Reading::Open(file) => match file.take(buf) {
+                Ok(0) if !buf.is_empty() => {
+                    self.file = Reading::Closed;
+                    Ok(0)
+                }
+                answer => answer,
+            },
+            Reading::Closed => Ok(0),
             _ => Err(Fault::Read),
         }
     }
 
     fn failures(&self) -> u64 {
         match &self.file {
-            Opening::Unopened => 0,
-            Opening::Open(file) => file.failures(),
-            Opening::Failed => 1,
+            Reading::Unopened | Reading::Closed => 0,
+            Reading::Open(file) => file.failures(),
+            Reading::Failed => 1,
         }
     }
 }
-
-/// Says that a `DestSink` has ended well. Made by `DestSink::finish` alone.
-#[derive(Debug, PartialEq, Eq, Drop)]
-pub struct Done(());
 
 /// A file that is written. `begin` creates it, or empties it where it is there; a `put` before that
 /// is a failure, and so is any error, and a write that takes nothing of a piece. A write that a
@@ -129,7 +127,8 @@ pub struct DestSink<'a, F: Files> {
     path: String,
     file: Opening<WriteSink<Again<F::File>>>,
     begins: u64,
-    ghost sound: { begins ≡ 0 → is_open file ≡ false },
+    ghost unbegun: { begins ≡ 0 → is_open file ≡ false },
+    ghost begun: { 0 < begins → is_unopened file ≡ false },
 }
 
 impl<'a, F: Files> DestSink<'a, F> {
@@ -148,20 +147,21 @@ impl<'a, F: Files> DestSink<'a, F> {
 
     /// Has the system write out what the file was given, and ends the sink. `Write` where that
     /// fails, and where the sink has failed. A file that can't be synced, as a pipe or a terminal,
-    /// is done as it is, and so is a sink that neither was begun nor has failed.
+    /// is done as it is. A sink that neither was begun nor has failed is done without a file.
     pub fn finish(self) -> Result<Done, Fault>
         ensures failed { ⟦<DestSink<'a, F> as Sink>⟧.failed self.entry ≡ 1 → IsErr result }
         ensures unbegun { ⟦<DestSink<'a, F> as Sink>⟧.begun self.entry ≡ 0
             → ⟦<DestSink<'a, F> as Sink>⟧.failed self.entry ≡ 0
             → IsOk result }
+        ensures synced { 0 < ⟦<DestSink<'a, F> as Sink>⟧.begun self.entry
+            → IfOk result (λ done. HasSynced done) }
         ensures fault { IfErr result (λ e. e ≡ WriteFault) }
     {
         let DestSink { file, .. } = self;
         match file {
-            Opening::Unopened => Ok(Done(())),
+            Opening::Unopened => Ok(Done::without_a_file()),
             Opening::Open(file) if file.failures() == 0 => {
-                synced(&file.into_inner())?;
-                Ok(Done(()))
+                Ok(Done::of_a_file(write_out(&file.into_inner())?))
             }
             _ => Err(Fault::Write),
         }

@@ -3,6 +3,7 @@
 #![tactic(auto)]
 
 mod again;
+mod done;
 mod failure;
 mod files;
 mod job;
@@ -15,8 +16,9 @@ pub use aec_engine::{
     Decoded, EditFault, Script, carry_out, decode, decode_bytes, decode_edited, edit, edit_over,
     encode, encode_bytes, laws, range, script,
 };
+pub use done::Done;
 pub use failure::{Failure, status};
-pub use files::{DestSink, Done, FileSource};
+pub use files::{DestSink, FileSource};
 pub use job::{Action, Job, settings};
 pub use program::perform;
 pub use start::{StartFault, fill_if_closed, process_words};

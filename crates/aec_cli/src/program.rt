@@ -1,18 +1,20 @@
 //! One whole run of the program.
 
-ghost use Rattle.std.specs.Prelude.{◌≡◌, ◌≤◌, IfErr, ℕ, Bool, List, [], map};
+ghost use Rattle.std.specs.Prelude.{◌≡◌, ◌≤◌, ◌<◌, IfOk, IfErr, ℕ, Bool, List, [], map};
 ghost use Rattle.std.specs.String.{string_bytes};
 ghost use Rattle.clap.specs.Faults.{fault_of};
 ghost use Rattle.clap.specs.Values.{kind_of};
 ghost use Rattle.clap.specs.Walk.{Text};
 ghost use Rattle.aec_cli.specs.Actions.{HasNoScript, IsAnswerOf, are_enough, program_caps};
 ghost use Rattle.aec_cli.specs.Commands.{aec_app};
+ghost use Rattle.aec_cli.specs.Ends.{HasSynced, run_status};
 ghost use Rattle.aec_engine.specs.Editing.{LeavesEdited};
 ghost use Rattle.aec_cli.specs.Statuses.{EndsByMistake, EndsByWords, parse_status, status_of};
 ghost use Rattle.aec_engine.specs.Transfers.{Taking, taking_of, Putting, putting_of, Leaves};
 
+use crate::done::Done;
 use crate::failure::{Failure, status};
-use crate::files::{DestSink, Done, FileSource};
+use crate::files::{DestSink, FileSource};
 use crate::job::{Action, Job, settings};
 use crate::usage::Usage;
 use crate::words::parse;
@@ -102,9 +104,33 @@ fn act_by_script<Q: Source, R: Source, W: Sink>(
     edit(alloc, params, limits(), count, from, source, sink)
 }
 
-// Does a job with its files. It is done once its DEST has ended well.
+// Does with a source what is asked for, by the script too that the action names, within the limits
+// of the program. Where that is done the sink was begun.
+#[tactic(auto, using(crate::proofs::EndLemmas::begun_where_done))]
+fn act_with_files<F: Files, R: Source, W: Sink>(
+    rt: &F,
+    alloc: Global,
+    params: &Params,
+    action: Action,
+    source: &mut R,
+    sink: &mut W,
+) -> Result<(), Failure>
+    ensures begun { IfOk result (λ _. 0 < W.begun sink.new) }
+    ensures fault { IfErr result (λ failure. status_of failure ≡ 1) }
+{
+    match action {
+        Action::Edit { script, count } => {
+            let mut from = FileSource::new(rt, script);
+            act_by_script(alloc, params, count, &mut from, source, sink).map_err(Failure::Edit)
+        }
+        action => act(alloc, params, action, source, sink).map_err(Failure::Fault),
+    }
+}
+
+// Does a job with its files. It is done once its DEST was begun and has ended well.
 fn run<F: Files>(rt: &F, alloc: Global, job: Job) -> Result<Done, Failure>
-    ensures { IfErr result (λ failure. status_of failure ≡ 1) }
+    ensures done { IfOk result (λ done. HasSynced done) }
+    ensures fault { IfErr result (λ failure. status_of failure ≡ 1) }
 {
     let Job {
         params,
@@ -114,17 +140,7 @@ fn run<F: Files>(rt: &F, alloc: Global, job: Job) -> Result<Done, Failure>
     } = job;
     let mut source = FileSource::new(rt, source);
     let mut sink = DestSink::new(rt, dest);
-    match action {
-        Action::Edit { script, count } => {
-            let mut from = FileSource::new(rt, script);
-            act_by_script(alloc, &params, count, &mut from, &mut source, &mut sink).map_err(
-                Failure::Edit,
-            )?;
-        }
-        action => {
-            act(alloc, &params, action, &mut source, &mut sink).map_err(Failure::Fault)?;
-        }
-    }
+    act_with_files(rt, alloc, &params, action, &mut source, &mut sink)?;
     sink.finish().map_err(Failure::Fault)
 }
 
@@ -133,8 +149,16 @@ fn run<F: Files>(rt: &F, alloc: Global, job: Job) -> Result<Done, Failure>
 fn finish<F: Files, E: Write>(rt: &F, alloc: Global, job: Job, err: &mut E) -> u8
     ensures { result ≤ 1 }
 {
-    match run(rt, alloc, job) {
-        Ok(Done { .. }) => 0,
+    ended(run(rt, alloc, job), err)
+}
+
+// The status of a run that ends so: 0 where it is done, and else that of its failure, which is
+// printed.
+fn ended<E: Write>(end: Result<Done, Failure>, err: &mut E) -> u8
+    ensures { result ≡ run_status end }
+{
+    match end {
+        Ok(_done) => 0,
         Err(failure) => report(failure, err),
     }
 }

@@ -6,17 +6,17 @@ use std::test::Fail;
 // By the usual settings: no samples, and zero bits that are none; a zero block; a ramp; filler; two
 // intervals. The last file is coded into itself.
 const USUAL: &str = "\
-         in out |                         | 0 |
-      -d in out |                         | 0 |
-      -d in out | 00                      | 0 |
-         in out | 00*8                    | 0 | 00 08
-      -d in out | 00 08                   | 0 | 00*8
-         in out | 00 01 02 03 04 05 06 07 | 0 | 20 09 24 92
-      -d in out | 20 09 24 92             | 0 | 00 01 02 03 04 05 06 07
-         in out | 07*5                    | 0 | 00 78
-      -d in out | 00 78                   | 0 | 07*8
-         in out | 00*17                   | 0 | 00 04 00 20
-      -d in out | 00 04 00 20             | 0 | 00*24
+         in got |                         | 0 |
+      -d in got |                         | 0 |
+      -d in got | 00                      | 0 |
+         in got | 00*8                    | 0 | 00 08
+      -d in got | 00 08                   | 0 | 00*8
+         in got | 00 01 02 03 04 05 06 07 | 0 | 20 09 24 92
+      -d in got | 20 09 24 92             | 0 | 00 01 02 03 04 05 06 07
+         in got | 07*5                    | 0 | 00 78
+      -d in got | 00 78                   | 0 | 07*8
+         in got | 00*17                   | 0 | 00 04 00 20
+      -d in got | 00 04 00 20             | 0 | 00*24
           in in | 00 01 02 03 04 05 06 07 | 0 | 20 09 24 92
        -d in in | 20 09 24 92             | 0 | 00 01 02 03 04 05 06 07";
 

@@ -13,10 +13,13 @@ use std::test::Fail;
 
 // A row: the name of the file; what is asked of the source in turn; how often it has failed then.
 // `4=3:n..e` asks for 4 bytes and gets 3, after which the buffer, that all steps share, holds
-// `n..e`; `4!` asks for 4 and fails; `+abc` writes the file. A file in pieces, then one that is
-// there only after it was missed, and a folder.
+// `n..e`; `4!` asks for 4 and fails; `+abc` writes the file. A file in pieces; one that grows once
+// its end was found, by a call with room and by one without; one that is there only after it was
+// missed; and a folder.
 const SOURCES: &str = "\
 taken | +seven.. 0=0:.... 4=4:seve 4=3:n..e 4=0:n..e | 0
+ended | +one 4=3:one. 4=0:one. +oneandmore 4=0:one. 0=0:one. | 0
+open  | +one 4=3:one. 0=0:one. +oneand 4=3:and. 4=0:and. | 0
 late  | 4! +here 4! 0! | 1
 .     | 4! 4! | 1";
 

@@ -12,6 +12,8 @@ mod coded_files;
 #[cfg(test)]
 mod cut_streams;
 #[cfg(test)]
+mod edited_files;
+#[cfg(test)]
 mod engines;
 #[cfg(test)]
 mod files;

@@ -44,6 +44,12 @@ const WRONG_WORDS: &str = "\
   -d --range 0:1 word same | 00 | 2 | aec: only one of -d, --range and --edit may be given
   -d --range=x -n 40 word same | 00 | 2 | aec: only one of -d, --range and --edit may be given
   -d --range=0:1 --count 3 word same | 00 | 2 | aec: only one of -d, --range and --edit may be given
+    -d --edit edit word same | 00 | 2 | aec: only one of -d, --range and --edit may be given
+  --edit edit --range 0:1 word same | 00 | 2 | aec: only one of -d, --range and --edit may be given
+  --edit edit --range x word same | 00 | 2 | aec: only one of -d, --range and --edit may be given
+  -d --edit edit --range 0:1 word same | 00 | 2 | aec: only one of -d, --range and --edit may be given
+  -d --edit edit --count 3 -n 40 word same | 00 | 2 | aec: only one of -d, --range and --edit may be given
+  --edit edit -n 40 word same | 00 | 2 | aec: bits per sample must be 1 to 32
          --count 3 word same | 00 | 2 | aec: --count needs -d, --range or --edit
    --count 3 -n 40 word same | 00 | 2 | aec: --count needs -d, --range or --edit
     --count 0 -n 8 word same | 00 | 2 | aec: --count needs -d, --range or --edit
@@ -62,6 +68,8 @@ const WRONG_WORDS: &str = "\
    -d --count 1 --count 1 word same | 00 | 2 | error:
     --range -1:2 word same | 00 | 2 | error:
    --range 0:1 --range 0:1 word same | 00 | 2 | error:
+   --edit edit --edit edit word same | 00 | 2 | error:
+             --edit word same | 00 | 2 | error:
    --even-blocks --even-blocks word same | 00 | 2 | error:
    --even-blocks=10 word same | 00 | 2 | error:
               -x word same | 00 | 2 | error:";

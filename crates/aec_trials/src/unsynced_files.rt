@@ -165,12 +165,23 @@ fn ends_so<R: Abort + Files + Alloc<A = Global>>(
 }
 
 // How a run ends whose syncs end so.
-const ENDS: [(Option<ErrorKind>, u8, &str); 6] = [
+const ENDS: [(Option<ErrorKind>, u8, &str); 8] = [
     (None, 0, ""),
-    // The errors of a full disk, of a quota and of a broken one.
+    // The errors of a full disk, of a quota, of a broken disk (EIO), of one that can only be read
+    // and of one that is gone.
     (Some(ErrorKind::StorageFull), 1, "aec: write failed\n"),
     (Some(ErrorKind::QuotaExceeded), 1, "aec: write failed\n"),
-    (Some(ErrorKind::Other), 1, "aec: write failed\n"),
+    (Some(ErrorKind::Uncategorized), 1, "aec: write failed\n"),
+    (
+        Some(ErrorKind::ReadOnlyFilesystem),
+        1,
+        "aec: write failed\n",
+    ),
+    (
+        Some(ErrorKind::StaleNetworkFileHandle),
+        1,
+        "aec: write failed\n",
+    ),
     // Those of files that have nothing to sync.
     (Some(ErrorKind::InvalidInput), 0, ""),
     (Some(ErrorKind::Unsupported), 0, ""),

@@ -2,7 +2,7 @@
 
 use crate::asserts::{holds, holds_at, same, same_at};
 use crate::shared::{DEFAULTS, job_by, job_of, run_of, words_of};
-use aec_cli::{Action, Failure, StartFault, Usage, perform, status};
+use aec_cli::{Action, EditFault, Failure, StartFault, Usage, perform, status};
 use aec_params::{Fault, Params, Settings};
 use std::io;
 use std::io::Write;
@@ -155,6 +155,33 @@ fn a_job_has_its_action_and_files(rt: HostRuntime) -> Result<(), Fail> {
     Ok(())
 }
 
+// Words of edits, the script that they name, and the count.
+const EDITS: [(&str, &str, Option<u64>); 4] = [
+    ("--edit lines in out", "lines", None),
+    ("in --edit=-d out", "-d", None),
+    ("--edit in --count 48 in out", "in", Some(48)),
+    ("--count=0 -n 8 in out --edit out", "out", Some(0)),
+];
+
+// Whether an action is an edit by that script, with that count.
+fn is_edit(action: &Action, name: &str, given: Option<u64>) -> bool {
+    match action {
+        Action::Edit { script, count } => script.as_str() == name && *count == given,
+        _ => false,
+    }
+}
+
+#[test]
+fn an_edit_has_its_script_and_count(rt: HostRuntime) -> Result<(), Fail> {
+    for (words, script, count) in EDITS.iter() {
+        let job = job_of(rt.alloc(), words)??;
+        holds_at(&rt, is_edit(&job.action, script, *count), words);
+        same(&rt, job.source.as_str(), "in");
+        same(&rt, job.dest.as_str(), "out");
+    }
+    Ok(())
+}
+
 #[test]
 fn a_range_is_two_numbers_and_a_colon(rt: HostRuntime) -> Result<(), Fail> {
     let texts = [
@@ -187,39 +214,54 @@ fn a_range_is_two_numbers_and_a_colon(rt: HostRuntime) -> Result<(), Fail> {
     Ok(())
 }
 
+// Failures, their texts and the statuses that they end with.
+const FAILURES: [(Failure, &str, u8); 10] = [
+    (
+        Failure::Usage(Usage::Setting(Fault::BlockSize)),
+        "block size must be 8, 16, 32 or 64",
+        2,
+    ),
+    (
+        Failure::Usage(Usage::Setting(Fault::EvenBlockSize)),
+        "block size must be even, 8 to 64",
+        2,
+    ),
+    (
+        Failure::Usage(Usage::Jobs),
+        "only one of -d, --range and --edit may be given",
+        2,
+    ),
+    (
+        Failure::Usage(Usage::Count),
+        "--count needs -d, --range or --edit",
+        2,
+    ),
+    (Failure::Usage(Usage::Range), "--range needs FIRST:LEN", 2),
+    (Failure::Usage(Usage::Memory), "out of memory", 1),
+    (Failure::Fault(Fault::Read), "read failed", 1),
+    (
+        Failure::Fault(Fault::Truncated { bit: 13 }),
+        "coded data is cut short at bit 13",
+        1,
+    ),
+    (
+        Failure::Edit(EditFault::Plain(Fault::Script { line: 2 })),
+        "script line 2 is not an edit",
+        1,
+    ),
+    (
+        Failure::Edit(EditFault::Line {
+            line: 1,
+            fault: Fault::SampleRange { index: 0 },
+        }),
+        "line 1: sample 0 is out of range",
+        1,
+    ),
+];
+
 #[test]
 fn failures_have_their_texts(rt: HostRuntime) -> Result<(), Fail> {
-    let cases = [
-        (
-            Failure::Usage(Usage::Setting(Fault::BlockSize)),
-            "block size must be 8, 16, 32 or 64",
-            2,
-        ),
-        (
-            Failure::Usage(Usage::Setting(Fault::EvenBlockSize)),
-            "block size must be even, 8 to 64",
-            2,
-        ),
-        (
-            Failure::Usage(Usage::Jobs),
-            "only one of -d, --range and --edit may be given",
-            2,
-        ),
-        (
-            Failure::Usage(Usage::Count),
-            "--count needs -d, --range or --edit",
-            2,
-        ),
-        (Failure::Usage(Usage::Range), "--range needs FIRST:LEN", 2),
-        (Failure::Usage(Usage::Memory), "out of memory", 1),
-        (Failure::Fault(Fault::Read), "read failed", 1),
-        (
-            Failure::Fault(Fault::Truncated { bit: 13 }),
-            "coded data is cut short at bit 13",
-            1,
-        ),
-    ];
-    for (failure, text, expected) in cases {
+    for (failure, text, expected) in FAILURES {
         same(&rt, failure.to_string(rt.alloc())?.as_str(), text);
         same_at(&rt, status(&failure), expected, &text);
     }

@@ -1,0 +1,36 @@
+-- A run that is done has begun its sink.
+use Rattle.std.proofs.Common.{◌≡◌, ◌<◌, ℕ, Bool, List, Option, Result, IfOk, sym, subst, arith}
+use Rattle.aec_params.specs.declared.settings.Settings.{Settings}
+use Rattle.aec_params.specs.declared.fault.Fault.{Fault}
+use Rattle.aec_params.specs.Limits.{Caps}
+use Rattle.aec_bits.specs.Devices.{counted}
+use Rattle.aec_engine.specs.declared.scripts.EditFault.{EditFault}
+use Rattle.aec_engine.specs.Transfers.{Input, Taking, Putting, answer_by, Leaves, written, refused, no_answer, not_written}
+use Rattle.aec_engine.specs.Editing as editing
+use Rattle.aec_engine.specs.Editing.{LeavesRecoded, LeavesEdited}
+
+-- what was counted once more is not 0
+counted-pos : (n m : ℕ) → m ≡ counted n → 0 < m
+counted-pos n m is = subst (λ k. 0 < k) (sym is) (omega (arith))
+
+pub begun-Leaves : (answers : Input → Result (List ℕ) Fault → Type 0) (source : Taking) (enough : List ℕ → Bool) (sink : Putting) (r : Result (Unit {0}) Fault)
+    → Leaves answers source enough sink r → IfOk r (λ _. 0 < sink.begun_after)
+begun-Leaves answers source enough sink r (written input bytes gave is appends begun sound) = counted-pos sink.begun_before sink.begun_after begun.once
+begun-Leaves answers source enough sink r (refused input fault gave is nothing) = tt
+begun-Leaves answers source enough sink r (no_answer nothing) = tt
+begun-Leaves answers source enough sink r (not_written input bytes gave is front begun failed) = tt
+
+begun-LeavesRecoded : (s : Settings) (caps : Caps) (count : Option ℕ) (from source : Taking) (sink : Putting) (r : Result ℕ EditFault)
+    → LeavesRecoded s caps count from source sink r → IfOk (answer_by (λ calls. tt {0}) r) (λ _. 0 < sink.begun_after)
+begun-LeavesRecoded s caps count from source sink r (editing.written made gives appends begun sound) =
+    counted-pos sink.begun_before sink.begun_after begun.once
+begun-LeavesRecoded s caps count from source sink r (editing.refused fault gives nothing) = tt
+begun-LeavesRecoded s caps count from source sink r (editing.not_written made gives front begun failed) = tt
+
+pub begun-LeavesEdited : (s : Settings) (caps : Caps) (count : Option ℕ) (from source : Taking) (sink : Putting) (r : Result (Unit {0}) EditFault)
+    → LeavesEdited s caps count from source sink r → IfOk r (λ _. 0 < sink.begun_after)
+begun-LeavesEdited s caps count from source sink r leaves =
+    subst (λ r. IfOk r (λ _. 0 < sink.begun_after)) (sym leaves.uncounted)
+    (begun-LeavesRecoded s caps count from source sink leaves.counted leaves.leaves)
+
+pub ruleset begun_where_done = (begun-Leaves, begun-LeavesEdited)

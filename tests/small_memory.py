@@ -1,0 +1,138 @@
+#!/usr/bin/env python3
+"""Too little stack or address space: small_memory.py PATH_OF_AEC
+
+Runs the program at PATH_OF_AEC with DEST the file that is SOURCE, where the system gives it too little: with stacks of 64 to 256
+KiB, and with an address space about the least with which the run ends well. However the run ends, by a status or by a signal, the
+file is as before or holds the whole answer. And a run with all the memory that it wants stays within a bound: decoding takes the
+stream, what it keeps of the samples, and a few MiB, however long the stream is.
+
+Prints the checks that fail and, last, how many passed. Ends with 1 where one failed.
+"""
+
+import os
+import resource
+import subprocess
+import sys
+import tempfile
+
+from jobs import JOBS, LARGE_JOBS
+from program import SECONDS, Program, Tally, said
+
+KIB, MIB = 1024, 1024 * 1024
+STEP = 4 * KIB  # a page
+STACKS = range(64 * KIB, 256 * KIB + 1, STEP)
+MOST_SPACE = 64 * MIB
+WINDOW = 192 * KIB  # of address space, below and above the least that is enough
+KEPT = 16 * MIB  # of samples, at most
+FEW = 8 * MIB
+
+
+def limited(limit, most):
+    """Gives a process to come at most so many bytes of something."""
+    return lambda: resource.setrlimit(limit, (most, most))
+
+
+def run_over_itself(program, job, limit, most):
+    """The status, and what the file then holds."""
+    program.write("source", job.source)
+    program.write("script", job.script or b"")
+    words = [program.path, *job.words, "source", "source"]
+    run = subprocess.Popen(words, cwd=program.folder, env={}, preexec_fn=limited(limit, most), stderr=subprocess.PIPE)
+    run.communicate(timeout=SECONDS)
+    return run.returncode, program.read("source")
+
+
+def try_size(program, tally, job, what, limit, most):
+    """One size. The file is whole, or as before: whole where the run says so, as before where it refuses."""
+    status, held = run_over_itself(program, job, limit, most)
+    allowed = {0: [job.answer], 1: [job.source]}.get(status, [job.source, job.answer])
+    told = f"{len(held)} bytes, not the {len(job.source)} of before nor the {len(job.answer)} of the answer"
+    tally.holds(held in allowed, f"{job.what} with {most // KIB} KiB of {what} ends with {status}, and the file holds {told}")
+    return status
+
+
+def try_stacks(program, tally):
+    for job in JOBS + LARGE_JOBS:
+        ends = {try_size(program, tally, job, "stack", resource.RLIMIT_STACK, most) for most in STACKS}
+        tally.holds(0 in ends, f"{job.what}: no stack was enough")
+
+
+def least_space(program, job):
+    """The least address space, to a page, with which a run ends well, if more is always enough too."""
+    low, high = 0, MOST_SPACE // STEP
+    while high - low > 1:
+        middle = (low + high) // 2
+        try:
+            ended = run_over_itself(program, job, resource.RLIMIT_AS, middle * STEP)[0]
+        except (OSError, subprocess.SubprocessError):
+            ended = None  # not even the program could be begun
+        low, high = (low, middle) if ended == 0 else (middle, high)
+    return high * STEP
+
+
+def try_spaces(program, tally):
+    for job in JOBS + LARGE_JOBS:
+        least, ends = least_space(program, job), set()
+        for most in range(least - WINDOW, least + WINDOW + 1, STEP):
+            ends.add(try_size(program, tally, job, "address space", resource.RLIMIT_AS, most))
+        tally.holds(0 in ends and len(ends) > 1, f"{job.what}: the window of {least // KIB} KiB holds no edge: {ends}")
+
+
+def most_resident(program, *words):
+    """The status, and the most bytes that were resident at once."""
+    with open(os.devnull, "wb") as nowhere:
+        run = subprocess.Popen([program.path, *words], cwd=program.folder, stdout=nowhere, stderr=nowhere)
+        status, used = os.wait4(run.pid, 0)[1:]
+    run.returncode = os.waitstatus_to_exitcode(status)
+    return run.returncode, used.ru_maxrss * KIB
+
+
+def write_pieces(program, name, piece, times):
+    """A long file, of which this process never holds more than a piece."""
+    with open(program.file(name), "wb") as file:
+        for _ in range(times):
+            file.write(piece)
+
+
+def same_pieces(program, name, piece, times):
+    with open(program.file(name), "rb") as file:
+        return all(file.read(len(piece)) == piece for _ in range(times)) and not file.read(1)
+
+
+def try_resident(program, tally):
+    """Streams of short blocks, 40 MiB of samples that no option makes shorter, and of 64 MiB of zeros. What this process holds
+    counts too, since the system counts it as the run's until the run begins."""
+    noise = bytes((x * x // 7 + 101 * x) % 256 for x in range(MIB))
+    for what, piece, times, options in (
+        ("noise", noise, 40, ["-N"]),
+        ("noise in intervals of a block", noise, 40, ["-N", "-r", "1"]),
+        ("noise in short blocks", noise, 40, ["-N", "--even-blocks", "-j", "10"]),
+        ("zeros", bytes(MIB), 64, ["-r", "4096"]),
+        ("zeros in long blocks", bytes(MIB), 64, ["-j", "64", "-r", "4096"]),
+    ):
+        write_pieces(program, "samples", piece, times)
+        coded = most_resident(program, *options, "samples", "stream")
+        own = resource.getrusage(resource.RUSAGE_SELF).ru_maxrss * KIB + MIB
+        bound = max(own, os.path.getsize(program.file("stream")) + FEW)
+        tally.holds(coded[0] == 0 and coded[1] <= bound, f"coding {what}: {coded}, the bound {bound}")
+        for words in ["-d"], ["--range", f"5:{MIB}"]:
+            read = most_resident(program, *words, *options, "stream", "back")
+            bound = os.path.getsize(program.file("stream")) + KEPT + FEW
+            tally.holds(read[0] == 0 and read[1] <= bound, f"{words[0]} of {what}: {read}, the bound {bound}")
+            if words == ["-d"]:
+                tally.holds(same_pieces(program, "back", piece, times), f"{what} comes back otherwise")
+
+
+def main():
+    tally = Tally()
+    with tempfile.TemporaryDirectory() as folder:
+        program = Program(sys.argv[1], folder)
+        try_stacks(program, tally)
+        try_spaces(program, tally)
+        try_resident(program, tally)
+    tally.print()
+    return 1 if tally.failed else 0
+
+
+if __name__ == "__main__":
+    sys.exit(main())
