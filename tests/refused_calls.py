@@ -10,7 +10,7 @@ what the file says. A coder in pieces answers the refusal for good, and a new on
 refused growth of an edit is the edit's outcome, and the others are made. Where the k-th alone is refused, a call may also go on
 without that growth.
 
-The library that refuses is built by `cc`; without that command nothing is tried. Prints a table, the checks that fail and, last,
+The library that refuses is built by `cc`; without that command nothing is tried, which is a failure where CI is set. Prints a table, the checks that fail and, last,
 how many passed. Ends with 1 where one failed.
 """
 
@@ -22,7 +22,7 @@ from concurrent.futures import ThreadPoolExecutor
 from typing import NamedTuple
 
 from program import Program, Tally
-from refusing import NO_COMPILER, Growths, build, has_compiler, ways
+from refusing import Growths, build, has_compiler, print_skipped, ways
 
 ROWS = os.path.join(os.path.dirname(__file__), "..", "crates", "aec_memory_trials", "stdout")
 WANT = "out of memory"
@@ -107,7 +107,18 @@ def after_lost_edit(rows, place, refused):
     return [rows[place]._replace(left=left), *rows[place + 1 :]]
 
 
+def after_refused_run(rows, place, refused):
+    """The same for a run of the program: its status is 1, it says that memory lacks, of an edit by a script maybe with the line that
+    it came to, and DEST isn't there. The same run then gives its row."""
+    texts = [f"aec: {WANT}", *([f"aec: line 1: {WANT}"] if "--edit" in refused.call else [])]
+    lefts = [f" status 1, '{text}' no dest" for text in texts]
+    left = refused.left if refused.left in lefts else lefts[0]
+    return [rows[place]._replace(answer=WANT, left=left), *rows[place:]]
+
+
 def wanted(rows, place, refused):
+    if refused.call.startswith("perform"):
+        return after_refused_run(rows, place, refused)
     if refused.call.startswith("StreamCoder") and place + 1 < end_of_trial(rows, place):
         return after_refused_piece(rows, place, refused)
     if refused.call.startswith("StreamCoder"):
@@ -182,9 +193,10 @@ def refuse_in_turn(path, library, rows, alone, tally):
 def print_table(rows, all_after, alone):
     """For each call how many growths it has, and without how many of these it goes on."""
     print("| Call | Rows | Growths | Growths that it goes on without |\n|---|---|---|---|")
-    for call in dict.fromkeys(row.call for row in rows if row.call != "new"):
-        numbers = {i + 1 for i, name in enumerate(all_after.calls) if name == call}
-        count = sum(row.call == call for row in rows)
+    names = [row.call.split()[0] for row in rows]
+    for call in dict.fromkeys(name for name in names if name != "new"):
+        numbers = {i + 1 for i, name in enumerate(all_after.calls) if name.split()[:1] == [call]}
+        count = names.count(call)
         print(f"| `{call}` | {count} | {len(numbers)} | {len(numbers & alone.spared) or 'none'} |")
 
 
@@ -193,8 +205,8 @@ def main():
     with open(ROWS, encoding="utf-8") as file:
         rows = lines_of(file.read())
     if not has_compiler():
-        tally.print(len(rows), NO_COMPILER)
-        return 0
+        print_skipped(tally, len(rows))
+        return 1 if tally.failed else 0
     with tempfile.TemporaryDirectory() as folder, ThreadPoolExecutor() as pool:
         library = build(folder)
         tallies = [Tally(), Tally()]

@@ -10,7 +10,7 @@ too: where the k-th alone is refused, and in decoding where all after it are ref
 Beside that a short stream of very many samples is decoded, cut to a range and edited with little memory, and a stream is edited
 by a script of a million lines with four times its bytes, without the library.
 
-The library is built by `cc`; without that command its runs are skipped. Prints a table, the checks that fail and, last, how
+The library is built by `cc`; without that command its runs are skipped, which is a failure where CI is set. Prints a table, the checks that fail and, last, how
 many passed. Ends with 1 where one failed.
 """
 
@@ -24,7 +24,7 @@ from typing import NamedTuple, Optional
 
 from jobs import CHANGED_STREAM, EARLY_JOB, EDIT_LINES, EVEN_JOBS, JOBS, LARGE_JOBS, LONGEST, STILL_STREAM, ZEROS, ZEROS_STREAM, Job
 from program import Program, Tally
-from refusing import MOST_GROWTHS, NO_COMPILER, Growths, build, has_compiler, ways
+from refusing import MOST_GROWTHS, Growths, build, has_compiler, print_skipped, ways
 from spelling import bytes_of_bits
 
 OLD = b"what DEST held before"
@@ -182,7 +182,7 @@ def main():
     try_little_memory(path, tally)
     try_long_script(path, tally)
     if not has_compiler():
-        tally.print(len(RUNS), NO_COMPILER)
+        print_skipped(tally, len(RUNS))
     else:
         refuse_all_in_turn(path, tally)
         tally.print()
