@@ -7,8 +7,8 @@ those calls: the k-th and all after it in the same call, and the k-th alone, for
 to print the file stdout of the crate. Each other one has to print the same, but that one call lacked memory: what was there
 before it is there still, though of a codec's counters as many as the call may raise can have risen, and the same call then gives
 what the file says. A coder in pieces answers the refusal for good, and a new one gives what the file says. In a run of edits the
-refused growth of an edit is the edit's outcome, and the others are made. Where the k-th alone is refused, a call may also go on
-without that growth.
+refused growth of an edit is the edit's outcome, and the others are made. A run of the program ends with status 1 and one line, and makes
+no DEST. No call goes on without a growth that is refused.
 
 The library that refuses is built by `cc`; without that command nothing is tried, which is a failure where CI is set. Prints a table, the checks that fail and, last,
 how many passed. Ends with 1 where one failed.
@@ -156,16 +156,9 @@ class Calls:
         return lines_of(text) if status == 0 else None, growths, refused
 
 
-class Seen(NamedTuple):
-    """What is seen of a way to refuse: in which call each growth is, and without which ones a call went on."""
-
-    calls: list
-    spared: set
-
-
 def refuse_in_turn(path, library, rows, alone, tally):
-    """All calls, with each growth refused in turn."""
-    seen = Seen([], set())
+    """All calls, with each growth refused in turn: the name of the call in which each growth is."""
+    calls = []
     with tempfile.TemporaryDirectory() as folder:
         program = Calls(path, library, folder)
         for first, last in ways(alone):
@@ -173,31 +166,28 @@ def refuse_in_turn(path, library, rows, alone, tally):
             way = f"growth {first} {'alone' if alone else 'and those after it'}"
             if lines is None or len(lines) < len(rows):
                 tally.holds(False, f"{way}: the program ends with a fault, or too early")
-                return seen
+                return calls
             if refused == 0:
                 tally.holds(lines == rows, f"{way}, with none refused: {lines}")
-                return seen
+                return calls
             place = first_difference(rows, lines)
             if place == len(rows):
-                tally.holds(alone, f"{way}: no call lacks memory")
-                seen.spared.add(first)
-                seen.calls.append("")
+                tally.holds(False, f"{way}: no call lacks memory")
+                calls.append("")
             else:
                 want = wanted(rows, place, lines[place])
                 compare(f"{way}, in {rows[place].call}", lines[place:], want, tally)
-                seen.calls.append(rows[place].call)
-    tally.holds(False, f"more than {first} growths")
-    return seen
+                calls.append(rows[place].call)
+    tally.holds(False, f"more than {len(calls)} growths")
+    return calls
 
 
-def print_table(rows, all_after, alone):
-    """For each call how many growths it has, and without how many of these it goes on."""
-    print("| Call | Rows | Growths | Growths that it goes on without |\n|---|---|---|---|")
-    names = [row.call.split()[0] for row in rows]
+def print_table(rows, calls):
+    """For each call its rows, and its growths in all of them."""
+    print("| Call | Rows | Growths |\n|---|---|---|")
+    names, found = ([call.split(" ")[0] for call in listed] for listed in ([row.call for row in rows], calls))
     for call in dict.fromkeys(name for name in names if name != "new"):
-        numbers = {i + 1 for i, name in enumerate(all_after.calls) if name.split()[:1] == [call]}
-        count = names.count(call)
-        print(f"| `{call}` | {count} | {len(numbers)} | {len(numbers & alone.spared) or 'none'} |")
+        print(f"| `{call}` | {names.count(call)} | {found.count(call)} |")
 
 
 def main():
@@ -214,8 +204,8 @@ def main():
         all_after, alone = (part.result() for part in parts)
     for one in tallies:
         tally.add(one)
-    tally.holds(len(all_after.calls) == len(alone.calls) > 0, f"{len(all_after.calls)} growths, or {len(alone.calls)}")
-    print_table(rows, all_after, alone)
+    tally.holds(all_after == alone != [], f"{len(all_after)} growths, or {len(alone)}")
+    print_table(rows, all_after)
     tally.print()
     return 1 if tally.failed else 0
 
