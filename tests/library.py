@@ -9,7 +9,7 @@ FOLDER has libaecp.a and libaecp.so. In turn, by the C program library_calls.c a
   - the least stack of a thread for each call, which aecp.h names (library_memory.py);
   - eight threads at once; NULL for a buffer of no bytes; a run under valgrind, where it is installed, that loses no memory;
   - samples and coded bytes in each kind of buffer that Python has (library_buffers.py);
-  - the program in C of docs/LIBRARY.md;
+  - the program in C of docs/LIBRARY.md, and one that is C and C++ (library_types.py);
   - lists by chance with settings by chance: beside the plain coder, the program at PATH_OF_AEC, and libaec's client.
 And the names that the shared library defines and needs.
 
@@ -30,6 +30,7 @@ import plain_coder
 from damaged_cases import some_samples, some_settings
 from library_buffers import try_buffers
 from library_memory import try_freed, try_refusals, try_stacks
+from library_types import try_types
 from program import Program, Tally
 from refusing import build, has_compiler, print_skipped
 from settings import STANDARD_BLOCK_SIZES, Settings
@@ -346,6 +347,7 @@ def try_handles(path, tally):
 def try_in_c(asked, folder, aecp, tally):
     in_c, handles = InC(Program(built(asked, folder, "library_calls"), folder)), built(asked, folder, "library_handles")
     try_page(asked, folder, tally)
+    try_types(os.path.join(TOP, "include"), os.path.join(asked.library, "libaecp.a"), folder, tally)
     try_rows(in_c, aecp, tally)
     try_rooms(in_c, tally)
     rows = [(call, Answer(0, 0, len(wanted), wanted, "no fault")) for call, wanted in [*ROWS, EDITED]]
