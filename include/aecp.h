@@ -24,6 +24,11 @@
 extern "C" {
 #endif
 
+/* The version of this header, 0.1.0: 10000, 100 and 1 times its three numbers. aecp_version is that of the library, which may be another
+ * one; takes no memory. Trap: before 1.0 the options may change with the second number, so compare both. */
+#define AECP_VERSION 100
+uint32_t aecp_version(void);
+
 /* How samples are stored and coded. Samples of 1 to 8 bits take one byte, up to 16 two, else four (or three, see below). */
 typedef struct {
     uint32_t bits;       /* bits per sample, 1 to 32 */

@@ -30,7 +30,7 @@ import plain_coder
 from damaged_cases import some_samples, some_settings
 from library_buffers import try_buffers
 from library_memory import try_freed, try_refusals, try_stacks
-from library_types import try_types
+from library_types import try_types, try_version
 from program import Program, Tally
 from refusing import build, has_compiler, print_skipped
 from settings import STANDARD_BLOCK_SIZES, Settings
@@ -39,7 +39,7 @@ TOP = os.path.join(os.path.dirname(os.path.abspath(__file__)), "..")
 THEIRS = os.environ.get("LIBAEC", "/usr/bin/aec")
 ALL, NO_ROOM, MEMORY = 2**64 - 1, 18, 12
 CALLS = {"bound", "decode", "encode", "range", "text", "open", "load", "close", "read", "write", "size", "calls",
-         "append", "insert", "overwrite", "remove", "truncate"}
+         "version", "append", "insert", "overwrite", "remove", "truncate"}
 EIGHT, CODED = bytes(range(8)), bytes.fromhex("20092492")
 FLAGS = {"signed": "s", "msb_first": "m", "three_byte": "3", "pad": "p", "restricted": "t", "even_blocks": "e"}
 
@@ -347,14 +347,16 @@ def try_handles(path, tally):
 def try_in_c(asked, folder, aecp, tally):
     in_c, handles = InC(Program(built(asked, folder, "library_calls"), folder)), built(asked, folder, "library_handles")
     try_page(asked, folder, tally)
-    try_types(os.path.join(TOP, "include"), os.path.join(asked.library, "libaecp.a"), folder, tally)
+    include, said = os.path.join(TOP, "include"), Program(asked.program, folder).run("--version")[1]
+    try_version(include, said.split()[-1], tally)
+    try_types(include, os.path.join(asked.library, "libaecp.a"), folder, tally)
     try_rows(in_c, aecp, tally)
     try_rooms(in_c, tally)
     rows = [(call, Answer(0, 0, len(wanted), wanted, "no fault")) for call, wanted in [*ROWS, EDITED]]
     library = build(folder)
     try_refusals(in_c, library, rows, Answer(MEMORY, 0, 0, b"", "out of memory"), tally)
     try_freed(Program(handles, folder), library, tally)
-    try_stacks(built(asked, folder, "library_stacks"), folder, os.path.join(TOP, "include", "aecp.h"), CALLS, tally)
+    try_stacks(built(asked, folder, "library_stacks"), folder, os.path.join(include, "aecp.h"), CALLS, tally)
     try_threads(in_c, tally)
     try_nulls(in_c, tally)
     try_valgrind(in_c, tally)

@@ -39,6 +39,7 @@ static int is(const char *name) {
 static int ends(void) {
     aecp_reply reply = {0, 0, 0};
     if (is("none")) return 1;
+    if (is("version")) return aecp_version() == AECP_VERSION;
     if (is("encode")) return !aecp_encode(&options, samples, samples_len, back, ROOM, &reply);
     if (is("decode")) return !aecp_decode(&options, SAMPLES, coded, coded_len, back, ROOM, &reply);
     if (is("range")) return !aecp_range(&options, SAMPLES, FRONT, PART, coded, coded_len, back, ROOM, &reply);

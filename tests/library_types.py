@@ -1,6 +1,7 @@
 """The header aecp.h as compilers read it, for library.py: a program that is C and C++ at once, over samples of 16 bits, without a warning."""
 
 import os
+import re
 import shutil
 import subprocess
 
@@ -19,6 +20,7 @@ int main(void) {
     aecp_options options = AECP_OPTIONS(16);
     aecp_handle handle = AECP_HANDLE;
     aecp_reply reply;
+    if (aecp_version() != AECP_VERSION) return 5;
     if (aecp_encode(&options, samples, sizeof samples, coded, sizeof coded, &reply)) return 1;
     size_t len = (size_t)reply.len;
     if (aecp_decode(&options, 8, coded, len, back, sizeof back, &reply) || memcmp(samples, back, sizeof back)) return 2;
@@ -29,6 +31,14 @@ int main(void) {
     return 0;
 }
 """
+
+
+def try_version(include, version, tally):
+    """That the header has the version of the program, three numbers with points between them."""
+    with open(os.path.join(include, "aecp.h"), encoding="utf-8") as file:
+        said = re.search(r"#define AECP_VERSION (\d+)", file.read())
+    major, minor, patch = map(int, version.split("."))
+    tally.check("AECP_VERSION", int(said[1]), 10000 * major + 100 * minor + patch)
 
 
 def try_types(include, archive, folder, tally):
