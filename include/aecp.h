@@ -10,8 +10,8 @@
  * what a call allocates it frees before it returns, but for the workspace of a handle. Threads may call at once, each with an `out`, a
  * `reply` and a handle of its own.
  *
- * The least stack of a thread, as the tests measure it: 128 KiB for aecp_encode, aecp_decode, aecp_range and aecp_write; 16 KiB for the
- * others.
+ * The least stack of a thread, as the tests measure it: 32 KiB for aecp_encode, aecp_decode and aecp_range; 16 KiB for the others. At
+ * least 4 KiB are left then, and the thread itself takes some 8 KiB.
  */
 #ifndef AECP_H
 #define AECP_H

@@ -7,7 +7,8 @@ import re
 from program import Program
 from refusing import Growths, ways
 
-STACKS = (16, 32, 64, 128)
+# In KiB: the stacks that are tried, and what a call has to leave of one, since a thread takes more by itself on another machine.
+STACKS, LEFT = (16, 32, 64, 128), 4
 
 
 def try_refusals(in_c, library, rows, want, tally):
@@ -53,17 +54,27 @@ def stacks_of(header, names):
     return {name: int(said[1] if name in more else said[3]) for name in names}
 
 
+def written(stacks, name, kib):
+    """How many bytes a call writes of a stack of so many KiB; none where it doesn't end as it has to."""
+    status, printed = stacks.run(name, str(kib))
+    return int(printed) if status == 0 else None
+
+
 def least_stack(stacks, name):
-    """The least stack in KiB with which a call ends as it has to; none where no stack that is tried suffices."""
-    return next((kib for kib in STACKS if stacks.run(name, str(kib))[0] == 0), None)
+    """The least stack in KiB of which a call leaves enough; none where no stack that is tried suffices."""
+    for kib in STACKS:
+        taken = written(stacks, name, kib)
+        if taken is not None and taken <= 1024 * (kib - LEFT):
+            return kib
+    return None
 
 
 def try_stacks(path, folder, header, names, tally):
     """The least stack of a thread for each call, as a table, and that the header names it."""
     stacks, said = Program(path, folder), stacks_of(header, names)
     tally.check("a thread that makes no call", least_stack(stacks, "none"), STACKS[0])
-    print("| Call | Least stack of a thread | Written of it |\n|---|---|---|")
+    print("| Call | Least stack of a thread | Bytes written of 128 KiB |\n|---|---|---|")
     for name in sorted(names):
-        least, taken = least_stack(stacks, name), stacks.run(name, str(STACKS[-1]))[1].strip()
-        print(f"| `aecp_{name}` | {least} KiB | {taken} |")
+        least = least_stack(stacks, name)
+        print(f"| `aecp_{name}` | {least} KiB | {written(stacks, name, STACKS[-1])} |")
         tally.check(f"aecp_{name}: the least stack of a thread in KiB", said.get(name), least)

@@ -1,8 +1,9 @@
 -- What loading a handle does, from what its steps say.
-use Rattle.std.proofs.Common.{◌≡◌, ℕ, ◌+◌, ◌-◌, ◌/◌, ◌%◌, min, ◌⊎◌, inl, inr, Option, None, Some, Ok, Err, List, [], ◌∷◌, length, ap, sym, ◌∙◌, ◌^◌, arith}
+use Rattle.std.proofs.Common.{◌≡◌, ℕ, zero, suc, ◌+◌, ◌-◌, ◌/◌, ◌%◌, ◌==◌, min, false, if◌then◌else◌, ◌⊎◌, inl, inr, Option, None, Some, Ok, Err, List, [], length, ap, sym, ◌∙◌, ◌^◌, arith}
 use Rattle.std.specs.Prelude.{ℤ, MatchOption}
 use Rattle.std.specs.Int.{div_ceil}
-use native.Mathlib.Nat.{zero-div, zero-mod}
+use Rattle.std.proofs.Math.Nat.{zero-div, zero-mod}
+use Rattle.std.proofs.lemmas.Bool.{ne_eqb}
 use Rattle.aec_params.specs.declared.settings.Settings.{Settings}
 use Rattle.aec_params.specs.declared.fault.Fault.{Fault}
 use Rattle.aec_params.specs.declared.fault.Fault.TheVariants.{Memory}
@@ -24,12 +25,16 @@ why None needed calls after fault lacks = inl lacks.fault_is
 why (Some d) needed calls after fault is = inr (ap Some (sym is.0))
 
 -- an append to no samples codes each interval of the new ones
+count_first : (n count : ℕ) → (if count == 0 then 0 else div_ceil (0 + count) n - 0 / n) ≡ div_ceil count n
+count_first n zero = sym (ap (λ q. q + min 1 (0 % n)) (zero-div n) ∙ ap (λ r. 0 + min 1 r) (zero-mod n))
+count_first n (suc k) =
+    let some : (suc k == 0) ≡ false = ne_eqb (suc k) 0 (λ is. absurd (omega (arith, is))) in
+    let all : 0 + suc k ≡ suc k = omega arith in
+    let whole : div_ceil (suc k) n - 0 / n ≡ div_ceil (suc k) n = omega (arith, zero-div n) in
+    ap (λ b. if b then 0 else div_ceil (0 + suc k) n - 0 / n) some ∙ (ap (λ k. div_ceil k n - 0 / n) all ∙ whole)
+
 needed_first : (n : ℕ) (xs : List ℤ) → needed_calls n 0 (Append xs) ≡ div_ceil (length xs) n
-needed_first n [] = sym (ap (λ q. q + min 1 (0 % n)) (zero-div n) ∙ ap (λ r. 0 + min 1 r) (zero-mod n))
-needed_first n (x ∷ xs) =
-    let count : 0 + length (x ∷ xs) ≡ length (x ∷ xs) = omega arith in
-    let whole : div_ceil (length (x ∷ xs)) n - 0 / n ≡ div_ceil (length (x ∷ xs)) n = omega (arith, zero-div n) in
-    ap (λ k. div_ceil k n - 0 / n) count ∙ whole
+needed_first n xs = count_first n (length xs)
 
 module _ (s : Settings) (first w w' : OpenWorkspace) (xs : List ℤ) (fault : Fault) (fresh : IsFresh s first) (same : w ≡ first) where
   abbrev due : Format → ℕ → List ℤ → ℕ → Option Fault
