@@ -9,6 +9,9 @@
  * The library keeps nothing between calls but what handles hold, and owns nothing of the caller's: every buffer stays the caller's, and
  * what a call allocates it frees before it returns, but for the workspace of a handle. Threads may call at once, each with an `out`, a
  * `reply` and a handle of its own.
+ *
+ * The least stack of a thread, as the tests measure it: 32 KiB for aecp_encode, aecp_decode and aecp_range; 16 KiB for the others. At
+ * least 4 KiB are left then, and the thread itself takes some 8 KiB.
  */
 #ifndef AECP_H
 #define AECP_H
@@ -20,6 +23,11 @@
 #ifdef __cplusplus
 extern "C" {
 #endif
+
+/* The version of this header, 0.1.0: 10000, 100 and 1 times its three numbers. aecp_version is that of the library, which may be another
+ * one; takes no memory. Trap: before 1.0 the options may change with the second number, so compare both. */
+#define AECP_VERSION 100
+uint32_t aecp_version(void);
 
 /* How samples are stored and coded. Samples of 1 to 8 bits take one byte, up to 16 two, else four (or three, see below). */
 typedef struct {
@@ -74,19 +82,19 @@ enum {
 
 /* Codes stored samples; bytes at the end that make up no whole sample are dropped. Faults: options, SAMPLE_RANGE, TOO_MANY_SAMPLES,
  * MEMORY, NO_ROOM. Takes memory for the code twice, and an interval of samples. Trap: keep the count of samples for decoding. */
-uint32_t aecp_encode(const aecp_options *options, const uint8_t *samples, size_t samples_len, uint8_t *out, size_t out_len,
+uint32_t aecp_encode(const aecp_options *options, const void *samples, size_t samples_len, uint8_t *out, size_t out_len,
                      aecp_reply *reply);
 
 /* Decodes the first `count` samples of a stream, or all with AECP_ALL; bytes behind them are left unread. Faults: options, TRUNCATED,
  * VALUE_TOO_LARGE, RUN_TOO_LONG, TOO_MANY_SAMPLES, STREAM_TOO_LONG, MEMORY, NO_ROOM. Takes memory for the stream and for an
  * interval of samples. Trap: AECP_ALL gives filler too, and a cut stream may pass; a few bytes can stand for 2^32 samples. */
-uint32_t aecp_decode(const aecp_options *options, uint64_t count, const uint8_t *coded, size_t coded_len, uint8_t *out,
+uint32_t aecp_decode(const aecp_options *options, uint64_t count, const uint8_t *coded, size_t coded_len, void *out,
                      size_t out_len, aecp_reply *reply);
 
 /* Decodes `len` of those samples, from place `first` on, counted from 0. Faults: those of aecp_decode, of the stream as a whole, and
  * OUT_OF_RANGE. Takes memory for the stream and for an interval of samples. Trap: `first` and `len` are samples, `out_len` is bytes. */
 uint32_t aecp_range(const aecp_options *options, uint64_t count, uint64_t first, uint64_t len, const uint8_t *coded,
-                    size_t coded_len, uint8_t *out, size_t out_len, aecp_reply *reply);
+                    size_t coded_len, void *out, size_t out_len, aecp_reply *reply);
 
 /* A length in bytes that suffices for the code of so many samples, whatever they are; 0 where the options are refused or there are more
  * than 2^32. Takes no memory. Trap: it counts samples and not bytes, and is 0 for no samples too. */
@@ -98,7 +106,7 @@ size_t aecp_text(const aecp_reply *reply, char *out, size_t out_len);
 
 /* A handle: all of it is the library's, and begins as AECP_HANDLE or as zeros. It holds a workspace, which is a list of samples kept
  * as its code, from aecp_open or aecp_load to aecp_close, or none. Copy no handle that holds one. One thread at a time calls with a
- * handle, the one that opened it. In the calls below samples are numbers, not stored bytes, and a refused edit changes nothing. */
+ * handle. In the calls below samples are numbers, not stored bytes, and a refused edit changes no sample. */
 typedef struct {
     void *at;
     bool full;
@@ -110,8 +118,9 @@ typedef struct {
  * is as it was. Takes memory, which is freed by aecp_close. Trap: a handle that isn't zeros at first is memory that is freed. */
 uint32_t aecp_open(const aecp_options *options, aecp_handle *handle, aecp_reply *reply);
 
-/* The same with the samples that a stream is read as: its first `count`, or all with AECP_ALL; `reply->len` is their number. Faults:
- * those of aecp_decode but NO_ROOM and STREAM_TOO_LONG. Takes memory for the stream and eight bytes a sample until it returns.
+/* The same with the samples that a stream is read as: its first `count`, or all with AECP_ALL; `reply->len` is their number, and each
+ * of their intervals has been coded once. Faults: those of aecp_decode but NO_ROOM and STREAM_TOO_LONG; then the handle is as it was.
+ * Takes memory for the stream and eight bytes a sample until it returns.
  * Trap: the samples are coded anew, so aecp_write need not give the bytes of another coder. */
 uint32_t aecp_load(const aecp_options *options, uint64_t count, const uint8_t *coded, size_t coded_len, aecp_handle *handle,
                    aecp_reply *reply);
@@ -119,7 +128,8 @@ uint32_t aecp_load(const aecp_options *options, uint64_t count, const uint8_t *c
 /* Frees the workspace. Allowed where there is none, and twice. Trap: a handle that is dropped without it loses its memory. */
 void aecp_close(aecp_handle *handle);
 
-/* The five edits. Each answers the number in `reply->fault`, and `reply->len` is how many intervals it has coded.
+/* The five edits. Each answers the number in `reply->fault`, and `reply->len` is how many intervals it has coded. An edit that is
+ * refused for MEMORY may have coded intervals before: it changes no sample, but aecp_calls may have risen by as many.
  * Adds samples behind the last one. Faults: SAMPLE_RANGE, TOO_MANY_SAMPLES, SPENT, MEMORY, NOT_OPEN. Takes memory for their code.
  * Trap: each call codes the last interval anew, so that many samples in one call are faster than one by one. */
 uint32_t aecp_append(aecp_handle *handle, const int64_t *values, size_t values_len, aecp_reply *reply);
@@ -148,8 +158,8 @@ uint32_t aecp_read(aecp_handle *handle, uint64_t first, uint64_t len, int64_t *o
  * Faults: MEMORY, NO_ROOM, NOT_OPEN. Takes memory for the code. Trap: keep aecp_size beside the stream. */
 uint32_t aecp_write(aecp_handle *handle, uint8_t *out, size_t out_len, aecp_reply *reply);
 
-/* The number of samples, and how many intervals have been coded since it was opened. Take no memory. Trap: both are 0 where the handle
- * holds no workspace. */
+/* The number of samples, and how many intervals have been coded since it was opened, also by edits that were refused for MEMORY. Take
+ * no memory. Trap: both are 0 where the handle holds no workspace. */
 uint64_t aecp_size(aecp_handle *handle);
 uint64_t aecp_calls(aecp_handle *handle);
 

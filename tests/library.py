@@ -4,10 +4,12 @@
 FOLDER has libaecp.a and libaecp.so. In turn, by the C program library_calls.c and by the Python module without numpy,
   - the rows of README's table, options that are refused with their number, and the other refusals with their place;
   - buffers of every length around the one that is needed, with nothing changed beyond the answer, and nothing at all without one;
-  - each growth refused, that one alone and all after it: the call answers want of memory and has changed nothing;
+  - each growth refused, that one alone and all after it: the call answers want of memory and has changed nothing, and each block that
+    was allocated is freed;
+  - the least stack of a thread for each call, which aecp.h names (library_memory.py);
   - eight threads at once; NULL for a buffer of no bytes; a run under valgrind, where it is installed, that loses no memory;
   - samples and coded bytes in each kind of buffer that Python has (library_buffers.py);
-  - the program in C of docs/LIBRARY.md;
+  - the program in C of docs/LIBRARY.md, and one that is C and C++ (library_types.py);
   - lists by chance with settings by chance: beside the plain coder, the program at PATH_OF_AEC, and libaec's client.
 And the names that the shared library defines and needs.
 
@@ -27,13 +29,17 @@ from typing import NamedTuple
 import plain_coder
 from damaged_cases import some_samples, some_settings
 from library_buffers import try_buffers
+from library_memory import try_freed, try_refusals, try_stacks
+from library_types import try_types, try_version
 from program import Program, Tally
-from refusing import NO_COMPILER, Growths, build, has_compiler, ways
+from refusing import build, has_compiler, print_skipped
 from settings import STANDARD_BLOCK_SIZES, Settings
 
 TOP = os.path.join(os.path.dirname(os.path.abspath(__file__)), "..")
 THEIRS = os.environ.get("LIBAEC", "/usr/bin/aec")
 ALL, NO_ROOM, MEMORY = 2**64 - 1, 18, 12
+CALLS = {"bound", "decode", "encode", "range", "text", "open", "load", "close", "read", "write", "size", "calls",
+         "version", "append", "insert", "overwrite", "remove", "truncate"}
 EIGHT, CODED = bytes(range(8)), bytes.fromhex("20092492")
 FLAGS = {"signed": "s", "msb_first": "m", "three_byte": "3", "pad": "p", "restricted": "t", "even_blocks": "e"}
 
@@ -138,30 +144,10 @@ def try_rooms(in_c, tally):
     """Buffers that are too short, exact and longer; that the bytes around an answer stay is judged by the C program."""
     for call, wanted in ROWS:
         for room in range(len(wanted) + 4):
-            text = f"the answer takes {len(wanted)} bytes, more than the buffer has"
+            text = f"the buffer is shorter than the answer, whose length is {len(wanted)}"
             short = Answer(NO_ROOM, 0, len(wanted), b"", text)
             right = Answer(0, 0, len(wanted), wanted, "no fault") if room >= len(wanted) else short
             tally.check(f"C: {' '.join(call.words(room))}", in_c.ask(call, room), right)
-
-
-def try_refusals(in_c, folder, tally):
-    library = build(folder)
-    growths = Growths(in_c.program, library, in_parts=True)
-    want = Answer(MEMORY, 0, 0, b"", "out of memory")
-    for call, wanted in [*ROWS, EDITED]:
-        right = Answer(0, 0, len(wanted), wanted, "no fault")
-        for alone in (True, False):
-            for first, last in ways(alone):
-                def run(*words, **more):
-                    answer, _, run.refused = growths.refuse(first, last, in_c.program.run, *words)
-                    return answer
-
-                got = in_c.ask(call, 100, run)
-                # The k-th alone may be one that the call goes on without.
-                allowed = [right] if run.refused == 0 else [want, right] if alone else [want]
-                tally.holds(got in allowed, f"growth {first} to {last} refused in {call.name}: {got}")
-                if run.refused == 0:
-                    break
 
 
 def try_threads(in_c, tally):
@@ -171,7 +157,7 @@ def try_threads(in_c, tally):
 def try_nulls(in_c, tally):
     """NULL in the place of buffers of no bytes: the answer where none is needed, and else the length that is."""
     none = ["encode 0 0", "decode 0 0", "decode 0 0", "range 0 0", "decode 6 0"]
-    some = ["encode 18 5", "decode 18 8", "range 18 3", f"text {len('the answer takes 3 bytes, more than the buffer has')}"]
+    some = ["encode 18 5", "decode 18 8", "range 18 3", f"text {len('the buffer is shorter than the answer, whose length is 3')}"]
     tally.check("nulls", in_c.program.run("nulls"), (0, "\n".join([*none, *some, ""])))
 
 
@@ -204,9 +190,7 @@ def try_names(folder, tally):
     """The names that the shared library defines for others, and the libraries that it needs."""
     library = os.path.join(folder, "libaecp.so")
     names = subprocess.run(["nm", "-D", "--defined-only", library], capture_output=True, text=True, check=True).stdout
-    edits = {"append", "insert", "overwrite", "remove", "truncate"}
-    calls = {"bound", "decode", "encode", "range", "text", "open", "load", "close", "read", "write", "size", "calls"} | edits
-    wanted = {f"aecp_{name}" for name in calls}
+    wanted = {f"aecp_{name}" for name in CALLS}
     tally.check("names", {line.split()[-1] for line in names.splitlines()}, wanted)
     needs = subprocess.run(["readelf", "-d", library], capture_output=True, text=True, check=True).stdout
     tally.check("needs", [line.split("[")[1] for line in needs.splitlines() if "(NEEDED)" in line], ["libc.so.6]"])
@@ -345,10 +329,15 @@ def build_in_c(asked, path, source):
     subprocess.run(["cc", "-O1", "-Wall", "-Werror", *words], check=True)
 
 
-def try_handles(asked, folder, tally):
+def built(asked, folder, name):
+    """The path of a C program of tests/ over the library."""
+    path = os.path.join(folder, name)
+    build_in_c(asked, path, os.path.join(TOP, "tests", f"{name}.c"))
+    return path
+
+
+def try_handles(path, tally):
     """The C program library_handles, by itself and under valgrind."""
-    path = os.path.join(folder, "library_handles")
-    build_in_c(asked, path, os.path.join(TOP, "tests", "library_handles.c"))
     judges = [[], ["valgrind", "-q", "--leak-check=full", "--error-exitcode=9"]]
     for judge in judges if shutil.which("valgrind") else judges[:1]:
         ended = subprocess.run([*judge, path], capture_output=True, text=True)
@@ -356,17 +345,22 @@ def try_handles(asked, folder, tally):
 
 
 def try_in_c(asked, folder, aecp, tally):
-    path = os.path.join(folder, "library_calls")
-    build_in_c(asked, path, os.path.join(TOP, "tests", "library_calls.c"))
+    in_c, handles = InC(Program(built(asked, folder, "library_calls"), folder)), built(asked, folder, "library_handles")
     try_page(asked, folder, tally)
-    in_c = InC(Program(path, folder))
+    include, said = os.path.join(TOP, "include"), Program(asked.program, folder).run("--version")[1]
+    try_version(include, said.split()[-1], tally)
+    try_types(include, os.path.join(asked.library, "libaecp.a"), folder, tally)
     try_rows(in_c, aecp, tally)
     try_rooms(in_c, tally)
-    try_refusals(in_c, folder, tally)
+    rows = [(call, Answer(0, 0, len(wanted), wanted, "no fault")) for call, wanted in [*ROWS, EDITED]]
+    library = build(folder)
+    try_refusals(in_c, library, rows, Answer(MEMORY, 0, 0, b"", "out of memory"), tally)
+    try_freed(Program(handles, folder), library, tally)
+    try_stacks(built(asked, folder, "library_stacks"), folder, os.path.join(include, "aecp.h"), CALLS, tally)
     try_threads(in_c, tally)
     try_nulls(in_c, tally)
     try_valgrind(in_c, tally)
-    try_handles(asked, folder, tally)
+    try_handles(handles, tally)
 
 
 def main():
@@ -377,15 +371,16 @@ def main():
         try_buffers(aecp, tally)
         if has_compiler():
             try_in_c(asked, folder, aecp, tally)
-        else:
-            print(NO_COMPILER)
         theirs = Program(THEIRS, folder) if os.path.exists(THEIRS) else None
         numbers = range(asked.cases) if asked.only is None else [asked.only]
         for number in numbers:
             try_case(aecp, Program(asked.program, folder), theirs, asked.seed, number, tally)
             if number % 8 == 0:
                 try_workspace(aecp, asked.seed, number, tally)
-    tally.print()
+    if has_compiler():
+        tally.print()
+    else:
+        print_skipped(tally, len(ROWS) + len(REFUSED))
     sys.exit(tally.failed > 0)
 
 

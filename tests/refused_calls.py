@@ -7,10 +7,10 @@ those calls: the k-th and all after it in the same call, and the k-th alone, for
 to print the file stdout of the crate. Each other one has to print the same, but that one call lacked memory: what was there
 before it is there still, though of a codec's counters as many as the call may raise can have risen, and the same call then gives
 what the file says. A coder in pieces answers the refusal for good, and a new one gives what the file says. In a run of edits the
-refused growth of an edit is the edit's outcome, and the others are made. Where the k-th alone is refused, a call may also go on
-without that growth.
+refused growth of an edit is the edit's outcome, and the others are made. A run of the program ends with status 1 and one line, and makes
+no DEST. No call goes on without a growth that is refused.
 
-The library that refuses is built by `cc`; without that command nothing is tried. Prints a table, the checks that fail and, last,
+The library that refuses is built by `cc`; without that command nothing is tried, which is a failure where CI is set. Prints a table, the checks that fail and, last,
 how many passed. Ends with 1 where one failed.
 """
 
@@ -22,7 +22,7 @@ from concurrent.futures import ThreadPoolExecutor
 from typing import NamedTuple
 
 from program import Program, Tally
-from refusing import NO_COMPILER, Growths, build, has_compiler, ways
+from refusing import Growths, build, has_compiler, print_skipped, ways
 
 ROWS = os.path.join(os.path.dirname(__file__), "..", "crates", "aec_memory_trials", "stdout")
 WANT = "out of memory"
@@ -107,7 +107,18 @@ def after_lost_edit(rows, place, refused):
     return [rows[place]._replace(left=left), *rows[place + 1 :]]
 
 
+def after_refused_run(rows, place, refused):
+    """The same for a run of the program: its status is 1, it says that memory lacks, of an edit by a script maybe with the line that
+    it came to, and DEST isn't there. The same run then gives its row."""
+    texts = [f"aec: {WANT}", *([f"aec: line 1: {WANT}"] if "--edit" in refused.call else [])]
+    lefts = [f" status 1, '{text}' no dest" for text in texts]
+    left = refused.left if refused.left in lefts else lefts[0]
+    return [rows[place]._replace(answer=WANT, left=left), *rows[place:]]
+
+
 def wanted(rows, place, refused):
+    if refused.call.startswith("perform"):
+        return after_refused_run(rows, place, refused)
     if refused.call.startswith("StreamCoder") and place + 1 < end_of_trial(rows, place):
         return after_refused_piece(rows, place, refused)
     if refused.call.startswith("StreamCoder"):
@@ -145,16 +156,9 @@ class Calls:
         return lines_of(text) if status == 0 else None, growths, refused
 
 
-class Seen(NamedTuple):
-    """What is seen of a way to refuse: in which call each growth is, and without which ones a call went on."""
-
-    calls: list
-    spared: set
-
-
 def refuse_in_turn(path, library, rows, alone, tally):
-    """All calls, with each growth refused in turn."""
-    seen = Seen([], set())
+    """All calls, with each growth refused in turn: the name of the call in which each growth is."""
+    calls = []
     with tempfile.TemporaryDirectory() as folder:
         program = Calls(path, library, folder)
         for first, last in ways(alone):
@@ -162,30 +166,28 @@ def refuse_in_turn(path, library, rows, alone, tally):
             way = f"growth {first} {'alone' if alone else 'and those after it'}"
             if lines is None or len(lines) < len(rows):
                 tally.holds(False, f"{way}: the program ends with a fault, or too early")
-                return seen
+                return calls
             if refused == 0:
                 tally.holds(lines == rows, f"{way}, with none refused: {lines}")
-                return seen
+                return calls
             place = first_difference(rows, lines)
             if place == len(rows):
-                tally.holds(alone, f"{way}: no call lacks memory")
-                seen.spared.add(first)
-                seen.calls.append("")
+                tally.holds(False, f"{way}: no call lacks memory")
+                calls.append("")
             else:
                 want = wanted(rows, place, lines[place])
                 compare(f"{way}, in {rows[place].call}", lines[place:], want, tally)
-                seen.calls.append(rows[place].call)
-    tally.holds(False, f"more than {first} growths")
-    return seen
+                calls.append(rows[place].call)
+    tally.holds(False, f"more than {len(calls)} growths")
+    return calls
 
 
-def print_table(rows, all_after, alone):
-    """For each call how many growths it has, and without how many of these it goes on."""
-    print("| Call | Rows | Growths | Growths that it goes on without |\n|---|---|---|---|")
-    for call in dict.fromkeys(row.call for row in rows if row.call != "new"):
-        numbers = {i + 1 for i, name in enumerate(all_after.calls) if name == call}
-        count = sum(row.call == call for row in rows)
-        print(f"| `{call}` | {count} | {len(numbers)} | {len(numbers & alone.spared) or 'none'} |")
+def print_table(rows, calls):
+    """For each call its rows, and its growths in all of them."""
+    print("| Call | Rows | Growths |\n|---|---|---|")
+    names, found = ([call.split(" ")[0] for call in listed] for listed in ([row.call for row in rows], calls))
+    for call in dict.fromkeys(name for name in names if name != "new"):
+        print(f"| `{call}` | {names.count(call)} | {found.count(call)} |")
 
 
 def main():
@@ -193,8 +195,8 @@ def main():
     with open(ROWS, encoding="utf-8") as file:
         rows = lines_of(file.read())
     if not has_compiler():
-        tally.print(len(rows), NO_COMPILER)
-        return 0
+        print_skipped(tally, len(rows))
+        return 1 if tally.failed else 0
     with tempfile.TemporaryDirectory() as folder, ThreadPoolExecutor() as pool:
         library = build(folder)
         tallies = [Tally(), Tally()]
@@ -202,8 +204,8 @@ def main():
         all_after, alone = (part.result() for part in parts)
     for one in tallies:
         tally.add(one)
-    tally.holds(len(all_after.calls) == len(alone.calls) > 0, f"{len(all_after.calls)} growths, or {len(alone.calls)}")
-    print_table(rows, all_after, alone)
+    tally.holds(all_after == alone != [], f"{len(all_after)} growths, or {len(alone)}")
+    print_table(rows, all_after)
     tally.print()
     return 1 if tally.failed else 0
 

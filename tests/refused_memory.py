@@ -4,13 +4,14 @@
 Runs the program at PATH_OF_AEC with a small library loaded before the C library, which refuses growths (calls of malloc, calloc
 and realloc): the k-th and all after it, and the k-th alone, for each k until a run meets no refusal. Each refused run has to
 end with status 1, with the one line for want of memory on standard error, and has to leave DEST as it was, or absent. The
-run that meets no refusal has to give the right bytes. A run may also go on without a growth, and then has to give the right bytes
-too: where the k-th alone is refused, and in decoding where all after it are refused as well, since that keeps no more bytes then.
+run that meets no refusal has to give the right bytes. A run goes on, and then has to give the right bytes too, without two kinds of growths
+alone: one that takes more room than is needed, on inputs longer than a piece; and where that growth alone is refused, the list of the
+words of the process, which is then made step by step.
 
 Beside that a short stream of very many samples is decoded, cut to a range and edited with little memory, and a stream is edited
 by a script of a million lines with four times its bytes, without the library.
 
-The library is built by `cc`; without that command its runs are skipped. Prints a table, the checks that fail and, last, how
+The library is built by `cc`; without that command its runs are skipped, which is a failure where CI is set. Prints a table, the checks that fail and, last, how
 many passed. Ends with 1 where one failed.
 """
 
@@ -24,7 +25,7 @@ from typing import NamedTuple, Optional
 
 from jobs import CHANGED_STREAM, EARLY_JOB, EDIT_LINES, EVEN_JOBS, JOBS, LARGE_JOBS, LONGEST, STILL_STREAM, ZEROS, ZEROS_STREAM, Job
 from program import Program, Tally
-from refusing import MOST_GROWTHS, NO_COMPILER, Growths, build, has_compiler, ways
+from refusing import MOST_GROWTHS, Growths, build, has_compiler, print_skipped, ways
 from spelling import bytes_of_bits
 
 OLD = b"what DEST held before"
@@ -58,6 +59,22 @@ RUNS = [
     Run("no SOURCE", ["nowhere", "dest"], b"", b"", 1, "aec: read failed\n", None),
     Run("no folder of DEST", ["source", "nowhere/dest"], b"", b"", 1, "aec: write failed\n", None),
 ]
+
+# Runs on more bytes than a piece, and whether they go on without room beyond their need where all growths after it are refused too:
+# decoding then keeps no more bytes.
+SPARING = {"decoding of noise": True, "an edit of noise": False}
+
+
+def list_of_words(run):
+    """The number of the growth for the list of the words of the process. Before it the words are read: a growth for each, one for the
+    end, and those of a list that is doubled when it is full."""
+    words = len(run.words) + 1
+    return words + 3 + (words > 4) + (words > 8)
+
+
+def may_go_on(run, alone, first):
+    """Whether a run may go on without a growth."""
+    return alone and first == list_of_words(run) or run.what in SPARING and (alone or SPARING[run.what])
 
 
 class Refusing:
@@ -103,13 +120,13 @@ def refuse_in_turn(refusing, alone, old, tally):
         answer, _, refused = refusing.answer(old, first, last)
         way = f"{what}: growth {first} {'alone' if alone else 'and all after it'}: {answer}"
         complete = refusing.is_complete(answer, old)
-        may_go_on = alone or "-d" in refusing.run.words
+        goes_on = may_go_on(refusing.run, alone, first) and complete
         if refused == 0:
             tally.holds(complete, f"{way}, with none refused")
             return first, spared
-        if may_go_on and complete:
+        if goes_on:
             spared.add(first)
-        tally.holds(refusing.is_want_of_memory(answer, old) or may_go_on and complete, way)
+        tally.holds(refusing.is_want_of_memory(answer, old) or goes_on, way)
     tally.holds(False, f"{what}: more than {MOST_GROWTHS} growths")
     return MOST_GROWTHS, spared
 
@@ -182,7 +199,7 @@ def main():
     try_little_memory(path, tally)
     try_long_script(path, tally)
     if not has_compiler():
-        tally.print(len(RUNS), NO_COMPILER)
+        print_skipped(tally, len(RUNS))
     else:
         refuse_all_in_turn(path, tally)
         tally.print()

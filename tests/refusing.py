@@ -1,4 +1,5 @@
-"""A library that is loaded before the C library, and refuses growths of a program: calls of malloc, calloc and realloc."""
+"""A library that is loaded before the C library, refuses growths of a program, calls of malloc, calloc and realloc, and counts the
+blocks that are not freed."""
 
 import os
 import shutil
@@ -17,11 +18,11 @@ LIBRARY = """
 #include <sys/syscall.h>
 #include <unistd.h>
 
-extern void *__libc_malloc(size_t), *__libc_calloc(size_t, size_t), *__libc_realloc(void *, size_t);
+extern void *__libc_malloc(size_t), *__libc_calloc(size_t, size_t), *__libc_realloc(void *, size_t), __libc_free(void *);
 
 /* In the file that GROWTHS names: how many growths there were, and how many were refused; the first and the last to refuse;
-   whether growths count now. */
-static struct { long growths, refused, first, last, counting; } *counts;
+   whether growths count now; and how many blocks more were allocated than freed while they did. */
+static struct { long growths, refused, first, last, counting, kept; } *counts;
 
 __attribute__((constructor)) static void begin(void) {
     const char *name = getenv("GROWTHS");
@@ -37,9 +38,21 @@ static int is_refused(void) {
     return 1;
 }
 
-void *malloc(size_t size) { return is_refused() ? 0 : __libc_malloc(size); }
-void *calloc(size_t number, size_t size) { return is_refused() ? 0 : __libc_calloc(number, size); }
-void *realloc(void *old, size_t size) { return is_refused() ? 0 : __libc_realloc(old, size); }
+static void *counted(void *block) {
+    if (counts && counts->counting && block) counts->kept++;
+    return block;
+}
+
+void *malloc(size_t size) { return is_refused() ? 0 : counted(__libc_malloc(size)); }
+void *calloc(size_t number, size_t size) { return is_refused() ? 0 : counted(__libc_calloc(number, size)); }
+void *realloc(void *old, size_t size) {
+    if (is_refused()) return 0;
+    return old ? __libc_realloc(old, size) : counted(__libc_realloc(old, size));
+}
+void free(void *block) {
+    if (counts && counts->counting && block) counts->kept--;
+    __libc_free(block);
+}
 
 /* On standard error a program may say from where to where growths count. Behind the part with the first that is refused all are
    granted. */
@@ -58,6 +71,14 @@ def has_compiler():
     return shutil.which("cc") is not None
 
 
+def print_skipped(tally, number):
+    """The last line of a test that leaves out so many checks for want of a compiler. Where continuous integration runs, which sets CI, that
+    is a failure."""
+    if os.environ.get("CI"):
+        tally.holds(False, NO_COMPILER)
+    tally.print(number, NO_COMPILER)
+
+
 def build(folder):
     """Builds the library, and gives its name."""
     source, library = os.path.join(folder, "refusing.c"), os.path.join(folder, "refusing.so")
@@ -71,15 +92,16 @@ class Growths:
     """Runs of a program with the library. The growths that count are all, or those of the parts that the program names."""
 
     def __init__(self, program, library, in_parts=False):
-        self.program, self.at_first = program, 0 if in_parts else 1
+        self.program, self.at_first, self.kept = program, 0 if in_parts else 1, 0
         self.environment = {**os.environ, "LD_PRELOAD": library, "GROWTHS": program.file("growths")}
 
     def refuse(self, first, last, run, *words):
         """What a run answers of whose growths the first to the last are refused, and the numbers of growths and refusals.
-        `run` is a way to run the program."""
-        self.program.write("growths", struct.pack("5l", 0, 0, first, last, self.at_first))
+        `run` is a way to run the program. The number of blocks that it didn't free is kept too."""
+        self.program.write("growths", struct.pack("6l", 0, 0, first, last, self.at_first, 0))
         answer = run(*words, env=self.environment)
-        return (answer, *struct.unpack("5l", self.program.read("growths"))[:2])
+        growths, refused, *_, self.kept = struct.unpack("6l", self.program.read("growths"))
+        return answer, growths, refused
 
 
 def ways(alone):

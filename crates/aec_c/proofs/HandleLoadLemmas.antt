@@ -1,14 +1,19 @@
 -- What loading a handle does, from what its steps say.
-use Rattle.std.proofs.Common.{◌≡◌, ℕ, ◌⊎◌, inl, inr, Option, None, Some, Err, List, [], ap, sym, ◌∙◌, ◌^◌}
+use Rattle.std.proofs.Common.{◌≡◌, ℕ, zero, suc, ◌+◌, ◌-◌, ◌/◌, ◌%◌, ◌==◌, min, false, if◌then◌else◌, ◌⊎◌, inl, inr, Option, None, Some, Ok, Err, List, [], length, ap, sym, ◌∙◌, ◌^◌, arith}
 use Rattle.std.specs.Prelude.{ℤ, MatchOption}
+use Rattle.std.specs.Int.{div_ceil}
+use Rattle.std.proofs.Math.Nat.{zero-div, zero-mod}
+use Rattle.std.proofs.lemmas.Bool.{ne_eqb}
 use Rattle.aec_params.specs.declared.settings.Settings.{Settings}
 use Rattle.aec_params.specs.declared.fault.Fault.{Fault}
 use Rattle.aec_params.specs.declared.fault.Fault.TheVariants.{Memory}
 use Rattle.aec_params.specs.declared.edit.Edit.TheVariants.{Append}
+use Rattle.aec_params.specs.Edits.{needed_calls}
 use Rattle.aec_bits.specs.Codec.{Format}
 use Rattle.aec_interval.specs.IntervalFormat.{interval_format}
 use Rattle.aec_edit.specs.Calls.{due_refusal}
 use Rattle.aec_edit.specs.Steps.{Applies, LacksMemory}
+use Rattle.aec_edit.specs.Workspace.{interval_count}
 use Rattle.aec_c.specs.declared.handle.OpenWorkspace.{OpenWorkspace}
 use Rattle.aec_c.specs.HandleCalls.{format_of}
 use Rattle.aec_c.specs.HandleReads.{IsFresh}
@@ -18,6 +23,18 @@ why : (due : Option Fault) (needed calls after : ℕ) (fault : Fault)
     → MatchOption due (LacksMemory needed calls fault after) (λ d. (fault ≡ d) × (after ≡ calls)) → (fault ≡ Memory) ⊎ (due ≡ Some fault)
 why None needed calls after fault lacks = inl lacks.fault_is
 why (Some d) needed calls after fault is = inr (ap Some (sym is.0))
+
+-- an append to no samples codes each interval of the new ones
+count_first : (n count : ℕ) → (if count == 0 then 0 else div_ceil (0 + count) n - 0 / n) ≡ div_ceil count n
+count_first n zero = sym (ap (λ q. q + min 1 (0 % n)) (zero-div n) ∙ ap (λ r. 0 + min 1 r) (zero-mod n))
+count_first n (suc k) =
+    let some : (suc k == 0) ≡ false = ne_eqb (suc k) 0 (λ is. absurd (omega (arith, is))) in
+    let all : 0 + suc k ≡ suc k = omega arith in
+    let whole : div_ceil (suc k) n - 0 / n ≡ div_ceil (suc k) n = omega (arith, zero-div n) in
+    ap (λ b. if b then 0 else div_ceil (0 + suc k) n - 0 / n) some ∙ (ap (λ k. div_ceil k n - 0 / n) all ∙ whole)
+
+needed_first : (n : ℕ) (xs : List ℤ) → needed_calls n 0 (Append xs) ≡ div_ceil (length xs) n
+needed_first n xs = count_first n (length xs)
 
 module _ (s : Settings) (first w w' : OpenWorkspace) (xs : List ℤ) (fault : Fault) (fresh : IsFresh s first) (same : w ≡ first) where
   abbrev due : Format → ℕ → List ℤ → ℕ → Option Fault
@@ -38,3 +55,17 @@ module _ (s : Settings) (first w w' : OpenWorkspace) (xs : List ℤ) (fault : Fa
   pub filled_refuses : Applies (format_of w) w.workspace.limit w.workspace.samples w.workspace.codec.calls w.workspace.codec.reads (Append xs)
       (Err fault) w'.workspace.samples w'.workspace.codec.calls w'.workspace.codec.reads → CannotHold s xs fault
   filled_refuses applies = told (why _ _ _ _ fault applies.answer)
+
+  needed_is : needed_calls (format_of w).most (length w.workspace.samples) (Append xs) ≡ interval_count (interval_format s) xs
+  needed_is =
+      ap (λ w. needed_calls (format_of w).most (length w.workspace.samples) (Append xs)) same
+      ∙ (ap (λ f. needed_calls f.most (length first.workspace.samples) (Append xs)) fresh.format
+      ∙ (ap (λ l. needed_calls (interval_format s).most (length l) (Append xs)) fresh.samples ∙ needed_first (interval_format s).most xs))
+
+  -- how often an append to a fresh workspace calls the coder
+  pub filled_calls : (coded : ℕ) → Applies (format_of w) w.workspace.limit w.workspace.samples w.workspace.codec.calls w.workspace.codec.reads (Append xs)
+      (Ok coded) w'.workspace.samples w'.workspace.codec.calls w'.workspace.codec.reads
+      → w'.workspace.codec.calls ≡ interval_count (interval_format s) xs
+  filled_calls coded applies =
+      let none : w.workspace.codec.calls ≡ 0 = ap (λ w. w.workspace.codec.calls) same ∙ fresh.calls in
+      omega (arith, applies.answer.calls_are, applies.answer.coded_is, needed_is, none)

@@ -10,6 +10,7 @@ use Rattle.aec_params.specs.Reading.{IsReading}
 use Rattle.aec_interval.specs.IntervalFormat.{interval_format}
 use Rattle.aec_interval.specs.Reached.{RefusesDecoding}
 use Rattle.aec_edit.specs.Calls.{due_refusal}
+use Rattle.aec_edit.specs.Workspace.{interval_count}
 use Rattle.aec_c.specs.declared.handle.OpenWorkspace.{OpenWorkspace}
 use Rattle.aec_c.specs.declared.reply.Reply.{Reply}
 use Rattle.aec_c.specs.Replies.{done, refused_for}
@@ -25,10 +26,11 @@ pub data CannotRead (s : Settings) (count : Option ℕ) (bytes : List ℕ) (faul
   not_read : RefusesDecoding s count (2 ^ 32) (bits_of_bytes bytes) fault → CannotRead s count bytes fault
   no_memory : fault ≡ Memory → CannotRead s count bytes fault
 
--- a workspace with these samples
+-- a workspace with these samples, whose coder has been called once for each interval of them
 pub record Holds (s : Settings) (samples : List ℤ) (w : OpenWorkspace) : Type 0 where
   pub samples_are : w.workspace.samples ≡ samples
   pub limit : w.workspace.limit ≡ 2 ^ 32
+  pub calls : w.workspace.codec.calls ≡ interval_count (interval_format s) samples
   pub format : format_of w ≡ interval_format s
 
 -- why samples aren't taken into an empty workspace: the options, what refuses an append of them, or

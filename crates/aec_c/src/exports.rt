@@ -14,6 +14,15 @@ use crate::settling::settle;
 use crate::text::{put_text, text_of};
 use std::alloc::Global;
 
+/// The version of the library: 10,000 for the first of its three numbers, 100 for the second, and 1
+/// for the third.
+#[unsafe(no_mangle)]
+pub extern "C" fn aecp_version() -> u32
+    ensures { result ≡ 100 }
+{
+    100
+}
+
 /// Codes stored samples.
 #[unsafe(no_mangle)]
 pub extern "C" fn aecp_encode(

@@ -43,7 +43,7 @@ pub(crate) fn text_of(alloc: Global, reply: &Reply) -> Result<String, AllocError
         None if reply.fault == 0 => format!(in alloc; "no fault"),
         None if reply.fault == NO_ROOM => {
             format!(in alloc;
-                "the answer takes {} bytes, more than the buffer has",
+                "the buffer is shorter than the answer, whose length is {}",
                 reply.len
             )
         }

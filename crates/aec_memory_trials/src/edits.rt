@@ -27,7 +27,7 @@ fn print_work<R: Print>(rt: &R, alloc: Global, work: &Workspace<AecCodec>) {
 }
 
 // A workspace, edits of it, how many intervals the last one coded, and the range of places 19 to
-// 21.
+// 21. Room is taken for 1,000 bits and 9 intervals.
 #[derive(Drop)]
 struct Edits {
     work: Workspace<AecCodec>,
@@ -52,6 +52,9 @@ impl Edits {
 
 impl Trial for Edits {
     fn call(&mut self, number: usize) -> Result<(), Fault> {
+        if number == RESERVE {
+            return self.work.reserve(1000, 9);
+        }
         match self.edits.get(number) {
             Some(edit) => self.coded = self.work.apply(edit)?,
             None => self.part = self.work.range(self.alloc, 19, 3)?,
@@ -184,6 +187,14 @@ truncate 0";
 
 const APPLY: &str = "Workspace::apply";
 
+const RESERVE: usize = 100;
+
+const RESERVED: [(usize, &str); 3] = [
+    (RESERVE, "Workspace::reserve"),
+    (0, APPLY),
+    (RESERVE, "Workspace::reserve"),
+];
+
 const EDITED: [(usize, &str); 7] = [
     (0, APPLY),
     (1, APPLY),
@@ -213,6 +224,7 @@ pub fn try_edits<R: Print + Eprint>(rt: &R, alloc: Global) -> Result<(), Fault> 
     try_calls(rt, &ZEROS_EDITED, &mut Edits::new(alloc, 48, ZEROS)?);
     try_calls(rt, &EDITED[..3], &mut Edits::new(alloc, 48, SEVENS)?);
     try_calls(rt, &EDITED, &mut Edits::new(alloc, 65, MOVED_ZEROS)?);
+    try_calls(rt, &RESERVED, &mut Edits::new(alloc, 48, SEVENS)?);
     try_runs(rt, alloc)?;
     try_script(rt, alloc, LINES);
     try_script(rt, alloc, MOVING_LINES);

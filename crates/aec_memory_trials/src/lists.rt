@@ -2,7 +2,9 @@
 
 use crate::trial::{Trial, print_bytes, print_samples, try_calls};
 use aec_engine::{decode_bytes, encode_bytes};
-use aec_params::{Fault, Limits, Params, Settings, append_samples, first_bad, read_samples};
+use aec_params::{
+    Fault, Limits, Params, Settings, append_samples, collect_samples, first_bad, read_samples,
+};
 use std::alloc::Global;
 
 // Signed samples of five bits.
@@ -23,10 +25,14 @@ impl Trial for Stored {
             self.samples = read_samples(self.alloc, &self.params, &FOUR)?;
             return Ok(());
         }
-        match first_bad(&self.params, &TWO) {
-            Some(index) => Err(Fault::SampleRange { index }),
-            None => append_samples(&self.params, &TWO, &mut self.samples),
+        if let Some(index) = first_bad(&self.params, &TWO) {
+            return Err(Fault::SampleRange { index });
         }
+        if number == 1 {
+            return append_samples(&self.params, &TWO, &mut self.samples);
+        }
+        self.samples = collect_samples(self.alloc, &self.params, &TWO)?;
+        Ok(())
     }
 
     fn show<R: Print>(&self, rt: &R) {
@@ -47,7 +53,11 @@ fn try_stored<R: Print + Eprint>(rt: &R, alloc: Global) -> Result<(), Fault> {
     };
     try_calls(
         rt,
-        &[(0, "read_samples"), (1, "append_samples")],
+        &[
+            (0, "read_samples"),
+            (1, "append_samples"),
+            (2, "collect_samples"),
+        ],
         &mut stored,
     );
     Ok(())

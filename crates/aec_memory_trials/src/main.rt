@@ -4,12 +4,15 @@
 
 mod bits;
 mod blocks;
+mod buffers;
 mod codecs;
+mod commands;
 mod edits;
 mod engines;
 mod lists;
 mod pieces;
 mod readers;
+mod runs;
 mod streams;
 mod trial;
 
@@ -37,5 +40,8 @@ fn try_all(rt: &HostRuntime) -> Result<(), Fault> {
     readers::try_readers(rt, alloc)?;
     pieces::try_pieces(rt, alloc)?;
     edits::try_edits(rt, alloc)?;
-    engines::try_engines(rt, alloc)
+    engines::try_engines(rt, alloc)?;
+    buffers::try_buffers(rt, alloc)?;
+    commands::try_commands(rt, alloc)?;
+    runs::try_runs(rt)
 }

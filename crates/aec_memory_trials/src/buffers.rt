@@ -1,0 +1,68 @@
+//! Coded bytes decoded into a buffer.
+
+use crate::trial::{Trial, print_bytes, try_calls};
+use aec_engine::{decode_into, range_into};
+use aec_params::{Fault, Limits, Params, Settings};
+use std::alloc::Global;
+
+// A buffer of ten bytes, how many of them a call may fill, and how many bytes its answer takes.
+#[derive(Drop)]
+struct Buffers {
+    params: Params,
+    limits: Limits,
+    out: [u8; 10],
+    room: usize,
+    len: u64,
+    alloc: Global,
+}
+
+const CODED: [u8; 4] = [0x20, 0x09, 0x24, 0x92];
+
+impl Trial for Buffers {
+    fn call(&mut self, number: usize) -> Result<(), Fault> {
+        let (alloc, params, limits) = (self.alloc, &self.params, self.limits);
+        let out = &mut self.out[..self.room.min(10)];
+        self.len = match number {
+            0 => decode_into(alloc, params, limits, Some(8), &CODED, out)?,
+            1 => decode_into(alloc, params, limits, Some(9), &CODED, out)?,
+            2 => range_into(alloc, params, limits, None, 2, 3, &CODED, out)?,
+            _ => range_into(alloc, params, limits, None, 6, 3, &CODED, out)?,
+        };
+        Ok(())
+    }
+
+    fn show<R: Print>(&self, rt: &R) {
+        print_bytes(rt, &self.out);
+        let _ = print!(rt; " (answer of {})", self.len);
+    }
+}
+
+// A call, and the room for its answer.
+const CALLS: [(usize, &str, usize); 6] = [
+    (0, "decode_into", 9),
+    (0, "decode_into", 7),
+    (1, "decode_into", 9),
+    (2, "range_into", 9),
+    (2, "range_into", 2),
+    (3, "range_into", 9),
+];
+
+/// Each call of the table, on a buffer of its own.
+pub fn try_buffers<R: Print + Eprint>(rt: &R, alloc: Global) -> Result<(), Fault> {
+    let params = Params::new(Settings::USUAL)?;
+    let Some(limits) = Limits::new(1 << 32, 1 << 40) else {
+        return Ok(());
+    };
+    for (number, name, room) in CALLS.iter() {
+        let mut buffers = Buffers {
+            params,
+            limits,
+            out: [0xEE; 10],
+            room: *room,
+            len: 0,
+            alloc,
+        };
+        try_calls(rt, &[(*number, *name)], &mut buffers);
+    }
+    Ok(())
+}

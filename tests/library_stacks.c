@@ -1,0 +1,119 @@
+/* How much stack a call of libaecp takes, for tests/library_memory.py: `library_stacks CALL KIB` makes a call with many settings, each time
+ * in a thread with a stack of KIB KiB that ends where no memory is. Prints how much of the stack was written at most, in bytes. With the
+ * call `none` that is what a thread takes by itself. */
+#include <aecp.h>
+#include <pthread.h>
+#include <stdio.h>
+#include <stdlib.h>
+#include <string.h>
+#include <sys/mman.h>
+
+enum { SAMPLES = 3000, FRONT = 1000, PART = 700, ROOM = 8 * SAMPLES, GUARD = 1 << 20, PAINT = 0xA5 };
+
+static const char *call;
+static uint8_t samples[4 * SAMPLES], coded[ROOM], back[ROOM];
+static int64_t values[SAMPLES], numbers[SAMPLES];
+static aecp_options options;
+static aecp_handle handle;
+static size_t samples_len, coded_len;
+
+/* Zeros, and then values of all widths. */
+static void fill(void) {
+    size_t width = options.bits > 16 ? 4 : options.bits > 8 ? 2 : 1;
+    unsigned seed = options.bits;
+    samples_len = width * SAMPLES;
+    for (size_t i = 0; i < SAMPLES; i++) {
+        uint32_t value = i / 300 % 3 == 0 ? 0 : (uint32_t)rand_r(&seed) << 1;
+        value >>= 32 - options.bits;
+        value >>= i / 64 % options.bits;
+        for (size_t b = 0; b < width; b++) samples[i * width + b] = (uint8_t)(value >> (8 * b));
+        values[i] = value;
+    }
+}
+
+static int is(const char *name) {
+    return !strcmp(call, name);
+}
+
+/* The call, and whether it ends as it has to. */
+static int ends(void) {
+    aecp_reply reply = {0, 0, 0};
+    if (is("none")) return 1;
+    if (is("version")) return aecp_version() == AECP_VERSION;
+    if (is("encode")) return !aecp_encode(&options, samples, samples_len, back, ROOM, &reply);
+    if (is("decode")) return !aecp_decode(&options, SAMPLES, coded, coded_len, back, ROOM, &reply);
+    if (is("range")) return !aecp_range(&options, SAMPLES, FRONT, PART, coded, coded_len, back, ROOM, &reply);
+    if (is("bound")) return aecp_bound(&options, SAMPLES) >= coded_len;
+    if (is("open")) return !aecp_open(&options, &handle, &reply);
+    if (is("load")) return !aecp_load(&options, SAMPLES, coded, coded_len, &handle, &reply);
+    if (is("append")) return !aecp_append(&handle, values, PART, &reply);
+    if (is("truncate")) return !aecp_truncate(&handle, FRONT + 1, &reply);
+    if (is("remove")) return !aecp_remove(&handle, FRONT, PART, &reply);
+    if (is("overwrite")) return !aecp_overwrite(&handle, FRONT, values, PART, &reply);
+    if (is("insert")) return !aecp_insert(&handle, FRONT, values, PART, &reply);
+    if (is("read")) return !aecp_read(&handle, FRONT, PART, numbers, SAMPLES, &reply);
+    if (is("write")) return !aecp_write(&handle, back, ROOM, &reply);
+    if (is("size")) return aecp_size(&handle) == SAMPLES;
+    if (is("calls")) return aecp_calls(&handle) > 0;
+    if (is("close")) return aecp_close(&handle), aecp_size(&handle) == 0;
+    if (is("text")) {
+        char text[80];
+        int longest = 0;
+        for (reply = (aecp_reply){0, UINT64_MAX, UINT64_MAX}; reply.fault < 21; reply.fault++)
+            longest |= aecp_text(&reply, text, sizeof text) > 30;
+        return longest;
+    }
+    return 0;
+}
+
+static void *work(void *ended) {
+    *(int *)ended = ends();
+    return 0;
+}
+
+/* How many bytes of a stack of so many are written where the call is made in a thread; 0 where it doesn't end as it has to. */
+static size_t taken(size_t size) {
+    uint8_t *memory = mmap(0, GUARD + size, PROT_NONE, MAP_PRIVATE | MAP_ANONYMOUS, -1, 0), *stack = memory + GUARD;
+    pthread_attr_t attributes;
+    pthread_t thread;
+    int ended = 0;
+    size_t left = 0;
+    if (memory == MAP_FAILED || mprotect(stack, size, PROT_READ | PROT_WRITE)) return 0;
+    memset(stack, PAINT, size);
+    if (pthread_attr_init(&attributes) || pthread_attr_setstack(&attributes, stack, size)) return 0;
+    if (pthread_create(&thread, &attributes, work, &ended) || pthread_join(thread, 0)) return 0;
+    while (left < size && stack[left] == PAINT) left++;
+    munmap(memory, GUARD + size);
+    return ended ? size - left : 0;
+}
+
+/* The same with these settings, and samples for them; settings that are refused take nothing. */
+static int try_settings(size_t size, size_t *most) {
+    aecp_reply reply;
+    fill();
+    if (aecp_encode(&options, samples, samples_len, coded, ROOM, &reply)) return reply.fault <= AECP_RESTRICTED_WIDTH;
+    coded_len = reply.len;
+    if (aecp_load(&options, SAMPLES, coded, coded_len, &handle, &reply)) return 0;
+    size_t bytes = taken(size);
+    aecp_close(&handle);
+    if (bytes > *most) *most = bytes;
+    return bytes > 0;
+}
+
+int main(int count, char **words) {
+    const uint32_t sizes[] = {8, 10, 16, 32, 64}, widths[] = {1, 3, 8, 12, 16, 20, 32}, intervals[] = {1, 128, 4096};
+    size_t most = 0;
+    if (count != 3) return 2;
+    call = words[1];
+    for (int i = 0; i < 5 * 7 * 3 * 4; i++) {
+        options = (aecp_options)AECP_OPTIONS(widths[i % 7]);
+        options.block_size = sizes[i / 7 % 5];
+        options.interval = intervals[i / 35 % 3];
+        options.even_blocks = options.block_size == 10;
+        options.preprocess = i / 105 % 2 == 0;
+        options.pad = options.restricted = i / 210 % 2;
+        if (!try_settings(1024 * strtoul(words[2], 0, 10), &most)) return 1;
+    }
+    printf("%zu\n", most);
+    return 0;
+}

@@ -1,0 +1,54 @@
+"""The header aecp.h as compilers read it, for library.py: a program that is C and C++ at once, over samples of 16 bits, without a warning."""
+
+import os
+import re
+import shutil
+import subprocess
+
+from program import Program
+
+PROGRAM = """
+#include <aecp.h>
+#include <stdio.h>
+#include <string.h>
+
+int main(void) {
+    const uint16_t samples[] = {0, 1, 2, 3, 1000, 1001, 65535, 65534};
+    uint16_t back[8];
+    uint8_t coded[64];
+    const int64_t one = 7;
+    aecp_options options = AECP_OPTIONS(16);
+    aecp_handle handle = AECP_HANDLE;
+    aecp_reply reply;
+    if (aecp_version() != AECP_VERSION) return 5;
+    if (aecp_encode(&options, samples, sizeof samples, coded, sizeof coded, &reply)) return 1;
+    size_t len = (size_t)reply.len;
+    if (aecp_decode(&options, 8, coded, len, back, sizeof back, &reply) || memcmp(samples, back, sizeof back)) return 2;
+    if (aecp_range(&options, 8, 4, 2, coded, len, back, sizeof back, &reply) || back[0] != 1000 || back[1] != 1001) return 3;
+    if (aecp_load(&options, 8, coded, len, &handle, &reply) || aecp_append(&handle, &one, 1, &reply)) return 4;
+    printf("%u samples\\n", (unsigned)aecp_size(&handle));
+    aecp_close(&handle);
+    return 0;
+}
+"""
+
+
+def try_version(include, version, tally):
+    """That the header has the version of the program, three numbers with points between them."""
+    with open(os.path.join(include, "aecp.h"), encoding="utf-8") as file:
+        said = re.search(r"#define AECP_VERSION (\d+)", file.read())
+    major, minor, patch = map(int, version.split("."))
+    tally.check("AECP_VERSION", int(said[1]), 10000 * major + 100 * minor + patch)
+
+
+def try_types(include, archive, folder, tally):
+    """The program, by the compiler of C and, where there is one, by that of C++."""
+    for compiler, suffix in (("cc", "c"), ("c++", "cpp")):
+        if shutil.which(compiler):
+            source, path = os.path.join(folder, f"types.{suffix}"), os.path.join(folder, f"types_{suffix}")
+            with open(source, "w", encoding="utf-8") as file:
+                file.write(PROGRAM)
+            words = ["-O1", "-Wall", "-Wextra", "-Wpedantic", "-Werror", "-I", include, "-o", path, source, archive]
+            ended = subprocess.run([compiler, *words], capture_output=True, text=True)
+            tally.check(f"{compiler}: {ended.stderr[-500:]}", ended.returncode, 0)
+            tally.check(f"types by {compiler}", Program(path, folder).run(), (0, "9 samples\n"))
