@@ -77,6 +77,7 @@ library:
 test-library:
 	python3 tests/library.py crates/aec/out/aec bin
 	python3 tests/library_arrays.py crates/aec/out/aec bin
+	python3 tests/library_python.py bin
 
 # Header, libraries, pkg-config file and Python module. The module goes where `python3` looks for modules, with a library of its own.
 PYTHON_DIR ?= $(shell python3 -c 'import sysconfig; print(sysconfig.get_path("purelib"))')
@@ -88,5 +89,8 @@ install-library:
 	install -m 755 bin/libaecp.so $(DESTDIR)$(PREFIX)/lib/libaecp.so.0
 	ln -sf libaecp.so.0 $(DESTDIR)$(PREFIX)/lib/libaecp.so
 	sed 's|@PREFIX@|$(PREFIX)|; s|@VERSION@|0.1.0|' include/aecp.pc.in > $(DESTDIR)$(PREFIX)/lib/pkgconfig/aecp.pc
-	install -m 644 python/aecp/*.py $(DESTDIR)$(PYTHON_DIR)/aecp
+	install -m 644 python/aecp/*.py python/aecp/py.typed $(DESTDIR)$(PYTHON_DIR)/aecp
 	install -m 755 bin/libaecp.so $(DESTDIR)$(PYTHON_DIR)/aecp/libaecp.so
+	install -d $(DESTDIR)$(PYTHON_DIR)/aecp-0.1.0.dist-info
+	printf 'Metadata-Version: 2.1\nName: aecp\nVersion: 0.1.0\n' > $(DESTDIR)$(PYTHON_DIR)/aecp-0.1.0.dist-info/METADATA
+	install -m 644 python/entry_points.txt $(DESTDIR)$(PYTHON_DIR)/aecp-0.1.0.dist-info/entry_points.txt

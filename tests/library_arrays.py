@@ -123,6 +123,15 @@ def try_numcodecs(tally):
     tally.check("numcodecs: decoded", numpy.frombuffer(codec.decode(coded), "<u2").tolist(), array.tolist())
     again = numcodecs.get_codec(codec.get_config())
     tally.check("numcodecs: by its configuration", bytes(again.decode(coded)), array.tobytes())
+    for order in "<>":
+        for codec in (Aecp(16), Aecp(16, msb_first=True)):
+            turned = array.astype(order + "u2")
+            chunk, what = codec.encode(turned), f"numcodecs: {order}u2, {codec.options}"
+            tally.check(f"{what}: as short as in the other order", len(chunk), len(coded))
+            tally.check(f"{what}: decoded", bytes(codec.decode(chunk)), turned.tobytes())
+            room = numpy.empty(len(turned), turned.dtype)
+            tally.holds((codec.decode(chunk, out=room) == turned).all(), f"{what}: decoded into an array")
+    tally.check("numcodecs: bytes", bytes(Aecp(16).decode(Aecp(16).encode(array.tobytes()))), array.tobytes())
 
 
 def try_page(folder, tally):

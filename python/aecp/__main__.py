@@ -15,8 +15,8 @@ SWITCHES = {
 }
 
 
-def words():
-    parser = argparse.ArgumentParser(prog="python -m aecp", description=__doc__.split(": ")[1])
+def words() -> argparse.ArgumentParser:
+    parser = argparse.ArgumentParser(prog="python -m aecp", description="codes or decodes a file")
     parser.add_argument("source")
     parser.add_argument("dest", help="is replaced without asking")
     parser.add_argument("-d", "--decode", action="store_true", help="decode; options and count are those of coding")
@@ -31,15 +31,15 @@ def words():
     return parser
 
 
-def work(asked, data):
+def work(asked: argparse.Namespace, data: bytes) -> bytes:
     options = Options(**{name: getattr(asked, name) for name in Options.__dataclass_fields__})
     if asked.range:
         first, length = (int(part) for part in asked.range.split(":"))
-        return decode_range_bytes(data, asked.count, first, length, options)
-    return decode_bytes(data, asked.count, options) if asked.decode else encode(data, options)
+        return bytes(decode_range_bytes(data, asked.count, first, length, options))
+    return bytes(decode_bytes(data, asked.count, options)) if asked.decode else encode(data, options)
 
 
-def main():
+def main() -> None:
     parser = words()
     asked = parser.parse_args()
     if asked.count is not None and not (asked.decode or asked.range):
