@@ -11,12 +11,20 @@ A coded stream contains neither its options nor its sample count. Keep both with
 Several threads may call at once, and their calls run in parallel. While a call runs, no thread may change the memory that it was given.
 """
 
-from aecp.calls import decode, decode_bytes, decode_range, decode_range_bytes, encode
-from aecp.faults import Fault, LimitPassed, NoMemory, OptionsRefused, RangeRefused, SampleRefused, StreamRefused
-from aecp.options import Options
-from aecp.workspace import Workspace
+import os
+import sys
 
 __version__ = "0.1.0"
+
+try:
+    from aecp.calls import decode, decode_bytes, decode_range, decode_range_bytes, encode
+    from aecp.faults import Fault, LimitPassed, NoMemory, OptionsRefused, RangeRefused, SampleRefused, StreamRefused
+    from aecp.options import Options
+    from aecp.workspace import Workspace
+except ImportError:
+    # The command says in a line of its own that there is no library, and gives help without one.
+    if sys.argv[:1] != ["-m"] and os.path.basename(sys.argv[0]) != "aecp":
+        raise
 
 __all__ = [
     "Fault", "LimitPassed", "NoMemory", "Options", "OptionsRefused", "RangeRefused", "SampleRefused", "StreamRefused",

@@ -1,0 +1,2 @@
+def try_all(tally, folder):
+    pass
