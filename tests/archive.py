@@ -68,7 +68,7 @@ LINES = [
 ]
 
 
-def try_lines(tally):
+def try_lines(tally, _):
     """Each line that is refused, what is said of it, and that the lines after it are judged too."""
     options = options_of(USUAL._replace(bits=8))
     for script, wanted in LINES:
@@ -210,7 +210,7 @@ def try_rescue(tally, seed):
     tally.holds(USUAL.stored(samples).startswith(read(os.path.join(FOLDERS[0], "rescued.raw"))), "rescue of a cut file: its samples")
 
 
-def try_page(tally):
+def try_page(tally, _):
     """The commands of docs/ARCHIVE.md, one block after the other, and what their remarks say that they print."""
     folder = tempfile.mkdtemp(dir=FOLDERS[0])
     bin_folder = os.path.join(folder, "bin")
@@ -224,7 +224,7 @@ def try_page(tally):
     tally.holds(len(text.split()) <= 1000, f"ARCHIVE.md has {len(text.split())} words, more than 1,000")
     environment = {**os.environ, "PATH": f"{bin_folder}:{os.environ['PATH']}"}
     blocks = [it for it in re.findall(r"```sh\n(.*?)```", text, re.S) if "make " not in it]
-    tally.holds(len(blocks) > 1, "ARCHIVE.md has no commands")
+    tally.holds(len(blocks) > 0, "ARCHIVE.md has no commands")
     for block in blocks:
         ended = subprocess.run(["sh", "-euc", block], cwd=folder, env=environment, capture_output=True, text=True, check=False)
         tally.check(f"the page: {block}: {ended.stderr}", ended.returncode, 0)
@@ -242,31 +242,31 @@ def words():
     return asked.parse_args()
 
 
-def on_one_core(work, seed, numbers):
-    """The tally of a part of the numbers."""
+def on_one_core(work, *more):
+    """The tally of a part of the tests, which prints what fails. A folder of its own where it is given none."""
     tally = Tally()
-    work(tally, seed, numbers)
+    with tempfile.TemporaryDirectory() as folder:
+        FOLDERS[:] = [folder]
+        work(tally, *(more or [folder]))
     return tally
 
 
-def main():
-    import archive_stops
-    import archive_verbs
+def parts_of(asked):
+    """The parts of all tests, longest first: functions and what they are given."""
+    if asked.only is not None:
+        return [(try_scripts, asked.seed, [asked.only]), (try_kept, asked.seed, [asked.only])]
+    parts = [(part, *more) for part, *more in archive_stops.parts(asked.seed)]
+    parts += [(part,) for part in archive_verbs.PARTS]
+    parts += [(try_damage, asked.seed), (try_rescue, asked.seed), (try_page,), (try_lines,)]
+    parts += [(try_kept, asked.seed, range(i, asked.cases, 4)) for i in range(4)]
+    return parts + [(try_scripts, asked.seed, range(i, 1000, 4)) for i in range(4)]
 
+
+def main():
     asked, tally = words(), Tally()
-    one = None if asked.only is None else [asked.only]
-    with tempfile.TemporaryDirectory() as folder, ProcessPoolExecutor(4) as pool:
-        FOLDERS.append(folder)
-        parts = [pool.submit(on_one_core, try_scripts, asked.seed, one or range(i, 1000, 4)) for i in range(1 if one else 4)]
-        parts += [pool.submit(on_one_core, try_kept, asked.seed, one or range(i, asked.cases, 4)) for i in range(1 if one else 4)]
-        for part in parts:
+    with ProcessPoolExecutor(max(os.cpu_count() or 1, 4)) as pool:
+        for part in [pool.submit(on_one_core, *it) for it in parts_of(asked)]:
             tally.add(part.result())
-        try_lines(tally)
-        try_damage(tally, asked.seed)
-        try_rescue(tally, asked.seed)
-        archive_verbs.try_all(tally, folder)
-        archive_stops.try_all(tally, folder, asked.seed)
-        try_page(tally)
     tally.print()
     sys.exit(tally.failed > 0)
 
@@ -277,6 +277,8 @@ if __name__ == "__main__":
         made = {"AECP_LIBRARY": os.path.abspath(os.path.join(sys.argv[1], "libaecp.so")), "PYTHONPATH": path, "PYTHONDONTWRITEBYTECODE": "1"}
         sys.exit(subprocess.run([sys.executable, *sys.argv], env={**os.environ, **made}, check=False).returncode)
     import aecp
+    import archive_stops
+    import archive_verbs
     from aecp import checking, notes, reading, scripts
     from aecp.pairs import Pair
     from archive_files import USUAL, command, drawn_case, edited, kept_file, options_of, read, refusal, some_script, state, undone, walk

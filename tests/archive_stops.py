@@ -110,7 +110,7 @@ def mended(pair):
         return pair.mend()
 
 
-def try_each_call(tally, folder):
+def try_each(tally, folder):
     """A stop at each call of the system that a verb makes, before it and after."""
     trial = Trial(folder, "each")
     for verb in ("keep", "edit", "undo"):
@@ -127,9 +127,9 @@ def try_each_call(tally, folder):
             tally.holds(number > 8, f"{verb} makes only {number} calls")
 
 
-def try_random_moments(tally, folder, seed):
+def try_moments(tally, seed):
     """SIGKILL at random moments."""
-    chance, trial = random.Random(f"moments {seed}"), Trial(folder, "moments")
+    chance, trial = random.Random(f"moments {seed}"), Trial(None, "moments")
     times, stopped = {}, 0
     for number in range(RANDOM_STOPS):
         verb = ("keep", "edit", "undo")[number % 3]
@@ -146,6 +146,7 @@ def try_random_moments(tally, folder, seed):
             stopped += status != 0
             times[verb] = max(times[verb], 0.002) if status else min(times[verb], time.monotonic() - begun)
         trial.judge(verb, old, new, f"{verb} {seed} {number} stopped at a random moment", tally)
+    shutil.rmtree(trial.folder)
     tally.holds(stopped > RANDOM_STOPS // 8, f"only {stopped} of {RANDOM_STOPS} runs were stopped")
 
 
@@ -252,10 +253,6 @@ def try_interrupt(tally, folder):
         tally.holds(status == 0 and len(os.listdir(place)) == 900, f"{what}: the rest: {status} {printed} {said}")
 
 
-def try_all(tally, folder, seed):
-    try_each_call(tally, folder)
-    try_random_moments(tally, folder, seed)
-    try_full(tally, folder)
-    try_full_disk(tally, folder)
-    try_two(tally, folder)
-    try_interrupt(tally, folder)
+def parts(seed):
+    """The tests, and what each is given beside the tally."""
+    return [(try_each,), (try_moments, seed), (try_full,), (try_full_disk,), (try_two,), (try_interrupt,)]

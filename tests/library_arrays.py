@@ -1,8 +1,8 @@
 #!/usr/bin/env python3
 """The Python module with numpy, and its examples: library_arrays.py PATH_OF_AEC FOLDER
 
-FOLDER has libaecp.a and libaecp.so. Arrays of each type go to streams that the program at PATH_OF_AEC reads, and back; so do files by
-`python -m aecp`; aecp_numcodecs.py and aecp_szip.py beside numcodecs and HDF5; the Python of docs/LIBRARY.md.
+FOLDER has libaecp.a and libaecp.so. Arrays of each type go to streams that the program at PATH_OF_AEC reads, and back;
+aecp_numcodecs.py and aecp_szip.py beside numcodecs and HDF5; the Python of docs/LIBRARY.md.
 
 It goes on by the first interpreter that has numpy, and h5py where one has both. What isn't installed is skipped, and said. Prints the
 checks that fail and, last, how many passed. Ends with 1 where one failed.
@@ -57,26 +57,6 @@ def try_arrays(program, tally):
         tally.holds((back == array).all() and back.dtype.itemsize == dtype.itemsize, f"{name}: decoded")
         part = aecp.decode_range(coded, len(array), 1000, 77, options)
         tally.holds((part == array[1000:1077]).all() and len(part) == 77, f"{name}: a range")
-
-
-def try_files(program, tally):
-    """`python -m aecp` on files."""
-    samples = drawn_array(numpy.dtype("<u2"), 16).tobytes()
-    program.write("samples", samples)
-
-    def module(*words):
-        ended = subprocess.run([sys.executable, "-m", "aecp", *words], cwd=program.folder, capture_output=True, text=True, check=False)
-        return ended.returncode, (ended.stdout + ended.stderr).strip().split("\n")[-1]
-
-    tally.check("code", module("-n", "16", "samples", "coded"), (0, ""))
-    tally.check("stream", program.read("coded"), program.answer(["-n", "16", "-j", "16", "-r", "128"], samples))
-    tally.check("decode", (module("-n", "16", "-d", "-c", "3000", "coded", "back"), program.read("back")), ((0, ""), samples))
-    tally.check("range", (module("-n", "16", "-c", "3000", "--range", "5:7", "coded", "back"), program.read("back")), ((0, ""), samples[10:24]))
-    status, said = module("-n", "16", "-c", "3000", "samples", "coded")
-    tally.check("a count in coding", (status, said), (2, "python -m aecp: error: --count needs --decode or --range"))
-    status, said = module("-n", "16", "-d", "-c", "4001", "coded", "none")
-    tally.holds(status == 1 and said.startswith("aecp: coded data is cut short at bit "), f"a count too high: {said}")
-    tally.check("nothing is written then", program.read("none"), None)
 
 
 def try_szip(program, tally):
@@ -148,7 +128,6 @@ def main():
         here = Program(sys.argv[1], folder)
         library_buffers.try_arrays(aecp, numpy, tally)
         try_arrays(here, tally)
-        try_files(here, tally)
         try_szip(here, tally)
         try_numcodecs(tally)
         try_page(folder, tally)

@@ -7,6 +7,7 @@ import functools
 import os
 import re
 import stat
+import sys
 from collections.abc import Iterable, Iterator
 from concurrent.futures import Future, ThreadPoolExecutor
 from dataclasses import dataclass, replace
@@ -21,7 +22,7 @@ from aecp.pairs import NOTE, OLD_NOTE, STREAM, Damaged, Pair, Refused, read_if_t
 OURS = (STREAM, NOTE, OLD_NOTE)
 HIDDEN = re.compile(r"\.(.*\.aec)\.([0-9a-f]{12}\.new|json\.new|lock)", re.S)
 FRONT = 1 << 18  # bytes that a hint looks at
-AT_ONCE = 8  # files of a process that wait for the disk
+AT_ONCE = 3  # files of a process that wait for the disk, or are coded
 
 
 class Outcome(NamedTuple):
@@ -98,6 +99,7 @@ def leftovers_in(folder: str) -> dict[str, list[str]]:
 
 def keep_all(keeping: Keeping, files: list[Found]) -> list[Outcome]:
     """Keeps each file, while earlier ones wait for the disk."""
+    sys.setswitchinterval(0.0001)  # threads that come back from the disk don't wait long for the one that codes
     waiting: list[Future[Outcome]] = []
     with ThreadPoolExecutor(AT_ONCE) as pool:
         for file in files:
