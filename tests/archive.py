@@ -148,6 +148,8 @@ def damages(chance, pair):
         "greater count": (lambda: changed_note(pair, lambda it: it["samples"].update(count=10**6)), "stops"),
         "sum": (lambda: changed_note(pair, lambda it: it["samples"].update(sha256="0" * 64)), "other samples"),
         "format": (lambda: changed_note(pair, lambda it: it.update(format=2)), "bad note"),
+        "negative count": (lambda: changed_note(pair, lambda it: it["samples"].update(count=-1)), "bad note"),
+        "no such history": (lambda: changed_note(pair, lambda it: it["history"][1].pop("after")), "bad note"),
         "no options": (lambda: changed_note(pair, lambda it: it.pop("options")), "bad note"),
     }
 

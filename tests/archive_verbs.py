@@ -72,6 +72,7 @@ def try_keep(tally, folder):
         (["big", "-n", "12"], "big: sample 0 is out of range for -n 12 -j 16 -r 128; with -m the first 4000 bytes become "),
         (["wide", "-n", "15", "-s"], "wide: it doesn't come back: the bits above 15 must be copies of the sign, or zeros without -s"),
         (["none", "-n", "8"], "none: there is no such file"),
+        (["a.raw.aec", "-n", "8"], "a.raw.aec: it is part of a kept file: only originals are kept"),
     ):
         status, _, said = command(place, "keep", *words)
         tally.holds(status == 1 and said.startswith(f"aecp: {wanted}"), f"keep {words}: {status} {said}")

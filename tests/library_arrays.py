@@ -10,6 +10,7 @@ checks that fail and, last, how many passed. Ends with 1 where one failed.
 
 import os
 import re
+import shutil
 import subprocess
 import sys
 import tempfile
@@ -111,7 +112,22 @@ def try_numcodecs(tally):
             tally.check(f"{what}: decoded", bytes(codec.decode(chunk)), turned.tobytes())
             room = numpy.empty(len(turned), turned.dtype)
             tally.holds((codec.decode(chunk, out=room) == turned).all(), f"{what}: decoded into an array")
+    try_entry_point(tally)
     tally.check("numcodecs: bytes", bytes(Aecp(16).decode(Aecp(16).encode(array.tobytes()))), array.tobytes())
+
+
+def try_entry_point(tally):
+    """The codec by its name alone, where the module is installed."""
+    with tempfile.TemporaryDirectory() as folder:
+        place = os.path.join(folder, "aecp-0.1.0.dist-info")
+        os.mkdir(place)
+        shutil.copy(os.path.join(TOP, "python", "entry_points.txt"), place)
+        with open(os.path.join(place, "METADATA"), "w", encoding="utf-8") as file:
+            file.write("Metadata-Version: 2.1\nName: aecp\nVersion: 0.1.0\n")
+        code = "import numcodecs; print(numcodecs.get_codec({'id': 'aecp', 'bits': 16}).decode(b'\\0\\0\\0\\0'))"
+        paths = os.pathsep.join([folder, os.environ["PYTHONPATH"]])
+        said = Program(sys.executable, folder).run("-c", code, env={**os.environ, "PYTHONPATH": paths})
+        tally.check("numcodecs: by its entry point", said, (0, "bytearray(b'')\n"))
 
 
 def try_page(folder, tally):

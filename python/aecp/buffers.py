@@ -20,16 +20,19 @@ class Source:
     """The address and the size of bytes, which it holds on to."""
 
     def __init__(self, data: Any) -> None:
+        self.held: Any
+        self.at: Any
+        if type(data) is bytes:
+            self.held = self.at = data
+            self.size = len(data)
+            return
         view = memoryview(data)
         if not view.c_contiguous:
             raise TypeError("the bytes must lie one after the other")
         self.size = view.nbytes
-        self.held: Any = view
-        self.at: Any
+        self.held = view
         if self.size == 0:
             self.at = b"\0"
-        elif isinstance(data, bytes):
-            self.at = data
         elif not view.readonly:
             self.at = ctypes.addressof(ctypes.c_char.from_buffer(view.cast("B")))
         elif numpy is not None:

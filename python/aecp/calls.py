@@ -2,6 +2,7 @@
 
 from __future__ import annotations
 
+import ctypes
 from typing import Any, Optional
 
 from aecp.buffers import Source, Target, numpy, room_for
@@ -98,12 +99,13 @@ def filled(name: str, before: list[Any], source: Source, room: int) -> bytearray
         except MemoryError:
             # The stream is judged before so much memory is asked for again.
             out = bytearray()
-        target = Target(out)
-        number = call(*before, source.at, source.size, target.at, target.size, reply)
-        target.view.release()
-        del target
+        front = ctypes.c_char.from_buffer(out) if out else None
+        at = None if front is None else ctypes.addressof(front)
+        number = call(*before, source.at, source.size, at, len(out), reply)
+        del front
         if number == 0:
-            del out[reply.len :]
+            if reply.len < len(out):
+                del out[reply.len :]
             return out
         if number != NO_ROOM:
             raise fault_of(number, reply.place, text_of(reply))

@@ -59,6 +59,8 @@ def files_of(paths: Iterable[str], include: list[str], exclude: list[str], compl
             complaints.append(Outcome(path, "refused", "it is a symbolic link: name what it points to"))
         elif os.path.isdir(path):
             yield from files_in(path, path, include, exclude, complaints)
+        elif os.path.isfile(path) and path.endswith(OURS):
+            complaints.append(Outcome(path, "refused", "it is part of a kept file: only originals are kept"))
         elif os.path.isfile(path):
             yield Found(path, True)
         else:

@@ -111,11 +111,27 @@ def note_of(data: bytes) -> Note:
     if wanted != sum_of(fields):
         raise BadNote("it was changed since it was written: its own sum is another")
     try:
-        samples = Sum.of_json(fields["samples"])
+        samples, count = Sum.of_json(fields["samples"]), fields["samples"]["count"]
         options = Options(**fields["options"])
-        return Note(options, int(fields["samples"]["count"]), samples, Sum.of_json(fields["stream"]), fields["source"], fields["history"])
-    except (KeyError, TypeError, ValueError) as error:
+        if type(count) is not int or count < 0:
+            raise BadNote("the count is no number")
+        judge_history(fields["history"])
+        return Note(options, count, samples, Sum.of_json(fields["stream"]), fields["source"], fields["history"])
+    except (AttributeError, IndexError, KeyError, TypeError, ValueError) as error:
         raise BadNote(f"a field is missing or wrong: {error}") from None
+
+
+def judge_history(history: list[dict[str, Any]]) -> None:
+    """KeyError, TypeError or ValueError where entries of a history lack what the verbs read."""
+    for entry in history:
+        for name in {"edit": ("before", "after"), "undo": ("before", "after")}.get(entry["what"], ("after",)):
+            Sum.of_json(entry[name]["stream"])
+            Sum.of_json(entry[name]["samples"])
+            int(entry[name]["samples"]["count"])
+        if entry["what"] == "undo" and history[entry["edit"]]["what"] != "edit":
+            raise ValueError("an undo of no edit")
+        if entry["what"] == "edit" and not isinstance(entry["script"] + entry["when"], str):
+            raise ValueError("an edit with no script")
 
 
 def old_note_of(data: bytes) -> Note:
