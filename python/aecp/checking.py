@@ -105,4 +105,4 @@ def where_it_stops(pair: Pair) -> str:
         return f"; decoding stops at bit {fault.bit} ({fault}). `aecp rescue` reads what is before it"
     except Fault as fault:
         return f"; it can't be decoded: {fault}"
-    return "; it is still decoded, to whatever it says now"
+    return "; it still decodes without a fault, so some samples are wrong"

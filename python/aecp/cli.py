@@ -36,7 +36,7 @@ EXAMPLES = {
 def add_options(parser: argparse.ArgumentParser, needs_bits: bool) -> None:
     """The options of coding, as `aec` has them."""
     group = parser.add_argument_group("options of coding")
-    group.add_argument("-n", dest="bits", type=int, required=needs_bits, metavar="N", help="bits of a sample, 1 to 32: nothing in a file tells")
+    group.add_argument("-n", dest="bits", type=int, required=needs_bits, metavar="N", help="bits of a sample, 1 to 32; a file doesn't contain it")
     group.add_argument("-j", dest="block_size", type=int, metavar="J", help="samples in a block: 8, 16, 32 or 64 (16)")
     group.add_argument("-r", dest="interval", type=int, metavar="R", help="blocks in an interval, 1 to 4096 (128)")
     flags = {
@@ -70,7 +70,7 @@ def words() -> argparse.ArgumentParser:
     keep.add_argument("--exclude", action="append", default=[], metavar="PATTERN", help="in folders no files of such names")
     keep.add_argument("--rehash", action="store_true", help="compare kept files by their sum, not by their time")
     keep.add_argument("--anyway", action="store_true", help="keep a stream that is larger than its file")
-    keep.add_argument("--remove", action="store_true", help="remove each original whose stream gives it back")
+    keep.add_argument("--remove", action="store_true", help="remove each original if its stream decodes to it")
     back = add_verb(verbs, "back", "writes the samples of a kept stream, checked by their sum")
     back.add_argument("file", metavar="FILE.aec")
     back.add_argument("out", metavar="OUT", nargs="?", help="a new file (FILE); - is standard output")

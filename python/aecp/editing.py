@@ -33,7 +33,7 @@ def samples_in(opened: Opened) -> bytearray:
 def judge_samples(samples: Any, note: Note) -> None:
     """Damaged where samples aren't those of a note."""
     if len(samples) != note.samples.bytes or sha256_of(samples) != note.samples.sha256:
-        raise Damaged("other samples", "the stream gives other samples than its note says: the options may be wrong")
+        raise Damaged("other samples", "the samples aren't those of the note: their SHA-256 is another. The options may be wrong")
 
 
 def edit(pair: Pair, script: bytes, allow_empty: bool) -> str:
@@ -66,9 +66,9 @@ def edit(pair: Pair, script: bytes, allow_empty: bool) -> str:
 
 
 def comes_back(stream: bytes, samples: Any, count: int, options: Options) -> None:
-    """Sees that a new stream gives its samples back."""
+    """Refuses a new stream that doesn't decode to its samples."""
     if decode_bytes(stream, count, options) != samples:
-        raise Refused("the new stream doesn't give its samples back: nothing is changed. Please report this")
+        raise Refused("the new stream doesn't decode to its samples: nothing is changed. Please report this")
 
 
 def inverse_of(opened: Opened, after: Any, before: Any, change: Change) -> dict[str, str]:
@@ -97,7 +97,7 @@ def undo(pair: Pair) -> str:
     entry = note.history[place]
     wanted, stream = entry["before"], earlier_stream(opened, entry)
     if len(stream) != wanted["stream"]["bytes"] or sha256_of(stream) != wanted["stream"]["sha256"]:
-        raise Refused("the earlier stream doesn't come back bit for bit: nothing is changed")
+        raise Refused("the earlier stream can't be restored bit for bit: nothing is changed")
     undone = {"what": "undo", "edit": place, "when": now(), "by": WRITER, "before": note.sums(), "after": wanted}
     history = [{**it, "inverse": None} if i == place else it for i, it in enumerate(note.history)]
     count, samples = wanted["samples"]["count"], Sum.of_json(wanted["samples"])

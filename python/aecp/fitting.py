@@ -50,7 +50,7 @@ def recommended(found: list[Size]) -> Size:
 
 
 def guessed_bits(data: bytes) -> Options:
-    """The width and the order of bytes that give the front of a file in the fewest bytes. Nothing in a file tells."""
+    """The width and the order of bytes that give the front of a file in the fewest bytes. It is a guess."""
     found = []
     for bits, msb_first in ((8, False), (16, False), (16, True), (32, False), (32, True)):
         options = Options(bits, msb_first=msb_first)
@@ -91,7 +91,7 @@ def better_storage(data: bytes, options: Options) -> list[str]:
             continue
         if size * 100 < usual * 99:
             word = words if getattr(other, change) != (change == "preprocess") else f"no {words}"
-            said.append(f"{word} gives {size} bytes instead of {usual}: is it forgotten?" if word == words else f"{word}: {size} bytes instead of {usual}")
+            said.append(f"{word}: {size} bytes instead of {usual}. Is it forgotten?" if word == words else f"{word}: {size} bytes instead of {usual}")
     return said
 
 

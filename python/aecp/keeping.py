@@ -21,6 +21,7 @@ from aecp.pairs import NOTE, OLD_NOTE, STREAM, Damaged, Pair, Refused, read_if_t
 
 OURS = (STREAM, NOTE, OLD_NOTE)
 HIDDEN = re.compile(r"\.(.*\.aec)\.([0-9a-f]{12}\.new|json\.new|lock)", re.S)
+TEXTS = ["README*", *(f"*.{end}" for end in ("txt", "md", "csv", "tsv", "json", "xml", "html", "log", "py", "sh", "toml", "yaml", "yml"))]
 FRONT = 1 << 18  # bytes that a hint looks at
 AT_ONCE = 3  # files of a process that wait for the disk, or are coded
 
@@ -80,7 +81,11 @@ def files_in(folder: str, top: str, include: list[str], exclude: list[str], comp
         elif entry.is_dir():
             yield from files_in(entry.path, top, include, exclude, complaints)
         elif entry.is_file() and not entry.name.endswith(OURS) and not HIDDEN.fullmatch(entry.name):
-            if (not include or matches(names, include)) and not matches(names, exclude):
+            if matches(names, exclude) or (include and not matches(names, include)):
+                continue
+            if not include and matches((entry.name,), TEXTS):
+                complaints.append(Outcome(entry.path, "passed", "passed over: its name is that of a text (--include keeps it)"))
+            else:
                 yield Found(entry.path, False)
 
 
@@ -101,7 +106,7 @@ def leftovers_in(folder: str) -> dict[str, list[str]]:
 
 def keep_all(keeping: Keeping, files: list[Found]) -> list[Outcome]:
     """Keeps each file, while earlier ones wait for the disk."""
-    sys.setswitchinterval(0.0001)  # threads that come back from the disk don't wait long for the one that codes
+    sys.setswitchinterval(0.0001)  # a thread that has waited for the disk waits no longer for the one that codes
     waiting: list[Future[Outcome]] = []
     with ThreadPoolExecutor(AT_ONCE) as pool:
         for file in files:
@@ -171,7 +176,7 @@ def coded(keeping: Keeping, data: bytes, status: os.stat_result) -> tuple[Note, 
         text = f"its stream has {len(stream)} bytes, more than the {len(data)} of the file{hint(data, options)}"
         raise Refused(f"{text}; --anyway keeps it so")
     if decode_bytes(stream, count, options) != data:
-        raise Refused(f"it doesn't come back: the bits above {options.bits} must be copies of the sign, or zeros without -s")
+        raise Refused(f"it can't be restored: the bits above {options.bits} must be copies of the sign, or zeros without -s")
     samples = Sum.of(data)
     note = Note(options, count, samples, Sum.of(stream), {"mtime_ns": status.st_mtime_ns, **samples.json()})
     entry: dict[str, Any] = {"what": "keep", "when": now(), "by": WRITER, "after": note.sums()}
@@ -217,7 +222,7 @@ def judge_kept(keeping: Keeping, path: str, pair: Pair, mended: str = "") -> Out
 
 
 def removed(keeping: Keeping, outcome: Outcome) -> Outcome:
-    """Removes an original whose pair gives it back now."""
+    """Removes an original if its stream decodes to it now."""
     if outcome.kind not in ("kept", "skipped"):
         return outcome
     path = outcome.path

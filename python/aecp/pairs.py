@@ -23,7 +23,7 @@ TRIES = 20
 
 
 class Refused(Exception):
-    """Why something isn't done. The text is the line that the user reads, behind the name of the file."""
+    """Why something isn't done. The text is what the user reads after the name of the file."""
 
 
 class Damaged(Refused):
@@ -109,7 +109,7 @@ class Pair:
 
     @contextlib.contextmanager
     def locked(self, wait: bool = True) -> Iterator[bool]:
-        """Keeps other runs away from the pair while it lasts. It waits for one that is at work, or gives False."""
+        """Keeps other runs away from the pair while it lasts. It waits for one that is at work, or yields False."""
         file = self.take_lock(wait)
         try:
             yield file is not None
@@ -152,7 +152,7 @@ class Pair:
         for path in removed:
             os.unlink(path)
         sync_folder(self.folder)
-        return done or ("what a stopped run had left is removed" if removed else None)
+        return done or ("what a stopped run left is removed" if removed else None)
 
     def finish_new(self, left: list[str]) -> Optional[str]:
         """The note of a new pair whose stream has its name already."""

@@ -81,7 +81,7 @@ def info_lines(note: Note) -> list[str]:
 
 
 class Rescued(NamedTuple):
-    """The samples that a stream gives, and why it gives no more."""
+    """The samples that can be read of a stream, and why there are no more."""
 
     samples: Any
     number: int
@@ -120,9 +120,9 @@ def rescue_text(found: Rescued, stream: bytes, note: Optional[Note]) -> str:
             judge_samples(found.samples, note)
             return f"all {found.number} samples are sound: their SHA-256 is that of the note"
         except Refused:
-            return f"{found.number} samples, all that the note names; but some are wrong: their SHA-256 is another. Nothing tells which"
+            return f"{found.number} samples, all that the note names; but some are wrong: their SHA-256 isn't that of the note. No checksum can show which"
     if found.is_whole:
-        return f"{found.number} samples: the whole stream is decoded, filler too where no --count is given"
+        return f"{found.number} samples: the whole stream decodes; without --count the last ones may be filler"
     wanted = f" of {note.count}" if note is not None else ""
     text = f"{found.number}{wanted} samples: {found.why}"
     if note is not None and len(stream) == note.stream.bytes:

@@ -42,7 +42,7 @@ def held_in(samples: Any) -> Any:
         return of_array(samples)
     if isinstance(samples, TEXTS):
         name = type(samples).__name__
-        raise TypeError(f"{name} can't be taken as samples: give numbers, as list(data), or decode stored samples by Workspace.of_coded")
+        raise TypeError(f"{name} can't be taken as samples: pass numbers, for example list(data)")
     if numpy is not None and isinstance(samples, (numpy.ndarray, numpy.generic)):
         return of_numpy(samples)
     if isinstance(samples, range):

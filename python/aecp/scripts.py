@@ -183,7 +183,7 @@ def equal_front(before: bytes, after: bytes, width: int) -> int:
 
 
 def equal_end(before: bytes, after: bytes, width: int, front: int) -> int:
-    """How many samples at the end are the same, of those behind the front."""
+    """How many samples at the end are the same, after the front."""
     most = min(len(before), len(after)) // width - front
     same = 0
     step = PART
@@ -200,7 +200,7 @@ def equal_end(before: bytes, after: bytes, width: int, front: int) -> int:
 
 
 class Change(NamedTuple):
-    """How two lists of samples differ. By places: the runs that differ at the same places, and one list goes on behind the end of the
+    """How two lists of samples differ. By places: the runs that differ at the same places, and one list is longer than the
     other. Else `runs` is None: the front and the end are the same, and what is between them is exchanged."""
 
     runs: Optional[list[tuple[int, int]]]

@@ -56,7 +56,7 @@ class Workspace(MutableSequence[int]):
         return work
 
     def _call(self, name: str, *words: Any, front: bool = False) -> int:
-        """The length that a call returns. The words stand before the handle with `front`."""
+        """The length that a call returns. With `front` the words come before the handle."""
         reply = Reply()
         with self._lock:
             words = (*words, self._handle) if front else (self._handle, *words)
