@@ -276,6 +276,17 @@ def try_imports(tally, folder):
         tally.holds(is_so, f"the library {name}: {ended.stderr}")
 
 
+def try_version(tally):
+    """A library that says another version is refused; one of the same first two numbers, or with none, isn't."""
+    from aecp.library import judge_version
+
+    for number, is_right in ((100, True), (107, True), (200, False), (10000, False), (None, True)):
+
+        call = type("Call", (), {"__call__": lambda _, it=number: it})
+        library = type("Library", (), {} if number is None else {"aecp_version": call()})
+        tally.check(f"a library of version {number}", raised(lambda: judge_version(library)) is None, is_right)
+
+
 def try_mypy(tally):
     command = shutil.which("mypy")
     if command is None:
@@ -307,6 +318,7 @@ def main():
         try_lists(tally, asked.seed, number)
     with tempfile.TemporaryDirectory() as folder:
         try_imports(tally, folder)
+    try_version(tally)
     try_mypy(tally)
     tally.print()
     sys.exit(tally.failed > 0)

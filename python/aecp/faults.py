@@ -54,7 +54,7 @@ class LimitPassed(Fault):
 
 
 class NoMemory(Fault, MemoryError):
-    """An allocation failed. The samples are as they were."""
+    """An allocation failed. The samples are as they were; intervals that were coded before are counted by `Workspace.calls`."""
 
 
 KINDS: dict[int, type[Fault]] = {

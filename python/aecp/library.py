@@ -12,6 +12,7 @@ from aecp.options import FLAGS, NUMBERS, Options
 HERE = os.path.dirname(os.path.abspath(__file__))
 NAME = "libaecp.so"
 TEXT_BYTES = 200
+VERSION = 100  # 0.1.0, as AECP_VERSION of aecp.h
 
 
 class COptions(ctypes.Structure):
@@ -80,11 +81,22 @@ def load() -> ctypes.CDLL:
         for name, (result, arguments) in call_types().items():
             call = getattr(library, name)
             call.restype, call.argtypes = result, arguments
+        judge_version(library)
     except (OSError, AttributeError) as error:
         why = " ".join(str(error).split())
         hint = "`make library` builds it, AECP_LIBRARY names another"
         raise ImportError(f"aecp can't use the library {path}: {why} ({hint})") from None
     return library
+
+
+def judge_version(library: ctypes.CDLL) -> None:
+    """OSError where a library says that it is of another version than the module. Before 1.0 the second number counts too."""
+    call = getattr(library, "aecp_version", None)
+    if call is not None:
+        call.restype = ctypes.c_uint32
+        number = int(call())
+        if number // 100 != VERSION // 100:
+            raise OSError(f"it has version {number // 10000}.{number // 100 % 100}.{number % 100}, and the module needs 0.{VERSION // 100}")
 
 
 LIBRARY = load()
