@@ -45,19 +45,18 @@ def edit(pair: Pair, script: bytes, allow_empty: bool) -> str:
         more = len(checked.complaints) - SHOWN
         lines = checked.complaints[:SHOWN] + ([f"and {more} more lines"] if more > 0 else [])
         raise Refused("the script is refused, and nothing is changed:\n  " + "\n  ".join(lines))
-    with ThreadPoolExecutor(3) as pool:
+    with ThreadPoolExecutor(4) as pool:
         before = samples_in(opened)
         sound = pool.submit(judge_samples, before, note)
         after = made(before, checked.edits, options)
-        sum_after = pool.submit(Sum.of, after)
-        stream = encode(after, options)
-        same = pool.submit(comes_back, stream, after, checked.left, options)
+        coded, sum_after = pool.submit(encode, after, options), pool.submit(Sum.of, after)
         change = change_of(after, before, options.storage)
         inverse = inverse_of(opened, after, before, change)
+        stream = coded.result()
+        same, sum_stream = pool.submit(comes_back, stream, after, checked.left, options), pool.submit(Sum.of, stream)
         sound.result()
         same.result()
-        samples = sum_after.result()
-    new = note.after(checked.left, samples, Sum.of(stream), [])
+    new = note.after(checked.left, sum_after.result(), sum_stream.result(), [])
     entry: dict[str, Any] = {"what": "edit", "when": now(), "by": WRITER, "samples_changed": change.samples}
     entry.update({"script": script.decode("utf-8", "surrogateescape"), "inverse": inverse})
     entry.update({"before": note.sums(), "after": new.sums()})
