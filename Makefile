@@ -19,11 +19,11 @@ try:
 example: bin/aec
 	@sh examples/run.sh bin/aec
 
-# How many bytes a file takes with each block size and interval: make sizes FILE=.. OPTIONS="-n 16"
+# How many bytes a file takes with each block size and interval: make sizes FILE=.. OPTIONS="-n 16". Needs bin/libaecp.so.
 FILE ?= examples/durations.raw
 OPTIONS ?= -n 16
-sizes: bin/aec
-	@sh examples/sizes.sh bin/aec $(FILE) $(OPTIONS)
+sizes:
+	@PYTHONPATH=python python3 -m aecp fit $(FILE) $(OPTIONS)
 
 # What is generated of the pages, the gate, then the tests of the program that it has built.
 test:
@@ -77,6 +77,8 @@ library:
 test-library:
 	python3 tests/library.py crates/aec/out/aec bin
 	python3 tests/library_arrays.py crates/aec/out/aec bin
+	python3 tests/library_python.py bin
+	python3 tests/archive.py bin
 
 # Header, libraries, pkg-config file and Python module. The module goes where `python3` looks for modules, with a library of its own.
 PYTHON_DIR ?= $(shell python3 -c 'import sysconfig; print(sysconfig.get_path("purelib"))')
@@ -88,5 +90,10 @@ install-library:
 	install -m 755 bin/libaecp.so $(DESTDIR)$(PREFIX)/lib/libaecp.so.0
 	ln -sf libaecp.so.0 $(DESTDIR)$(PREFIX)/lib/libaecp.so
 	sed 's|@PREFIX@|$(PREFIX)|; s|@VERSION@|0.1.0|' include/aecp.pc.in > $(DESTDIR)$(PREFIX)/lib/pkgconfig/aecp.pc
-	install -m 644 python/aecp/*.py $(DESTDIR)$(PYTHON_DIR)/aecp
+	install -m 644 python/aecp/*.py python/aecp/py.typed $(DESTDIR)$(PYTHON_DIR)/aecp
 	install -m 755 bin/libaecp.so $(DESTDIR)$(PYTHON_DIR)/aecp/libaecp.so
+	install -d $(DESTDIR)$(PREFIX)/bin $(DESTDIR)$(PYTHON_DIR)/aecp-0.1.0.dist-info
+	printf '#!/usr/bin/env python3\nfrom aecp.cli import main\n\nmain()\n' > $(DESTDIR)$(PREFIX)/bin/aecp
+	chmod 755 $(DESTDIR)$(PREFIX)/bin/aecp
+	printf 'Metadata-Version: 2.1\nName: aecp\nVersion: 0.1.0\n' > $(DESTDIR)$(PYTHON_DIR)/aecp-0.1.0.dist-info/METADATA
+	install -m 644 python/entry_points.txt $(DESTDIR)$(PYTHON_DIR)/aecp-0.1.0.dist-info/entry_points.txt

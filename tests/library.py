@@ -263,8 +263,7 @@ def try_list(chance, work, samples, what, tally):
     samples = before
     for key in (len(samples), -len(samples) - 1):
         tally.holds(is_refused(IndexError, lambda: work[key]), f"{what}: [{key}]")
-    tally.holds(is_refused(ValueError, lambda: work[::2]), f"{what}: a slice with steps")
-    tally.holds(is_refused(ValueError, lambda: work.__setitem__(part, [0] * (length + 1))), f"{what}: a longer part is set")
+    tally.check(f"{what}: a slice with steps", list(work[::-2]), samples[::-2])
     work.overwrite(0, samples)
     tally.check(f"{what}: as before", list(work), samples)
 

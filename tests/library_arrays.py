@@ -1,8 +1,8 @@
 #!/usr/bin/env python3
 """The Python module with numpy, and its examples: library_arrays.py PATH_OF_AEC FOLDER
 
-FOLDER has libaecp.a and libaecp.so. Arrays of each type go to streams that the program at PATH_OF_AEC reads, and back; so do files by
-`python -m aecp`; aecp_numcodecs.py and aecp_szip.py beside numcodecs and HDF5; the Python of docs/LIBRARY.md.
+FOLDER has libaecp.a and libaecp.so. Arrays of each type go to streams that the program at PATH_OF_AEC reads, and back;
+aecp_numcodecs.py and aecp_szip.py beside numcodecs and HDF5; the Python of docs/LIBRARY.md.
 
 It goes on by the first interpreter that has numpy, and h5py where one has both. What isn't installed is skipped, and said. Prints the
 checks that fail and, last, how many passed. Ends with 1 where one failed.
@@ -10,6 +10,7 @@ checks that fail and, last, how many passed. Ends with 1 where one failed.
 
 import os
 import re
+import shutil
 import subprocess
 import sys
 import tempfile
@@ -59,26 +60,6 @@ def try_arrays(program, tally):
         tally.holds((part == array[1000:1077]).all() and len(part) == 77, f"{name}: a range")
 
 
-def try_files(program, tally):
-    """`python -m aecp` on files."""
-    samples = drawn_array(numpy.dtype("<u2"), 16).tobytes()
-    program.write("samples", samples)
-
-    def module(*words):
-        ended = subprocess.run([sys.executable, "-m", "aecp", *words], cwd=program.folder, capture_output=True, text=True, check=False)
-        return ended.returncode, (ended.stdout + ended.stderr).strip().split("\n")[-1]
-
-    tally.check("code", module("-n", "16", "samples", "coded"), (0, ""))
-    tally.check("stream", program.read("coded"), program.answer(["-n", "16", "-j", "16", "-r", "128"], samples))
-    tally.check("decode", (module("-n", "16", "-d", "-c", "3000", "coded", "back"), program.read("back")), ((0, ""), samples))
-    tally.check("range", (module("-n", "16", "-c", "3000", "--range", "5:7", "coded", "back"), program.read("back")), ((0, ""), samples[10:24]))
-    status, said = module("-n", "16", "-c", "3000", "samples", "coded")
-    tally.check("a count in coding", (status, said), (2, "python -m aecp: error: --count needs --decode or --range"))
-    status, said = module("-n", "16", "-d", "-c", "4001", "coded", "none")
-    tally.holds(status == 1 and said.startswith("aecp: coded data is cut short at bit "), f"a count too high: {said}")
-    tally.check("nothing is written then", program.read("none"), None)
-
-
 def try_szip(program, tally):
     """aecp_szip.py on files that HDF5 has written, one with a chunk that its place doesn't tell."""
     try:
@@ -123,6 +104,30 @@ def try_numcodecs(tally):
     tally.check("numcodecs: decoded", numpy.frombuffer(codec.decode(coded), "<u2").tolist(), array.tolist())
     again = numcodecs.get_codec(codec.get_config())
     tally.check("numcodecs: by its configuration", bytes(again.decode(coded)), array.tobytes())
+    for order in "<>":
+        for codec in (Aecp(16), Aecp(16, msb_first=True)):
+            turned = array.astype(order + "u2")
+            chunk, what = codec.encode(turned), f"numcodecs: {order}u2, {codec.options}"
+            tally.check(f"{what}: as short as in the other order", len(chunk), len(coded))
+            tally.check(f"{what}: decoded", bytes(codec.decode(chunk)), turned.tobytes())
+            room = numpy.empty(len(turned), turned.dtype)
+            tally.holds((codec.decode(chunk, out=room) == turned).all(), f"{what}: decoded into an array")
+    try_entry_point(tally)
+    tally.check("numcodecs: bytes", bytes(Aecp(16).decode(Aecp(16).encode(array.tobytes()))), array.tobytes())
+
+
+def try_entry_point(tally):
+    """The codec by its name alone, where the module is installed."""
+    with tempfile.TemporaryDirectory() as folder:
+        place = os.path.join(folder, "aecp-0.1.0.dist-info")
+        os.mkdir(place)
+        shutil.copy(os.path.join(TOP, "python", "entry_points.txt"), place)
+        with open(os.path.join(place, "METADATA"), "w", encoding="utf-8") as file:
+            file.write("Metadata-Version: 2.1\nName: aecp\nVersion: 0.1.0\n")
+        code = "import numcodecs; print(numcodecs.get_codec({'id': 'aecp', 'bits': 16}).decode(b'\\0\\0\\0\\0'))"
+        paths = os.pathsep.join([folder, os.environ["PYTHONPATH"]])
+        said = Program(sys.executable, folder).run("-c", code, env={**os.environ, "PYTHONPATH": paths})
+        tally.check("numcodecs: by its entry point", said, (0, "bytearray(b'')\n"))
 
 
 def try_page(folder, tally):
@@ -139,7 +144,6 @@ def main():
         here = Program(sys.argv[1], folder)
         library_buffers.try_arrays(aecp, numpy, tally)
         try_arrays(here, tally)
-        try_files(here, tally)
         try_szip(here, tally)
         try_numcodecs(tally)
         try_page(folder, tally)

@@ -2,8 +2,8 @@
 """The scripts of examples/ and the page about them:
 recipes.py PATH_OF_AEC [--seed N] [--cases N] [--only N]
 
-Kept files and archives, pictures, options that fit, and each command of docs/RECIPES.md in a folder
-of its own. Meanwhile the formats are tried: with eccodes and h5py hidden (recipe_formats.py), and
+Each command of docs/RECIPES.md in a folder of its own, those of `aecp` where `make library` has built
+bin/libaecp.so. Meanwhile the formats are tried: with eccodes and h5py hidden (recipe_formats.py), and
 beside these by an interpreter that has them (recipe_grib.py, recipe_hdf5.py). What needs a program
 or a module that isn't installed is skipped, and said.
 """
@@ -16,14 +16,14 @@ import sys
 import tempfile
 
 from program import Program, Tally, asked_of
-from recipe_archives import try_archives, try_kept, try_not_kept, try_stopped
 from recipe_calls import EXAMPLES, hiding
 from recipe_formats import packet
-from recipe_pictures import try_fits, try_pictures
 from settings import Settings
 
 HERE = os.path.dirname(os.path.abspath(__file__))
-PAGE = os.path.join(HERE, "..", "docs", "RECIPES.md")
+TOP = os.path.dirname(HERE)
+PAGE = os.path.join(TOP, "docs", "RECIPES.md")
+LIBRARY = os.path.join(TOP, "bin", "libaecp.so")
 SAMPLES = "/usr/share/eccodes/ifs_samples/grib1_mlgrib2_ccsds"
 MODULES = ("eccodes", "gribapi", "h5py", "numpy")
 
@@ -86,9 +86,9 @@ def missing_for(block):
         "python3-h5py": ("h5_szip.py", interpreter_with("h5py") == "/usr/bin/python3"),
         "hdf5-tools": ("h5diff", shutil.which("h5diff")),
         "parallel": ("parallel", shutil.which("parallel")),
+        "libaecp.so": ("aecp ", os.path.exists(LIBRARY)),
     }
-    words = block + ("parallel" if "archive.sh" in block else "")
-    return [name for name, (word, is_there) in needs.items() if word in words and not is_there]
+    return [name for name, (word, is_there) in needs.items() if word in block and not is_there]
 
 
 def wanted_words(line):
@@ -98,12 +98,14 @@ def wanted_words(line):
 
 
 def prepare_page(aec):
-    """What the commands of the page find: `aec` on the path, examples/, and packets. The
+    """What the commands of the page find: `aec` and `aecp` on the path, examples/, and packets. The
     environment to run them in."""
     bin_folder = aec.file("bin")
     os.mkdir(bin_folder)
     os.symlink(aec.path, os.path.join(bin_folder, "aec"))
     os.symlink(EXAMPLES, aec.file("examples"))
+    aec.write("bin/aecp", f'#!/bin/sh\nexec "{sys.executable}" -m aecp "$@"\n'.encode())
+    os.chmod(aec.file("bin/aecp"), 0o755)
     with open(os.path.join(EXAMPLES, "durations.raw"), "rb") as file:
         measured = file.read()
     settings = Settings(bits=12, block_size=16, interval=32)
@@ -111,7 +113,8 @@ def prepare_page(aec):
     fields = [aec.answer(settings.options(), part) for part in parts]
     packets = [packet(77, number, it, b"time") for number, it in enumerate(fields)]
     aec.write("packets.bin", b"".join(packets))
-    return {**os.environ, "PATH": f"{bin_folder}:{os.environ['PATH']}"}
+    path = f"{bin_folder}:{os.environ['PATH']}"
+    return {**os.environ, "PATH": path, "PYTHONPATH": os.path.join(TOP, "python"), "AECP_LIBRARY": LIBRARY}
 
 
 def try_block(block, aec, environment, tally):
@@ -147,15 +150,9 @@ def main():
     os.environ["PYTHONDONTWRITEBYTECODE"] = "1"
     tally = Tally()
     with tempfile.TemporaryDirectory() as folder:
-        aec, script = Program(asked.program, folder), Program(sys.executable, folder)
+        aec = Program(asked.program, folder)
         running, skipped = begun_judged(asked)
         running.append(begun_hidden(asked, folder, tally))
-        try_kept(aec, tally)
-        try_not_kept(aec, tally)
-        try_stopped(aec, tally)
-        try_pictures(aec, script, tally)
-        try_fits(aec, script, tally)
-        skipped += try_archives(aec, tally)
         os.mkdir(aec.file("page"))
         skipped += try_page(Program(asked.program, aec.file("page")), tally)
         for it in running:

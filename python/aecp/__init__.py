@@ -1,4 +1,4 @@
-"""Lossless coding of samples as CCSDS 121.0-B-3 has it, over the proved library libaecp.
+"""Lossless coding of samples as CCSDS 121.0-B-3 has it, over the proved library libaecp.so.
 
     >>> import aecp
     >>> options = aecp.Options(bits=16)
@@ -6,17 +6,27 @@
     >>> aecp.decode(coded, len(samples), options)       # -> numpy.ndarray
     >>> aecp.decode_range(coded, len(samples), 100, 50, options)
 
-A coded stream is raw: it carries neither its options nor its sample count. Keep both beside it; nothing tells if they are wrong.
-`encode`, `decode_bytes` and `decode_range_bytes` need the standard library alone; `decode` and `decode_range` answer numpy arrays.
-Calls may be made from several threads at once; they run at the same time.
+A coded stream contains neither its options nor its sample count. Keep both with the stream: no call can tell that they are wrong.
+`encode`, `decode_bytes` and `decode_range_bytes` need the standard library alone; `decode` and `decode_range` return numpy arrays.
+Several threads may call at once, and their calls run in parallel. While a call runs, no thread may change the memory that it was given.
 """
 
-from aecp.calls import decode, decode_bytes, decode_range, decode_range_bytes, encode
-from aecp.faults import Fault, LimitPassed, NoMemory, OptionsRefused, RangeRefused, SampleRefused, StreamRefused
-from aecp.options import Options
-from aecp.workspace import Workspace
+import os
+import sys
+
+__version__ = "0.1.0"
+
+try:
+    from aecp.calls import decode, decode_bytes, decode_range, decode_range_bytes, encode
+    from aecp.faults import Fault, LimitPassed, NoMemory, OptionsRefused, RangeRefused, SampleRefused, StreamRefused
+    from aecp.options import Options
+    from aecp.workspace import Workspace
+except ImportError:
+    # The command says in a line of its own that there is no library, and gives help without one.
+    if sys.argv[:1] != ["-m"] and os.path.basename(sys.argv[0]) != "aecp":
+        raise
 
 __all__ = [
     "Fault", "LimitPassed", "NoMemory", "Options", "OptionsRefused", "RangeRefused", "SampleRefused", "StreamRefused",
-    "Workspace", "decode", "decode_bytes", "decode_range", "decode_range_bytes", "encode",
+    "Workspace", "__version__", "decode", "decode_bytes", "decode_range", "decode_range_bytes", "encode",
 ]  # fmt: skip

@@ -1,118 +1,139 @@
 """Coding and decoding."""
 
-import ctypes
+from __future__ import annotations
 
+import ctypes
+from typing import Any, Optional
+
+from aecp.buffers import Source, Target, numpy, room_for
 from aecp.faults import NO_ROOM, fault_of
 from aecp.library import LIBRARY, Reply, c_options, text_of
-
-try:
-    import numpy
-except ImportError:
-    numpy = None
+from aecp.options import Options, whole
 
 ALL = 2**64 - 1
+MOST_A_BYTE = 64 * 64 * 8  # samples that a coded byte can stand for
+GUESS = 8  # bytes of samples for a coded byte, where nobody says how many samples there are
 
 
-def encode(samples, options):
+def encode(samples: Any, options: Options) -> bytes:
     """The code of samples, as bytes.
 
     samples: bytes, or what has a buffer of bytes, that hold stored samples (bytes at the end that make up no whole sample are
     dropped); or a numpy array of any shape, in C order, whose dtype is that of the options but for its byte order.
-    Raises OptionsRefused, SampleRefused, LimitPassed, NoMemory; TypeError for an array of another dtype.
+    Raises OptionsRefused, SampleRefused, LimitPassed, NoMemory; TypeError for an array of another dtype, or with a mask.
     """
     given = c_options(options)
     if numpy is not None and isinstance(samples, numpy.ndarray):
+        if isinstance(samples, numpy.ma.MaskedArray):
+            raise TypeError("an array with a mask can't be coded: use its filled()")
         samples = numpy.ascontiguousarray(samples.astype(options.dtype, order="C", casting="equiv", copy=False))
     source = Source(samples)
     most = LIBRARY.aecp_bound(given, source.size // options.storage)
     return bytes(filled("aecp_encode", [given], source, most))
 
 
-def decode(coded, count, options):
+def decode(coded: Any, count: Optional[int], options: Options, out: Any = None) -> Any:
     """The first `count` samples of coded bytes, as a numpy array of one dimension with the dtype of the options; with count None
-    all, filler of the last block too. Raises as decode_bytes does; ImportError where there is no numpy."""
-    return array_of(decode_bytes(coded, count, options), options)
+    all, filler of the last block too. Raises as decode_bytes does; ImportError where there is no numpy.
+
+    out: an array with the dtype of the options, in C order, to be filled from its front. The result is then a view of it.
+    """
+    return array_of(decode_bytes(coded, count, options, of_dtype(out, options)), options)
 
 
-def decode_range(coded, count, first, length, options):
-    """`length` of the first `count` samples, from place `first` on, as decode answers them. The whole stream is judged. Raises as
+def decode_range(coded: Any, count: Optional[int], first: int, length: int, options: Options, out: Any = None) -> Any:
+    """`length` of the first `count` samples, from place `first` on, as decode returns them. The whole stream is judged. Raises as
     decode does, and RangeRefused."""
-    return array_of(decode_range_bytes(coded, count, first, length, options), options)
+    return array_of(decode_range_bytes(coded, count, first, length, options, of_dtype(out, options)), options)
 
 
-def decode_bytes(coded, count, options):
-    """What decode answers, as a bytearray of stored samples.
+def decode_bytes(coded: Any, count: Optional[int], options: Options, out: Any = None) -> Any:
+    """What decode returns, as a bytearray of stored samples, or as a memoryview of the front of `out`.
 
-    coded: bytes, or what has a buffer of bytes that lie one behind the other, also one that can't be written.
-    Raises OptionsRefused, StreamRefused, LimitPassed, NoMemory; TypeError for what has no such buffer. A few bytes can stand for 2^32 samples: give a count.
+    coded: bytes, or what has a buffer of bytes that lie one after the other, also one that can't be written.
+    out: memory that can be written, such as a bytearray, to be filled from its front. A refused call leaves it as it was.
+    Raises OptionsRefused, StreamRefused, LimitPassed, NoMemory; a Fault with the number 18 where `out` is too short; TypeError for
+    what has no such buffer. A few bytes can stand for 2^32 samples: give a count.
     """
     source, before = Source(coded), [c_options(options), number_of(count)]
-    if count is None:
-        return filled("aecp_decode", before, source, 0)
+    if out is not None:
+        return put("aecp_decode", before, source, out)
     return filled("aecp_decode", before, source, most_stored(source, count, options))
 
 
-def decode_range_bytes(coded, count, first, length, options):
-    """What decode_range answers, as a bytearray of stored samples."""
+def decode_range_bytes(coded: Any, count: Optional[int], first: int, length: int, options: Options, out: Any = None) -> Any:
+    """What decode_range returns, as decode_bytes returns it."""
     source = Source(coded)
     before = [c_options(options), number_of(count), place(first, "first"), place(length, "length")]
+    if out is not None:
+        return put("aecp_range", before, source, out)
     return filled("aecp_range", before, source, most_stored(source, length, options))
 
 
-class Source:
-    """The address and the size of bytes, which it holds on to."""
-
-    def __init__(self, data):
-        view = memoryview(data)
-        if not view.c_contiguous:
-            raise TypeError("the bytes must lie one behind the other")
-        self.size = view.nbytes
-        if self.size == 0:
-            self.held = self.at = b"\0"
-        elif isinstance(data, bytes):
-            self.held = self.at = data
-        elif view.readonly and numpy is not None:
-            self.held = numpy.frombuffer(view.cast("B"), numpy.uint8)
-            self.at = self.held.ctypes.data
-        elif view.readonly:
-            self.held = self.at = bytes(view)
-        else:
-            self.held = self.at = (ctypes.c_char * self.size).from_buffer(view.cast("B"))
-
-
-def place(number, name):
+def place(number: int, name: str) -> int:
+    """A number for C. ValueError where it doesn't fit 64 bits."""
+    number = whole(number, name)
     if not 0 <= number < 2**64:
         raise ValueError(f"{name} must be 0 to 2^64 - 1")
     return number
 
 
-def number_of(count):
+def number_of(count: Optional[int]) -> int:
     """A count for C. The greatest number of 64 bits, which is none there, is refused as the one below it is."""
     return ALL if count is None else min(place(count, "count"), ALL - 1)
 
 
-def most_stored(source, count, options):
-    """Room for so many samples: no more than bytes can stand for, which are at most 4,096 of them a bit."""
-    return min(count, 64 * 64 * 8 * source.size) * options.storage
+def most_stored(source: Source, count: Optional[int], options: Options) -> int:
+    """Room for so many samples: no more than bytes can stand for. Without a count it is a guess."""
+    if count is None:
+        return GUESS * source.size
+    return min(count, MOST_A_BYTE * source.size) * options.storage
 
 
-def filled(name, before, source, room):
-    """What a call answers, in a bytearray. Where it takes more room than there is, the call is made again."""
+def filled(name: str, before: list[Any], source: Source, room: int) -> bytearray:
+    """What a call fills a bytearray with. Where it takes more room than there is, the call is made again."""
     reply, call = Reply(), getattr(LIBRARY, name)
     while True:
-        out = bytearray(room or 1)
-        at = (ctypes.c_char * len(out)).from_buffer(out)
-        number = call(*before, source.at, source.size, at, room, reply)
-        del at
+        try:
+            out = room_for(room)
+        except MemoryError:
+            # The stream is judged before so much memory is asked for again.
+            out = bytearray()
+        front = ctypes.c_char.from_buffer(out) if out else None
+        at = None if front is None else ctypes.addressof(front)
+        number = call(*before, source.at, source.size, at, len(out), reply)
+        del front
         if number == 0:
-            del out[reply.len :]
+            if reply.len < len(out):
+                del out[reply.len :]
             return out
         if number != NO_ROOM:
             raise fault_of(number, reply.place, text_of(reply))
+        if len(out) < room <= reply.len:
+            raise MemoryError(f"the samples take {reply.len} bytes")
         room = reply.len
 
 
-def array_of(stored, options):
+def put(name: str, before: list[Any], source: Source, out: Any) -> memoryview:
+    """The front of `out` that a call fills."""
+    reply, target = Reply(), Target(out)
+    number = getattr(LIBRARY, name)(*before, source.at, source.size, target.at, target.size, reply)
+    if number:
+        raise fault_of(number, reply.place, text_of(reply))
+    return target.view[: reply.len]
+
+
+def of_dtype(out: Any, options: Options) -> Any:
+    """An array to be filled. TypeError where its dtype isn't that of the options."""
+    if out is None:
+        return None
+    if numpy is not None and isinstance(out, numpy.ndarray) and out.dtype == numpy.dtype(options.dtype) and out.flags.c_contiguous:
+        return out
+    raise TypeError(f"out must be a numpy array of the dtype {options.dtype} in C order")
+
+
+def array_of(stored: Any, options: Options) -> Any:
+    """Stored samples as an array over the same memory."""
     if numpy is None:
         raise ImportError("arrays need numpy: use decode_bytes or decode_range_bytes")
     return numpy.frombuffer(stored, options.dtype)

@@ -1,17 +1,19 @@
 """What a call raises."""
 
+from __future__ import annotations
+
 BITS_PER_SAMPLE, BLOCK_SIZE, INTERVAL, RESTRICTED_WIDTH, SAMPLE_RANGE, TRUNCATED, VALUE_TOO_LARGE, RUN_TOO_LONG = range(1, 9)
-TOO_MANY_SAMPLES, OUT_OF_RANGE, MEMORY, STREAM_TOO_LONG, EVEN_BLOCK_SIZE, NO_ROOM = 9, 10, 12, 16, 17, 18
+TOO_MANY_SAMPLES, OUT_OF_RANGE, MEMORY, STREAM_TOO_LONG, EVEN_BLOCK_SIZE, NO_ROOM, NOT_OPEN = 9, 10, 12, 16, 17, 18, 19
 
 
 class Fault(ValueError):
     """A refusal. `number` is that of aecp.h, `place` what it names there, else 0; the text says both in words."""
 
-    def __init__(self, number, place, text):
+    def __init__(self, number: int, place: int, text: str) -> None:
         super().__init__(text)
         self.number, self.place, self.text = number, place, text
 
-    def __reduce__(self):
+    def __reduce__(self) -> tuple[type[Fault], tuple[int, int, str]]:
         return type(self), (self.number, self.place, self.text)
 
 
@@ -23,7 +25,7 @@ class SampleRefused(Fault):
     """A sample is out of range: `index` is that of the first."""
 
     @property
-    def index(self):
+    def index(self) -> int:
         return self.place
 
 
@@ -31,7 +33,7 @@ class StreamRefused(Fault):
     """The stream is cut or damaged: the coded data set that begins at `bit` is refused."""
 
     @property
-    def bit(self):
+    def bit(self) -> int:
         return self.place
 
 
@@ -39,7 +41,7 @@ class RangeRefused(Fault, IndexError):
     """A range is outside the `count` samples."""
 
     @property
-    def count(self):
+    def count(self) -> int:
         return self.place
 
 
@@ -47,15 +49,15 @@ class LimitPassed(Fault):
     """There are more than `limit` samples or bytes: the greatest are 2^32 samples, and 2^40 coded bytes."""
 
     @property
-    def limit(self):
+    def limit(self) -> int:
         return self.place
 
 
 class NoMemory(Fault, MemoryError):
-    """A growth was refused. Nothing has changed."""
+    """An allocation failed. The samples are as they were; intervals that were coded before are counted by `Workspace.calls`."""
 
 
-KINDS = {
+KINDS: dict[int, type[Fault]] = {
     BITS_PER_SAMPLE: OptionsRefused, BLOCK_SIZE: OptionsRefused, INTERVAL: OptionsRefused, RESTRICTED_WIDTH: OptionsRefused,
     EVEN_BLOCK_SIZE: OptionsRefused, SAMPLE_RANGE: SampleRefused, TRUNCATED: StreamRefused, VALUE_TOO_LARGE: StreamRefused,
     RUN_TOO_LONG: StreamRefused, OUT_OF_RANGE: RangeRefused, TOO_MANY_SAMPLES: LimitPassed, STREAM_TOO_LONG: LimitPassed,
@@ -63,5 +65,6 @@ KINDS = {
 }  # fmt: skip
 
 
-def fault_of(number, place, text):
+def fault_of(number: int, place: int, text: str) -> Fault:
+    """The exception of a refusal."""
     return KINDS.get(number, Fault)(number, place, text)

@@ -1,25 +1,31 @@
 """libaecp.so by ctypes: its structures, its calls, and where it is looked for."""
 
+from __future__ import annotations
+
 import ctypes
+import functools
 import os
+from typing import Any
+
+from aecp.options import FLAGS, NUMBERS, Options
 
 HERE = os.path.dirname(os.path.abspath(__file__))
 NAME = "libaecp.so"
 TEXT_BYTES = 200
+VERSION = 100  # 0.1.0, as AECP_VERSION of aecp.h
 
 
 class COptions(ctypes.Structure):
     """aecp_options."""
 
-    _fields_ = [
-        *[(name, ctypes.c_uint32) for name in ("bits", "block_size", "interval")],
-        *[(name, ctypes.c_bool) for name in ("signed", "msb_first", "three_byte", "preprocess", "pad", "restricted", "even_blocks")],
-    ]
+    _fields_ = [*((name, ctypes.c_uint32) for name in NUMBERS), *((name, ctypes.c_bool) for name in FLAGS)]
 
 
 class Reply(ctypes.Structure):
     """aecp_reply."""
 
+    place: int
+    len: int
     _fields_ = [("fault", ctypes.c_uint32), ("place", ctypes.c_uint64), ("len", ctypes.c_uint64)]
 
 
@@ -29,68 +35,84 @@ class Handle(ctypes.Structure):
     _fields_ = [("at", ctypes.c_void_p), ("full", ctypes.c_bool)]
 
 
-def places():
-    """Where the library may lie: AECP_LIBRARY, beside this module, a checkout's bin, and last where the loader looks."""
+def place_of_library() -> str:
+    """The path of the library: AECP_LIBRARY, else beside this module, else a checkout's bin, else where the loader looks."""
     named = os.environ.get("AECP_LIBRARY")
     if named:
-        return [named]
-    here = [os.path.join(HERE, NAME), os.path.join(HERE, "..", "..", "bin", NAME)]
-    return [path for path in here if os.path.exists(path)] or [NAME]
+        return named
+    here = (os.path.join(HERE, NAME), os.path.normpath(os.path.join(HERE, "..", "..", "bin", NAME)))
+    return next(filter(os.path.exists, here), NAME)
 
 
-def load():
-    path = places()[0]
+def call_types() -> dict[str, tuple[Any, list[Any]]]:
+    """The type of the result and of the arguments of each call."""
+    number, size, at = ctypes.c_uint64, ctypes.c_size_t, ctypes.c_void_p
+    options, reply, handle = ctypes.POINTER(COptions), ctypes.POINTER(Reply), ctypes.POINTER(Handle)
+    ends = [at, size, at, size, reply]
+    edits: dict[str, list[Any]] = {
+        "aecp_append": [handle, at, size, reply],
+        "aecp_decode": [options, number, *ends],
+        "aecp_encode": [options, *ends],
+        "aecp_insert": [handle, number, at, size, reply],
+        "aecp_load": [options, number, at, size, handle, reply],
+        "aecp_open": [options, handle, reply],
+        "aecp_overwrite": [handle, number, at, size, reply],
+        "aecp_range": [options, number, number, number, *ends],
+        "aecp_read": [handle, number, number, at, size, reply],
+        "aecp_remove": [handle, number, number, reply],
+        "aecp_truncate": [handle, number, reply],
+        "aecp_write": [handle, at, size, reply],
+    }
+    return {
+        "aecp_bound": (number, [options, number]),
+        "aecp_calls": (number, [handle]),
+        "aecp_close": (None, [handle]),
+        "aecp_size": (number, [handle]),
+        "aecp_text": (size, [reply, at, size]),
+        **{name: (ctypes.c_uint32, takes) for name, takes in edits.items()},
+    }
+
+
+def load() -> ctypes.CDLL:
+    """The library. ImportError of one line where there is none, or another one."""
+    path = place_of_library()
     try:
         library = ctypes.CDLL(path)
-    except OSError as error:
-        raise ImportError(f"no library {path}: run `make library`, or name it by AECP_LIBRARY ({error})") from error
-    number, size, bytes_at = ctypes.c_uint64, ctypes.c_size_t, ctypes.c_void_p
-    options, reply = ctypes.POINTER(COptions), ctypes.POINTER(Reply)
-    ends = [bytes_at, size, bytes_at, size, reply]
-    takes = {
-        "aecp_encode": (ctypes.c_uint32, [options, *ends]),
-        "aecp_decode": (ctypes.c_uint32, [options, number, *ends]),
-        "aecp_range": (ctypes.c_uint32, [options, number, number, number, *ends]),
-        "aecp_bound": (number, [options, number]),
-        "aecp_text": (size, [reply, bytes_at, size]),
-        **handle_calls(options, reply),
-    }
-    for name, (result, arguments) in takes.items():
-        call = getattr(library, name)
-        call.restype, call.argtypes = result, arguments
+        for name, (result, arguments) in call_types().items():
+            call = getattr(library, name)
+            call.restype, call.argtypes = result, arguments
+        judge_version(library)
+    except (OSError, AttributeError) as error:
+        why = " ".join(str(error).split())
+        hint = "`make library` builds it, AECP_LIBRARY names another"
+        raise ImportError(f"aecp can't use the library {path}: {why} ({hint})") from None
     return library
 
 
-def handle_calls(options, reply):
-    """The calls on a handle."""
-    number, handle, end = ctypes.c_uint64, ctypes.POINTER(Handle), [ctypes.c_void_p, ctypes.c_size_t, reply]
-    edits = {
-        "aecp_append": [handle, *end],
-        "aecp_insert": [handle, number, *end],
-        "aecp_load": [options, number, ctypes.c_void_p, ctypes.c_size_t, handle, reply],
-        "aecp_open": [options, handle, reply],
-        "aecp_overwrite": [handle, number, *end],
-        "aecp_read": [handle, number, number, *end],
-        "aecp_remove": [handle, number, number, reply],
-        "aecp_truncate": [handle, number, reply],
-        "aecp_write": [handle, *end],
-    }
-    counts = {"aecp_calls": (number, [handle]), "aecp_size": (number, [handle]), "aecp_close": (None, [handle])}
-    return {**{name: (ctypes.c_uint32, takes) for name, takes in edits.items()}, **counts}
+def judge_version(library: ctypes.CDLL) -> None:
+    """OSError where a library says that it is of another version than the module. Before 1.0 the second number counts too."""
+    call = getattr(library, "aecp_version", None)
+    if call is not None:
+        call.restype = ctypes.c_uint32
+        number = int(call())
+        if number // 100 != VERSION // 100:
+            raise OSError(f"it has version {number // 10000}.{number // 100 % 100}.{number % 100}, and the module needs 0.{VERSION // 100}")
 
 
 LIBRARY = load()
 
 
-def c_options(options):
-    """Options for C. ValueError where a number doesn't fit 32 bits, which ctypes would cut."""
-    for name in ("bits", "block_size", "interval"):
+@functools.lru_cache(maxsize=256)
+def c_options(options: Options) -> COptions:
+    """Options for C, which nothing changes. ValueError where a number doesn't fit 32 bits, which ctypes would cut."""
+    for name in NUMBERS:
         if not 0 <= getattr(options, name) < 2**32:
             raise ValueError(f"{name} must be 0 to 2^32 - 1")
-    return COptions(**{name: getattr(options, name) for name, _ in COptions._fields_})
+    return COptions(**{name: getattr(options, name) for name in NUMBERS + FLAGS})
 
 
-def text_of(reply):
+def text_of(reply: Reply) -> str:
+    """A reply in words."""
     out = ctypes.create_string_buffer(TEXT_BYTES)
     LIBRARY.aecp_text(reply, out, TEXT_BYTES)
     return out.value.decode()

@@ -1,11 +1,17 @@
 """The options of a stream."""
 
+from __future__ import annotations
+
+import operator
 from dataclasses import dataclass
+
+NUMBERS = ("bits", "block_size", "interval")
+FLAGS = ("signed", "msb_first", "three_byte", "preprocess", "pad", "restricted", "even_blocks")
 
 
 @dataclass(frozen=True)
 class Options:
-    """How samples are stored and coded; the same options decode. What the format doesn't have is refused by the first call.
+    """How samples are stored and coded; the same options decode. The first call refuses options that the format doesn't have.
 
     bits         bits per sample, 1 to 32
     block_size   samples in a block: 8, 16, 32 or 64, and with even_blocks every even number from 8 to 64
@@ -17,6 +23,8 @@ class Options:
     pad          fill each interval up to a byte boundary
     restricted   the restricted set of code options, for at most 4 bits
     even_blocks  see block_size
+
+    Raises TypeError where a number is no whole number, or a flag isn't True or False.
     """
 
     bits: int
@@ -30,8 +38,18 @@ class Options:
     restricted: bool = False
     even_blocks: bool = False
 
+    def __post_init__(self) -> None:
+        for name in FLAGS:
+            value = getattr(self, name)
+            if type(value) is not bool:
+                raise TypeError(f"{name} must be True or False, not {value!r}")
+        for name in NUMBERS:
+            value = getattr(self, name)
+            if type(value) is not int:
+                object.__setattr__(self, name, whole(value, name))
+
     @property
-    def storage(self):
+    def storage(self) -> int:
         """Bytes of a stored sample, 1 to 4."""
         if self.bits <= 8:
             return 1
@@ -40,8 +58,25 @@ class Options:
         return 3 if self.three_byte and self.bits <= 24 else 4
 
     @property
-    def dtype(self):
+    def dtype(self) -> str:
         """The numpy dtype of stored samples, as a text such as '<u2'. ValueError for three bytes."""
         if self.storage == 3:
             raise ValueError("numpy has no integers of three bytes: use bytes")
         return f"{'>' if self.msb_first else '<'}{'i' if self.signed else 'u'}{self.storage}"
+
+    @property
+    def least(self) -> int:
+        """The least sample."""
+        return -(1 << self.bits - 1) if self.signed else 0
+
+    @property
+    def most(self) -> int:
+        """The greatest sample."""
+        return (1 << self.bits - self.signed) - 1
+
+
+def whole(value: object, name: str) -> int:
+    """A whole number as an int. TypeError for anything else, a bool too."""
+    if isinstance(value, bool) or not hasattr(value, "__index__"):
+        raise TypeError(f"{name} must be a whole number, not {value!r}")
+    return operator.index(value)

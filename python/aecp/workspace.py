@@ -1,14 +1,24 @@
 """A coded list of samples that is edited in place."""
 
-import ctypes
+from __future__ import annotations
+
+import threading
 from array import array
+from collections.abc import Iterable, Iterator, MutableSequence, Sequence
+from typing import Any, Callable, Optional, SupportsIndex, Union, overload
 
-from aecp.calls import Source, number_of, place
-from aecp.faults import NO_ROOM, fault_of
+from aecp.buffers import Source, Target, numpy, room_for
+from aecp.calls import number_of, place
+from aecp.faults import NO_ROOM, NOT_OPEN, SAMPLE_RANGE, Fault, fault_of
 from aecp.library import LIBRARY, Handle, Reply, c_options, text_of
+from aecp.options import Options
+from aecp.samples import Held, Samples
+
+SHOWN = 6  # samples that repr shows
+FIRST_ROOM = 1 << 16  # bytes for a stream whose length isn't known yet
 
 
-class Workspace:
+class Workspace(MutableSequence[int]):
     """Samples, kept as their code. Each edit codes as few intervals anew as it can, and one that is refused changes nothing.
 
         with aecp.Workspace(options, range(100)) as work:
@@ -16,14 +26,22 @@ class Workspace:
             del work[:5]
             coded, count = work.tobytes(), len(work)
 
-    It is a list but for two things: `append` and `insert` take one sample or several, and samples are replaced by as many. Samples
-    are whole numbers, in any iterable or an array('q'). One thread at a time may use a workspace. After close, which the end of the
-    block calls, it has length 0 and its calls raise a Fault. The methods that edit answer how many intervals they have coded.
+    It is a list of whole numbers. Samples come as numbers in any iterable, an array of the module array or a numpy array of
+    integers; `append` and `insert` take one sample or several. Bytes, text, bools, floats and arrays with a mask raise TypeError.
+    Iteration, `index` and `count` decode all samples once.
+
+    Any number of threads may use a workspace: its calls run one after the other. A copy, also by pickle, has samples of its own.
+    After close, which the end of the block calls, it has length 0 and its calls raise a Fault.
     """
 
-    def __init__(self, options, samples=()):
-        self.handle = Handle()
-        self.call("aecp_open", c_options(options), front=True)
+    __hash__ = None  # type: ignore[assignment]
+
+    def __init__(self, options: Options, samples: Samples = ()) -> None:
+        self.options = options
+        self._lock = threading.RLock()
+        self._handle = Handle()
+        self._room = FIRST_ROOM
+        self._call("aecp_open", c_options(options), front=True)
         try:
             self.append(samples)
         except BaseException:
@@ -31,124 +49,263 @@ class Workspace:
             raise
 
     @classmethod
-    def of_coded(cls, coded, count, options):
+    def of_coded(cls, coded: Any, count: Optional[int], options: Options) -> Workspace:
         """A workspace with the first `count` samples of coded bytes, or all with count None. Raises what decode_bytes does."""
         work, source = cls(options), Source(coded)
-        work.call("aecp_load", c_options(options), number_of(count), source.at, source.size, front=True)
+        work._call("aecp_load", c_options(options), number_of(count), source.at, source.size, front=True)
         return work
 
-    def call(self, name, *words, front=False):
-        """The length that a call answers. In front stand the words that come before the handle."""
+    def _call(self, name: str, *words: Any, front: bool = False) -> int:
+        """The length that a call returns. With `front` the words come before the handle."""
         reply = Reply()
-        words = [*words, self.handle] if front else [self.handle, *words]
-        number = getattr(LIBRARY, name)(*words, reply)
+        with self._lock:
+            words = (*words, self._handle) if front else (self._handle, *words)
+            number = getattr(LIBRARY, name)(*words, reply)
         if number:
             raise fault_of(number, reply.place, text_of(reply))
         return reply.len
 
-    def append(self, samples):
-        """Adds a sample, or several, behind the last one. Raises SampleRefused, LimitPassed, NoMemory."""
-        return self.call("aecp_append", *numbers(samples))
+    # Edits. Each returns how many intervals it has coded.
 
-    def truncate(self, count):
+    def append(self, samples: Samples) -> int:  # type: ignore[override]
+        """Adds a sample, or several, after the last one. Raises SampleRefused, LimitPassed, NoMemory."""
+        held = Held(samples)
+        return self._call("aecp_append", held.at, held.len)
+
+    def truncate(self, count: int) -> int:
         """Keeps the first `count` samples. Raises RangeRefused, NoMemory."""
-        return self.call("aecp_truncate", place(count, "count"))
+        return self._call("aecp_truncate", place(count, "count"))
 
-    def remove(self, first, length):
-        """Takes out `length` samples from place `first` on. Raises RangeRefused, NoMemory."""
-        return self.call("aecp_remove", place(first, "first"), place(length, "length"))
+    def remove(self, first: int, length: Optional[int] = None) -> int:  # type: ignore[override]
+        """Takes out `length` samples from place `first` on. Raises RangeRefused, NoMemory. With one argument, as a list does, takes out
+        the first sample that equals it; ValueError where there is none."""
+        with self._lock:
+            if length is None:
+                first, length = self.index(first), 1
+            return self._call("aecp_remove", place(first, "first"), place(length, "length"))
 
-    def overwrite(self, first, samples):
+    def overwrite(self, first: int, samples: Samples) -> int:
         """Replaces the samples from place `first` on by as many. Raises RangeRefused, SampleRefused, NoMemory."""
-        return self.call("aecp_overwrite", place(first, "first"), *numbers(samples))
+        held = Held(samples)
+        return self._call("aecp_overwrite", place(first, "first"), held.at, held.len)
 
-    def insert(self, first, samples):
-        """Puts a sample, or several, in front of the one at place `first`, or behind the last. Raises what append and overwrite do."""
-        return self.call("aecp_insert", place(first, "first"), *numbers(samples))
+    def insert(self, first: int, samples: Samples) -> int:  # type: ignore[override]
+        """Puts a sample, or several, before the one at place `first`, or after the last. A negative place counts from the end, as in
+        a list. Raises what append and overwrite raise."""
+        held = Held(samples)
+        with self._lock:
+            first = max(first + len(self), 0) if first < 0 else place(first, "first")
+            return self._call("aecp_insert", first, held.at, held.len)
 
-    def read(self, first, length):
+    def extend(self, samples: Iterable[int]) -> None:
+        """Adds samples after the last one."""
+        self.append(samples)
+
+    def clear(self) -> None:
+        """Takes out all samples."""
+        self.truncate(0)
+
+    def pop(self, index: int = -1) -> int:
+        """Takes out the sample at a place, and returns it."""
+        with self._lock:
+            sample = self[index]
+            del self[index]
+        return sample
+
+    def reverse(self) -> None:
+        """Turns the order of all samples round."""
+        with self._lock:
+            self.overwrite(0, self[::-1])
+
+    # Reading.
+
+    def read(self, first: int, length: int) -> "array[int]":
         """`length` samples from place `first` on, as an array('q'). Raises RangeRefused, NoMemory."""
-        out = array("q", bytes(8 * min(place(length, "length"), len(self))))
-        self.call("aecp_read", place(first, "first"), length, shared(out), len(out))
+        first, length = place(first, "first"), place(length, "length")
+        with self._lock:
+            out = array("q", [0]) * min(length, len(self))
+            self._call("aecp_read", first, length, out.buffer_info()[0], len(out))
         return out
 
-    def tobytes(self):
+    def tobytes(self) -> bytes:
         """The stream of all samples; decode reads it with their number."""
-        room = 0
-        while True:
-            out, reply = ctypes.create_string_buffer(max(room, 1)), Reply()
-            number = LIBRARY.aecp_write(self.handle, out, room, reply)
-            if number == 0:
-                return out.raw[: reply.len]
-            if number != NO_ROOM:
-                raise fault_of(number, reply.place, text_of(reply))
-            room = reply.len
+        reply = Reply()
+        with self._lock:
+            while True:
+                target = Target(room_for(self._room))
+                number = LIBRARY.aecp_write(self._handle, target.at, target.size, reply)
+                if number == 0:
+                    return bytes(target.view[: reply.len])
+                if number != NO_ROOM:
+                    raise fault_of(number, reply.place, text_of(reply))
+                self._room = reply.len
 
-    def calls(self):
+    def calls(self) -> int:
         """How many intervals have been coded so far."""
-        return LIBRARY.aecp_calls(self.handle)
+        with self._lock:
+            return int(LIBRARY.aecp_calls(self._handle))
 
-    def __len__(self):
-        return LIBRARY.aecp_size(self.handle)
+    def index(self, value: Any, start: int = 0, stop: Optional[int] = None) -> int:
+        """The first place of a sample from `start` on and before `stop`. ValueError where there is none."""
+        with self._lock:
+            first, end, _ = slice(start, stop).indices(len(self))
+            samples = self.read(first, max(end - first, 0))
+        try:
+            return first + samples.index(value)
+        except ValueError:
+            raise ValueError(f"{value!r} is not among the samples") from None
 
-    def __iter__(self):
-        return iter(self.read(0, len(self)))
+    def count(self, value: Any) -> int:
+        """How many samples equal a value."""
+        return self[:].count(value)
 
-    def __getitem__(self, key):
-        """The sample at a place, or those of a slice without steps, as an array('q')."""
-        first, length = self.places(key)
-        samples = self.read(first, length)
-        return samples if isinstance(key, slice) else samples[0]
+    def copy(self) -> Workspace:
+        """Another workspace with the same samples."""
+        made = self.__reduce__()
+        work: Workspace = made[0](*made[1])
+        return work
 
-    def __setitem__(self, key, samples):
-        """Replaces the sample at a place, or those of a slice without steps by as many."""
-        first, length = self.places(key)
-        held = held_in(samples)
-        if len(held) != length:
-            raise ValueError(f"{len(held)} samples can't replace {length}: append, insert and del change how many there are")
-        self.overwrite(first, held)
+    def __reduce__(self) -> tuple[Callable[..., Any], tuple[Any, ...]]:
+        """A copy is made of the code. Raises a Fault where the workspace is closed."""
+        with self._lock:
+            return type(self).of_coded, (self.tobytes(), len(self), self.options)
 
-    def __delitem__(self, key):
-        """Takes out the sample at a place, or those of a slice without steps."""
-        self.remove(*self.places(key))
+    def __copy__(self) -> Workspace:
+        return self.copy()
 
-    def places(self, key):
-        """The first place that a key names, and how many it names."""
-        if not isinstance(key, slice):
-            return range(len(self))[key], 1
-        first, end, step = key.indices(len(self))
-        if step != 1:
-            raise ValueError("slices of a workspace have no steps")
-        return first, max(end - first, 0)
+    def __deepcopy__(self, _: Any) -> Workspace:
+        return self.copy()
 
-    def close(self):
+    def __len__(self) -> int:
+        with self._lock:
+            return int(LIBRARY.aecp_size(self._handle))
+
+    def __iter__(self) -> Iterator[int]:
+        return iter(self[:])
+
+    def __reversed__(self) -> Iterator[int]:
+        return reversed(self[:])
+
+    def __contains__(self, value: object) -> bool:
+        return value in self[:]
+
+    def __eq__(self, other: object) -> bool:
+        if isinstance(other, Workspace):
+            return self is other or self[:] == other[:]
+        if isinstance(other, Sequence) and not isinstance(other, (str, bytes, bytearray, memoryview)):
+            mine = self[:]
+            return len(mine) == len(other) and all(a == b for a, b in zip(mine, other))
+        if isinstance(other, array):
+            return self[:] == other
+        return NotImplemented
+
+    def __repr__(self) -> str:
+        with self._lock:
+            try:
+                front, count = self.read(0, min(len(self), SHOWN)), len(self)
+            except Fault as fault:
+                return f"<closed {type(self).__name__}>" if fault.number == NOT_OPEN else f"<{type(self).__name__}: {fault}>"
+        more = f", .. ({count} samples)" if count > SHOWN else ""
+        return f"{type(self).__name__}({self.options}, [{', '.join(map(str, front))}{more}])"
+
+    def __array__(self, dtype: Any = None, copy: Optional[bool] = None) -> Any:
+        """All samples as a numpy array of 64-bit numbers."""
+        samples = numpy.frombuffer(self[:], numpy.int64)
+        return samples if dtype is None else samples.astype(dtype)
+
+    # Places and slices.
+
+    @overload
+    def __getitem__(self, key: SupportsIndex) -> int: ...
+
+    @overload
+    def __getitem__(self, key: slice) -> "array[int]": ...
+
+    def __getitem__(self, key: Union[SupportsIndex, slice]) -> Union[int, "array[int]"]:
+        """The sample at a place, or those of a slice, as an array('q')."""
+        with self._lock:
+            if not isinstance(key, slice):
+                return self.read(self._place(key), 1)[0]
+            first, length, step = self._part(key)
+            samples = self.read(first, length)
+        return samples[::step] if step != 1 else samples
+
+    def __setitem__(self, key: Union[SupportsIndex, slice], samples: Any) -> None:
+        """Replaces the sample at a place, or those of a slice by any number, or with steps by as many."""
+        with self._lock:
+            if not isinstance(key, slice):
+                held = Held([samples])
+                self._call("aecp_overwrite", self._place(key), held.at, held.len)
+                return
+            new, (first, length, step) = Held(samples), self._part(key)
+            if step == 1:
+                self._replace(first, length, new)
+                return
+            part = self.read(first, length)
+            if new.len != len(part[::step]):
+                raise ValueError(f"a slice with steps of {len(part[::step])} samples can't become {new.len}")
+            part[::step] = array("q", new.samples)
+            self._call("aecp_overwrite", first, Held(part).at, len(part))
+
+    def __delitem__(self, key: Union[SupportsIndex, slice]) -> None:
+        """Takes out the sample at a place, or those of a slice."""
+        with self._lock:
+            if not isinstance(key, slice):
+                self.remove(self._place(key), 1)
+                return
+            first, length, step = self._part(key)
+            if step == 1:
+                self.remove(first, length)
+                return
+            part = self.read(first, length)
+            del part[::step]
+            self._replace(first, length, Held(part))
+
+    def _place(self, key: SupportsIndex) -> int:
+        """The place that an index names. IndexError where there is none."""
+        try:
+            return range(len(self))[key]
+        except IndexError:
+            raise IndexError(f"there is no place {key} among {len(self)} samples") from None
+
+    def _part(self, key: slice) -> tuple[int, int, int]:
+        """The first place and the length of the part that a slice lies in, and its step within that part."""
+        places = range(len(self))[key]
+        if not places:
+            return places.start if places.step == 1 else 0, 0, places.step
+        least, most = min(places[0], places[-1]), max(places[0], places[-1])
+        return least, most - least + 1, places.step
+
+    def _replace(self, first: int, length: int, new: Held) -> None:
+        """Replaces a part by any number of samples. Samples out of range are refused before anything is changed."""
+        same = min(length, new.len)
+        if new.len != length:
+            self._judge(new)
+        if new.len > length:
+            self._call("aecp_insert", first + length, new.at + 8 * length, new.len - length)
+        if same:
+            self._call("aecp_overwrite", first, new.at, same)
+        if new.len < length:
+            self._call("aecp_remove", first + new.len, length - new.len)
+
+    def _judge(self, new: Held) -> None:
+        """Raises SampleRefused for the first sample that is out of range."""
+        least, most = self.options.least, self.options.most
+        if new.len and not least <= new.least() <= new.most() <= most:
+            index = next(i for i, sample in enumerate(new.samples) if not least <= sample <= most)
+            raise fault_of(SAMPLE_RANGE, index, f"sample {index} is out of range")
+
+    def close(self) -> None:
         """Frees the samples. May be called twice."""
-        LIBRARY.aecp_close(self.handle)
+        with self._lock:
+            LIBRARY.aecp_close(self._handle)
 
-    def __enter__(self):
+    def __enter__(self) -> Workspace:
         return self
 
-    def __exit__(self, *_):
+    def __exit__(self, *_: object) -> None:
         self.close()
 
-    def __del__(self):
-        if hasattr(self, "handle"):
+    def __del__(self) -> None:
+        if hasattr(self, "_handle"):
             self.close()
-
-
-def held_in(samples):
-    """A sample, or several, as an array('q'). OverflowError where one doesn't fit 64 bits."""
-    if isinstance(samples, array) and samples.typecode == "q":
-        return samples
-    return array("q", samples if hasattr(samples, "__iter__") else [samples])
-
-
-def numbers(samples):
-    """Samples for C, and how many."""
-    held = held_in(samples)
-    return shared(held), len(held)
-
-
-def shared(held):
-    """The memory of an array, which it holds on to; room for one number where it is empty."""
-    return (ctypes.c_int64 * len(held)).from_buffer(held) if held else (ctypes.c_int64 * 1)()

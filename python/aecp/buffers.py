@@ -1,0 +1,79 @@
+"""Memory that C reads and writes."""
+
+from __future__ import annotations
+
+import ctypes
+import mmap
+from typing import Any, Optional
+
+numpy: Any
+try:
+    import numpy
+except ImportError:
+    numpy = None
+
+
+SMALL = 1 << 20  # bytes that take no time to clear
+
+
+class Source:
+    """The address and the size of bytes, which it holds on to."""
+
+    def __init__(self, data: Any) -> None:
+        self.held: Any
+        self.at: Any
+        if type(data) is bytes:
+            self.held = self.at = data
+            self.size = len(data)
+            return
+        view = memoryview(data)
+        if not view.c_contiguous:
+            raise TypeError("the bytes must lie one after the other")
+        self.size = view.nbytes
+        self.held = view
+        if self.size == 0:
+            self.at = b"\0"
+        elif not view.readonly:
+            self.at = ctypes.addressof(ctypes.c_char.from_buffer(view.cast("B")))
+        elif numpy is not None:
+            self.held = numpy.frombuffer(view.cast("B"), numpy.uint8)
+            self.at = self.held.ctypes.data
+        else:
+            self.at = bytes(view)
+
+
+class Target:
+    """The address and the size of memory that a call fills, which it holds on to."""
+
+    def __init__(self, data: Any) -> None:
+        with memoryview(data) as view:
+            if view.readonly or not view.c_contiguous:
+                raise TypeError("out must be memory that can be written and lies in one piece")
+            self.view = view.cast("B") if view.nbytes else memoryview(bytearray())
+        self.size = self.view.nbytes
+        self.at: Any = ctypes.addressof(ctypes.c_char.from_buffer(self.view)) if self.size else None
+
+
+def uncleared() -> Optional[Any]:
+    """CPython's call for a bytearray whose bytes are whatever was in that memory; None in other interpreters."""
+    python = getattr(ctypes, "pythonapi", None)
+    call = getattr(python, "PyByteArray_FromStringAndSize", None)
+    if call is not None:
+        call.restype, call.argtypes = ctypes.py_object, [ctypes.c_void_p, ctypes.c_ssize_t]
+    return call
+
+
+NEW_BYTES = uncleared()
+
+
+def room_for(size: int) -> bytearray:
+    """A bytearray of so many bytes. The system gives no memory until a byte is written, so a count that is too great costs none."""
+    if NEW_BYTES is None or size < SMALL:
+        return bytearray(size)
+    try:
+        mmap.mmap(-1, size).close()  # whether so much can be had at all: the call itself would print its failure
+    except (OSError, OverflowError, ValueError):
+        raise MemoryError(f"{size} bytes can't be allocated") from None
+    made = NEW_BYTES(None, size)
+    assert isinstance(made, bytearray)
+    return made

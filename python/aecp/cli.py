@@ -1,0 +1,162 @@
+"""The command aecp: its words, what each verb does, and how it ends.
+
+Status 0: all is done. 1: something was refused or is damaged. 2: the words are wrong.
+"""
+
+from __future__ import annotations
+
+import argparse
+import contextlib
+import os
+import signal
+import sys
+from collections.abc import Iterator
+from typing import Any, Callable, NoReturn, Optional
+
+from aecp import __version__
+
+ABOUT = """Keeps files of samples as coded streams (CCSDS 121.0-B-3), each beside a note with its options and sums. Kept streams can be
+checked, edited, and taken back to every earlier state bit for bit. `aecp VERB --help` has a page for each verb."""
+EXAMPLES = {
+    "keep": "aecp keep data -n 16 --include '*.raw'    codes each file of the folder data that is named so",
+    "back": "aecp back scan.raw.aec                    writes scan.raw",
+    "check": "aecp check data                           reads every kept stream in data",
+    "edit": "echo 'overwrite 20 1' | aecp edit scan.raw.aec -",
+    "undo": "aecp undo scan.raw.aec                    takes the last edit back",
+    "log": "aecp log scan.raw.aec                     what was done, and when",
+    "diff": "aecp diff old.aec new.aec > script        a script that makes old into new",
+    "pixels": "aecp pixels --shape 512x512 bad.csv > script",
+    "info": "aecp info scan.raw.aec",
+    "fit": "aecp fit scan.raw -n 16                   sizes with each block size and interval",
+    "rescue": "aecp rescue scan.raw.aec out.raw          the samples before the damage",
+    "view": "aecp view scan.raw.aec out.png --width 512",
+}
+
+
+def add_options(parser: argparse.ArgumentParser, needs_bits: bool) -> None:
+    """The options of coding, as `aec` has them."""
+    group = parser.add_argument_group("options of coding")
+    group.add_argument("-n", dest="bits", type=int, required=needs_bits, metavar="N", help="bits of a sample, 1 to 32; a file doesn't contain it")
+    group.add_argument("-j", dest="block_size", type=int, metavar="J", help="samples in a block: 8, 16, 32 or 64 (16)")
+    group.add_argument("-r", dest="interval", type=int, metavar="R", help="blocks in an interval, 1 to 4096 (128)")
+    flags = {
+        "-s": ("signed", "samples are signed"),
+        "-m": ("msb_first", "a sample has its most significant byte first"),
+        "-3": ("three_byte", "samples of 17 to 24 bits have three bytes"),
+        "-t": ("restricted", "the restricted set of code options, for at most 4 bits"),
+        "-p": ("pad", "fill each interval up to a byte"),
+        "--even-blocks": ("even_blocks", "J may be every even number from 8 to 64"),
+    }
+    for word, (name, text) in flags.items():
+        group.add_argument(word, dest=name, action="store_true", help=text)
+    group.add_argument("-N", dest="preprocess", action="store_false", help="predict nothing")
+
+
+def add_verb(verbs: Any, name: str, text: str) -> argparse.ArgumentParser:
+    usual = argparse.RawDescriptionHelpFormatter
+    made: argparse.ArgumentParser = verbs.add_parser(name, help=text, description=text, epilog=EXAMPLES[name], formatter_class=usual)
+    return made
+
+
+def words() -> argparse.ArgumentParser:
+    parser = argparse.ArgumentParser(prog="aecp", description=ABOUT)
+    parser.add_argument("--version", action="version", version=f"aecp {__version__}")
+    verbs = parser.add_subparsers(dest="verb", metavar="VERB", required=True)
+    keep = add_verb(verbs, "keep", "codes files and folders; each is decoded and compared before its pair gets its names")
+    keep.add_argument("paths", nargs="+", metavar="PATH", help="a file, or a folder with all below it")
+    add_options(keep, needs_bits=True)
+    keep.add_argument("--jobs", type=int, metavar="N", help="processes at once (one a core)")
+    keep.add_argument("--include", action="append", default=[], metavar="PATTERN", help="in folders only files of such names, as '*.raw'")
+    keep.add_argument("--exclude", action="append", default=[], metavar="PATTERN", help="in folders no files of such names")
+    keep.add_argument("--rehash", action="store_true", help="compare kept files by their sum, not by their time")
+    keep.add_argument("--anyway", action="store_true", help="keep a stream that is larger than its file")
+    keep.add_argument("--remove", action="store_true", help="remove each original if its stream decodes to it")
+    back = add_verb(verbs, "back", "writes the samples of a kept stream, checked by their sum")
+    back.add_argument("file", metavar="FILE.aec")
+    back.add_argument("out", metavar="OUT", nargs="?", help="a new file (FILE); - is standard output")
+    back.add_argument("--range", metavar="FIRST:LEN", help="LEN samples from place FIRST on, counted from 0")
+    check = add_verb(verbs, "check", "compares every kept stream and its samples with the sums of its note; writes nothing")
+    check.add_argument("paths", nargs="+", metavar="PATH", help="a kept stream, or a folder with all below it")
+    check.add_argument("--json", action="store_true", help="print the result as JSON")
+    check.add_argument("--jobs", type=int, metavar="N", help="processes at once (one a core)")
+    edit = add_verb(verbs, "edit", "edits a kept stream by a script; `aecp undo` takes it back bit for bit")
+    edit.add_argument("file", metavar="FILE.aec")
+    edit.add_argument("script", metavar="SCRIPT", help="lines such as 'overwrite 20 1 2 3'; - is standard input")
+    edit.add_argument("--allow-empty", action="store_true", help="take lines with no value")
+    undo = add_verb(verbs, "undo", "takes the last edit back, bit for bit")
+    undo.add_argument("file", metavar="FILE.aec")
+    log = add_verb(verbs, "log", "prints what was done to a kept stream, and when")
+    log.add_argument("file", metavar="FILE.aec")
+    log.add_argument("--script", type=int, metavar="K", help="print the script of the edit with this number")
+    diff = add_verb(verbs, "diff", "prints the script that makes the samples of A into those of B")
+    diff.add_argument("first", metavar="A.aec")
+    diff.add_argument("second", metavar="B.aec")
+    pixels = add_verb(verbs, "pixels", "prints a table of row, column and value as a script, sorted by place")
+    pixels.add_argument("--shape", required=True, metavar="ROWSxCOLS")
+    pixels.add_argument("--frame", type=int, default=0, metavar="K", help="the frame, counted from 0")
+    pixels.add_argument("table", metavar="TABLE", help="CSV or TSV, rows and columns counted from 0; - is standard input")
+    info = add_verb(verbs, "info", "prints what the notes of kept streams say")
+    info.add_argument("paths", nargs="+", metavar="FILE.aec")
+    fit = add_verb(verbs, "fit", "prints which options suit a file, and what an edit costs with them")
+    fit.add_argument("file", metavar="FILE")
+    fit.add_argument("--all", action="store_true", help="try the whole file, not its first 4 MiB")
+    fit.add_argument("--stream", type=int, metavar="COUNT", help="FILE is a stream of so many samples: which options read it?")
+    add_options(fit, needs_bits=False)
+    rescue = add_verb(verbs, "rescue", "writes the samples of a stream before its damage; says at which bit that is")
+    rescue.add_argument("file", metavar="STREAM")
+    rescue.add_argument("out", metavar="OUT", nargs="?", help="a new file; none: only say what there is")
+    rescue.add_argument("--count", type=int, metavar="N", help="the number of samples, where no note says it")
+    add_options(rescue, needs_bits=False)
+    view = add_verb(verbs, "view", "draws samples in grey: OUT is named .png or .pgm")
+    view.add_argument("file", metavar="FILE.aec")
+    view.add_argument("out", metavar="OUT")
+    view.add_argument("--width", type=int, required=True, metavar="W", help="samples of a row")
+    view.add_argument("--range", metavar="FIRST:LEN", help="LEN samples from place FIRST on")
+    view.add_argument("--count", type=int, metavar="N", help="the number of samples, where no note says it")
+    add_options(view, needs_bits=False)
+    return parser
+
+
+def interrupted(number: int, _: Any) -> NoReturn:
+    raise KeyboardInterrupt(number)
+
+
+@contextlib.contextmanager
+def quiet_pipes() -> Iterator[None]:
+    """Ends quietly where nobody reads the output any more."""
+    try:
+        yield
+        sys.stdout.flush()
+    except BrokenPipeError:
+        os.dup2(os.open(os.devnull, os.O_WRONLY), 1)
+        sys.exit(1)
+
+
+def main(argv: Optional[list[str]] = None) -> NoReturn:
+    """Does what the words say, and ends with the status."""
+    asked = words().parse_args(argv)
+    for number in (signal.SIGTERM, signal.SIGHUP):
+        signal.signal(number, interrupted)
+    try:
+        from aecp import verbs
+    except ImportError as error:
+        sys.exit(complain(str(error)))
+    run: Callable[[argparse.Namespace], int] = getattr(verbs, f"do_{asked.verb}")
+    try:
+        with quiet_pipes():
+            status = run(asked)
+    except KeyboardInterrupt as stop:
+        number = stop.args[0] if stop.args else signal.SIGINT
+        sys.stderr.write("aecp: stopped\n")
+        os._exit(128 + number)
+    sys.exit(status)
+
+
+def complain(text: str, status: int = 1) -> int:
+    """Prints a line on standard error. The status."""
+    print(f"aecp: {text}", file=sys.stderr, flush=True)
+    return status
+
+
+if __name__ == "__main__":
+    main()

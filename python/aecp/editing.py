@@ -1,0 +1,175 @@
+"""edit, undo, log, diff and pixels."""
+
+from __future__ import annotations
+
+import base64
+import csv
+import io
+import re
+from concurrent.futures import ThreadPoolExecutor
+from typing import Any, Optional
+
+from aecp.calls import decode_bytes, encode
+from aecp.faults import Fault
+from aecp.notes import WRITER, Note, Sum, now, sha256_of
+from aecp.options import Options
+from aecp.pairs import Damaged, Opened, Pair, Refused
+from aecp.scripts import Change, change_of, difference, judged, made, script_within
+
+SHOWN = 20  # bad lines that are shown
+
+
+def samples_in(opened: Opened) -> bytearray:
+    """The stored samples of a kept stream. Damaged where the stream doesn't have what its note says."""
+    note = opened.note
+    try:
+        samples = decode_bytes(opened.stream, note.count, note.options)
+    except Fault as fault:
+        raise Damaged("stops", f"the stream can't be decoded by the options of its note: {fault}") from None
+    assert isinstance(samples, bytearray)
+    return samples
+
+
+def judge_samples(samples: Any, note: Note) -> None:
+    """Damaged where samples aren't those of a note."""
+    if len(samples) != note.samples.bytes or sha256_of(samples) != note.samples.sha256:
+        raise Damaged("other samples", "the samples aren't those of the note: their SHA-256 is another. The options may be wrong")
+
+
+def edit(pair: Pair, script: bytes, allow_empty: bool) -> str:
+    """Edits a kept stream by a script, under the lock. The text that says what was done."""
+    opened = pair.open()
+    note, options = opened.note, opened.note.options
+    checked = judged(script, note.count, options, allow_empty)
+    if checked.complaints:
+        more = len(checked.complaints) - SHOWN
+        lines = checked.complaints[:SHOWN] + ([f"and {more} more lines"] if more > 0 else [])
+        raise Refused("the script is refused, and nothing is changed:\n  " + "\n  ".join(lines))
+    with ThreadPoolExecutor(4) as pool:
+        before = samples_in(opened)
+        sound = pool.submit(judge_samples, before, note)
+        after = made(before, checked.edits, options)
+        coded, sum_after = pool.submit(encode, after, options), pool.submit(Sum.of, after)
+        change = change_of(after, before, options.storage)
+        inverse = inverse_of(opened, after, before, change)
+        stream = coded.result()
+        same, sum_stream = pool.submit(comes_back, stream, after, checked.left, options), pool.submit(Sum.of, stream)
+        sound.result()
+        same.result()
+    new = note.after(checked.left, sum_after.result(), sum_stream.result(), [])
+    entry: dict[str, Any] = {"what": "edit", "when": now(), "by": WRITER, "samples_changed": change.samples}
+    entry.update({"script": script.decode("utf-8", "surrogateescape"), "inverse": inverse})
+    entry.update({"before": note.sums(), "after": new.sums()})
+    pair.replace(note.after(new.count, new.samples, new.stream, [*note.history, entry]), stream)
+    return f"{change.samples} samples changed, {checked.left} samples now, {len(opened.stream)} bytes became {len(stream)}"
+
+
+def comes_back(stream: bytes, samples: Any, count: int, options: Options) -> None:
+    """Refuses a new stream that doesn't decode to its samples."""
+    if decode_bytes(stream, count, options) != samples:
+        raise Refused("the new stream doesn't decode to its samples: nothing is changed. Please report this")
+
+
+def inverse_of(opened: Opened, after: Any, before: Any, change: Change) -> dict[str, str]:
+    """What takes an edit back: a script, or the earlier stream where that is shorter, or isn't the code of its samples."""
+    note = opened.note
+    is_ours = not note.is_old or encode(before, note.options) == opened.stream
+    script = script_within(difference(after, before, change, note.options), len(opened.stream)) if is_ours else None
+    if script is not None:
+        return {"script": script.decode("ascii")}
+    return {"stream": base64.b64encode(opened.stream).decode("ascii")}
+
+
+def last_edit(note: Note) -> Optional[int]:
+    """The place in the history of the last edit that wasn't taken back."""
+    undone = {entry.get("edit") for entry in note.history if entry.get("what") == "undo"}
+    places = [i for i, entry in enumerate(note.history) if entry.get("what") == "edit" and i not in undone]
+    return places[-1] if places else None
+
+
+def undo(pair: Pair) -> str:
+    """Takes the last edit of a kept stream back, under the lock. The text that says what was done."""
+    opened = pair.open()
+    note, place = opened.note, last_edit(opened.note)
+    if place is None:
+        raise Refused("there is no edit to take back")
+    entry = note.history[place]
+    wanted, stream = entry["before"], earlier_stream(opened, entry)
+    if len(stream) != wanted["stream"]["bytes"] or sha256_of(stream) != wanted["stream"]["sha256"]:
+        raise Refused("the earlier stream can't be restored bit for bit: nothing is changed")
+    undone = {"what": "undo", "edit": place, "when": now(), "by": WRITER, "before": note.sums(), "after": wanted}
+    history = [{**it, "inverse": None} if i == place else it for i, it in enumerate(note.history)]
+    count, samples = wanted["samples"]["count"], Sum.of_json(wanted["samples"])
+    pair.replace(note.after(count, samples, Sum.of_json(wanted["stream"]), [*history, undone]), stream)
+    return f"the edit of {entry['when']} is taken back, bit for bit: {count} samples, {len(stream)} bytes"
+
+
+def earlier_stream(opened: Opened, entry: dict[str, Any]) -> bytes:
+    """The stream before an edit, the last one of the history."""
+    inverse, options = entry["inverse"], opened.note.options
+    if "stream" in inverse:
+        return base64.b64decode(inverse["stream"])
+    samples = samples_in(opened)
+    judge_samples(samples, opened.note)
+    back = judged(inverse["script"].encode("ascii"), opened.note.count, options)
+    if back.complaints:
+        raise Refused(f"the inverse script doesn't fit: {back.complaints[0]}")
+    return encode(made(samples, back.edits, options), options)
+
+
+def log_lines(note: Note) -> list[str]:
+    """What was done to a kept stream, a line for each."""
+    undone = {entry.get("edit") for entry in note.history if entry.get("what") == "undo"}
+    lines = []
+    for i, entry in enumerate(note.history):
+        what = entry.get("what")
+        if what == "edit":
+            count = entry["after"]["samples"]["count"]
+            text = f"edit: {entry['samples_changed']} samples changed, {count} samples, {entry['after']['stream']['bytes']} bytes"
+            text += ", taken back later" if i in undone else ""
+        elif what == "undo":
+            text = f"undo: the edit of {note.history[entry['edit']]['when']} is taken back"
+        else:
+            text = f"{what}: {entry['after']['samples']['count']} samples, {entry['after']['stream']['bytes']} bytes"
+        lines.append(f"{i}  {entry['when']}  {text}")
+    return lines
+
+
+def script_in(note: Note, place: int) -> bytes:
+    """The script of an edit of the history."""
+    entry = note.history[place] if 0 <= place < len(note.history) else {}
+    if entry.get("what") != "edit":
+        raise Refused(f"the history has no edit {place}: `aecp log` lists them")
+    return str(entry["script"]).encode("utf-8", "surrogateescape")
+
+
+def compared(first: Opened, second: Opened) -> tuple[bytes, bytes]:
+    """The stored samples of two streams, which have to be stored alike."""
+    a, b = first.note.options, second.note.options
+    if (a.bits, a.signed, a.storage, a.msb_first) != (b.bits, b.signed, b.storage, b.msb_first):
+        raise Refused("the samples are stored in other ways, so no script makes one of the other")
+    return bytes(samples_in(first)), bytes(samples_in(second))
+
+
+def pixels(text: str, rows: int, columns: int, frame: int) -> str:
+    """The script that a table of row, column and value is, sorted by place."""
+    values: dict[int, int] = {}
+    complaints = []
+    delimiter = "\t" if "\t" in text.partition("\n")[0] else ";" if ";" in text.partition("\n")[0] else ","
+    for line, words in enumerate(csv.reader(io.StringIO(text), delimiter=delimiter), 1):
+        words = [word.strip() for word in words]
+        if not any(words) or words[0].startswith("#") or (line == 1 and not re.match(r"[-+]?[0-9]", words[0])):
+            continue
+        try:
+            row, column, value = map(int, words)
+        except ValueError:
+            complaints.append(f"line {line}: {' '.join(words)!r} is no row, column and value")
+            continue
+        place = (frame * rows + row) * columns + column
+        if not (0 <= row < rows and 0 <= column < columns):
+            complaints.append(f"line {line}: row {row}, column {column} is outside {rows}x{columns}")
+        elif values.setdefault(place, value) != value:
+            complaints.append(f"line {line}: row {row}, column {column} has two values, {values[place]} and {value}")
+    if complaints:
+        raise Refused("the table is refused:\n  " + "\n  ".join(complaints[:SHOWN]))
+    return "".join(f"overwrite {place} {values[place]}\n" for place in sorted(values))

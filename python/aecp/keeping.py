@@ -1,0 +1,248 @@
+"""keep: files to pairs."""
+
+from __future__ import annotations
+
+import fnmatch
+import functools
+import os
+import re
+import stat
+import sys
+from collections.abc import Iterable, Iterator
+from concurrent.futures import Future, ThreadPoolExecutor
+from dataclasses import dataclass, replace
+from typing import Any, NamedTuple, Optional
+
+from aecp.calls import decode_bytes, encode
+from aecp.faults import Fault, OptionsRefused, SampleRefused
+from aecp.notes import WRITER, Note, Sum, now, sha256_of, words_of
+from aecp.options import Options
+from aecp.pairs import NOTE, OLD_NOTE, STREAM, Damaged, Pair, Refused, read_if_there, shown, sync_folder
+
+OURS = (STREAM, NOTE, OLD_NOTE)
+HIDDEN = re.compile(r"\.(.*\.aec)\.([0-9a-f]{12}\.new|json\.new|lock)", re.S)
+TEXTS = ["README*", *(f"*.{end}" for end in ("txt", "md", "csv", "tsv", "json", "xml", "html", "log", "py", "sh", "toml", "yaml", "yml"))]
+FRONT = 1 << 18  # bytes that a hint looks at
+AT_ONCE = 3  # files of a process that wait for the disk, or are coded
+
+
+class Outcome(NamedTuple):
+    """What became of a file. `kind` is kept, skipped, passed, changed or refused; `said` is printed where it isn't empty."""
+
+    path: str
+    kind: str
+    said: str = ""
+    bytes: int = 0
+    coded: int = 0
+
+
+@dataclass(frozen=True)
+class Keeping:
+    """How files are kept."""
+
+    options: Options
+    rehash: bool = False
+    anyway: bool = False
+    remove: bool = False
+
+
+class Found(NamedTuple):
+    """A file to be kept, and whether it was named and not found in a folder."""
+
+    path: str
+    is_named: bool
+
+
+def files_of(paths: Iterable[str], include: list[str], exclude: list[str], complaints: list[Outcome]) -> Iterator[Found]:
+    """The files that are named, and those in folders that are named, in order. Symbolic links are said and passed over."""
+    for path in paths:
+        if os.path.islink(path):
+            complaints.append(Outcome(path, "refused", "it is a symbolic link: name what it points to"))
+        elif os.path.isdir(path):
+            yield from files_in(path, path, include, exclude, complaints)
+        elif os.path.isfile(path) and path.endswith(OURS):
+            complaints.append(Outcome(path, "refused", "it is part of a kept file: only originals are kept"))
+        elif os.path.isfile(path):
+            yield Found(path, True)
+        else:
+            complaints.append(Outcome(path, "refused", "it is no file" if os.path.exists(path) else "there is no such file"))
+
+
+def files_in(folder: str, top: str, include: list[str], exclude: list[str], complaints: list[Outcome]) -> Iterator[Found]:
+    try:
+        entries = sorted(os.scandir(folder), key=lambda it: it.name)
+    except OSError as error:
+        complaints.append(Outcome(folder, "refused", str(error.strerror)))
+        return
+    for entry in entries:
+        names = entry.name, os.path.relpath(entry.path, top)
+        if entry.is_symlink():
+            complaints.append(Outcome(entry.path, "passed", "a symbolic link, passed over"))
+        elif entry.is_dir():
+            yield from files_in(entry.path, top, include, exclude, complaints)
+        elif entry.is_file() and not entry.name.endswith(OURS) and not HIDDEN.fullmatch(entry.name):
+            if matches(names, exclude) or (include and not matches(names, include)):
+                continue
+            if not include and matches((entry.name,), TEXTS):
+                complaints.append(Outcome(entry.path, "passed", "passed over: its name is that of a text (--include keeps it)"))
+            else:
+                yield Found(entry.path, False)
+
+
+def matches(names: tuple[str, ...], patterns: list[str]) -> bool:
+    return any(fnmatch.fnmatchcase(name, pattern) for name in names for pattern in patterns)
+
+
+@functools.lru_cache(maxsize=64)
+def leftovers_in(folder: str) -> dict[str, list[str]]:
+    """What stopped runs have left in a folder, by the name of the stream."""
+    found: dict[str, list[str]] = {}
+    for name in os.listdir(folder):
+        match = HIDDEN.fullmatch(name)
+        if match:
+            found.setdefault(match.group(1), []).append(os.path.join(folder, name))
+    return found
+
+
+def keep_all(keeping: Keeping, files: list[Found]) -> list[Outcome]:
+    """Keeps each file, while earlier ones wait for the disk."""
+    sys.setswitchinterval(0.0001)  # a thread that has waited for the disk waits no longer for the one that codes
+    waiting: list[Future[Outcome]] = []
+    with ThreadPoolExecutor(AT_ONCE) as pool:
+        for file in files:
+            waiting.append(pool.submit(keep, keeping, file))
+    outcomes = [it.result() for it in waiting]
+    for folder in {os.path.dirname(os.path.realpath(it.path)) for it in outcomes if it.kind == "kept"}:
+        sync_folder(folder)
+    if keeping.remove:
+        outcomes = [removed(keeping, it) for it in outcomes]
+    return outcomes
+
+
+def keep(keeping: Keeping, file: Found) -> Outcome:
+    """Keeps a file, or says why it doesn't."""
+    try:
+        return keep_or_refuse(keeping, file)
+    except Refused as refusal:
+        return Outcome(file.path, "refused", str(refusal))
+    except OSError as error:
+        return Outcome(file.path, "refused", said_of(error, file.path))
+    except (MemoryError, Fault) as error:
+        return Outcome(file.path, "refused", str(error) or "out of memory")
+
+
+def said_of(error: OSError, path: str) -> str:
+    """What a failure of the system says, with the name of another file where it isn't this one."""
+    text = "no space left on the device" if error.errno == 28 else str(error.strerror or error)
+    name = error.filename
+    return text if name is None or name == path else f"{text}: {shown(name if isinstance(name, str) else os.fsdecode(name))}"
+
+
+def keep_or_refuse(keeping: Keeping, file: Found) -> Outcome:
+    pair = Pair(file.path + STREAM)
+    if pair.is_kept() and pair.name not in leftovers_in(pair.folder):
+        return judge_kept(keeping, file.path, pair)
+    with pair.locked():
+        left = [path for path in leftovers_in(pair.folder).get(pair.name, []) if path != pair.lock_path]
+        mended = pair.mend(left) if left else None
+        if pair.is_kept():
+            return judge_kept(keeping, file.path, pair, mended or "")
+        if os.path.lexists(pair.path):
+            raise Refused(f"{shown(pair.name)} exists and has no note: move it away")
+        before, data = os.stat(file.path), read_if_there(file.path)
+        if data is None:
+            raise Refused("there is no such file")
+        if not file.is_named and len(data) % keeping.options.storage:
+            return Outcome(file.path, "passed", f"passed over: {len(data)} bytes are no whole samples of {keeping.options.storage}")
+        note, stream = coded(keeping, data, before)
+        if os.path.lexists(pair.note_path):
+            os.unlink(pair.note_path)
+            mended = "its note had no stream, and is written anew"
+        pair.create(pair.write_new(note, stream))
+    return Outcome(file.path, "kept", mended or "", len(data), len(stream))
+
+
+def coded(keeping: Keeping, data: bytes, status: os.stat_result) -> tuple[Note, bytes]:
+    """The note and the stream of a file, once the stream has given the file back."""
+    options = keeping.options
+    count, rest = divmod(len(data), options.storage)
+    if rest:
+        raise Refused(f"it has {len(data)} bytes, no whole samples of {options.storage}")
+    try:
+        stream = encode(data, options)
+    except SampleRefused as fault:
+        raise Refused(f"{fault} for {words_of(options)}{hint(data, options)}") from None
+    if len(stream) > len(data) and not keeping.anyway:
+        text = f"its stream has {len(stream)} bytes, more than the {len(data)} of the file{hint(data, options)}"
+        raise Refused(f"{text}; --anyway keeps it so")
+    if decode_bytes(stream, count, options) != data:
+        raise Refused(f"it can't be restored: the bits above {options.bits} must be copies of the sign, or zeros without -s")
+    samples = Sum.of(data)
+    note = Note(options, count, samples, Sum.of(stream), {"mtime_ns": status.st_mtime_ns, **samples.json()})
+    entry: dict[str, Any] = {"what": "keep", "when": now(), "by": WRITER, "after": note.sums()}
+    return replace(note, history=[entry]), stream
+
+
+def alternatives(options: Options) -> Iterator[tuple[str, Options]]:
+    """Other options that may be meant, as words."""
+    yield "-m" if not options.msb_first else "no -m", replace(options, msb_first=not options.msb_first)
+    yield "-s" if not options.signed else "no -s", replace(options, signed=not options.signed)
+    for bits in (8, 16, 32):
+        if bits != options.bits:
+            yield f"-n {bits}", replace(options, bits=bits, restricted=False)
+            yield f"-n {bits} -m", replace(options, bits=bits, restricted=False, msb_first=True)
+
+
+def hint(data: bytes, options: Options) -> str:
+    """Which other options code the front of a file in fewer bytes, if some do."""
+    best: Optional[tuple[int, str]] = None
+    for words, other in alternatives(options):
+        front = data[: FRONT - FRONT % other.storage]
+        try:
+            size = len(encode(front, other)) if len(data) % other.storage == 0 else len(data)
+        except Fault:
+            continue
+        if size < len(front) * 98 // 100 and (best is None or size < best[0]):
+            best = size, words
+    if best is None:
+        return ""
+    return f"; with {best[1]} the first {min(len(data), FRONT)} bytes become {best[0]}"
+
+
+def judge_kept(keeping: Keeping, path: str, pair: Pair, mended: str = "") -> Outcome:
+    """Whether a file that is kept already is still what was kept."""
+    note, status = pair.note(), os.stat(path)
+    source = note.source or {"mtime_ns": None, **note.samples.json()}
+    is_same = status.st_size == source["bytes"] and (status.st_mtime_ns == source["mtime_ns"] and not keeping.rehash)
+    if not is_same:
+        is_same = status.st_size == source["bytes"] and sha256_of(read_if_there(path) or b"") == source["sha256"]
+    if not is_same:
+        return Outcome(path, "changed", "it was kept already, and has changed since: move the pair away to keep it anew")
+    return Outcome(path, "skipped", mended)
+
+
+def removed(keeping: Keeping, outcome: Outcome) -> Outcome:
+    """Removes an original if its stream decodes to it now."""
+    if outcome.kind not in ("kept", "skipped"):
+        return outcome
+    path = outcome.path
+    try:
+        opened = Pair(path + STREAM).open()
+        data = read_if_there(path)
+        if decode_bytes(opened.stream, opened.note.count, opened.note.options) != data:
+            return outcome._replace(kind="refused", said="it isn't removed: its stream was edited since, or the file has changed")
+        if stat.S_ISREG(os.lstat(path).st_mode):
+            os.unlink(path)
+    except (Damaged, Fault) as error:
+        return outcome._replace(kind="refused", said=f"it isn't removed: {error}")
+    except OSError as error:
+        return outcome._replace(kind="refused", said=f"it isn't removed: {said_of(error, path)}")
+    return outcome
+
+
+def refuse_options(options: Options) -> None:
+    """Raises OptionsRefused where the format has no such options."""
+    try:
+        encode(b"", options)
+    except OptionsRefused as fault:
+        raise Refused(str(fault)) from None

@@ -1,0 +1,275 @@
+"""Pairs of files, FILE.aec and FILE.aec.json, that no stop can break.
+
+A new stream is written as .FILE.aec.SUM.new, with the first 12 digits of its SHA-256, and then its note as .FILE.aec.json.new. Both are
+synced before anything gets its name. To replace a pair, the note is renamed first and the stream second: a note whose stream still has
+the other name shows that the second step is left to do. A new pair gets its names by links, which replace nothing, the stream first.
+Whoever opens a pair to write finishes what a stopped run left.
+"""
+
+from __future__ import annotations
+
+import contextlib
+import fcntl
+import os
+import re
+import stat
+from collections.abc import Iterator
+from typing import NamedTuple, Optional
+
+from aecp.notes import BadNote, Note, note_of, old_note_of, sha256_of
+
+STREAM, NOTE, OLD_NOTE = ".aec", ".aec.json", ".aec.note"
+TRIES = 20
+
+
+class Refused(Exception):
+    """Why something isn't done. The text is what the user reads after the name of the file."""
+
+
+class Damaged(Refused):
+    """What a kept stream and its note have wrong. `kind` is a word or two for programs."""
+
+    def __init__(self, kind: str, text: str) -> None:
+        super().__init__(text)
+        self.kind = kind
+
+
+class Opened(NamedTuple):
+    """A note and its stream."""
+
+    note: Note
+    stream: bytes
+
+
+class Pair:
+    """The names of a kept file. `path` is that of the stream."""
+
+    def __init__(self, path: str) -> None:
+        self.path = os.path.realpath(path)
+        self.folder, self.name = os.path.split(self.path)
+        self.note_path = self.path + NOTE[len(STREAM) :]
+        self.old_note_path = self.path + OLD_NOTE[len(STREAM) :]
+        self.new_note_path = self.hidden("json.new")
+        self.lock_path = self.hidden("lock")
+
+    def hidden(self, end: str) -> str:
+        """The path of a file beside the pair that a run needs for itself."""
+        return os.path.join(self.folder, f".{self.name}.{end}")
+
+    def new_stream_path(self, sha256: str) -> str:
+        return self.hidden(f"{sha256[:12]}.new")
+
+    def is_kept(self) -> bool:
+        """Whether there are a stream and a note."""
+        return os.path.exists(self.path) and (os.path.exists(self.note_path) or os.path.exists(self.old_note_path))
+
+    def note_bytes(self) -> Optional[bytes]:
+        return read_if_there(self.note_path)
+
+    def note(self) -> Note:
+        """The note. Damaged where there is none, or a bad one."""
+        data, old = self.note_bytes(), None
+        try:
+            if data is not None:
+                return note_of(data)
+            old = read_if_there(self.old_note_path)
+            if old is not None:
+                return old_note_of(old)
+        except BadNote as error:
+            path = self.note_path if old is None else self.old_note_path
+            raise Damaged("bad note", f"the note {shown(os.path.basename(path))} can't be used: {error}") from None
+        raise Damaged("no note", "there is no note: `aecp keep` writes one; `aecp rescue` reads a stream with none")
+
+    def note_to_be(self) -> Optional[Note]:
+        """The note of a new pair whose stream has its name already, where the note has none yet."""
+        if os.path.exists(self.note_path) or os.path.exists(self.old_note_path):
+            return None
+        try:
+            return note_of(read_if_there(self.new_note_path) or b"")
+        except BadNote:
+            return None
+
+    def open(self) -> Opened:
+        """The note and the stream, which has the note's sum. It changes nothing: where a replacement was stopped, and while one is
+        made, it finds the new pair or the old one."""
+        for _ in range(TRIES):
+            before = self.note_bytes()
+            note = self.note_to_be() or self.note()
+            stream = read_if_there(self.path)
+            if stream is not None and is_of(stream, note):
+                return Opened(note, stream)
+            new = read_if_there(self.new_stream_path(note.stream.sha256))
+            if new is not None and is_of(new, note):
+                return Opened(note, new)
+            if self.note_bytes() == before:
+                break
+        if stream is None:
+            raise Damaged("no stream", "there is a note, but no stream")
+        raise Damaged("other bytes", other_bytes(stream, note))
+
+    @contextlib.contextmanager
+    def locked(self, wait: bool = True) -> Iterator[bool]:
+        """Keeps other runs away from the pair while it lasts. It waits for one that is at work, or yields False."""
+        file = self.take_lock(wait)
+        try:
+            yield file is not None
+        finally:
+            if file is not None:
+                with contextlib.suppress(OSError):
+                    os.unlink(self.lock_path)
+                os.close(file)
+
+    def take_lock(self, wait: bool) -> Optional[int]:
+        """The open lock file. Another run removes it at its end, so that it has to be looked at again once it is locked."""
+        while True:
+            file = os.open(self.lock_path, os.O_RDWR | os.O_CREAT | os.O_CLOEXEC, 0o666)
+            try:
+                fcntl.flock(file, fcntl.LOCK_EX | (0 if wait else fcntl.LOCK_NB))
+                if os.path.samestat(os.fstat(file), os.stat(self.lock_path)):
+                    return file
+            except FileNotFoundError:
+                pass
+            except BlockingIOError:
+                os.close(file)
+                return None
+            except BaseException:
+                os.close(file)
+                raise
+            os.close(file)
+
+    def leftovers(self) -> list[str]:
+        """The paths of what a run has written and given no name."""
+        form = re.compile(re.escape(f".{self.name}.") + r"([0-9a-f]{12}|json)\.new")
+        return [os.path.join(self.folder, name) for name in os.listdir(self.folder) if form.fullmatch(name)]
+
+    def mend(self, left: Optional[list[str]] = None) -> Optional[str]:
+        """Finishes what a stopped run left, under the lock: the text that says what was done, None where nothing was."""
+        left = self.leftovers() if left is None else left
+        if not left:
+            return None
+        done = self.finish_new(left) or self.finish_replaced(left)
+        removed = [path for path in left if os.path.exists(path)]
+        for path in removed:
+            os.unlink(path)
+        sync_folder(self.folder)
+        return done or ("what a stopped run left is removed" if removed else None)
+
+    def finish_new(self, left: list[str]) -> Optional[str]:
+        """The note of a new pair whose stream has its name already."""
+        stream = read_if_there(self.path)
+        if stream is None or self.new_note_path not in left or os.path.exists(self.note_path):
+            return None
+        try:
+            note = note_of(read_if_there(self.new_note_path) or b"")
+        except BadNote:
+            return None
+        if not is_of(stream, note):
+            return None
+        os.link(self.new_note_path, self.note_path)
+        return "a stopped run is finished: the note has its name"
+
+    def finish_replaced(self, left: list[str]) -> Optional[str]:
+        """The stream of a replaced pair whose note has its name already."""
+        try:
+            note = self.note()
+        except Damaged:
+            return None
+        path = self.new_stream_path(note.stream.sha256)
+        new, stream = read_if_there(path), read_if_there(self.path)
+        if path not in left or new is None or not is_of(new, note) or (stream is not None and is_of(stream, note)):
+            return None
+        os.rename(path, self.path)
+        return "a stopped run is finished: the stream has its name"
+
+    def write_new(self, note: Note, stream: bytes) -> list[str]:
+        """Writes a stream and its note under the names for new ones. Their paths."""
+        paths = [self.new_stream_path(note.stream.sha256), self.new_note_path]
+        try:
+            for path, data in zip(paths, (stream, note.text())):
+                write_synced(path, data)
+        except BaseException:
+            remove_all(paths)
+            raise
+        return paths
+
+    def create(self, paths: list[str]) -> None:
+        """Gives what `write_new` has written its names, where nothing has them."""
+        try:
+            os.link(paths[0], self.path)
+            os.link(paths[1], self.note_path)
+        finally:
+            remove_all(paths)
+
+    def replace(self, note: Note, stream: bytes) -> None:
+        """Puts a stream and its note in the place of those that are there."""
+        paths = self.write_new(note, stream)
+        try:
+            mode = stat.S_IMODE(os.stat(self.path).st_mode)
+            for path in paths:
+                os.chmod(path, mode)
+        except OSError:
+            remove_all(paths)
+            raise
+        os.rename(paths[1], self.note_path)
+        os.rename(paths[0], self.path)
+        sync_folder(self.folder)
+        with contextlib.suppress(FileNotFoundError):
+            os.unlink(self.old_note_path)
+
+
+def is_of(stream: bytes, note: Note) -> bool:
+    """Whether a stream is that of a note."""
+    return len(stream) == note.stream.bytes and sha256_of(stream) == note.stream.sha256
+
+
+def other_bytes(stream: bytes, note: Note) -> str:
+    """How a stream differs from that of its note."""
+    if len(stream) != note.stream.bytes:
+        return f"the stream has {len(stream)} bytes, and its note says {note.stream.bytes}"
+    return "the stream's bytes were changed: their SHA-256 isn't that of the note"
+
+
+def read_if_there(path: str) -> Optional[bytes]:
+    """The bytes of a file, None where there is none."""
+    try:
+        with open(path, "rb") as file:
+            return file.read()
+    except FileNotFoundError:
+        return None
+
+
+def write_synced(path: str, data: bytes) -> None:
+    """Writes a file anew, so that it outlives a loss of power once it has another name."""
+    file = os.open(path, os.O_WRONLY | os.O_CREAT | os.O_TRUNC | os.O_CLOEXEC, 0o666)
+    try:
+        rest = memoryview(data)
+        while rest:
+            rest = rest[os.write(file, rest) :]
+        os.fsync(file)
+    except OSError as error:
+        error.filename = error.filename or path
+        raise
+    finally:
+        os.close(file)
+
+
+def remove_all(paths: list[str]) -> None:
+    for path in paths:
+        with contextlib.suppress(OSError):
+            os.unlink(path)
+
+
+def sync_folder(folder: str) -> None:
+    """Makes the names in a folder outlive a loss of power, where the file system does that."""
+    with contextlib.suppress(OSError):
+        file = os.open(folder, os.O_RDONLY | os.O_CLOEXEC)
+        try:
+            os.fsync(file)
+        finally:
+            os.close(file)
+
+
+def shown(name: str) -> str:
+    """A name on one line: what is no text is written out, as \\xff and \\n."""
+    text = os.fsencode(name).decode("utf-8", "backslashreplace")
+    return "".join(c if c.isprintable() else c.encode("unicode_escape").decode("ascii") for c in text)

@@ -1,0 +1,264 @@
+"""Scripts of edits: judged, made on stored samples, and taken from the difference of two lists of samples."""
+
+from __future__ import annotations
+
+import re
+import struct
+from collections.abc import Iterable, Iterator
+from typing import Any, NamedTuple, Optional
+
+from aecp.options import Options
+
+MOST_SAMPLES = 2**32
+PART = 1 << 16  # samples that are compared at once
+SMALL_PART = 1 << 11  # where differences are looked for
+LEAF = 16  # samples that are compared one by one
+A_LINE = 1000  # values of a line that is written
+# How many places follow a name, and whether values come after them.
+FORMS = {"overwrite": (1, True), "append": (0, True), "truncate": (1, False), "insert": (1, True), "remove": (2, False)}
+PLACES = {"overwrite": "FIRST V..", "append": "V..", "truncate": "COUNT", "insert": "FIRST V..", "remove": "FIRST LEN"}
+
+
+class Edit(NamedTuple):
+    """A line of a script."""
+
+    line: int
+    name: str
+    places: list[int]
+    values: list[int]
+
+    def exchanged(self, count: int) -> tuple[int, int]:
+        """From which place up to which one the values replace what is there, of so many samples."""
+        first = self.places[0] if self.places else count
+        if self.name == "overwrite":
+            return first, first + len(self.values)
+        if self.name == "truncate":
+            return first, max(first, count)
+        return first, first + (self.places[1] if self.name == "remove" else 0)
+
+
+class BadLine(Exception):
+    """Why a line is no edit, or doesn't fit."""
+
+
+class Judged(NamedTuple):
+    """The edits of a script, what is wrong with its other lines, and how many samples the edits leave."""
+
+    edits: list[Edit]
+    complaints: list[str]
+    left: int
+
+
+def number_in(word: str, least: int, end: int, what: str) -> int:
+    if not re.fullmatch(r"-?[0-9]+" if least < 0 else r"[0-9]+", word):
+        raise BadLine(f"{word!r} is no {what}")
+    if len(word) > 25 or not least <= int(word) < end:
+        raise BadLine(f"{word} doesn't fit 64 bits")
+    return int(word)
+
+
+def edit_of(line: int, words: list[str], allow_empty: bool) -> Edit:
+    """The edit that the words of a line say."""
+    name, rest = words[0], words[1:]
+    if name not in FORMS:
+        raise BadLine(f"{name!r} is none of {', '.join(FORMS)}")
+    many, has_values = FORMS[name]
+    if len(rest) < many or (len(rest) > many and not has_values):
+        raise BadLine(f"the words of {name} are {PLACES[name]}")
+    if has_values and len(rest) == many and not allow_empty:
+        raise BadLine(f"{name} has no value (--allow-empty takes such lines)")
+    places = [number_in(word, 0, 2**64, "place") for word in rest[:many]]
+    return Edit(line, name, places, [number_in(word, -(2**63), 2**63, "value") for word in rest[many:]])
+
+
+def judge(edit: Edit, count: int, options: Options) -> int:
+    """How many samples an edit of so many leaves. BadLine where it doesn't fit."""
+    first, end = edit.exchanged(count)
+    if end > count:
+        what = f"the {len(edit.values)} samples from place {first} on reach" if end - first > 1 and first < count else f"place {first} is"
+        if edit.name == "remove":
+            what = f"{edit.places[1]} samples from place {first} on reach"
+        raise BadLine(f"{what} outside the {count} samples")
+    left = count - (end - first) + len(edit.values)
+    if left > MOST_SAMPLES:
+        raise BadLine(f"more than {MOST_SAMPLES} samples")
+    least, most = options.least, options.most
+    if edit.values and not least <= min(edit.values) <= max(edit.values) <= most:
+        index = next(i for i, value in enumerate(edit.values) if not least <= value <= most)
+        place = (count if edit.name == "append" else first) + index
+        raise BadLine(f"the value {edit.values[index]} for place {place} is out of range: {least} to {most}")
+    return left
+
+
+def judged(script: bytes, count: int, options: Options, allow_empty: bool = False) -> Judged:
+    """The edits of a script for so many samples. Each bad line is a complaint, and the lines after it are judged without it."""
+    edits, complaints = [], []
+    for line, data in enumerate(script.split(b"\n"), 1):
+        words = [word for word in re.split("[ \t]", data[: -1 if data.endswith(b"\r") else None].decode("utf-8", "backslashreplace")) if word]
+        if not words or words[0].startswith("#"):
+            continue
+        try:
+            edit = edit_of(line, words, allow_empty)
+            count = judge(edit, count, options)
+            edits.append(edit)
+        except BadLine as error:
+            complaints.append(f"line {line}: {error}")
+    return Judged(edits, complaints, count)
+
+
+class Store:
+    """How samples are stored as bytes."""
+
+    def __init__(self, options: Options) -> None:
+        self.width, self.order, self.signed = options.storage, ">" if options.msb_first else "<", options.signed
+        letter = {1: "b", 2: "h", 4: "i"}.get(self.width, "")
+        self.letter = letter if self.signed else letter.upper()
+
+    def bytes_of(self, values: list[int]) -> bytes:
+        if self.letter:
+            return struct.pack(f"{self.order}{len(values)}{self.letter}", *values)
+        order: Any = "big" if self.order == ">" else "little"
+        return b"".join(value.to_bytes(self.width, order, signed=self.signed) for value in values)
+
+    def values_of(self, data: bytes) -> list[int]:
+        if self.letter:
+            return list(struct.unpack(f"{self.order}{len(data) // self.width}{self.letter}", data))
+        order: Any = "big" if self.order == ">" else "little"
+        parts = (data[i : i + self.width] for i in range(0, len(data), self.width))
+        return [int.from_bytes(part, order, signed=self.signed) for part in parts]
+
+
+def made(data: bytes, edits: list[Edit], options: Options) -> bytearray:
+    """The stored samples that edits leave, which were judged for them."""
+    store, out = Store(options), bytearray(data)
+    for edit in edits:
+        first, end = edit.exchanged(len(out) // store.width)
+        out[first * store.width : end * store.width] = store.bytes_of(edit.values)
+    return out
+
+
+def differing_runs(before: bytes, after: bytes, width: int) -> Iterator[tuple[int, int]]:
+    """The runs of samples that differ in two lists of the same length: the first place of each, and the one after its last."""
+    begun = end = -1
+    for part in range(0, len(before), SMALL_PART * width):
+        if before[part : part + SMALL_PART * width] == after[part : part + SMALL_PART * width]:
+            continue
+        for at in differing_places(before, after, part, SMALL_PART * width, width):
+            if at != end:
+                if begun >= 0:
+                    yield begun, end
+                begun = at
+            end = at + 1
+    if begun >= 0:
+        yield begun, end
+
+
+def differing_places(before: bytes, after: bytes, first: int, length: int, width: int) -> Iterator[int]:
+    """The places of samples that differ, in a part of the bytes: halves that are equal are passed over."""
+    ours, theirs = before[first : first + length], after[first : first + length]
+    if ours == theirs:
+        return
+    if length <= LEAF * width:
+        yield from ((first + at) // width for at in range(0, len(ours), width) if ours[at : at + width] != theirs[at : at + width])
+        return
+    half = (length // width + 1) // 2 * width
+    yield from differing_places(before, after, first, half, width)
+    yield from differing_places(before, after, first + half, length - half, width)
+
+
+def equal_front(before: bytes, after: bytes, width: int) -> int:
+    """How many samples at the front are the same."""
+    most = min(len(before), len(after)) // width
+    least = 0
+    step = PART
+    while least < most:
+        step = min(step, most - least)
+        if before[least * width : (least + step) * width] == after[least * width : (least + step) * width]:
+            least += step
+        elif step == 1:
+            break
+        else:
+            step = (step + 1) // 2
+    return least
+
+
+def equal_end(before: bytes, after: bytes, width: int, front: int) -> int:
+    """How many samples at the end are the same, after the front."""
+    most = min(len(before), len(after)) // width - front
+    same = 0
+    step = PART
+    while same < most:
+        step = min(step, most - same)
+        size = (same + step) * width
+        if before[len(before) - size : len(before) - same * width] == after[len(after) - size : len(after) - same * width]:
+            same += step
+        elif step == 1:
+            break
+        else:
+            step = (step + 1) // 2
+    return same
+
+
+class Change(NamedTuple):
+    """How two lists of samples differ. By places: the runs that differ at the same places, and one list is longer than the
+    other. Else `runs` is None: the front and the end are the same, and what is between them is exchanged."""
+
+    runs: Optional[list[tuple[int, int]]]
+    front: int
+    end: int
+    samples: int
+
+
+def change_of(before: bytes, after: bytes, width: int) -> Change:
+    """The way that names fewer samples."""
+    both = min(len(before), len(after))
+    number = abs(len(before) - len(after)) // width
+    front, end, most = 0, 0, 2 * both
+    if number:
+        front = equal_front(before, after, width)
+        end = equal_end(before, after, width, front)
+        most = max(len(before), len(after)) // width - front - end
+        before, after = before[:both], after[:both]
+    runs = []
+    for run in differing_runs(before, after, width):
+        number += run[1] - run[0]
+        if number > most:
+            return Change(None, front, end, most)
+        runs.append(run)
+    return Change(runs, both // width, 0, number)
+
+
+def difference(before: bytes, after: bytes, change: Change, options: Options) -> Iterator[bytes]:
+    """The lines of a script that makes the samples `after` of the samples `before`, which differ in that way."""
+    store = Store(options)
+    width, front, end = store.width, change.front * store.width, change.end * store.width
+    if change.runs is not None:
+        for first, last in change.runs:
+            yield from lines_of("overwrite", first, after[first * width : last * width], store)
+        if len(before) > front:
+            yield b"truncate %d\n" % change.front
+        yield from lines_of("insert", change.front, after[front:], store)
+        return
+    gone = len(before) // width - change.front - change.end
+    if gone:
+        yield b"remove %d %d\n" % (change.front, gone)
+    yield from lines_of("insert", change.front, after[front : len(after) - end], store)
+
+
+def lines_of(name: str, first: int, data: bytes, store: Store) -> Iterator[bytes]:
+    """The lines that put stored samples at a place, by so many values a line."""
+    size = A_LINE * store.width
+    for part in range(0, len(data), size):
+        values = " ".join(map(str, store.values_of(data[part : part + size])))
+        yield f"{name} {first + part // store.width} {values}\n".encode("ascii")
+
+
+def script_within(lines: Iterable[bytes], most: int) -> Optional[bytes]:
+    """A script of these lines, None where it has more bytes than that."""
+    out, size = [], 0
+    for line in lines:
+        size += len(line)
+        if size > most:
+            return None
+        out.append(line)
+    return b"".join(out)

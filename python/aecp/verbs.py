@@ -1,0 +1,339 @@
+"""What each verb of the command does. The functions return the status."""
+
+from __future__ import annotations
+
+import argparse
+import json
+import os
+import re
+import signal
+import sys
+from collections.abc import Iterator
+from concurrent.futures import ProcessPoolExecutor
+from functools import partial
+from typing import Any, Callable, Optional, TypeVar
+
+from aecp import checking, editing, fitting, keeping, reading
+from aecp.cli import complain
+from aecp.faults import Fault
+from aecp.options import FLAGS, NUMBERS, Options
+from aecp.pairs import STREAM, Damaged, Opened, Pair, Refused, read_if_there, shown
+from aecp.scripts import change_of, difference
+
+A_CHUNK = 32  # files that go to a process at once
+USUAL = {"block_size": 16, "interval": 128}
+T = TypeVar("T")
+R = TypeVar("R")
+
+
+def refusing(path: str, work: Callable[[], int]) -> int:
+    """The status of a piece of work on a file; what it refuses is said with the file's name."""
+    try:
+        return work()
+    except Refused as refusal:
+        return complain(f"{shown(path)}: {refusal}")
+    except BrokenPipeError:
+        raise
+    except OSError as error:
+        return complain(f"{shown(path)}: {keeping.said_of(error, path)}")
+    except (MemoryError, Fault) as error:
+        return complain(f"{shown(path)}: {error or 'out of memory'}")
+
+
+def options_of(asked: argparse.Namespace) -> Options:
+    """The options that the words give."""
+    given = {name: getattr(asked, name) for name in NUMBERS + FLAGS}
+    for name, value in USUAL.items():
+        given[name] = value if given[name] is None else given[name]
+    options = Options(**given)
+    keeping.refuse_options(options)
+    return options
+
+
+def usage(asked: argparse.Namespace, text: str) -> int:
+    """Says that the words are wrong."""
+    return complain(f"{text}; `aecp {asked.verb} --help` tells more", 2)
+
+
+def input_of(path: str) -> bytes:
+    """The bytes of a file; - is standard input."""
+    if path == "-":
+        return sys.stdin.buffer.read()
+    with open(path, "rb") as file:
+        return file.read()
+
+
+def leave_stops() -> None:
+    """In a process of a pool: the first process is told of stops, and lets what is begun end."""
+    for number in (signal.SIGINT, signal.SIGTERM, signal.SIGHUP):
+        signal.signal(number, signal.SIG_IGN)
+
+
+def spread(work: Callable[[list[T]], list[R]], items: list[T], jobs: Optional[int]) -> Iterator[R]:
+    """What work gives for all items, by so many processes."""
+    count = jobs or len(os.sched_getaffinity(0))
+    chunks = [items[i : i + A_CHUNK] for i in range(0, len(items), A_CHUNK)]
+    if min(count, len(chunks)) < 2:
+        for chunk in with_progress(chunks):
+            yield from work(chunk)
+        return
+    pool = ProcessPoolExecutor(min(count, len(chunks)), initializer=leave_stops)
+    try:
+        for done in with_progress(pool.map(work, chunks), len(chunks)):
+            yield from done
+    finally:
+        pool.shutdown(wait=True, cancel_futures=True)
+
+
+def with_progress(parts: Any, total: Optional[int] = None) -> Any:
+    """The parts, with progress on a terminal where tqdm is installed."""
+    if not sys.stderr.isatty():
+        return parts
+    try:
+        from tqdm import tqdm
+    except ImportError:
+        return parts
+    return tqdm(parts, total=len(parts) if total is None else total, leave=False, unit="batch")
+
+
+def do_keep(asked: argparse.Namespace) -> int:
+    if asked.jobs is not None and asked.jobs < 1:
+        return usage(asked, "--jobs must be 1 or more")
+    try:
+        options = options_of(asked)
+    except (Refused, ValueError) as error:
+        return usage(asked, str(error))
+    how = keeping.Keeping(options, asked.rehash, asked.anyway, asked.remove)
+    said: list[keeping.Outcome] = []
+    files = list(keeping.files_of(asked.paths, asked.include, asked.exclude, said))
+    for outcome in said:
+        complain(f"{shown(outcome.path)}: {outcome.said}")
+    counts: dict[str, int] = {}
+    before = after = 0
+    for outcome in spread(partial(keeping.keep_all, how), files, asked.jobs):
+        if outcome.said:
+            complain(f"{shown(outcome.path)}: {outcome.said}")
+        counts[outcome.kind] = counts.get(outcome.kind, 0) + 1
+        before, after = before + outcome.bytes, after + outcome.coded
+    names = {"kept": "kept", "skipped": "kept already", "passed": "passed over", "changed": "changed", "refused": "refused"}
+    text = ", ".join(f"{counts[kind]} {name}" for kind, name in names.items() if kind in counts) or "no files"
+    print(f"{text}; {before} bytes became {after}" if before else text)
+    return int(any(it.kind == "refused" for it in said) or "refused" in counts or "changed" in counts)
+
+
+def do_check(asked: argparse.Namespace) -> int:
+    if asked.jobs is not None and asked.jobs < 1:
+        return usage(asked, "--jobs must be 1 or more")
+    said: list[keeping.Outcome] = []
+    paths = list(checking.kept_in(asked.paths, said))
+    for outcome in said:
+        complain(f"{shown(outcome.path)}: {outcome.said}")
+    bad, count = [], 0
+    for verdict in spread(checking.check_all, paths, asked.jobs):
+        count += 1
+        if verdict.kind:
+            bad.append(verdict)
+            if not asked.json:
+                print(f"{shown(verdict.path)}: {verdict.kind}: {verdict.text}", flush=True)
+    if asked.json:
+        faults = [{"file": it.path, "kind": it.kind, "text": it.text} for it in bad]
+        print(json.dumps({"checked": count, "sound": count - len(bad), "faults": faults}, indent=1))
+    else:
+        print(f"{count} checked, {count - len(bad)} sound, {len(bad)} damaged")
+    return int(bool(bad) or any(it.kind == "refused" for it in said))
+
+
+def pair_of(path: str, mend: bool = True) -> Pair:
+    """The pair of a stream, once what a stopped run left is finished and said."""
+    pair = Pair(checking.stream_of(path) if os.path.basename(path) != STREAM else path)
+    if not os.path.lexists(pair.path) and not os.path.lexists(pair.note_path):
+        raise Refused("there is no such file")
+    if mend and os.access(pair.folder, os.W_OK) and (os.path.exists(pair.lock_path) or pair.leftovers()):
+        with pair.locked(wait=False) as is_locked:
+            if is_locked:
+                say_mended(pair)
+    return pair
+
+
+def say_mended(pair: Pair) -> None:
+    done = pair.mend()
+    if done:
+        complain(f"{shown(pair.name)}: {done}")
+
+
+def opened(path: str) -> Opened:
+    return pair_of(path).open()
+
+
+def do_back(asked: argparse.Namespace) -> int:
+    try:
+        part = reading.range_in(asked.range)
+    except ValueError as error:
+        return usage(asked, str(error))
+
+    def work() -> int:
+        pair = pair_of(asked.file)
+        out = asked.out or (asked.file[: -len(STREAM)] if asked.file.endswith(STREAM) else pair.path[: -len(STREAM)])
+        reading.write_out(out, reading.samples_of(pair.open(), part))
+        return 0
+
+    return refusing(asked.file, work)
+
+
+def under_lock(path: str, work: Callable[[Pair], str]) -> int:
+    """Changes a pair that no other run is changing."""
+
+    def locked() -> int:
+        pair = pair_of(path, mend=False)
+        with pair.locked():
+            say_mended(pair)
+            print(f"{shown(path)}: {work(pair)}")
+        return 0
+
+    return refusing(path, locked)
+
+
+def do_edit(asked: argparse.Namespace) -> int:
+    scripts: list[bytes] = []
+
+    def read() -> int:
+        scripts.append(input_of(asked.script))
+        return 0
+
+    if refusing(asked.script, read):
+        return 1
+    return under_lock(asked.file, lambda pair: editing.edit(pair, scripts[0], asked.allow_empty))
+
+
+def do_undo(asked: argparse.Namespace) -> int:
+    return under_lock(asked.file, editing.undo)
+
+
+def do_log(asked: argparse.Namespace) -> int:
+    def work() -> int:
+        note = opened(asked.file).note
+        if asked.script is not None:
+            reading.write_out("-", editing.script_in(note, asked.script))
+            return 0
+        print("\n".join(editing.log_lines(note) or ["no history: the note is of keep.sh"]))
+        return 0
+
+    return refusing(asked.file, work)
+
+
+def do_diff(asked: argparse.Namespace) -> int:
+    def work() -> int:
+        first = opened(asked.first)
+        return refusing(asked.second, lambda: compare(first))
+
+    def compare(first: Opened) -> int:
+        second = opened(asked.second)
+        ours, theirs = editing.compared(first, second)
+        change = change_of(ours, theirs, first.note.options.storage)
+        for line in difference(ours, theirs, change, first.note.options):
+            sys.stdout.buffer.write(line)
+        sys.stdout.buffer.flush()
+        return 0
+
+    return refusing(asked.first, work)
+
+
+def do_pixels(asked: argparse.Namespace) -> int:
+    shape = re.fullmatch(r"([1-9][0-9]*)[xX,]([1-9][0-9]*)", asked.shape)
+    if shape is None or asked.frame < 0:
+        return usage(asked, "--shape needs ROWSxCOLS, and --frame a number from 0 on")
+
+    rows, columns = map(int, shape.groups())
+
+    def work() -> int:
+        text = input_of(asked.table).decode("utf-8-sig", "replace")
+        sys.stdout.write(editing.pixels(text, rows, columns, asked.frame))
+        return 0
+
+    return refusing(asked.table, work)
+
+
+def do_info(asked: argparse.Namespace) -> int:
+    status = 0
+    for path in asked.paths:
+
+        def work() -> int:
+            note = pair_of(path).note()
+            print(f"{shown(path)}\n  " + "\n  ".join(reading.info_lines(note)))
+            return 0
+
+        status |= refusing(path, work)
+    return status
+
+
+def do_fit(asked: argparse.Namespace) -> int:
+    given = {name for name in NUMBERS if getattr(asked, name) is not None}
+
+    def work() -> int:
+        data = input_of(asked.file)
+        if asked.stream is not None:
+            fixed = options_of(argparse.Namespace(**{**vars(asked), "bits": asked.bits or 8}))
+            print("\n".join(fitting.streams(data, asked.stream, fixed, given)))
+            return 0
+        if not data:
+            raise Refused("it is empty")
+        if asked.bits is None:
+            guess = fitting.guessed_bits(data)
+            print(f"-n isn't given; the front of the file is shortest as samples of {guess.bits} bits{' with -m' if guess.msb_first else ''}")
+            asked.bits, asked.msb_first = guess.bits, guess.msb_first
+        options = options_of(asked)
+        piece = data if asked.all else data[: fitting.PIECE]
+        print("\n".join(fitting.table(piece[: len(piece) - len(piece) % options.storage], len(data), options, given)))
+        return 0
+
+    if asked.stream is not None and (asked.stream < 1 or asked.msb_first or asked.three_byte or asked.signed):
+        return usage(asked, "--stream needs a count; -m and -3 change nothing in a stream, and -s is tried by itself")
+    return refusing(asked.file, work)
+
+
+def noted(path: str) -> Any:
+    """The note of a stream, None where there is none or a bad one."""
+    try:
+        return Pair(path).note()
+    except Damaged:
+        return None
+
+
+def do_rescue(asked: argparse.Namespace) -> int:
+    def work() -> int:
+        note, stream = noted(asked.file), read_if_there(asked.file)
+        if stream is None:
+            raise Refused("there is no such file")
+        if note is None and asked.bits is None:
+            raise Refused("no note says its options: give -n, and -j, -r and the others where they aren't the usual ones")
+        options = note.options if asked.bits is None else options_of(asked)
+        count = asked.count if asked.count is not None else note.count if note is not None else None
+        found = reading.rescued(stream, count, options)
+        text = reading.rescue_text(found, stream, note)
+        if asked.out is not None:
+            reading.write_out(asked.out, found.samples)
+        print(f"{shown(asked.file)}: {text}", file=sys.stderr if asked.out == "-" else sys.stdout)
+        return int(not (found.is_whole and "wrong" not in text))
+
+    return refusing(asked.file, work)
+
+
+def do_view(asked: argparse.Namespace) -> int:
+    try:
+        part = reading.range_in(asked.range)
+    except ValueError as error:
+        return usage(asked, str(error))
+    if asked.width < 1:
+        return usage(asked, "--width must be 1 or more")
+
+    def work() -> int:
+        if asked.bits is not None:
+            stream = input_of(asked.file)
+            samples = reading.part_of(stream, asked.count, part, options_of(asked))
+        else:
+            kept = opened(asked.file)
+            samples = reading.listed(reading.samples_of(kept, part), kept.note.options)
+        print(reading.view(samples, asked.out, asked.width))
+        return 0
+
+    return refusing(asked.file, work)

@@ -1,0 +1,338 @@
+#!/usr/bin/env python3
+"""The Python module beside a list, with threads, copies and wrong types: library_python.py FOLDER [--seed N] [--cases N] [--only N]
+
+FOLDER has libaecp.so. In turn
+  - eight threads that append to one workspace, read it, and edit it: no sample is lost, and each reads what was written;
+  - copies, deep copies and pickles have samples of their own; one that is dropped leaves the original alone;
+  - what is no whole number is refused with TypeError, and so are options that aren't numbers or bools;
+  - a workspace by chance does what a list does, slices with steps and of other lengths too;
+  - a wrong count takes no memory; `out` is filled, or refused and left as it was;
+  - a library that is missing, or another one, is an ImportError of one line;
+  - mypy --strict finds nothing, where it is installed.
+
+It goes on by the first interpreter that has numpy, if there is one. Prints the checks that fail and, last, how many passed. Ends with
+1 where one failed.
+"""
+
+import argparse
+import array
+import copy
+import os
+import pickle
+import random
+import re
+import shutil
+import subprocess
+import sys
+import tempfile
+import threading
+
+from library_arrays import interpreter
+from program import Tally
+
+TOP = os.path.join(os.path.dirname(os.path.abspath(__file__)), "..")
+THREADS, ROUNDS = 8, 150
+
+
+def raised(call):
+    """The exception that a call ends with, None where it ends with none."""
+    try:
+        call()
+    except Exception as fault:  # noqa: BLE001 - which one it is is judged
+        return fault
+    return None
+
+
+def in_threads(work):
+    """Runs work(number) in eight threads. What they raised."""
+    faults = []
+
+    def run(number):
+        fault = raised(lambda: work(number))
+        if fault is not None:
+            faults.append(repr(fault))
+
+    threads = [threading.Thread(target=run, args=(number,)) for number in range(THREADS)]
+    for thread in threads:
+        thread.start()
+    for thread in threads:
+        thread.join()
+    return faults
+
+
+def try_threads(tally):
+    """Threads that append, threads that only read, and both at once with edits."""
+    options = aecp.Options(16, interval=2)
+    with aecp.Workspace(options) as work:
+
+        def append(number):
+            for i in range(ROUNDS):
+                work.append(number * ROUNDS + i)
+
+        tally.check("threads that append", in_threads(append), [])
+        tally.check("all that threads appended", sorted(work), list(range(THREADS * ROUNDS)))
+        samples, coded = list(work), work.tobytes()
+
+        def read(number):
+            for i in range(ROUNDS):
+                place = (number * 37 + i * 11) % len(samples)
+                assert len(work) == len(samples) and work[place] == samples[place]
+                assert i % 10 or work.tobytes() == coded
+                assert i % 50 or work.copy() == samples
+
+        tally.check("threads that read", in_threads(read), [])
+
+        def edit(number):
+            for i in range(ROUNDS):
+                place = number * ROUNDS + i
+                work[place] = place + 1
+                assert work[place] == place + 1 and len(work) == THREADS * ROUNDS
+
+        tally.check("threads that write and read", in_threads(edit), [])
+        tally.check("all that threads wrote", work, list(range(1, THREADS * ROUNDS + 1)))
+
+        def close(number):
+            for _ in range(ROUNDS):
+                fault = raised(lambda: work.append(1)) if number else raised(work.close)
+                assert fault is None or isinstance(fault, aecp.Fault)
+
+        tally.check("threads while one closes", in_threads(close), [])
+        tally.check("a closed workspace", (len(work), repr(work)), (0, "<closed Workspace>"))
+
+
+def try_copies(tally):
+    options = aecp.Options(12, signed=True)
+    work = aecp.Workspace(options, range(-50, 50))
+    ways = {"copy": copy.copy, "deepcopy": copy.deepcopy, "method": aecp.Workspace.copy, "pickle": lambda it: pickle.loads(pickle.dumps(it))}
+    for name, way in ways.items():
+        other = way(work)
+        tally.check(f"{name}: the same samples", (other == work, other.options), (True, options))
+        other[0] = 7
+        other.truncate(3)
+        tally.check(f"{name}: samples of its own", (list(other), len(work)), ([7, -49, -48], 100))
+        del other
+        tally.check(f"{name} is dropped", list(work), list(range(-50, 50)))
+    work.close()
+    tally.holds(isinstance(raised(lambda: copy.copy(work)), aecp.Fault), "a closed workspace is copied")
+    tally.holds(isinstance(raised(lambda: pickle.dumps(work)), aecp.Fault), "a closed workspace is pickled")
+    fault = pickle.loads(pickle.dumps(raised(lambda: aecp.decode_bytes(b"", 1, options))))
+    tally.check("a pickled fault", (type(fault), fault.bit), (aecp.StreamRefused, 0))
+
+
+def try_types(tally):
+    """What isn't a whole number, one by one and in lists."""
+    options = aecp.Options(16)
+    wrong = [bytes(8), bytearray(8), memoryview(bytes(8)), "12345678", True, 1.0, None, [1, True], [1.5], ["1"], array.array("d", [1.0])]
+    right = {"array": array.array("H", [1, 2]), "list": [1, 2], "tuple": (1, 2), "iterator": iter([1, 2]), "range": range(1, 3), "dict": {1: 0, 2: 0}}
+    if numpy is not None:
+        wrong += [numpy.ones(2), numpy.ones(2, bool), numpy.ma.masked_array([1, 2], [0, 1]), numpy.ones((2, 2), int), numpy.float32(1), numpy.bool_(1)]
+        right.update({f"numpy {name}": numpy.array([1, 2], name) for name in ("u1", "<u2", ">u2", "<i4", ">i8", "u8")})
+        right.update({"apart": numpy.array([1, 0, 2, 0])[::2], "numpy numbers": list(numpy.array([1, 2], "u2"))})
+        frozen = numpy.array([1, 2])
+        frozen.flags.writeable = False
+        right["frozen"] = frozen
+    with aecp.Workspace(options, [9]) as work:
+        for samples in wrong:
+            for call in (work.append, lambda it: work.insert(0, it), lambda it: work.overwrite(0, it), lambda it: aecp.Workspace(options, it)):
+                tally.holds(isinstance(raised(lambda: call(samples)), TypeError), f"{samples!r} is taken")
+        for samples in (True, 1.0, "1", None):
+            tally.holds(isinstance(raised(lambda: work.__setitem__(0, samples)), TypeError), f"{samples!r} is set")
+        tally.check("nothing was taken", list(work), [9])
+        for name, samples in right.items():
+            work.append(samples)
+            tally.check(f"samples of {name}", list(work), [9, 1, 2])
+            work.truncate(1)
+        work.append(numpy.uint8(3) if numpy is not None else 3)
+        tally.check("a single number", list(work), [9, 3])
+        tally.holds(isinstance(raised(lambda: work.append(2**63)), OverflowError), "a number of 65 bits")
+    for given in ({"bits": "16"}, {"bits": 16.0}, {"bits": True}, {"bits": 8, "signed": "no"}, {"bits": 8, "pad": 1}, {"bits": 8, "interval": None}):
+        tally.holds(isinstance(raised(lambda: aecp.Options(**given)), TypeError), f"options {given}")
+    tally.holds(isinstance(raised(lambda: aecp.decode_bytes(b"", True, options)), TypeError), "a count that is a bool")
+    if numpy is not None:
+        tally.holds(isinstance(raised(lambda: aecp.encode(numpy.ma.masked_array([1], dtype="<u2"), options)), TypeError), "an array with a mask is coded")
+        tally.check("numpy's options", aecp.Options(numpy.int64(8)), aecp.Options(8))
+
+
+def some_slice(chance, count):
+    """A slice by chance, with a step or without."""
+    ends = [None, *range(-count - 2, count + 3)]
+    step = chance.choice([None, None, None, 1, 2, 3, -1, -2, -3])
+    return slice(chance.choice(ends), chance.choice(ends), step)
+
+
+def some_step(chance, work, samples, new):
+    """One thing that lists do, done to both. Returns what each answers, or which kind of exception it raises."""
+    key, place, value = some_slice(chance, len(samples)), chance.randint(-len(samples) - 1, len(samples)), chance.choice(new or [0])
+    steps = {
+        "get": lambda it: list(it[key]),
+        "set": lambda it: it.__setitem__(key, list(new)),
+        "del": lambda it: it.__delitem__(key),
+        "get one": lambda it: it[place],
+        "set one": lambda it: it.__setitem__(place, value),
+        "del one": lambda it: it.__delitem__(place),
+        "insert": lambda it: it.insert(place, value) and None,
+        "extend": lambda it: it.extend(list(new)),
+        "+=": lambda it: it.__iadd__(new) and None,
+        "pop": lambda it: it.pop(*chance_of(place)),
+        "index": lambda it: it.index(value, *chance_of(place)),
+        "count": lambda it: it.count(value),
+        "remove": lambda it: it.remove(value) and None,
+        "in": lambda it: value in it,
+        "reverse": lambda it: it.reverse(),
+        "reversed": lambda it: list(reversed(it)),
+        "clear": lambda it: it.clear() if chance_of(0) and value % 7 == 0 else None,
+    }
+    has_place = chance.random() < 0.5
+
+    def chance_of(word):
+        return (word,) if has_place else ()
+
+    name = chance.choice(sorted(steps))
+    answers = []
+    for it in (work, samples):
+        out = []
+        fault = raised(lambda: out.append(steps[name](it)))
+        answers.append(type(fault).__name__ if fault is not None else out[0])
+    return f"{name} {key} {place} {value} {new}", answers
+
+
+def try_lists(tally, seed, number):
+    """A workspace and a list that get the same edits."""
+    chance = random.Random(f"{seed} {number}")
+    options = aecp.Options(chance.choice([4, 8, 12]), block_size=8, interval=chance.choice([1, 2, 3]), signed=chance.random() < 0.5)
+    samples = [chance.randint(options.least, options.most) for _ in range(chance.randint(0, 60))]
+    with aecp.Workspace(options, samples) as work:
+        for _ in range(12):
+            new = [chance.randint(options.least, options.most) for _ in range(chance.randint(0, 9))]
+            what, (ours, theirs) = some_step(chance, work, samples, new)
+            what = f"list {seed} {number}: {what}"
+            tally.check(what, ours, theirs)
+            tally.check(f"{what}: afterwards", list(work), samples)
+            if list(work) != samples:
+                return
+        tally.check(f"list {number}: ==", (work == samples, work == [*samples, 1], work == tuple(samples)), (True, False, True))
+        tally.check(f"list {number}: the stream", work.tobytes(), aecp.Workspace(options, samples).tobytes())
+        bad = [*samples, options.most + 1, 0]
+        fault = raised(lambda: work.__setitem__(slice(0, 1), bad))
+        tally.check(f"list {number}: out of range", (type(fault).__name__, getattr(fault, "index", None)), ("SampleRefused", len(samples)))
+        tally.check(f"list {number}: is as it was", list(work), samples)
+
+
+def try_memory(tally):
+    """A count of 2^31 of a short stream: refused before memory is taken. Run apart, so that its memory is known."""
+    code = """
+import resource, aecp
+options = aecp.Options(16)
+coded = aecp.encode(bytes(range(256)) * 2000, options)
+for call in (lambda: aecp.decode_bytes(coded, 2**31, options), lambda: aecp.decode_range_bytes(coded, 2**31, 0, 2**31, options)):
+    try:
+        call()
+        raise SystemExit("a wrong count is taken")
+    except aecp.StreamRefused:
+        pass
+resource.setrlimit(resource.RLIMIT_AS, (2**30, 2**30))
+try:
+    aecp.decode_bytes(coded, 2**31, options)
+except aecp.StreamRefused:
+    print(resource.getrusage(resource.RUSAGE_SELF).ru_maxrss < 200 * 1024)
+"""
+    ended = subprocess.run([sys.executable, "-c", code], capture_output=True, text=True, check=False)
+    tally.check("a wrong count", (ended.returncode, ended.stdout, ended.stderr), (0, "True\n", ""))
+
+
+def try_out(tally):
+    options, samples = aecp.Options(16), bytes(range(100)) * 2
+    coded = aecp.encode(samples, options)
+    room = bytearray(b"\xee" * 210)
+    tally.check("out", bytes(aecp.decode_bytes(coded, 100, options, out=room)), samples)
+    tally.check("behind out", bytes(room), samples + b"\xee" * 10)
+    aecp.decode_range_bytes(coded, 100, 5, 3, options, out=room)
+    tally.check("a range into out", bytes(room[:6]), samples[10:16])
+    short = bytearray(b"\xee" * 199)
+    fault = raised(lambda: aecp.decode_bytes(coded, 100, options, out=short))
+    tally.check("out is too short", (getattr(fault, "number", None), bytes(short)), (18, b"\xee" * 199))
+    for wrong in (bytes(200), memoryview(bytearray(400))[::2], [0] * 200):
+        tally.holds(isinstance(raised(lambda: aecp.decode_bytes(coded, 100, options, out=wrong)), TypeError), f"out is {wrong!r:.20}")
+    if numpy is None:
+        return
+    array_of = numpy.frombuffer(samples, "<u2")
+    made = numpy.zeros(120, "<u2")
+    back = aecp.decode(coded, 100, options, out=made)
+    tally.holds((made[:100] == array_of).all() and back.base is not None and len(back) == 100, "out is an array")
+    for dtype in ("<i2", ">u2", "u1"):
+        tally.holds(isinstance(raised(lambda: aecp.decode(coded, 100, options, out=numpy.zeros(200, dtype))), TypeError), f"out is of {dtype}")
+    tally.holds((numpy.asarray(aecp.Workspace(options, array_of)) == array_of).all(), "a workspace as an array")
+
+
+def try_imports(tally, folder):
+    """No library, a file that is none, and a library without the calls."""
+    empty = os.path.join(folder, "empty.so")
+    with open(empty, "wb"):
+        pass
+    for name in (os.path.join(folder, "none.so"), empty, "libc.so.6"):
+        ended = subprocess.run([sys.executable, "-c", "import aecp"], env={**os.environ, "AECP_LIBRARY": name}, capture_output=True, text=True, check=False)
+        lines = [line for line in ended.stderr.splitlines() if re.match(r"\w+Error: |During|The above", line)]
+        is_so = len(lines) == 1 and lines[0].startswith(f"ImportError: aecp can't use the library {name}: ")
+        tally.holds(is_so, f"the library {name}: {ended.stderr}")
+
+
+def try_version(tally):
+    """A library that says another version is refused; one of the same first two numbers, or with none, isn't."""
+    from aecp.library import judge_version
+
+    for number, is_right in ((100, True), (107, True), (200, False), (10000, False), (None, True)):
+
+        call = type("Call", (), {"__call__": lambda _, it=number: it})
+        library = type("Library", (), {} if number is None else {"aecp_version": call()})
+        tally.check(f"a library of version {number}", raised(lambda: judge_version(library)) is None, is_right)
+
+
+def try_mypy(tally):
+    command = shutil.which("mypy")
+    if command is None:
+        print("mypy isn't installed: the types aren't checked")
+        return
+    words = [command, "--strict", "--cache-dir", os.devnull, "-p", "aecp"]
+    ended = subprocess.run(words, cwd=os.path.join(TOP, "python"), capture_output=True, text=True, check=False)
+    tally.check(f"mypy: {ended.stdout}", ended.returncode, 0)
+    tally.holds(os.path.exists(os.path.join(TOP, "python", "aecp", "py.typed")), "no py.typed")
+
+
+def words():
+    asked = argparse.ArgumentParser(description=__doc__)
+    asked.add_argument("library", metavar="FOLDER")
+    asked.add_argument("--seed", type=int, default=121)
+    asked.add_argument("--cases", type=int, default=400)
+    asked.add_argument("--only", type=int, help="the number of the one case to try")
+    return asked.parse_args()
+
+
+def main():
+    asked, tally = words(), Tally()
+    try_threads(tally)
+    try_copies(tally)
+    try_types(tally)
+    try_memory(tally)
+    try_out(tally)
+    for number in range(asked.cases) if asked.only is None else [asked.only]:
+        try_lists(tally, asked.seed, number)
+    with tempfile.TemporaryDirectory() as folder:
+        try_imports(tally, folder)
+    try_version(tally)
+    try_mypy(tally)
+    tally.print()
+    sys.exit(tally.failed > 0)
+
+
+if __name__ == "__main__":
+    if os.environ.get("AECP_LIBRARY") is None:
+        made = {"AECP_LIBRARY": os.path.abspath(os.path.join(sys.argv[1], "libaecp.so")), "PYTHONPATH": os.path.join(TOP, "python")}
+        found = interpreter() or sys.executable
+        sys.exit(subprocess.run([found, *sys.argv], env={**os.environ, **made}, check=False).returncode)
+    import aecp
+
+    try:
+        import numpy
+    except ImportError:
+        numpy = None
+    main()
