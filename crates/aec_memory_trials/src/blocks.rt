@@ -85,7 +85,11 @@ fn ramp(alloc: Global) -> Block {
 
 /// Each of them into a list with no room.
 pub fn try_blocks<R: Print + Eprint>(rt: &R, alloc: Global) -> Result<(), Fault> {
-    for call in [(0, "write_block"), (1, "write_run"), (2, "write_shortest_of")] {
+    for call in [
+        (0, "write_block"),
+        (1, "write_run"),
+        (2, "write_shortest_of"),
+    ] {
         let mut written = Written {
             params: Params::new(Settings::USUAL)?,
             block: ramp(alloc),

@@ -80,9 +80,17 @@ const RUNS: [(&str, &[u8], &str); 7] = [
     ("perform -d source dest", &RAMP_CODED, ""),
     ("perform --range 2:3 source dest", &RAMP_CODED, ""),
     ("perform --range 6:3 source dest", &RAMP_CODED, ""),
-    ("perform --edit script source dest", &ZEROS, "overwrite 20 1"),
+    (
+        "perform --edit script source dest",
+        &ZEROS,
+        "overwrite 20 1",
+    ),
     ("perform --edit script source dest", &RAMP_UNSPLIT, ""),
-    ("perform --edit script source dest", &EIGHT_ZEROS, "overwrite 0 256"),
+    (
+        "perform --edit script source dest",
+        &EIGHT_ZEROS,
+        "overwrite 0 256",
+    ),
 ];
 
 fn try_run<R: Print + Eprint + Files + Alloc<A = Global>>(
