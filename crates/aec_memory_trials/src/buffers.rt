@@ -4,13 +4,14 @@ use crate::trial::{Trial, print_bytes, try_calls};
 use aec_engine::{decode_into, range_into};
 use aec_params::{Fault, Limits, Params, Settings};
 use std::alloc::Global;
+use std::mem;
 
 // A buffer of ten bytes, how many of them a call may fill, and how many bytes its answer takes.
 #[derive(Drop)]
 struct Buffers {
     params: Params,
     limits: Limits,
-    out: [u8; 10],
+    out: Vec<u8>,
     room: usize,
     len: u64,
     alloc: Global,
@@ -20,14 +21,18 @@ const CODED: [u8; 4] = [0x20, 0x09, 0x24, 0x92];
 
 impl Trial for Buffers {
     fn call(&mut self, number: usize) -> Result<(), Fault> {
-        let (alloc, params, limits) = (self.alloc, &self.params, self.limits);
-        let out = &mut self.out[..self.room.min(10)];
-        self.len = match number {
-            0 => decode_into(alloc, params, limits, Some(8), &CODED, out)?,
-            1 => decode_into(alloc, params, limits, Some(9), &CODED, out)?,
-            2 => range_into(alloc, params, limits, None, 2, 3, &CODED, out)?,
-            _ => range_into(alloc, params, limits, None, 6, 3, &CODED, out)?,
+        let (alloc, params, limits) = (self.alloc, self.params, self.limits);
+        let mut all = mem::replace(&mut self.out, Vec::new(alloc));
+        let room = self.room.min(all.len());
+        let out = &mut all[..room];
+        let answer = match number {
+            0 => decode_into(alloc, &params, limits, Some(8), &CODED, out),
+            1 => decode_into(alloc, &params, limits, Some(9), &CODED, out),
+            2 => range_into(alloc, &params, limits, None, 2, 3, &CODED, out),
+            _ => range_into(alloc, &params, limits, None, 6, 3, &CODED, out),
         };
+        self.out = all;
+        self.len = answer?;
         Ok(())
     }
 
@@ -57,7 +62,7 @@ pub fn try_buffers<R: Print + Eprint>(rt: &R, alloc: Global) -> Result<(), Fault
         let mut buffers = Buffers {
             params,
             limits,
-            out: [0xEE; 10],
+            out: vec![in alloc; 0xEEu8; 10]?,
             room: *room,
             len: 0,
             alloc,
