@@ -1,7 +1,7 @@
 # What a user and a developer run. The toolchain's command `rt` has to be on the path.
 PREFIX ?= /usr/local
 
-.PHONY: all try example sizes test pages theorem wrong-bodies install bench pictures clean
+.PHONY: all try example sizes test pages man theorem wrong-bodies install bench pictures clean
 
 # Proves the program and everything that it stands on, builds it, and leaves it in bin/aec.
 all: bin/aec
@@ -32,6 +32,10 @@ test:
 # Writes docs/PROOFS.md from the claims of the crates, each of whose names is checked.
 pages:
 	@python3 tools/pages.py
+
+# Writes man/aec.1 from docs/COMMAND.md.
+man:
+	@python3 tools/man.py
 
 # Writes docs/theorems/: all that a reader of a theorem has to believe. Of another one: make theorem OF="aec_edit::write_edited samples"
 theorem:

@@ -1,0 +1,169 @@
+#!/usr/bin/env python3
+"""Writes man/aec.1 from docs/COMMAND.md: man.py [--check]
+
+The page's title is the part NAME, its first block of code SYNOPSIS, and the text from there to the
+first heading DESCRIPTION; each other heading is a part. A row of a table becomes a tagged
+paragraph: its first cell is the tag, and each cell after the second begins with the head of its
+column. A list item that begins with code and a colon is tagged by that code.
+
+With --check nothing is written, and the script fails where the page isn't what it would write.
+"""
+
+import os
+import re
+import sys
+import textwrap
+
+TOP = os.path.join(os.path.dirname(os.path.abspath(__file__)), "..")
+SOURCE, PAGE = "docs/COMMAND.md", "man/aec.1"
+NOTE = '.\\" Written by `make man` from docs/COMMAND.md.\n'
+COLUMNS = 100
+ITEM = re.compile(r"(- |\d+\. )(.*)")
+TAGGED = re.compile(r"`([^`]*)`: (.*)", re.S)
+# A text that roff would read as something else, and how it is written.
+SIGNS = {"\\": r"\e", "^": r"\(ha", "~": r"\(ti"}
+CODE_SIGNS = {**SIGNS, "-": r"\-", "'": r"\(aq", "`": r"\(ga"}
+
+
+def escaped(text, signs):
+    """A text in which each sign is written so that roff prints it."""
+    return "".join(signs.get(it, it) for it in text)
+
+
+def font(name, text):
+    return rf"\f{name}{text}\fR"
+
+
+def inline(text, is_bold=False):
+    """A paragraph's text in roff. Code and strong text are bold, emphasis is italic, of a link its text stays."""
+    text = re.sub(r"\[([^]]*)\]\([^)]*\)", r"\1", text)
+    out = []
+    for part in re.split(r"(`[^`]*`|\*\*.+?\*\*|\*[^*`]+\*)", text):
+        if part.startswith("`"):
+            code = escaped(part[1:-1].replace(r"\|", "|"), CODE_SIGNS)
+            out.append(code if is_bold else font("B", code))
+        elif part.startswith("**"):
+            out.append(font("B", inline(part[2:-2], is_bold=True)))
+        elif part.startswith("*") and len(part) > 2:
+            out.append(font("I", escaped(part[1:-1], SIGNS)))
+        else:
+            out.append(escaped(part, SIGNS))
+    return "".join(out)
+
+
+def guarded(line):
+    """A line of text that roff takes for no request."""
+    return "\\&" + line if line.startswith((".", "'")) else line
+
+
+def filled(text):
+    """The lines of a paragraph."""
+    wrapped = textwrap.wrap(inline(text), COLUMNS, break_long_words=False, break_on_hyphens=False)
+    return "".join(f"{guarded(line)}\n" for line in wrapped)
+
+
+def tag(text):
+    """A tag in bold."""
+    return ".TP\n.B " + inline(text.replace("`", "")).replace("-", r"\-") + "\n"
+
+
+def code(lines):
+    """Code as it stands, indented."""
+    shown = "".join(f"{guarded(escaped(line, CODE_SIGNS))}\n" for line in lines)
+    return f".PP\n.RS 4\n.nf\n{shown}.fi\n.RE\n"
+
+
+def table(lines):
+    """A tagged paragraph for each row."""
+    rows = [[cell.strip() for cell in re.split(r"(?<!\\)\|", line)[1:-1]] for line in lines]
+    out = []
+    for row in rows[2:]:
+        more = [f"{head}: {cell}." for head, cell in zip(rows[0][2:], row[2:])]
+        out.append(tag(row[0]) + filled(f"{row[1]}." + "".join(f" {it}" for it in more)))
+    return "".join(out)
+
+
+def items(lines):
+    """The items of a list, each with all its lines, without their indentation."""
+    found = []
+    for line in lines:
+        if ITEM.match(line):
+            found.append([line])
+        else:
+            found[-1].append(line[min(len(line) - len(line.lstrip()), len(ITEM.match(found[-1][0]).group(1))) :])
+    return found
+
+
+def listed(lines):
+    """A list. What is indented within an item is a list of its own."""
+    out = []
+    for first, *rest in items(lines):
+        mark, text = ITEM.match(first).groups()
+        inner = next((at for at, line in enumerate(rest) if ITEM.match(line)), len(rest))
+        text = " ".join([text, *rest[:inner]])
+        tagged = TAGGED.fullmatch(text)
+        if tagged:
+            out.append(tag(tagged.group(1)) + filled(tagged.group(2)))
+        else:
+            out.append((".IP \\(bu 2\n" if mark == "- " else f".IP {mark.strip()} 3\n") + filled(text))
+        if inner < len(rest):
+            out.append(f".RS 2\n{listed(rest[inner:])}.RE\n")
+    return "".join(out)
+
+
+def heading(line):
+    """A part, or a part of a part."""
+    level, name = line.split(" ", 1)
+    if level == "##":
+        return f".SH {escaped(name.upper(), CODE_SIGNS)}\n"
+    return f".SS {escaped(name, CODE_SIGNS)}\n"
+
+
+def block(lines):
+    """A block of the page: what stands between empty lines."""
+    if lines[0].startswith("```"):
+        return code(lines[1:-1])
+    if lines[0].startswith("#"):
+        return heading(lines[0])
+    if lines[0].startswith("|"):
+        return table(lines)
+    if ITEM.match(lines[0]):
+        return listed(lines)
+    at = next((number for number, line in enumerate(lines) if ITEM.match(line)), len(lines))
+    return ".PP\n" + filled(" ".join(lines[:at])) + (listed(lines[at:]) if at < len(lines) else "")
+
+
+def blocks(text):
+    """The blocks of a page, each as its lines. Code is one block."""
+    for part in re.findall(r"(?ms)^```.*?^```$|^(?!```)[^\n]+(?:\n(?!```)[^\n]+)*", text):
+        yield part.split("\n")
+
+
+def page(text):
+    """The manual page."""
+    title, synopsis, *rest = blocks(text)
+    name, what = title[0].removeprefix("# ").split(": ", 1)
+    out = [NOTE, f'.TH {name.upper()} 1 "" "{name}" "User Commands"\n']
+    out.append(f".SH NAME\n{name} \\- {escaped(what, CODE_SIGNS)}\n")
+    command, words = synopsis[0].split(maxsplit=1)
+    out.append(f".SH SYNOPSIS\n.B {command}\n{font('I', words)}\n.SH DESCRIPTION\n")
+    return "".join(out + [block(it) for it in rest])
+
+
+def main():
+    with open(os.path.join(TOP, SOURCE), encoding="utf-8") as file:
+        wanted = page(file.read())
+    path = os.path.join(TOP, PAGE)
+    if sys.argv[1:] != ["--check"]:
+        with open(path, "w", encoding="utf-8") as file:
+            file.write(wanted)
+        return 0
+    with open(path, encoding="utf-8") as file:
+        is_current = file.read() == wanted
+    print(f"{PAGE} is current" if is_current else f"{PAGE} isn't what `make man` writes")
+    print(f"{int(is_current)} passed, {int(not is_current)} failed")
+    return 0 if is_current else 1
+
+
+if __name__ == "__main__":
+    sys.exit(main())
