@@ -1,5 +1,5 @@
 #!/usr/bin/env python3
-"""Sizes and times beside other compressors, as README has them: compare.py PATH_OF_AEC
+"""Sizes and times beside other compressors, as SPEED.md has them: compare.py PATH_OF_AEC
 
 Compresses four kinds of generated samples, 8 MiB each, with the program at PATH_OF_AEC, with libaec's client (the variable LIBAEC, else
 /usr/bin/aec), flac, zstd, xz and gzip, and decompresses them again. Prints a table in Markdown: the bytes in percent of the samples'
@@ -16,7 +16,7 @@ import tempfile
 from bench import MIB, detector, detector_12, run, walk, waves
 
 SIZE = 8
-# Each kind of samples: its name, a function that gives a MiB of them, bits and sign.
+# Each kind of samples: its name, a function that gives a MiB of them for a chance, bits and sign.
 KINDS = [
     ("12-bit detector", detector_12, 12, False),
     ("16-bit detector", detector, 16, False),
@@ -77,7 +77,7 @@ def main():
     print("|---" * (len(names) + 1) + "|")
     with tempfile.TemporaryDirectory() as folder:
         for kind, made, bits, signed in KINDS:
-            raw, cells = made(random.Random(1)) * SIZE, []
+            raw, cells = b"".join(made(random.Random(seed)) for seed in range(SIZE)), []
             for name in names:
                 there = shutil.which(paths.get(name, name))
                 pair = commands(name, bits, signed, paths) if there else None
