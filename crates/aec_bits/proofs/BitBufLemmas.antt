@@ -121,6 +121,8 @@ padded_packed words len missing held count =
           ∙ ap (λ n. replicate n false) less,
     )
 
+pub ruleset padded = (padded_within, padded_packed)
+
 -- ---- short unary numbers
 
 pub binary-one : (v : ℕ) → binary (v + 1) 1 ≡ fs v

@@ -13,10 +13,11 @@ use std::marker::Model;
 /// The greatest length of a list of bits.
 const MOST_BITS: u64 = 1 << 62;
 
-/// Bits in order, at most 2^62 of them. Contracts see the list and the room, which is the number of
-/// bits by which it can grow with no further memory: a growth into the room is never refused.
+/// A list of at most 2^62 bits. Contracts see the list and the room. The room is the number of bits
+/// that can be appended with no further memory: a call that needs no more than the room succeeds.
 ///
-/// Every call that grows answers `Memory` where a growth was refused, and nothing has changed then.
+/// A call that needs more than the room fails with `Memory` if an allocation fails, or if the list
+/// would have more than 2^62 bits. The list and the room are then unchanged.
 #[derive(Debug, Drop)]
 pub struct BitBuf {
     words: Vec<u64>,
@@ -193,7 +194,7 @@ impl BitBuf {
         requires fits { value < 2 ^ width }
         requires room { width ≤ self.old.room }
         ensures list { self.new.list ≡ self.old.list ++ binary width value }
-        ensures room { self.old.room ≤ self.new.room + width }
+        ensures room { self.old.room ≡ self.new.room + width }
     {
         push_reserved_number(&mut self.words, self.len, value, width);
         self.len += u64::from(width);
@@ -272,12 +273,13 @@ impl BitBuf {
         Ok(())
     }
 
-    /// Appends zeros up to a multiple of 8 bits. Takes no memory and always succeeds: the words of
-    /// the bits hold the rest of the last byte too.
+    /// Appends zeros up to a multiple of 8 bits, and the room shrinks by their number. Takes no
+    /// memory and always succeeds: the words of the bits hold the rest of the last byte too.
+    #[tactic(auto, using(crate::proofs::BitBufLemmas::padded, crate::proofs::PackedLemmas::packed_lengths))]
     pub fn pad_to_byte(&mut self) -> Result<(), Fault>
         ensures succeeds { IsOk result }
         ensures list { self.new.list ≡ padded_to_byte self.old.list }
-        ensures room { self.old.room ≤ self.new.room + up_to_multiple 8 (length self.old.list) }
+        ensures room { self.old.room ≡ self.new.room + up_to_multiple 8 (length self.old.list) }
     {
         self.len += missing_bits(self.len);
         Ok(())
@@ -294,11 +296,11 @@ impl BitBuf {
         Ok(bits)
     }
 
-    /// Keeps the first `len` bits. Takes no memory.
+    /// Keeps the first `len` bits, and the room grows by the number of bits cut. Takes no memory.
     pub fn truncate(&mut self, len: u64)
         requires { len ≤ length self.old.list }
         ensures list { self.new.list ≡ take len self.old.list }
-        ensures room { self.old.room + length self.old.list ≤ self.new.room + len }
+        ensures room { self.old.room + length self.old.list ≡ self.new.room + len }
     {
         cut(&mut self.words, len);
         self.len = len;

@@ -56,7 +56,7 @@ pub(crate) fn push_reserved_number(words: &mut Vec<u64>, len: u64, value: u64, w
     requires packed { ArePacked words.old.items len }
     ensures list { Keep words.new.items (len + width)
         (take len (bits_of_words words.old.items) ++ binary width value) }
-    ensures capacity { vec_capacity words.old ≤ vec_capacity words.new }
+    ensures capacity { vec_capacity words.new ≡ vec_capacity words.old }
 {
     let used = (len % 64) as u32;
     if used == 0 {
