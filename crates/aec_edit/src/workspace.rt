@@ -15,8 +15,8 @@ use std::alloc::Global;
 use std::marker::Model;
 
 /// Samples, kept as their code and the places where its intervals begin. The samples themselves
-/// aren't kept: between edits the scratch lists are empty. They keep room for the samples of at most
-/// three intervals, and for the code of two with at most 128 bits a sample.
+/// aren't kept: between edits the scratch lists are empty. These lists keep room for the samples of
+/// at most three intervals, and for the code of two with at most 128 bits a sample.
 #[derive(Debug, Drop)]
 pub struct Workspace<C: Codec> {
     coded: Coded,
