@@ -13,15 +13,16 @@ use aec_bits::Sink;
 use aec_interval::StreamReader;
 use aec_params::{Fault, Params};
 
-/// More memory than decoding needs in any case is taken for at most so many bytes that are kept.
+/// The most bytes that are kept in more memory than any decoding takes.
 const KEPT: usize = 1 << 24;
 
-/// And only where a block has at most so many bytes: judging longer ones again takes less time than
-/// memory does.
+/// The most bytes of a block for which such memory is taken. To read longer blocks twice takes less
+/// time than to take memory for their bytes.
 const SHORT: usize = 32;
 
-/// How many bytes may be kept before more room is made: one for each bit that was read, if blocks
-/// are short. So what a few bytes stand for takes little memory.
+/// Returns the most bytes that may be kept before more room is made: one for each bit that was
+/// read, or none if a block has more than `SHORT` bytes. So a short stream takes little memory,
+/// however many samples it stands for.
 fn most_kept(params: &Params, reader: &StreamReader) -> u64
     ensures bits { result ≤ reader.now.bit }
     ensures long { 32 < storage_len params.now * params.now.block_size → result ≡ 0 }

@@ -2,7 +2,7 @@
 //! script made on them: those that only overwrite samples which are there already are made
 //! meanwhile, while little of the stream stands behind them.
 
-ghost use Rattle.std.specs.Prelude.{◌≡◌, ◌+◌, ◌-◌, ◌<◌, ◌≤◌, ◌*◌, ◌/◌, ◌%◌, ◌^◌, ◌++◌, min, true, false, [], None, List, ℤ, IfOk, IfErr, OnOk, Ok};
+ghost use Rattle.std.specs.Prelude.{◌≡◌, ◌+◌, ◌-◌, ◌<◌, ◌≤◌, ◌*◌, ◌/◌, ◌%◌, ◌^◌, ◌++◌, min, max, vec_capacity, true, false, [], None, List, ℤ, IfOk, IfErr, OnOk, Ok};
 ghost use Rattle.std.specs.Int.{div_ceil};
 ghost use Rattle.aec_params.specs.declared.fault.Fault.TheVariants.{Memory};
 ghost use Rattle.aec_params.specs.Params.{interval_len};
@@ -144,8 +144,11 @@ fn judged_reader<'a>(
     Ok((reader, judged))
 }
 
-/// Room for the samples that are appended at once.
+/// Returns room for the samples that are appended at once: `AT_ONCE` or an interval, whichever is
+/// more.
 fn room_at_once(alloc: Global, params: &Params) -> Result<Vec<i64>, Fault>
+    ensures room { IfOk result
+        (λ samples. vec_capacity samples ≡ max 2048 (interval_len params.now)) }
     ensures fault { IfErr result (λ e. e ≡ Memory) }
 {
     let samples = Vec::with_capacity(alloc, AT_ONCE.max(params.interval_len() as usize))?;
