@@ -1,9 +1,9 @@
 -- Calls that are left, and what an exchange answers.
-use Rattle.std.proofs.Common.{◌≡◌, ℕ, ◌+◌, ◌-◌, ◌/◌, ◌^◌, ◌<◌, ◌≤◌, Some, None, List, ℤ, refl, arith}
+use Rattle.std.proofs.Common.{◌≡◌, ℕ, ◌+◌, ◌-◌, ◌/◌, ◌^◌, ◌<◌, ◌≤◌, None, List, ℤ, refl, arith}
 use Rattle.std.specs.Int.{div_ceil}
 use Rattle.std.proofs.lemmas.Bool.Decides.{nat_tests}
 use Rattle.aec_params.specs.declared.fault.Fault.{Fault}
-use Rattle.aec_params.specs.declared.fault.Fault.TheVariants.{Memory, Spent}
+use Rattle.aec_params.specs.declared.fault.Fault.TheVariants.{Memory}
 use Rattle.aec_bits.specs.Codec.{Format}
 use Rattle.aec_bits.specs.Devices.{counted}
 use Rattle.aec_edit.specs.Calls.{want_of_calls, RisesAtMost}
@@ -11,9 +11,6 @@ use Rattle.aec_edit.specs.Changes.{IsNotExchanged, recoded, exchange_calls}
 
 pub calls_left : (calls needed : ℕ) → needed ≤ 2 ^ 64 - 1 - calls → want_of_calls calls needed ≡ None
 calls_left calls needed enough = grind (arith, nat_tests)
-
-pub calls_wanting : (calls needed : ℕ) → 2 ^ 64 - 1 - calls < needed → want_of_calls calls needed ≡ Some Spent
-calls_wanting calls needed few = grind (arith, nat_tests)
 
 -- how many intervals are coded, as the code counts it
 pub needed_is : (m n first len c : ℕ) → m ≡ n → c ≡ div_ceil (first + len) m → c - first / m ≡ exchange_calls n first len

@@ -6,12 +6,6 @@ use Rattle.std.proofs.lemmas.List.{length-take, length-drop, length-map, length-
 abbrev pub written_over : List ℕ → ℕ → List ℕ → List ℕ
 written_over s at ws = take at s ++ (ws ++ drop (at + length ws) s)
 
-pub length-written_over : (s : List ℕ) (at : ℕ) (ws : List ℕ) → at + length ws ≤ length s → length (written_over s at ws) ≡ length s
-length-written_over s at ws within =
-    let front = length-take at s in
-    let back = length-drop (at + length ws) s in
-    length-append (take at s) (ws ++ drop (at + length ws) s) ∙ omega (arith, length-append ws (drop (at + length ws) s))
-
 -- the next number is still the old one
 next_there : (s : List ℕ) (at : ℕ) (ws : List ℕ) (d : ℕ) → at + length ws < length s
     → written_over s at ws ≡ (take at s ++ ws) ++ get_or s (at + length ws) d ∷ drop (at + length ws + 1) s

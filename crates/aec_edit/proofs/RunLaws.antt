@@ -204,10 +204,6 @@ fits_by true fault found h = cc
 fits_by false fault None h = (refl, refl)
 fits_by false fault (Some i) h = cc
 
-fits_at : (b : Bool) (fault : Fault) → cond b (Some fault) None ≡ None → b ≡ false
-fits_at true fault h = cc
-fits_at false fault h = refl
-
 fits_first : (b : Bool) (fault : Fault) (rest : Option Fault) → cond b (Some fault) rest ≡ None → rest ≡ None
 fits_first true fault rest h = cc
 fits_first false fault rest h = h

@@ -1,6 +1,6 @@
 -- Runs of edits, one after the other.
 use Rattle.std.proofs.Common.{◌≡◌, ℕ, ◌+◌, ◌<◌, ◌≤◌, List, [], ◌∷◌, ◌++◌, length, take, get_or, ℤ, Option, Some, None, MatchOption, is_some, if◌then◌else◌, refl, sym, ap, ◌∙◌, subst, arith, append_assoc}
-use Rattle.std.proofs.lemmas.List.{append-nil, take_more}
+use Rattle.std.proofs.lemmas.List.{take_more}
 use Rattle.aec_params.specs.declared.edit.Edit.{Edit}
 use Rattle.aec_bits.specs.Codec.{Format}
 use Rattle.aec_params.specs.declared.fault.Fault.{Fault}
@@ -55,23 +55,6 @@ pub record HasAdded (f : Format) (limit : ℕ) (s : List ℤ) (calls reads : ℕ
   pub done : List Outcome
   pub added : outcomes ≡ before ++ done
   pub has_run : HasRun f limit s calls reads edits done left calls_after reads_after
-
-pub HasAdded-none : (f : Format) (limit : ℕ) (s : List ℤ) (calls reads : ℕ) (before : List Outcome)
-    → HasAdded f limit s calls reads [] before before s calls reads
-HasAdded-none f limit s calls reads before =
-    record {
-      done = [];
-      added = sym (append-nil before);
-      has_run = record {
-        answers = refl;
-        samples = refl;
-        decoded = record {
-          stays =
-              omega arith;
-          few = omega arith;
-        };
-      };
-    }
 
 pub HasRun-more : (f : Format) (limit : ℕ) (s : List ℤ) (calls reads : ℕ) (edits : List Edit) (edit : Edit) (done : List Outcome) (outcome : Outcome)
     (left next : List ℤ) (after last reads_after reads_last : ℕ) → HasRun f limit s calls reads edits done left after reads_after

@@ -1,5 +1,5 @@
 -- Edits in a row, of which each so far was made.
-use Rattle.std.proofs.Common.{◌≡◌, ℕ, ◌+◌, ◌<◌, ◌≤◌, Ok, Err, List, [], ◌∷◌, ◌++◌, length, take, drop, get_or, ℤ, refl, sym, ap, ◌∙◌, subst, arith}
+use Rattle.std.proofs.Common.{◌≡◌, ℕ, ◌+◌, ◌<◌, ◌≤◌, Ok, Err, List, [], ◌∷◌, ◌++◌, length, take, drop, get_or, ℤ, sym, ap, ◌∙◌, subst, arith}
 use Rattle.std.proofs.lemmas.List.{take_more, take-append-drop, length-take, drop_more, take_all}
 use Rattle.aec_params.specs.declared.fault.Fault.{Fault}
 use Rattle.aec_params.specs.declared.edit.Edit.{Edit}
@@ -18,13 +18,6 @@ pub record AreMade (f : Format) (limit : ℕ) (s : List ℤ) (calls reads : ℕ)
   pub done : List Outcome
   pub are_done : AreDone done
   pub has_run : HasRun f limit s calls reads edits done left after reads_after
-
-pub none_made : (f : Format) (limit : ℕ) (s : List ℤ) (calls reads : ℕ) → AreMade f limit s calls reads [] s calls reads
-none_made f limit s calls reads = record {
-  done = [];
-  are_done = tt;
-  has_run = record { answers = refl; samples = refl; decoded = record { stays = omega arith; few = omega arith } };
-}
 
 AreDone-more : (done : List Outcome) (coded : ℕ) → AreDone done → AreDone (done ++ (Done coded ∷ []))
 AreDone-more [] coded made = tt

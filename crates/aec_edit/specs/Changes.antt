@@ -71,10 +71,11 @@ opened_by needed calls opened = if is_some (want_of_calls calls needed) then 0 e
 abbrev pub kept_behind : ℕ → ℕ → ℕ → ℕ → ℕ
 kept_behind n count stop to = min count (to * n) - stop
 
--- how many samples it codes, and how many intervals
+-- how many samples it codes
 abbrev pub fresh_total : ℕ → ℕ → ℕ → ℕ → ℕ → ℕ → ℕ
 fresh_total n count first stop to len = first % n + (len + kept_behind n count stop to)
 
+-- how many intervals it codes
 abbrev pub recoding_calls : ℕ → ℕ → ℕ → ℕ → ℕ → ℕ → ℕ
 recoding_calls n count first stop to len = div_ceil (fresh_total n count first stop to len) n
 

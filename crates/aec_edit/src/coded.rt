@@ -1,6 +1,6 @@
 //! The code of samples, with an index of its intervals.
 
-ghost use Rattle.std.specs.Prelude.{◌≡◌, ℕ, ◌+◌, ◌-◌, ◌*◌, ◌<◌, ◌≤◌, ◌++◌, [], length, map, take, drop, vec_len, vec_capacity, slice_index, OnOk, OnErr, IfErr};
+ghost use Rattle.std.specs.Prelude.{◌≡◌, ℕ, ◌+◌, ◌-◌, ◌*◌, ◌<◌, ◌≤◌, ◌++◌, ◌⊎◌, [], length, map, take, drop, vec_len, vec_capacity, slice_index, OnOk, OnErr, IfErr};
 ghost use Rattle.aec_params.specs.declared.fault.Fault.TheVariants.{Memory};
 
 use crate::index::replace_starts;
@@ -38,7 +38,9 @@ impl Coded {
         }
     }
 
-    /// Takes room for so many more bits, and for the starts of so many more intervals.
+    /// Reserves room for `bits` more bits and for the starts of `intervals` more intervals. Fails
+    /// with `Memory` only if one of the two is missing and an allocation fails. Room that was there
+    /// is kept.
     pub fn reserve(&mut self, bits: u64, intervals: u64) -> Result<(), Fault>
         ensures bits { self.new.bits.list ≡ self.old.bits.list }
         ensures starts { self.new.starts.items ≡ self.old.starts.items }
@@ -46,6 +48,10 @@ impl Coded {
         ensures room { OnOk result (bits ≤ self.new.bits.room) }
         ensures room_of_starts { OnOk result
             (vec_len self.new.starts + intervals ≤ vec_capacity self.new.starts) }
+        ensures kept { (self.old.bits.room ≤ self.new.bits.room)
+            × (vec_capacity self.old.starts ≤ vec_capacity self.new.starts) }
+        ensures full { OnErr result ((self.old.bits.room < bits)
+            ⊎ (vec_capacity self.old.starts - vec_len self.old.starts < intervals)) }
         ensures fault { IfErr result (λ e. (e ≡ Memory) × (0 < bits + intervals)) }
     {
         self.bits.reserve(bits)?;

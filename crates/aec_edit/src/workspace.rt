@@ -15,7 +15,8 @@ use std::alloc::Global;
 use std::marker::Model;
 
 /// Samples, kept as their code and the places where its intervals begin. The samples themselves
-/// aren't kept: between edits the scratch is empty, and keeps room for at most two intervals.
+/// aren't kept: between edits the scratch lists are empty. These lists keep room for the samples of
+/// at most three intervals, and for the code of two with at most 128 bits a sample.
 #[derive(Debug, Drop)]
 pub struct Workspace<C: Codec> {
     coded: Coded,
@@ -51,7 +52,7 @@ impl<C: Codec> Model for Workspace<C> {
 }
 
 impl<C: Codec> Workspace<C> {
-    ghost use Rattle.std.specs.Prelude.{◌≡◌, ◌+◌, ◌<◌, ◌≤◌, ◌^◌, [], length, MatchOption, OnOk, OnErr, IfErr};
+    ghost use Rattle.std.specs.Prelude.{◌≡◌, ◌+◌, ◌<◌, ◌≤◌, ◌^◌, ◌⊎◌, [], length, MatchOption, OnOk, OnErr, IfErr};
     ghost use Rattle.std.specs.Io.KnownBytes.{Appends};
     ghost use Rattle.aec_params.specs.declared.fault.Fault.TheVariants.{Memory, Write as WriteFault};
     ghost use Rattle.aec_params.specs.Codewords.{bytes_of};
@@ -77,11 +78,16 @@ impl<C: Codec> Workspace<C> {
         }
     }
 
-    /// Takes room for so many more bits of code, and for the starts of so many more intervals.
-    /// `Memory` where it is refused. Nothing that is kept changes.
+    /// Reserves room for `bits` more bits of code and for the starts of `intervals` more intervals.
+    /// Fails with `Memory` only if one of the two is missing and an allocation fails. The samples
+    /// and the room that was there stay.
     pub fn reserve(&mut self, bits: u64, intervals: u64) -> Result<(), Fault>
         ensures room { OnOk result
             ((bits ≤ self.new.room.bits) × (intervals ≤ self.new.room.intervals)) }
+        ensures kept { (self.old.room.bits ≤ self.new.room.bits)
+            × (self.old.room.intervals ≤ self.new.room.intervals) }
+        ensures full { OnErr result
+            ((self.old.room.bits < bits) ⊎ (self.old.room.intervals < intervals)) }
         ensures samples { self.new.samples ≡ self.old.samples }
         ensures limit { self.new.limit ≡ self.old.limit }
         ensures codec { self.new.codec ≡ self.old.codec }

@@ -2,7 +2,7 @@
 use Rattle.std.proofs.Common.{◌≡◌, ℕ, ◌+◌, ◌-◌, ◌*◌, ◌/◌, ◌<◌, ◌≤◌, Bool, true, false, Option, Some, None, Result, Ok, Err, IfErr, List, [], ◌∷◌, ◌++◌, length, refl, sym, ap, ◌∙◌, subst, arith, append-nil}
 use Rattle.std.specs.Prelude.{is_some, MatchOption}
 use Rattle.std.specs.Option.{option_or}
-use Rattle.std.specs.Io.KnownBytes.{Consumes, IsAtEnd, Keeps}
+use Rattle.std.specs.Io.KnownBytes.{Consumes, Keeps}
 use Rattle.std.proofs.KnownBytes.{Consumes-nil, Consumes-trans, Consumes-kept}
 use Rattle.std.proofs.lemmas.List.{length-append, length-drop}
 use Rattle.std.proofs.lemmas.Nat.{div-add-mod', mod_below}
@@ -108,20 +108,6 @@ fewer_left s limit before after bits more coder next piece so feeds some =
     let new_left : bytes_left next ≡ (limit + 1) * n - (next.count * n + length next.rest) =
     ap (λ (c : Coder). (c.limit + 1) * storage_len c.settings - (next.count * storage_len c.settings + length next.rest)) all_fed.coder in
     omega (arith, old, new, most, all, old_left, new_left, some)
-
-pub fed_ends : (s : Settings) (limit : ℕ) (before between after : Option (List ℕ)) (failures : ℕ) (bits : List Bool) (coder : Coder)
-    → IsFedSoFar s limit before between bits coder → Consumes between after [] → IsAtEnd after → failures ≡ 0
-    → IsFed s limit (taking before after failures) bits coder
-fed_ends s limit before between after failures bits coder so consumes end sound = record {
-  bytes = so.bytes;
-  gave = record {
-    taken = subst (Consumes before after) (append-nil so.bytes) (Consumes-trans before between after so.bytes [] so.taken consumes);
-    failed = λ e. absurd (cc);
-    sound = λ e. sound;
-    whole = λ short e. end;
-  };
-  feeds = so.feeds;
-}
 
 -- a refusal that is handed on
 pub hands_on : {X : Type 0} (r : Result X Fault) (fault f : Fault) (s : Settings) (limit : ℕ) (source : Taking) → r ≡ Err fault → fault ≡ f

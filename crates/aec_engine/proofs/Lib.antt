@@ -23,6 +23,7 @@ pub mod CallLemmas
 pub mod EditingLemmas
 pub mod EarlyEditLemmas
 pub mod LoadingLemmas
+pub mod RoomLemmas
 pub mod EditedLemmas
 pub mod EditAnswerLemmas
 pub mod OneEditLemmas

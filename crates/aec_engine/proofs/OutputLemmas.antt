@@ -1,7 +1,6 @@
 -- Answers of the engines from what their parts answer.
-use Rattle.std.proofs.Common.{◌≡◌, ◌⊎◌, inl, inr, ⊎_elim, ℕ, ◌≤◌, Bool, true, false, if◌then◌else◌, Option, Some, None, Result, Ok, Err, IfOk, IfErr, ℤ, List, length, refl, sym, ap, ◌∙◌, subst, arith}
+use Rattle.std.proofs.Common.{◌≡◌, ◌⊎◌, inl, inr, ⊎_elim, ℕ, ◌≤◌, Bool, true, false, if◌then◌else◌, Option, Some, None, Result, Ok, Err, IfErr, ℤ, List, length, refl, sym, ap, ◌∙◌, subst, arith}
 use Rattle.std.proofs.lemmas.Bool.{lt-ltb, le-ltb, ltb-false}
-use Rattle.std.proofs.lemmas.Result.{IfOk-weaker, IfErr-weaker}
 use Rattle.std.specs.Io.KnownBytes.{Keeps, Appends}
 use Rattle.std.proofs.Common.{OnOk, OnErr}
 use Rattle.aec_bits.specs.Devices.{AppendsFront}
@@ -102,43 +101,11 @@ pub answers_err : {X : Type 0} (r : Result X Fault) (fault f : Fault) (answers :
 answers_err {X} r fault f answers source enough is same gives =
     let P : Result X Fault → Type 0 = λ r. IfErr r (λ e. GivesAnswer answers source enough (Err e)) in subst P (sym (is ∙ ap Err same)) gives
 
-pub answers_intake : {X : Type 0} (r : Result X Fault) (fault f : Fault) (s : Settings) (caps : Caps) (count : Option ℕ) (before after : Option (List ℕ))
-    (failures limit : ℕ) → r ≡ Err fault → fault ≡ f
-    → limit ≡ caps.bytes → RefusesIntake before after failures limit f
-    → IfErr r (λ e. GivesAnswer (IsDecoded s caps count) (taking before after failures) (are_past caps.bytes) (Err e))
-answers_intake r fault f s caps count before after failures limit is same limited refuses =
-    answers_err r fault f (IsDecoded s caps count) (taking before after failures) (are_past caps.bytes) is same
-    (refused_intake s caps count before after failures f (subst (λ limit. RefusesIntake before after failures limit f) limited refuses))
-
 pub answers_memory : {X : Type 0} (r : Result X Fault) (fault f : Fault) (answers : Input → Result (List ℕ) Fault → Type 0) (source : Taking)
     (enough : List ℕ → Bool)
     → r ≡ Err fault → fault ≡ f → f ≡ Memory
     → IfErr r (λ e. GivesAnswer answers source enough (Err e))
 answers_memory r fault f answers source enough is same memory = answers_err r fault Memory answers source enough is (same ∙ memory) lacks_memory
-
--- memory was wanting, or the bits of an input that was taken whole are refused
-pub answers_loading : {X : Type 0} (r : Result X Fault) (s : Settings) (caps : Caps) (count : Option ℕ) (before after : Option (List ℕ))
-    (failures limit : ℕ) (bytes : List ℕ) (bits : List Bool) → limit ≡ caps.bytes → bits ≡ bits_of_bytes bytes
-    → IsTakenWhole before after failures limit bytes → IfErr r (λ f. (f ≡ Memory) ⊎ RefusesDecoding s count caps.samples bits f)
-    → IfErr r (λ f. GivesAnswer (IsDecoded s caps count) (taking before after failures) (are_past caps.bytes) (Err f))
-answers_loading r s caps count before after failures limit bytes bits limited spelled taken refuses =
-    IfErr-weaker r (λ f. (f ≡ Memory) ⊎ RefusesDecoding s count caps.samples bits f)
-    (λ f. GivesAnswer (IsDecoded s caps count) (taking before after failures) (are_past caps.bytes) (Err f))
-    (λ f. ⊎_elim (λ memory. subst (λ f. GivesAnswer (IsDecoded s caps count) (taking before after failures) (are_past caps.bytes) (Err f)) (sym memory)
-    lacks_memory)
-    (λ refused. refused_decoding s caps count before after failures bytes f (subst (λ limit. IsTakenWhole before after failures limit bytes) limited taken)
-    (subst (λ bits. RefusesDecoding s count caps.samples bits f) spelled refused))) refuses
-
-pub gave_samples : {X : Type 0} (view : X → List ℤ) (r : Result X Fault) (s : Settings) (caps : Caps) (count : Option ℕ) (before after : Option (List ℕ))
-    (failures limit most : ℕ) (bytes : List ℕ) (bits : List Bool) → limit ≡ caps.bytes → most ≡ caps.samples → bits ≡ bits_of_bytes bytes
-    → IsTakenWhole before after failures limit bytes → IfOk r (λ x. (count_refusal most count ≡ None) × IsReading s count most bits (view x))
-    → IfOk r (λ x. GaveSamples s caps count (taking before after failures) (view x))
-gave_samples view r s caps count before after failures limit most bytes bits limited counted spelled taken ok =
-    IfOk-weaker r (λ x. (count_refusal most count ≡ None) × IsReading s count most bits (view x))
-    (λ x. GaveSamples s caps count (taking before after failures) (view x))
-    (λ x read. read_samples s caps count before after failures bytes (view x) (subst (λ limit. IsTakenWhole before after failures limit bytes) limited taken)
-    (subst (λ most. count_refusal most count ≡ None) counted read.0)
-    (subst (λ bits. IsReading s count caps.samples bits (view x)) spelled (subst (λ most. IsReading s count most bits (view x)) counted read.1))) ok
 
 pub decoded_refused : {X : Type 0} (view : X → List ℕ) (r : Result X Fault) (fault f : Fault) (answers : Input → Result (List ℕ) Fault → Type 0)
     (source : Taking) (enough : List ℕ → Bool) → r ≡ Err fault → fault ≡ f → GivesAnswer answers source enough (Err f)

@@ -80,11 +80,6 @@ ends_at start p total bit so_far done is = subst (EndsAt start) (sym is) (record
   done = subst (λ p. is_wanted_at p ≡ false) so_far.same done;
 })
 
-pub at_start_again : (start p q : Place) → p ≡ place_from start p.block p.bit → q ≡ place_from p 0 0 → start.block ≡ 0 → start.bit ≡ 0 → q ≡ start
-at_start_again start p q same again block bit =
-    again ∙ (ap (λ (p : Place). place_from p 0 0) same
-    ∙ sym (ap (λ i. place_from start i start.bit) block ∙ ap (λ b. place_from start 0 b) bit))
-
 -- ---- an interval gone over
 
 pub counts_interval : (start p q : Place) (total more len : ℕ) → IsAllowed start.settings → CountsSoFar start p total → HasInterval p len q → more ≡ total + len

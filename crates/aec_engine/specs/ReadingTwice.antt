@@ -1,11 +1,12 @@
 -- What the parts of decoding give: the bits of a source, and what their two readings answer.
-use Rattle.std.specs.Prelude.{◌≡◌, ℕ, ◌+◌, ◌*◌, ◌%◌, ◌^◌, ◌<◌, ◌≤◌, Bool, true, false, Option, None, Result, Ok, Err, MatchResult, ℤ, List, ◌++◌, length}
+use Rattle.std.specs.Prelude.{◌≡◌, ℕ, ◌+◌, ◌*◌, ◌%◌, ◌^◌, ◌<◌, ◌≤◌, ◌⊎◌, Bool, true, false, Option, None, Result, Ok, Err, MatchResult, ℤ, List, ◌++◌, length}
+use Rattle.std.specs.Int.{div_ceil}
 use Rattle.std.specs.List.{AllByRecursion}
 use Rattle.std.specs.Io.KnownBytes.{Appends}
 use Rattle.aec_params.specs.declared.settings.Settings.{Settings}
 use Rattle.aec_params.specs.declared.fault.Fault.{Fault}
 use Rattle.aec_params.specs.declared.fault.Fault.TheVariants.{OutOfRange, Memory}
-use Rattle.aec_params.specs.Params.{IsHeld}
+use Rattle.aec_params.specs.Params.{IsHeld, interval_len}
 use Rattle.aec_params.specs.Codewords.{bits_of_bytes}
 use Rattle.aec_params.specs.Reading.{IsReading}
 use Rattle.aec_bits.specs.Devices.{AppendsFront}
@@ -64,10 +65,15 @@ pub record KeepsFront (p : Place) (s : Settings) (before : ℕ) (bytes : List �
   pub few : p.block < 2 ^ 34
   pub begins : is_wanted_at p ≡ true → p.block % p.settings.interval ≡ 0
 
--- so many kept bytes are few: those that don't fit into a piece and an interval are at most 16 MiB,
--- and beside an interval two for each bit
+-- So many kept bytes are few: they fit into 65,536 bytes and those of an interval, or they are at
+-- most 2^24, and at most those of an interval and two for each bit.
 abbrev pub AreFewKept : ℕ → ℕ → ℕ → Type 0
 AreFewKept kept interval bits = 65536 + interval < kept → (kept ≤ 2 ^ 24) × (kept ≤ 2 * bits + interval)
+
+-- The capacity for kept bytes stays as it was before, or it is at most 2^24 bytes, and at most
+-- those of an interval and two for each bit.
+abbrev pub GrowsForFew : ℕ → ℕ → ℕ → ℕ → Type 0
+GrowsForFew before after interval bits = (after ≡ before) ⊎ ((after ≤ 2 ^ 24) × (after ≤ 2 * bits + interval))
 
 -- all samples are read up to this bit, where no more is wanted
 pub record EndsAt (p : Place) (bit : ℕ) : Type 0 where
@@ -81,6 +87,16 @@ pub record HaveSamples (p : Place) (total : ℕ) : Type 0 where
   pub samples : List ℤ
   pub reading : IsReading p.settings p.count p.limit p.bits samples
   pub counted : length samples ≡ total
+
+-- Room for so many bits and intervals is enough for the code of the samples that are read: for the
+-- bits that they are read from, and for their intervals.
+pub record IsEnoughRoom (p : Place) (bits intervals : ℕ) : Type 0 where
+  pub end : ℕ
+  pub total : ℕ
+  pub ends : EndsAt p end
+  pub have : HaveSamples p total
+  pub bits_fit : end ≤ bits
+  pub intervals_fit : div_ceil total (interval_len p.settings) ≤ intervals
 
 -- the bytes of a part of samples, or want of memory
 pub data StoresPart (s : Settings) (first len : ℕ) (samples : List ℤ) : Result (List ℕ) Fault → Type 0 where

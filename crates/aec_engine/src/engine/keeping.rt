@@ -6,22 +6,23 @@ ghost use Rattle.aec_params.specs.Params.{interval_len, storage_len};
 ghost use Rattle.aec_interval.specs.Reached.{count_refusal, RefusesReading};
 ghost use Rattle.aec_interval.specs.Pieces.{IsPlace, place_at};
 ghost use Rattle.aec_engine.specs.Transfers.{Putting, putting_of};
-ghost use Rattle.aec_engine.specs.ReadingTwice.{AreFewKept, DecodesBits, KeepsFront, SettlesOne};
+ghost use Rattle.aec_engine.specs.ReadingTwice.{AreFewKept, DecodesBits, GrowsForFew, KeepsFront, SettlesOne};
 
 use crate::engine::two_readings::{WAITING, append_stored, deliver_range, judge_from};
 use aec_bits::Sink;
 use aec_interval::StreamReader;
 use aec_params::{Fault, Params};
 
-/// More memory than decoding needs in any case is taken for at most so many bytes that are kept.
+/// The most bytes that are kept in more memory than any decoding takes.
 const KEPT: usize = 1 << 24;
 
-/// And only where a block has at most so many bytes: judging longer ones again takes less time than
-/// memory does.
+/// The most bytes of a block for which such memory is taken. To read longer blocks twice takes less
+/// time than to take memory for their bytes.
 const SHORT: usize = 32;
 
-/// How many bytes may be kept before more room is made: one for each bit that was read, if blocks
-/// are short. So what a few bytes stand for takes little memory.
+/// Returns the most bytes that may be kept before more room is made: one for each bit that was
+/// read, or none if a block has more than `SHORT` bytes. So a short stream takes little memory,
+/// however many samples it stands for.
 fn most_kept(params: &Params, reader: &StreamReader) -> u64
     ensures bits { result ≤ reader.now.bit }
     ensures long { 32 < storage_len params.now * params.now.block_size → result ≡ 0 }
@@ -34,15 +35,18 @@ fn most_kept(params: &Params, reader: &StreamReader) -> u64
     read
 }
 
-/// Up to how many bytes there is room for what is kept, `more` of them behind those that are there;
-/// fewer where there is none. Up to a piece it is the room that was made for any decoding. Behind a
-/// piece more is asked for, as long as `most` are not passed; where that is refused there is none.
+/// Returns the length up to which `bytes` may be filled. If `more` bytes don't fit behind those
+/// that `bytes` holds, the length is less than the sum of both.
+///
+/// As long as `bytes` holds at most `WAITING` bytes, the function takes no memory: they and `more`
+/// fit into the buffer of any decoding. After that it doubles the room, up to `KEPT` bytes. It
+/// returns 0 if `bytes` holds more than `most` bytes, if `KEPT` bytes are too few, or if the
+/// allocation fails.
 fn make_room(bytes: &mut Vec<u8>, more: usize, most: u64) -> usize
     ensures there { result ≤ vec_capacity bytes.new }
     ensures few { AreFewKept result more most }
-    ensures grown { (vec_capacity bytes.new ≡ vec_capacity bytes.old)
-        ⊎ ((vec_len bytes.old ≤ most) × ((vec_capacity bytes.new ≤ 2 ^ 24)
-        × (vec_capacity bytes.new ≤ 2 * most + more))) }
+    ensures asked { (vec_capacity bytes.new ≡ vec_capacity bytes.old) ⊎ (vec_len bytes.old ≤ most) }
+    ensures grown { GrowsForFew (vec_capacity bytes.old) (vec_capacity bytes.new) more most }
     ensures items { bytes.new.items ≡ bytes.old.items }
     ensures len { vec_len bytes.new ≡ vec_len bytes.old }
     ensures capacity { vec_capacity bytes.old ≤ vec_capacity bytes.new }
@@ -64,12 +68,14 @@ fn make_room(bytes: &mut Vec<u8>, more: usize, most: u64) -> usize
     }
 }
 
-/// Whether so many more bytes can be kept in the room that there is, or in more that is made then.
+/// Returns whether `more` bytes fit behind those that `bytes` holds: up to the length `room`, or up
+/// to a new one that `make_room` returns.
 fn has_room(bytes: &mut Vec<u8>, room: &mut usize, more: usize, most: u64) -> bool
     ensures room { result ≡ true → vec_len bytes.new + more ≤ room.new }
     ensures there { room.old ≤ vec_capacity bytes.old → room.new ≤ vec_capacity bytes.new }
     ensures few { (bits : ℕ) → AreFewKept room.old more bits → most ≤ bits
         → AreFewKept room.new more bits }
+    ensures grown { GrowsForFew (vec_capacity bytes.old) (vec_capacity bytes.new) more most }
     ensures items { bytes.new.items ≡ bytes.old.items }
     ensures len { vec_len bytes.new ≡ vec_len bytes.old }
     ensures capacity { vec_capacity bytes.old ≤ vec_capacity bytes.new }

@@ -2,7 +2,8 @@
 //! script made on them: those that only overwrite samples which are there already are made
 //! meanwhile, while little of the stream stands behind them.
 
-ghost use Rattle.std.specs.Prelude.{◌≡◌, ◌<◌, ◌≤◌, ◌*◌, ◌%◌, ◌^◌, ◌++◌, true, false, [], None, List, ℤ, IfOk, IfErr, OnOk, Ok};
+ghost use Rattle.std.specs.Prelude.{◌≡◌, ◌+◌, ◌-◌, ◌<◌, ◌≤◌, ◌*◌, ◌/◌, ◌%◌, ◌^◌, ◌++◌, min, max, vec_capacity, true, false, [], None, List, ℤ, IfOk, IfErr, OnOk, Ok};
+ghost use Rattle.std.specs.Int.{div_ceil};
 ghost use Rattle.aec_params.specs.declared.fault.Fault.TheVariants.{Memory};
 ghost use Rattle.aec_params.specs.Params.{interval_len};
 ghost use Rattle.aec_params.specs.Reading.{IsReading};
@@ -11,7 +12,7 @@ ghost use Rattle.aec_interval.specs.Reached.{count_refusal, RefusesDecoding};
 ghost use Rattle.aec_engine.specs.Transfers.{answer_by};
 ghost use Rattle.aec_engine.specs.EditingSteps.{recoded_of};
 ghost use Rattle.aec_interval.specs.Pieces.{is_wanted_at};
-ghost use Rattle.aec_engine.specs.ReadingTwice.{AreSamplesOf, EndsAt, ReadsOn, LacksMemoryAlone};
+ghost use Rattle.aec_engine.specs.ReadingTwice.{AreSamplesOf, EndsAt, HaveSamples, IsEnoughRoom, ReadsOn, LacksMemoryAlone};
 ghost use Rattle.aec_engine.specs.Scripts.{listing_of};
 ghost use Rattle.aec_engine.specs.EditsAhead.{AreKnown, IsReady, left_in};
 ghost use Rattle.aec_engine.specs.EarlyEdits.{LoadsAll, StopsLoading, EditsBits, EditsSamples};
@@ -70,7 +71,8 @@ fn append_behind(samples: &mut Vec<i64>, more: &[i64]) -> Result<(), Fault>
 }
 
 /// Appends the samples that coded bits stand for to an empty workspace over a codec that has coded
-/// nothing, and makes edits of a script meanwhile. Those that are left are ahead then.
+/// nothing, and makes edits of a script meanwhile. Those that are left are ahead then. Before that
+/// the workspace has room for the bits that the samples are read from, and for their intervals.
 fn append_all<C: Codec>(
     alloc: Global,
     params: &Params,
@@ -91,6 +93,7 @@ fn append_all<C: Codec>(
     requires fresh { C.called workspace.old.codec ≡ 0 }
     requires known { AreKnown ahead.old }
     requires ready { IsReady ahead.old }
+    requires room { IsEnoughRoom reader.old workspace.old.room.bits workspace.old.room.intervals }
     ensures ok { IfOk result (λ _. LoadsAll (C.format workspace.old.codec) workspace.old.limit
         (left_in ahead.old) reader.old (left_in ahead.new) workspace.new.samples
         (C.called workspace.new.codec)) }
@@ -132,6 +135,7 @@ fn judged_reader<'a>(
     ensures samples { IfOk result (λ read. (xs : List ℤ) → AreSamplesOf read.0 xs
         → IsReading params.now count limits.samples bits.now.list xs) }
     ensures bits { IfOk result (λ read. EndsAt read.0 read.1.bits) }
+    ensures total { IfOk result (λ read. HaveSamples read.0 read.1.total) }
     ensures refuses { IfErr result
         (λ fault. RefusesDecoding params.now count limits.samples bits.now.list fault) }
 {
@@ -140,15 +144,18 @@ fn judged_reader<'a>(
     Ok((reader, judged))
 }
 
-/// Room for the samples that are appended at once.
+/// Returns room for the samples that are appended at once: `AT_ONCE` or an interval, whichever is
+/// more.
 fn room_at_once(alloc: Global, params: &Params) -> Result<Vec<i64>, Fault>
+    ensures room { IfOk result
+        (λ samples. vec_capacity samples ≡ max 2048 (interval_len params.now)) }
     ensures fault { IfErr result (λ e. e ≡ Memory) }
 {
     let samples = Vec::with_capacity(alloc, AT_ONCE.max(params.interval_len() as usize))?;
     Ok(samples)
 }
 
-/// What the code of samples is expected to take.
+/// Room for the code of samples: for its bits, and for the starts of its intervals.
 #[derive(Clone, Copy)]
 struct Room {
     bits: u64,
@@ -156,10 +163,12 @@ struct Room {
 }
 
 impl Room {
-    /// Room for the samples that were judged, and a sixteenth more bits for what edits put.
+    /// Returns the room that an edit asks for: for the bits that the samples were read from and a
+    /// sixteenth more, and for the intervals of the samples.
     fn of(params: &Params, judged: Judged) -> Room
-        ensures bits { judged.bits ≤ result.bits }
-        ensures intervals { judged.total ≤ result.intervals * interval_len params.now }
+        ensures bits { result.bits ≡ min (judged.bits + judged.bits / 16) (2 ^ 64 - 1) }
+        ensures enough { judged.bits ≤ result.bits }
+        ensures intervals { result.intervals ≡ div_ceil judged.total (interval_len params.now) }
     {
         Room {
             bits: judged.bits.saturating_add(judged.bits / 16),
@@ -168,7 +177,8 @@ impl Room {
     }
 }
 
-/// An empty workspace with room.
+/// Returns an empty workspace with at least this room. Fails with `Memory` only if there is room to
+/// reserve and an allocation fails.
 fn roomy_workspace<C: Codec + Drop>(
     alloc: Global,
     codec: C,
@@ -178,7 +188,9 @@ fn roomy_workspace<C: Codec + Drop>(
     ensures samples { IfOk result (λ w. w.samples ≡ []) }
     ensures limit { IfOk result (λ w. w.limit ≡ limits.samples) }
     ensures codec { IfOk result (λ w. w.codec ≡ codec) }
-    ensures fault { IfErr result (λ e. e ≡ Memory) }
+    ensures bits { IfOk result (λ w. room.bits ≤ w.room.bits) }
+    ensures intervals { IfOk result (λ w. room.intervals ≤ w.room.intervals) }
+    ensures fault { IfErr result (λ e. (e ≡ Memory) × (0 < room.bits + room.intervals)) }
 {
     let mut workspace = Workspace::new(alloc, codec, limits.samples());
     workspace.reserve(room.bits, room.intervals)?;
@@ -205,6 +217,7 @@ fn edit_samples<C: Codec + Drop>(
     requires format { C.format codec ≡ interval_format params.now }
     requires fresh { C.called codec ≡ 0 }
     requires known { (listing_of script.now).bad ≡ None }
+    requires room { IsEnoughRoom reader.old room.bits room.intervals }
     ensures edits { EditsSamples params.now limits.samples reader.old (listing_of script.now)
         (answer_by (λ w. recoded_of (C.format w.codec) w.samples (C.called w.codec)) result) }
     ensures format { IfOk result (λ w. C.format w.codec ≡ interval_format params.now) }

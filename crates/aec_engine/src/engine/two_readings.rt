@@ -327,12 +327,15 @@ pub(crate) fn deliver_range<W: Sink>(
     put_range(params, reader, before, first, len, samples, bytes, sink)
 }
 
-/// Room for the samples of an interval, and for their bytes behind a piece.
+/// Returns room for the samples of an interval, and room for their bytes behind a piece of
+/// `WAITING` bytes, no more.
 pub(crate) fn buffers(alloc: Global, params: &Params) -> Result<(Vec<i64>, Vec<u8>), Fault>
     ensures room { IfOk result (λ made. interval_len params.now ≤ vec_capacity made.0) }
     ensures empty { IfOk result (λ made. vec_len made.1 ≡ 0) }
     ensures buffer { IfOk result
         (λ made. 65536 + 4 * interval_len params.now ≤ vec_capacity made.1) }
+    ensures few { IfOk result (λ made. (vec_capacity made.0 ≤ interval_len params.now)
+        × (vec_capacity made.1 ≤ 65536 + 4 * interval_len params.now)) }
     ensures fault { IfErr result (λ e. e ≡ Memory) }
 {
     let len = params.interval_len() as usize;

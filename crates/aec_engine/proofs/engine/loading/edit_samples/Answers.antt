@@ -2,7 +2,12 @@ use Rattle.std.proofs.Common.{ap, ◌∙◌}
 use Rattle.std.proofs.lemmas.Result.{err_from_is_err_and}
 use Rattle.aec_engine.specs.EditsAhead.{left_in}
 use Rattle.aec_engine.proofs.LoadingLemmas.{no_room_err, loading_err, rest_err, rest_made}
+use Rattle.aec_engine.proofs.RoomLemmas.{room_more}
 use Rattle.aec_engine.proofs.engine.loading.edit_samples.Goals as goal
+
+pub append_all-requires-clause-room : goal.append_all-requires-clause-room
+append_all-requires-clause-room g c =
+    room_more _ _ _ _ _ c.requires.room c.in_ok-workspace.ensures.bits c.in_ok-workspace.ensures.intervals
 
 pub returns-in_err-samples-clause-edits : goal.returns-in_err-samples-clause-edits
 returns-in_err-samples-clause-edits g c =
@@ -12,7 +17,7 @@ returns-in_err-samples-clause-edits g c =
 pub returns-in_err-workspace-clause-edits : goal.returns-in_err-workspace-clause-edits
 returns-in_err-workspace-clause-edits g c =
     let exit = err_from_is_err_and c.from_residual-in_err-workspace.result c.from_residual-in_err-workspace.ensures.1 in
-    no_room_err _ _ exit.0 c.in_err-workspace.field-0.0 _ _ _ _ exit.1 exit.2 c.in_err-workspace.ensures.fault
+    no_room_err _ _ exit.0 c.in_err-workspace.field-0.0 _ _ _ _ exit.1 exit.2 c.in_err-workspace.ensures.fault.0
 
 pub returns-in_err-ahead-clause-edits : goal.returns-in_err-ahead-clause-edits
 returns-in_err-ahead-clause-edits g c =
