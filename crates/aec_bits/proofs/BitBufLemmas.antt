@@ -39,13 +39,6 @@ number_within words len start width v within stands =
 one_bit : (v : ℕ) → v < 2 → (v / 2 ^ 0 % 2 == 1) ≡ (v == 1)
 one_bit v small = let e : v / 2 ^ 0 % 2 ≡ v = omega (arith, div-one v) in rw e refl
 
-pub bit_within : (words : List ℕ) (len i v : ℕ) → i < len → v < 2 ^ 1
-    → drop i (bits_of_words words) ≡ binary 1 v ++ drop (i + 1) (bits_of_words words) → (v == 1) ≡ get_or (take len (bits_of_words words)) i false
-bit_within words len i v within small stands =
-    let here : i + 0 ≡ i = omega arith in
-    sym (get_or-take len (bits_of_words words) i false within ∙ ap (λ k. get_or (bits_of_words words) k false) (sym here)
-    ∙ sym (get_or-drop i (bits_of_words words) 0 false) ∙ ap (λ l. get_or l 0 false) stands ∙ one_bit v (omega arith))
-
 -- ---- zeros before a one
 
 has_one-append_zeros : (bits : List Bool) (n : ℕ) → has_one (bits ++ replicate n false) ≡ has_one bits

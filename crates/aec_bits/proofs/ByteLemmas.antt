@@ -48,10 +48,6 @@ bytes_more words new front behind all list more at w next held pushed bits cut p
     ∙ ap (λ l. list ++ l) (sym (bits_of_bytes-append front behind) ∙ ap bits_of_bytes (sym cut)) in
     subst (λ n. Keep new n (list ++ bits_of_bytes all)) place (subst (λ l. Keep new (at + w) l) stands pushed)
 
--- nothing more
-pub bytes_begun : (words : List ℕ) (len : ℕ) → ArePacked words len → Keep words len (take len (bits_of_words words) ++ bits_of_bytes [])
-bytes_begun words len held = (sym (append-nil (take len (bits_of_words words))), held)
-
 -- the eight bytes from a place on, behind those in front of it
 pub eight_behind : (bytes : List ℕ) (i : ℕ) → take (8 * (i + 1)) bytes ≡ take (8 * i) bytes ++ take 8 (drop (8 * i) bytes)
 eight_behind bytes i =

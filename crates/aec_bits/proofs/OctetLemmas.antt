@@ -16,13 +16,6 @@ held_at [] k d held within = absurd (omega arith)
 held_at (x ∷ s) zero d held within = (and_parts (is_octet x) (list_all is_octet s) held).0
 held_at (x ∷ s) (suc k) d held within = held_at s k d (and_parts (is_octet x) (list_all is_octet s) held).1 (omega arith)
 
--- one more octet coded
-pub octets_more : (front : List Bool) (s : List ℤ) (k : ℕ) (d : ℤ) → k < length s
-    → (front ++ flat_map octet_bits (take k s)) ++ octet_bits (get_or s k d) ≡ front ++ flat_map octet_bits (take (k + 1) s)
-octets_more front s k d within =
-    rw (append_assoc, take_more s k d within, flat_map-append)
-    (ap (λ l. front ++ (flat_map octet_bits (take k s) ++ l)) (sym (append-nil (octet_bits (get_or s k d)))))
-
 length-octets : (s : List ℤ) → length (flat_map octet_bits s) ≡ 8 * length s
 length-octets [] = refl
 length-octets (x ∷ s) = length-append (octet_bits x) (flat_map octet_bits s) ∙ omega (arith, length-binary 8 (nat_abs x), length-octets s)

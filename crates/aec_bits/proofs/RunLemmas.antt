@@ -23,11 +23,6 @@ stands_more codeword limit items i v rest now bits within fits here so_far =
       below = rw more (all-append (λ n. n < limit) (take i items) (v ∷ []) so_far.below (fits, tt));
     }
 
--- all of them
-pub stands_all : (codeword : ℕ → List Bool) (limit : ℕ) (items : List ℕ) (i : ℕ) (rest bits : List Bool) → length items ≤ i
-    → StandsBefore codeword limit (take i items) rest bits → StandsBefore codeword limit items rest bits
-stands_all codeword limit items i rest bits past so_far = rw (take_all i items past) at so_far
-
 -- reading that stops
 pub stops_here : (limit : ℕ) (items : List ℕ) (i count : ℕ) (rest bits : List Bool) → i < count → length items ≡ count
     → has_one (take 64 rest) ≡ false → StandsBefore fs limit (take i items) rest bits → StopsBefore count bits
@@ -47,9 +42,3 @@ has_one-take zero bits none = refl
 has_one-take (suc n) [] none = refl
 has_one-take (suc n) (true ∷ bits) none = absurd (cc)
 has_one-take (suc n) (false ∷ bits) none = has_one-take n bits none
-
-pub has_one-far : (n v : ℕ) (bits rest : List Bool) → n ≤ v → bits ≡ fs v ++ rest → has_one (take n bits) ≡ false
-has_one-far n v bits rest far stands =
-    ap (λ l. has_one (take n l)) (stands ∙ append_assoc (replicate v false) (true ∷ []) rest)
-    ∙ ap has_one (take-append-le n (replicate v false) (true ∷ rest) (omega (arith, length-replicate v false)) ∙ take-replicate n v false far)
-    ∙ has_one-zeros n

@@ -29,11 +29,6 @@ overwritten_by_itself bits at n =
     sym (ap (λ (l : List Bool). take at bits ++ (take n (drop at bits) ++ l)) (sym (drop-drop n at bits))
     ∙ ap (λ (l : List Bool). take at bits ++ l) (take-append-drop n (drop at bits)) ∙ take-append-drop at bits)
 
-pub nothing_yet : (bits source : List Bool) (at from : ℕ) → bits ≡ overwritten at 0 (take 0 (drop from source)) bits
-nothing_yet bits source at from =
-    let e : at + 0 ≡ at = omega arith in
-    sym (ap (λ (k : ℕ). take at bits ++ ([] ++ drop k bits)) e ∙ take-append-drop at bits)
-
 -- ---- a stretch of one list in place of as many bits of another
 
 abbrev pub stretched : ℕ → ℕ → ℕ → List Bool → List Bool → List Bool
@@ -107,13 +102,6 @@ moved_up_more old now new from to m n later behind total e f g below within so_f
     ∙ same_stretch old old from to (m + n) from to total refl refl (sym g)
 
 -- ---- whole words
-
--- a number that was read and written
-pub chunk_written : (source old new : List Bool) (from at width v : ℕ) → drop from source ≡ binary width v ++ drop (from + width) source
-    → new ≡ overwritten at width (binary width v) old → new ≡ overwritten at width (take width (drop from source)) old
-chunk_written source old new from at width v stands written =
-    written ∙ ap (λ (l : List Bool). overwritten at width l old)
-    (taken_there source (binary width v) (drop (from + width) source) from width (length-binary width v) stands)
 
 -- a word that was read and written
 pub word_written : (ws : List ℕ) (source : List Bool) (q from v : ℕ) → q < length ws → drop from source ≡ word_bits v ++ drop (from + 64) source

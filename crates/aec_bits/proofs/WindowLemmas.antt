@@ -268,23 +268,3 @@ sequence_read list items word left end later behind stop i v place start inside 
       stands_more fs 64 items i v (drop (stop - later) list) (drop place list) (drop start list) inside (omega (arith, window.size))
           (ap (λ n. drop n list) (sym here) ∙ read.1) so_far,
     )
-
--- there is room for each number where there is for all
-pub room_for_one : (start width i n most : ℕ) → i < n → start + width * n ≤ most → start + width * i + width ≤ most
-room_for_one start width i n most before all =
-    let e : width * n ≡ width * i + width + width * (n - (i + 1)) =
-    let parts : n ≡ i + 1 + (n - (i + 1)) = omega arith in ap (λ k. width * k) parts ∙ omega arith in
-    omega arith
-
-pub number_read : (list : List Bool) (items : List ℕ) (width word left end later behind stop i v place start : ℕ) → i < length items → v < 2 ^ width
-    → later + width ≡ left → stop ≡ end → end - left ≡ place → place + width ≤ length list → IsWindow list word left end
-    → binary left word ≡ binary width v ++ binary later behind
-    → StandsBefore (binary width) (2 ^ width) (take i items) (drop place list) (drop start list)
-    → IsWindow list behind later stop
-    × StandsBefore (binary width) (2 ^ width) (take (i + 1) (set items i v)) (drop (stop - later) list) (drop start list)
-number_read list items width word left end later behind stop i v place start inside fits parts same here within window first so_far =
-    let read = codeword_read list (binary width v) word left end later behind stop width (length-binary width v) parts same (omega arith) window first in (
-      read.0,
-      stands_more (binary width) (2 ^ width) items i v (drop (stop - later) list) (drop place list) (drop start list) inside fits
-          (ap (λ n. drop n list) (sym here) ∙ read.1) so_far,
-    )

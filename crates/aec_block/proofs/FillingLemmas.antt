@@ -174,10 +174,6 @@ placed-from_kept : (reference : Option ℕ) (values : List ℕ) → values ≡ k
 placed-from_kept None values kept = refl
 placed-from_kept (Some r) values kept = kept
 
-pub kept-from_placed : (reference : Option ℕ) (values : List ℕ) → HasReferencePlace reference values → values ≡ kept_members (is_some reference) values
-kept-from_placed None values place = refl
-kept-from_placed (Some r) values place = place
-
 pub sound_all : (n : ℕ) (placed : Bool) (reference inside : Option ℕ) (items values : List ℕ) → HasBegun n reference inside items
     → length values ≡ n → n ≤ most_values
     → placed ≡ is_some reference → values ≡ kept_members placed values → IsSound (record { reference = inside; values = refill (length items) items values })

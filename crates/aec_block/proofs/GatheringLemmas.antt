@@ -23,10 +23,6 @@ values_at-next value_at f g n m v bits rest count first same =
     joined nothing = refl
     joined (taken later behind) = ap (λ y. taken y behind) (same later)
 
-pub values_at-fails : {Y : Type 0} (value_at : List Bool → Taken ℕ) (f : List ℕ → Y) (n m : ℕ) (bits : List Bool) → n ≡ suc m
-    → value_at bits ≡ nothing → map_taken f (values_at value_at n bits) ≡ nothing
-values_at-fails value_at f n m bits count none = rw (count, none) refl
-
 pub values_at-done : {Y : Type 0} (value_at : List Bool → Taken ℕ) (f : List ℕ → Y) (n : ℕ) (bits : List Bool) → n ≡ 0
     → map_taken f (values_at value_at n bits) ≡ taken (f []) bits
 values_at-done value_at f n bits count = rw count refl
@@ -40,10 +36,6 @@ members_at-next f g n m number bits rest count first same =
     joined : (t : _) → map_taken f (map_taken (before_members (pair_with_number number)) t) ≡ map_taken g t
     joined nothing = refl
     joined (taken later behind) = ap (λ y. taken y behind) (same later)
-
-pub members_at-fails : {Y : Type 0} (f : List ℕ → Y) (n m : ℕ) (bits : List Bool) → n ≡ suc m
-    → fs_at bits ≡ nothing → map_taken f (members_at n bits) ≡ nothing
-members_at-fails f n m bits count none = rw (count, none) refl
 
 pub members_at-done : {Y : Type 0} (f : List ℕ → Y) (n : ℕ) (bits : List Bool) → n ≡ 0 → map_taken f (members_at n bits) ≡ taken (f []) bits
 members_at-done f n bits count = rw count refl

@@ -63,14 +63,6 @@ two_steps high used word within low =
     let both : word * 2 ^ high * 2 ≡ word * 2 ^ (high + 1) = mul_assoc word (2 ^ high) 2 ∙ ap (λ n. word * n) (sym grown) in
     ap (λ n. n * 2 % 2 ^ 64 + 1) first ∙ ap (λ n. n % 2 ^ 64 + 1) both
 
-pub goes_on-none : (k used start : ℕ) → start < 2 ^ used → GoesOn k used start [] start
-goes_on-none k used start low =
-    let none : used ≡ used + 0 = omega arith in
-    record {
-      below = subst (λ n. start < 2 ^ n) none low;
-      bits = ap (λ n. binary n start) (sym none) ∙ sym (append-nil (binary used start));
-    }
-
 pub goes_on-more : (k used start i : ℕ) (values : List ℕ) (word : ℕ) → i < length values → used + length (high_parts k values) ≤ 64
     → GoesOn k used start (take i values) word
     → GoesOn k used start (take (i + 1) values) (word * 2 ^ (get_or values i 0 / 2 ^ k) % 2 ^ 64 * 2 % 2 ^ 64 + 1)

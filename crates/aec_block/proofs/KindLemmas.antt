@@ -126,18 +126,3 @@ one_in_number (suc w) v rest some fits =
     by_bit : (b : Bool) → has_one (binary w v ++ rest) ≡ true → has_one (b ∷ (binary w v ++ rest)) ≡ true
     by_bit true later = refl
     by_bit false later = later
-
--- an identifier of values that are written one by one is no row of zeros
-pub one_in_plain : (len : ℕ) (bits : List Bool) (kind : Kind) (rest : List Bool) → 0 < len → kind_at len bits ≡ taken kind rest → is_plain kind ≡ true
-    → has_one bits ≡ true
-one_in_plain len bits kind rest some read plain =
-    let spelled = kind_at-spelled len bits kind rest read in
-    by_kind kind spelled.is_kind spelled.spelled plain
-  where
-    by_kind : (kind : Kind) → IsKind len kind → bits ≡ kind_bits len kind ++ rest → is_plain kind ≡ true → has_one bits ≡ true
-    by_kind ZeroBlocks is_kind spelled plain = absurd (cc)
-    by_kind SecondExtension is_kind spelled plain = absurd (cc)
-    by_kind (Split k) is_kind spelled plain = ap has_one spelled ∙ one_in_number len (k + 1) rest (omega arith) (omega (arith, is_kind))
-    by_kind NoCompression is_kind spelled plain =
-        let two = two_or_more len some in
-        ap has_one spelled ∙ one_in_number len (2 ^ len - 1) rest (omega arith) (omega arith)

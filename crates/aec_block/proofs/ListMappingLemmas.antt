@@ -131,58 +131,7 @@ pub record IsMappedSoFar (top previous p i : ℕ) (old new : List ℕ) : Type 0 
   pub rest : AllByRecursion (λ x. x ≤ top) (drop i old)
   pub len : length new ≡ length old
 
-pub is_mapped-none : (top p : ℕ) (values : List ℕ) → p ≤ top → AllByRecursion (λ x. x ≤ top) values → IsMappedSoFar top p p 0 values values
-is_mapped-none top p values within all = record { behind = refl; whole = refl; within = within; rest = all; len = refl }
-
-pub is_mapped-more : (top previous p i x m : ℕ) (old new : List ℕ) → i < length old → x ≡ get_or new i 0 → m ≡ mapped_offset top p x
-    → IsMappedSoFar top previous p i old new → (x ≤ top) × IsMappedSoFar top previous x (i + 1) old (slice_set new i m)
-is_mapped-more top previous p i x m old new within is_x is_m so_far = (
-  small,
-  record {
-    behind = drop-set-lt (i + 1) new i m (omega arith) ∙ behind_next;
-    whole = ap (λ l. l ++ mapped_offsets top x (drop (i + 1) old)) (take_more_set new i m (omega (arith, so_far.len)))
-        ∙ append_assoc (take i new) (m ∷ []) (mapped_offsets top x (drop (i + 1) old))
-        ∙ ap (λ v. take i new ++ (v ∷ mapped_offsets top x (drop (i + 1) old))) is_m
-        ∙ ap (λ l. take i new ++ mapped_offsets top p l) (sym cut) ∙ so_far.whole;
-    within = small;
-    rest = rest_cut.1;
-    len = length-set new i m ∙ so_far.len;
-  },
-)
-  where
-    next : i + 1 ≡ suc i
-    next = omega arith
-
-    cut_new : drop i new ≡ get_or new i 0 ∷ drop (i + 1) new
-    cut_new = rw next (drop-cons new i 0 (omega (arith, so_far.len)))
-
-    cut_old : drop i old ≡ get_or old i 0 ∷ drop (i + 1) old
-    cut_old = rw next (drop-cons old i 0 within)
-
-    both : get_or new i 0 ∷ drop (i + 1) new ≡ get_or old i 0 ∷ drop (i + 1) old
-    both = sym cut_new ∙ so_far.behind ∙ cut_old
-
-    behind_next : drop (i + 1) new ≡ drop (i + 1) old
-    behind_next = ap (drop 1) both
-
-    cut : drop i old ≡ x ∷ drop (i + 1) old
-    cut = cut_old ∙ ap (λ v. v ∷ drop (i + 1) old) (sym (is_x ∙ ap (λ l. get_or l 0 0) both))
-
-    rest_cut : AllByRecursion (λ v. v ≤ top) (x ∷ drop (i + 1) old)
-    rest_cut = subst (AllByRecursion (λ v. v ≤ top)) cut so_far.rest
-
-    small : x ≤ top
-    small = rest_cut.0
-
-pub is_mapped-all : (top previous p i : ℕ) (old new : List ℕ) → length old ≤ i → IsMappedSoFar top previous p i old new
-    → new ≡ mapped_offsets top previous old
-is_mapped-all top previous p i old new done so_far =
-    sym (append-nil new) ∙ ap₂ ◌++◌ (sym (take_all i new (omega (arith, so_far.len)))) (ap (mapped_offsets top p) (sym (drop_all i old done))) ∙ so_far.whole
-
 -- ---- samples of values
-
-pub unmaps-none : (s : Settings) (p : ℤ) (items : List ℤ) → Unmaps s p [] items items
-unmaps-none s p items = record { more = []; appended = sym (append-nil items); held = tt; mapped = refl }
 
 abbrev pub unmaps-more : (s : Settings) (p x : ℤ) (values : List ℕ) (v : ℕ) (old mid : List ℤ) (so_far : Unmaps s p values old mid) → IsHeld s x
     → mapped_value s (unwrap_or (last_or (Some p) so_far.more) (pos 0)) x ≡ v → Unmaps s p (values ++ v ∷ []) old (mid ++ x ∷ [])

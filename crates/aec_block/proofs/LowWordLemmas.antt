@@ -133,11 +133,6 @@ eight_spell k (a ∷ b ∷ c ∷ d ∷ e ∷ f ∷ []) high low few long all hig
 eight_spell k (a ∷ b ∷ c ∷ d ∷ e ∷ f ∷ g ∷ []) high low few long all high_is low_is = absurd (omega arith)
 eight_spell k (a ∷ b ∷ c ∷ d ∷ e ∷ f ∷ g ∷ h ∷ i ∷ more) high low few long all high_is low_is = absurd (omega arith)
 
-pub spelled_fits : (k : ℕ) (xs : List ℕ) (number : ℕ) → k ≤ 7 → Spells k (8 * k) xs number → Fits w64 number
-spelled_fits k xs number few spelled =
-    let most : 2 ^ (8 * k) ≤ 2 ^ 64 = pow_mono {i = 8 * k} {j = 64} (omega (arith, few)) in
-    Fits-of_lt (omega (arith, most, spelled.below))
-
 masked : (k mask : ℕ) (xs : List ℕ) → mask ≡ 2 ^ k - 1
     → zip2 (act2 and_op (s_int w32) (s_int w32) (s_int w32)) xs (replicate (length xs) mask) ≡ map (λ v. v % 2 ^ k) xs
 masked k mask [] is = refl

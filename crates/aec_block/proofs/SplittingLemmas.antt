@@ -173,10 +173,6 @@ pub best-stopped : (options k sum next : ℕ) (values : List ℕ) → FallsTo k 
 best-stopped options k sum next values falls within at_k at_next stop =
     record { within = within; before = falls; after = λ j later below. no_later k j values (omega arith) later }
 
-pub best-last : (options k : ℕ) (values : List ℕ) → FallsTo k values → options ≡ k + 1 → IsBestSplit options k values
-best-last options k values falls last =
-    record { within = omega arith; before = falls; after = λ j later below. absurd (omega arith) }
-
 -- what is left of the values without k low bits, times 2^k, is no more than the values
 sum_of_shifted-product : (k : ℕ) (values : List ℕ) → sum_of_shifted k values * 2 ^ k ≤ sum_of_shifted 0 values
 sum_of_shifted-product k [] = omega arith

@@ -232,6 +232,3 @@ bits_after-segment s o front rest h piece =
     ∙ ap (λ segments. flat_map (cds_bits s) (flat_map (λ segment. group_sets s (groups_of segment)) segments))
     (pieces_of-cons 64 (blocks_after s o front) (blocks_after s (last_or o front) rest) (segment_before s o front rest h piece))
     ∙ flat_map-append (cds_bits s) (group_sets s (groups_of (blocks_after s o front))) (block_sets s (blocks_after s (last_or o front) rest))
-
-pub bits_after-interval : (s : Settings) (v : List ℤ) → bits_after s None v ≡ unpadded_bits s v
-bits_after-interval s v = refl

@@ -66,11 +66,6 @@ module _ {X : Type 0} (P : List X → Type 0) (n : ℕ) (positive : 0 < n) (noth
   pub by_pieces : (xs : List X) → P xs
   by_pieces xs = by_pieces_within (length xs) xs (omega arith)
 
-pub flat_map-pieces_of : {X : Type 0} (n : ℕ) → 0 < n → (xs : List X) → flat_map (λ x. x) (pieces_of n xs) ≡ xs
-flat_map-pieces_of n h = by_pieces (λ xs. flat_map (λ x. x) (pieces_of n xs) ≡ xs) n h
-    (ap (flat_map (λ x. x)) (pieces_of-nil n h))
-    (λ front rest piece ih. ap (flat_map (λ x. x)) (pieces_of-cons n front rest piece) ∙ ap (◌++◌ front) ih)
-
 pub length-pieces_of : {X : Type 0} (n : ℕ) (xs : List X) → length (pieces_of n xs) ≡ div_ceil (length xs) n
 length-pieces_of n xs = length-first_chunks n (div_ceil (length xs) n) xs
   where

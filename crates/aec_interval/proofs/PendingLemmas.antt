@@ -40,8 +40,5 @@ pending-filled s run b rest old mid new filled is_mid is_new =
 
 -- ---- bits from before
 
-pub kept-self : (bits : List Bool) → IsKept bits bits
-kept-self bits = ap (take (length bits)) (sym (append-nil bits)) ∙ take_at bits [] (length bits) refl
-
 pub kept-append : (bits more new : List Bool) → new ≡ bits ++ more → IsKept bits new
 kept-append bits more new e = ap (take (length bits)) e ∙ take_at bits more (length bits) refl

@@ -182,21 +182,6 @@ reading-done s count limit bits start i b samples reached done = record {
   counted = refl;
 }
 
--- what is read from the first bit on is the reading
-pub IsReading-from_start : (s : Settings) (count : Option ℕ) (limit : ℕ) (bits : List Bool) (samples : List ℤ)
-    → IsReadFrom s count limit bits 0 samples → IsReading s count limit bits samples
-IsReading-from_start s count limit bits samples r =
-    record { blocks = r.blocks; read = r.read; all_samples = r.all_samples; filled = r.filled; counted = r.counted }
-
--- a count that is not refused is within the limit
-pub count-within : (limit : ℕ) (count : Option ℕ) → count_refusal limit count ≡ None → limit ≤ 2 ^ 32 → IfSome count (λ n. n ≤ 2 ^ 32)
-count-within limit None none low = tt
-count-within limit (Some n) none low = by_test (nat_lt limit n) refl none
-  where
-    by_test : (b : Bool) → nat_lt limit n ≡ b → (if b then Some (TooManySamples limit) else None) ≡ None → n ≤ 2 ^ 32
-    by_test true is none = absurd (cc)
-    by_test false is none = let within = ltb-false limit n is in omega (arith, within, low)
-
 -- at the start, whatever the settings
 pub reached-start : (s : Settings) (count : Option ℕ) (limit : ℕ) (bits : List Bool) (first start b : ℕ) (samples : List ℤ) → b ≡ start → samples ≡ []
     → IsReached s count limit bits first start first b samples

@@ -14,9 +14,6 @@ use Rattle.aec_interval.proofs.NextBlockLemmas.{all_blocks_of-push, all_blocks_o
 
 -- ---- samples that fill blocks
 
-pub FillBlocks-nil : (s : Settings) → 0 < interval_len s → FillBlocks s [] []
-FillBlocks-nil s positive = record { held = tt; whole = sym (zero-mul s.block_size); mapped = all_blocks_of-nil s positive }
-
 pub FillBlocks-push : (s : Settings) (samples more : List ℤ) (blocks : List Block) (b : Block) → 0 < s.block_size → 0 < s.interval → FillBlocks s samples blocks
     → AllByRecursion (IsHeld s) more → length more ≡ s.block_size → next_block_of s samples more ≡ b → FillBlocks s (samples ++ more) (blocks ++ b ∷ [])
 FillBlocks-push s samples more blocks b block interval filled held len is_next = record {

@@ -14,7 +14,7 @@ use Rattle.aec_interval.specs.Chunks.{block_after, blocks_after, HoldsPrevious, 
 use Rattle.aec_interval.specs.Pending.{pending_bits, segment_bits, bits_of_run, IsRun, IsKept}
 use Rattle.aec_interval.proofs.CuttingLemmas.{IsPieceBefore}
 use Rattle.aec_interval.proofs.BlockLemmas.{all_left, all_right}
-use Rattle.aec_interval.proofs.PendingLemmas.{kept-self, pending-end}
+use Rattle.aec_interval.proofs.PendingLemmas.{pending-end}
 use Rattle.aec_interval.proofs.ChunkLemmas.{blocks_after-nil, blocks_after-cons, bits_after, bits_after-nil, bits_after-segment}
 
 -- ---- pieces
@@ -57,17 +57,6 @@ pub record SegmentSoFar (s : Settings) (old new whole : List Bool) (o : Option �
   pub is_run : IsRun s 64 run
   pub bits : new ++ pending_bits s run (blocks_after s o rest) ≡ old ++ whole
   pub kept : IsKept old new
-
-pub segment-begun : (s : Settings) (old : List Bool) (o : Option ℤ) (v : List ℤ) → AreSamplesAfter s o 64 v
-    → SegmentSoFar s old old (segment_bits s (blocks_after s o v)) o (record { reference = None; blocks = 0 }) v
-segment-begun s old o v h = record {
-  previous_held = h.previous_held;
-  held = h.held;
-  few = h.few;
-  is_run = record { few = omega arith; reference = tt };
-  bits = refl;
-  kept = kept-self old;
-}
 
 -- a block fits behind the run
 pub record IsNextChunk (s : Settings) (o : Option ℤ) (run : Run) (chunk rest : List ℤ) : Type 0 where
@@ -147,15 +136,6 @@ pub record IntervalSoFar (s : Settings) (old new whole : List Bool) (o : Option 
   pub held : AllByRecursion (IsHeld s) rest
   pub bits : new ++ bits_after s o rest ≡ old ++ whole
   pub kept : IsKept old new
-
-pub interval-begun : (s : Settings) (old : List Bool) (v : List ℤ) → AllByRecursion (IsHeld s) v → IntervalSoFar s old old (unpadded_bits s v) None v
-interval-begun s old v h = record { previous_held = tt; held = h; bits = refl; kept = kept-self old }
-
-pub segment_samples : (s : Settings) (old new whole : List Bool) (o : Option ℤ) (rest front later : List ℤ) → IntervalSoFar s old new whole o rest
-    → rest ≡ front ++ later
-    → IsPieceBefore (s.block_size * 64) front later → AreSamplesAfter s o 64 front
-segment_samples s old new whole o rest front later m e piece =
-    record { previous_held = m.previous_held; held = all_left (IsHeld s) front later (subst (AllByRecursion (IsHeld s)) e m.held); few = piece.fits }
 
 pub interval-more : (s : Settings) (old new newer whole : List Bool) (o p : Option ℤ) (rest front later : List ℤ) → 0 < s.block_size
     → IntervalSoFar s old new whole o rest → IsPieceBefore (s.block_size * 64) front later → rest ≡ front ++ later → p ≡ slice_get front (length front - 1)

@@ -48,12 +48,6 @@ samples-of_sets s count limit bits first start sets i b allowed aligned leads =
     samples-of_blocks s kept allowed
     (AreBlocksFrom-intervals s (first / s.interval) 0 kept (subst (λ n. AreBlocksFrom s n kept) whole (kept-shape s count first first blocks shape)))
 
-pub reached-of_led : (s : Settings) (count : Option ℕ) (limit : ℕ) (bits : List Bool) (first start i b : ℕ) → IsAllowed s → first % s.interval ≡ 0
-    → IsLedTo s count limit bits first start i b → (samples : List ℤ) × IsReached s count limit bits first start i b samples
-reached-of_led s count limit bits first start i b allowed aligned led =
-    let samples = samples-of_sets s count limit bits first start led.sets i b allowed aligned led.leads in
-    (samples.0, record { sets = led.sets; leads = led.leads; filled = samples.1 })
-
 pub led-start : (s : Settings) (count : Option ℕ) (limit : ℕ) (bits : List Bool) (first start b : ℕ) → b ≡ start
     → IsLedTo s count limit bits first start first b
 led-start s count limit bits first start b begins = record { sets = []; leads = (refl, begins) }

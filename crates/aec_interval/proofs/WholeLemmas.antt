@@ -16,15 +16,6 @@ use Rattle.aec_interval.proofs.SegmentLemmas.{nothing_left}
 
 -- ---- the first number that is no sample
 
-pub first_unheld-more : (holds : ℤ → Bool) (i : ℕ) (x : ℤ) (rest later : List ℤ) → rest ≡ x ∷ later → holds x ≡ true
-    → first_unheld holds i rest ≡ first_unheld holds (i + 1) later
-first_unheld-more holds i x rest later e h =
-    ap (first_unheld holds i) e ∙ cond-true (holds x) (first_unheld holds (i + 1) later) (Some i) h
-
-pub first_unheld-here : (holds : ℤ → Bool) (i : ℕ) (x : ℤ) (rest later : List ℤ) → rest ≡ x ∷ later → holds x ≡ false → first_unheld holds i rest ≡ Some i
-first_unheld-here holds i x rest later e h =
-    ap (first_unheld holds i) e ∙ cond-false (holds x) (first_unheld holds (i + 1) later) (Some i) h
-
 pub all-held : (s : Settings) (i : ℕ) (v : List ℤ) → first_unheld (is_held s) i v ≡ None → AllByRecursion (IsHeld s) v
 all-held s i [] h = tt
 all-held s i (x ∷ v) h = by_test (is_held s x) h (all-held s (i + 1) v)
@@ -48,9 +39,6 @@ pub record StreamSoFar (s : Settings) (new whole : List Bool) (rest : List ℤ) 
   pub held : AllByRecursion (IsHeld s) rest
   pub bits : new ++ stream_of s rest ≡ whole
 
-pub stream-begun : (s : Settings) (old : List Bool) (v : List ℤ) → AllByRecursion (IsHeld s) v → StreamSoFar s old (old ++ stream_of s v) v
-stream-begun s old v h = record { held = h; bits = refl }
-
 pub interval_samples : (s : Settings) (new whole : List Bool) (rest front later : List ℤ) → StreamSoFar s new whole rest → rest ≡ front ++ later
     → IsPieceBefore (interval_len s) front later → AreOfInterval s front
 interval_samples s new whole rest front later m e piece =
@@ -64,7 +52,3 @@ stream-more s new newer whole rest front later m e piece written = record {
       ap (λ l. l ++ stream_of s later) written ∙ append_assoc new (interval_bits s front) (stream_of s later)
       ∙ ap (λ l. new ++ l) (sym (stream_of-cons s front later piece) ∙ ap (stream_of s) (sym e)) ∙ m.bits;
 }
-
-pub stream-end : (s : Settings) (new whole : List Bool) (rest : List ℤ) → 0 < interval_len s → length rest ≡ 0 → StreamSoFar s new whole rest → new ≡ whole
-stream-end s new whole rest h none m =
-    sym (append-nil new) ∙ ap (λ l. new ++ l) (sym (ap (stream_of s) (nothing_left rest none) ∙ stream_of-nil s h)) ∙ m.bits
