@@ -82,7 +82,8 @@ def packed(data):
 def changelog(version, moment):
     """The changelog of the packages. CHANGELOG.md has what users get."""
     date = time.strftime("%a, %d %b %Y %H:%M:%S +0000", time.gmtime(moment))
-    return f"aec-proved ({version}) unstable; urgency=low\n\n  * Version {version}. CHANGELOG.md has the changes.\n\n -- {MAINTAINER}  {date}\n"
+    change = f"  * Version {version}. CHANGELOG.md has the changes."
+    return f"aec-proved ({version}) unstable; urgency=low\n\n{change}\n\n -- {MAINTAINER}  {date}\n"
 
 
 def documents(top, root, name, version, moment, proved):

@@ -33,7 +33,7 @@ def version():
 
 def moment():
     """The seconds that every date in a package is: those of SOURCE_DATE_EPOCH, else of the commit."""
-    given = os.environ.get("SOURCE_DATE_EPOCH") or proved.told("git", "log", "-1", "--format=%ct")
+    given = os.environ.get("SOURCE_DATE_EPOCH") or proved.git("log", "-1", "--format=%ct")
     if not given:
         raise proved.NotProved("there is no commit to take a date from: set SOURCE_DATE_EPOCH")
     return int(given)

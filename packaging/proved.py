@@ -43,12 +43,17 @@ def told(*words):
         return ""
 
 
+def git(*words):
+    """What git prints of the checkout, whoever owns it."""
+    return told("git", "-c", "safe.directory=*", *words)
+
+
 def commit():
     """The commit of the working tree, and whether files differ from it."""
-    name = told("git", "rev-parse", "HEAD")
+    name = git("rev-parse", "HEAD")
     if not name:
         return "unknown"
-    return name + (" with changes" if told("git", "status", "--porcelain") else "")
+    return name + (" with changes" if git("status", "--porcelain") else "")
 
 
 def sum_of(path):

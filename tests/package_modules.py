@@ -20,7 +20,7 @@ coded = aecp.encode(samples, options)
 assert bytes(aecp.decode_bytes(coded, 1000, options)) == samples
 with aecp.Workspace.of_coded(coded, 1000, options) as work:
     work[10:13] = [7, 8, 9]
-    assert work[10:13] == [7, 8, 9] and len(work) == 1000
+    assert list(work[10:13]) == [7, 8, 9] and len(work) == 1000
 try:
     aecp.decode(coded, 1000, options)
 except ImportError as fault:
@@ -160,6 +160,19 @@ def try_wheel(wheel, folder, tally):
         try_arrays(full, wheel, folder, tally)
     else:
         tally.skip("python3-numpy", "the wheel beside numpy")
+
+
+def try_make(folder, tally):
+    """`make install-library` below an empty folder, and its removal."""
+    places = [f"DESTDIR={folder}", "PREFIX=/usr", "PYTHON_DIR=/usr/lib/python3/dist-packages"]
+    words = ["make", "-s", "-C", TOP, *places, f"PYTHON={sys.executable}"]
+    tally.check("make install-library", run([*words, "install-library"]), (0, ""))
+    module = os.path.join(folder, "usr/lib/python3/dist-packages")
+    status, said = run([sys.executable, "-c", "import aecp; print(aecp.__version__)"], PYTHONPATH=module)
+    tally.check("the installed module", (status, said.strip()), (0, open(os.path.join(TOP, "VERSION")).read().strip()))
+    tally.check("make uninstall-library", run([*words, "uninstall-library"]), (0, ""))
+    left = [os.path.join(at, name) for at, _, names in os.walk(folder) for name in names]
+    tally.check("what make uninstall-library leaves", left, [])
 
 
 def try_unsafe(tally):

@@ -10,6 +10,7 @@ TOOLS = """sh bash env cat chmod chown cmp cp cut dirname diff echo find grep he
 sed sort tar tail tee touch true uname wc xz gzip sha256sum dpkg dpkg-deb dpkg-split dpkg-query update-alternatives ldconfig
 start-stop-daemon""".split()
 SUITE, SECONDS = "bookworm", 120  # of Debian, and for debootstrap
+DPKG = [f"var/lib/dpkg/{name}" for name in ("info", "updates", "triggers", "alternatives")]
 PATH = "/usr/sbin:/usr/bin:/sbin:/bin"
 # What changes with every package that is installed and removed, or is a record of it.
 RECORDS = ("var/", "etc/ld.so.cache", "tmp/", "proc/", "dev/", "sys/", "run/")
@@ -50,7 +51,7 @@ def least_root(root):
         if path:
             for file in [path, *needed_files(path)]:
                 copy_in(root, file)
-    for name in ("tmp", "dev", "etc/alternatives", "var/log", *(f"var/lib/dpkg/{it}" for it in ("info", "updates", "triggers", "alternatives"))):
+    for name in ("tmp", "dev", "etc/alternatives", "var/log", *DPKG):
         os.makedirs(os.path.join(root, name))
     with open(os.path.join(root, "dev/null"), "w"):
         os.chmod(os.path.join(root, "dev/null"), 0o666)

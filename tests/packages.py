@@ -82,8 +82,7 @@ def data_of(path):
 
 def copied_checkout(folder):
     """A copy of the files of git, of git itself, and of bin/."""
-    names = subprocess.run(["git", "ls-files", "-coz", "--exclude-standard"], cwd=TOP, capture_output=True, text=True, check=True).stdout
-    for name in filter(None, names.split("\0")):
+    for name in filter(None, proved.git("ls-files", "-coz", "--exclude-standard").split("\0")):
         if os.path.lexists(os.path.join(TOP, name)):
             os.makedirs(os.path.dirname(os.path.join(folder, name)), exist_ok=True)
             shutil.copy2(os.path.join(TOP, name), os.path.join(folder, name), follow_symlinks=False)
@@ -151,9 +150,7 @@ def try_tarball(made, root, folder, tally):
     """Unpacked, installed, used, removed."""
     name = f"aec-{version()}-x86_64-linux"
     before = root.files()
-    shutil.unpack_archive(made[name + ".tar.gz"], folder, filter="tar") if sys.version_info >= (3, 12) else shutil.unpack_archive(
-        made[name + ".tar.gz"], folder
-    )
+    subprocess.run(["tar", "-C", folder, "-xzf", made[name + ".tar.gz"]], check=True)
     root.copy(os.path.join(folder, name), f"/tmp/{name}")
     place, prefix = (f"/tmp/{name}", "/opt/aec") if root.words else (root.inside(f"/tmp/{name}"), root.inside("/opt/aec"))
     for words, script in (("sums", f"cd {place}; grep '^[0-9a-f]' PROVED | sha256sum -c"), ("install", f"sh {place}/install.sh {prefix}")):
@@ -190,15 +187,16 @@ def try_c(prefix, lib, name, root, folder, tally):
     told = subprocess.run(["pkg-config", "--modversion", "aecp"], capture_output=True, text=True, env=pkg).stdout.strip()
     tally.check(f"{name}: the version of aecp.pc", told, version())
     words = subprocess.run(["pkg-config", "--cflags", "--libs", "aecp"], capture_output=True, text=True, env=pkg).stdout.split()
-    done = subprocess.run(["cc", "-o", built, source, *words], capture_output=True, text=True)
-    tally.holds(done.returncode == 0, f"{name}: cc with {words} says {done.stderr}")
-    if done.returncode == 0:
-        root.copy(built, "/tmp/example")
-        at = f"{prefix}/{lib}"
-        inside = at.removeprefix(root.path) if root.words else at
-        example = "/tmp/example" if root.words else root.inside("/tmp/example")
-        status, said = root.run(f"LD_LIBRARY_PATH={inside} {example}")
-        tally.holds(status == 0 and "last sample 7" in said, f"{name}: the program of LIBRARY prints {said!r}")
+    for kind in ("shared", "static"):
+        linked = words if kind == "shared" else ["-l:libaecp.a" if word == "-laecp" else word for word in words]
+        done = subprocess.run(["cc", "-o", built, source, *linked], capture_output=True, text=True)
+        tally.holds(done.returncode == 0, f"{name}: cc with {linked} says {done.stderr}")
+        if done.returncode == 0:
+            root.copy(built, "/tmp/example")
+            inside = f"{prefix}/{lib}".removeprefix(root.path if root.words else "")
+            path = f"LD_LIBRARY_PATH={inside} " if kind == "shared" and name != "deb" else ""
+            status, said = root.run(path + ("/tmp/example" if root.words else root.inside("/tmp/example")))
+            tally.holds(status == 0 and "last sample 7" in said, f"{name}: the {kind} program of LIBRARY prints {said!r}")
 
 
 def try_debs(made, root, folder, tally):
@@ -268,6 +266,7 @@ def main():
         print(f"installed in {root.kind}, {time.monotonic() - begun:.0f} s after the start", flush=True)
         try_tarball(made, root, folder, tally)
         try_debs(made, root, folder, tally)
+        package_modules.try_make(os.path.join(folder, "made"), tally)
         package_modules.try_wheel(next(path for name, path in made.items() if name.endswith(".whl")), folder, tally)
         package_modules.try_crate(os.path.join(folder, f"aec-{version()}-x86_64-linux"), folder, tally)
     print(f"packages: {time.monotonic() - begun:.0f} s")
