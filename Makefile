@@ -10,8 +10,7 @@ PYTHON ?= python3
 all: bin/aec
 
 bin/aec: FORCE
-	@sh build.sh
-	@$(PYTHON) packaging/proved.py record bin/aec
+	@at=$$($(PYTHON) packaging/proved.py commit) && sh build.sh && $(PYTHON) packaging/proved.py record "$$at" bin/aec
 
 FORCE:
 
@@ -89,8 +88,7 @@ clean:
 # The library for C and the Python module over it: bin/libaecp.a and bin/libaecp.so, proved.
 .PHONY: library test-library install-library install-c install-python uninstall-library
 library:
-	@sh library.sh
-	@$(PYTHON) packaging/proved.py record bin/libaecp.a bin/libaecp.so
+	@at=$$($(PYTHON) packaging/proved.py commit) && sh library.sh && $(PYTHON) packaging/proved.py record "$$at" bin/libaecp.a bin/libaecp.so
 
 # The tests of the library in bin/, beside the program that the gate has built.
 test-library:

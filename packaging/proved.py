@@ -1,6 +1,7 @@
 #!/usr/bin/env python3
-"""What was proved of the built files: proved.py record FILE.. | gate LOG
+"""What was proved of the built files: proved.py commit | record COMMIT FILE.. | gate COMMIT LOG
 
+commit: prints the commit of the checkout, before a build begins.
 record: after `make` or `make library` has proved and built FILE, writes FILE.proved beside it: the file's SHA-256, the commit and the
 kit. `make dist` packs a file only if these are still true. It writes them into the file PROVED of each package.
 gate: after `make test` has run the gate, writes the commit and the last line of the gate's LOG to bin/gate.
@@ -62,19 +63,19 @@ def sum_of(path):
         return hashlib.sha256(file.read()).hexdigest()
 
 
-def record(path):
-    """Writes what is true of a file that has just been proved and built."""
+def record(at, path):
+    """Writes what is true of a file that has just been proved and built at a commit."""
     with open(path + ".proved", "w", encoding="utf-8") as file:
-        file.write(f"{sum_of(path)}\n{commit()}\n{told('rt', 'version')}\n")
+        file.write(f"{sum_of(path)}\n{at}\n{told('rt', 'version')}\n")
 
 
-def record_gate(log):
-    """Keeps the last line of the gate."""
+def record_gate(at, log):
+    """Keeps the last line of the gate at a commit."""
     with open(log, encoding="utf-8") as file:
         lines = file.read().splitlines()
     os.makedirs(os.path.join(TOP, "bin"), exist_ok=True)
     with open(os.path.join(TOP, GATE), "w", encoding="utf-8") as file:
-        file.write(f"{commit()}\n{lines[-1] if lines else 'no line'}\n")
+        file.write(f"{at}\n{lines[-1] if lines else 'no line'}\n")
 
 
 def kit_of(paths):
@@ -114,12 +115,15 @@ def head(version, paths, is_proved):
 
 
 def main():
-    action, paths = sys.argv[1:2], sys.argv[2:]
-    if action not in (["record"], ["gate"]):
+    action, words = (sys.argv[1:2] or [""])[0], sys.argv[2:]
+    if action == "commit" and not words:
+        print(commit())
+    elif action in ("record", "gate") and len(words) > 1:
+        for path in words[1:]:
+            record(words[0], path) if action == "record" else record_gate(words[0], path)
+    else:
         print(__doc__.splitlines()[0], file=sys.stderr)
         return 1
-    for path in paths:
-        record(path) if action == ["record"] else record_gate(path)
     return 0
 
 

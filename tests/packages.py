@@ -137,11 +137,14 @@ def commands_of(page):
 
 def try_commands(root, page, name, tally):
     """README's commands in a root, with the installed examples."""
-    pages = os.path.dirname(page)
-    script = f"set -e; export PATH=\"/opt/aec/bin:$PATH\"; rm -rf /tmp/use; mkdir /tmp/use; cd /tmp/use; ln -s {pages}/examples .\n"
-    if root.words is None:
-        script = script.replace("/opt/aec", root.inside("/opt/aec")).replace("/tmp/use", root.inside("/tmp/use"))
-        script = script.replace(f"{pages}/", f"{root.inside(pages)}/")
+    top = "" if root.words else root.path
+    script = f"""set -e
+export PATH="{top}/opt/aec/bin:$PATH"
+rm -rf {top}/tmp/use
+mkdir {top}/tmp/use
+cd {top}/tmp/use
+ln -s {top}{os.path.dirname(page)}/examples .
+"""
     status, said = root.run(script + commands_of(root.inside(page)))
     tally.holds(status == 0, f"{name}: README's commands end with {status}: {said}")
 
