@@ -1,4 +1,4 @@
-"""What a built file needs of the C library, as `objdump` tells."""
+"""What a built file needs of the C library, as `objdump` prints it."""
 
 import re
 import subprocess

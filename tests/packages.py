@@ -5,9 +5,10 @@ Runs `make dist` here and in a copy of the checkout elsewhere, and compares the 
 the commands of README there, removes the package, and looks for files that are left. Then the wheel in fresh environments, and the
 tests of the Rust crate over the packed archive. All versions must be that of the file VERSION.
 
-What isn't on the machine is skipped, and said. MUST_RUN names programs (`lintian cargo`) whose lack is a failure. With the word
-`proved` in it, so is a binary that no proving build has left at this commit. With --quick the root isn't Debian's least system.
-Prints the checks that fail and, last, how many passed. Ends with 1 where one failed.
+A part that needs a program which isn't on the machine is skipped, with a line. MUST_RUN names programs (`lintian cargo`): if one of
+them is missing, the test fails. If MUST_RUN contains the word `proved`, the test also fails if a binary of bin/ isn't what a proving
+build has written at this commit. With --quick the root is never Debian's least system, which takes a minute to make. Prints the
+checks that fail and, last, how many passed. Ends with 1 if one failed.
 """
 
 import glob
@@ -36,14 +37,14 @@ LIB = "usr/lib/x86_64-linux-gnu"
 
 
 class Checks(Tally):
-    """A count that also knows what was skipped."""
+    """A count of checks, and the programs that must be here."""
 
     def __init__(self):
         super().__init__()
         self.must = os.environ.get("MUST_RUN", "").split()
 
     def skip(self, name, what):
-        """Says that something isn't on the machine, which fails if it must be."""
+        """Prints that a part is skipped, since a program isn't on the machine. Fails if it must be."""
         print(f"skipped, since there is no {name}: {what}", flush=True)
         if name in self.must:
             self.holds(False, f"{name} must be here")
@@ -87,11 +88,12 @@ def copied_checkout(folder):
             os.makedirs(os.path.dirname(os.path.join(folder, name)), exist_ok=True)
             shutil.copy2(os.path.join(TOP, name), os.path.join(folder, name), follow_symlinks=False)
     shutil.copytree(os.path.join(TOP, "bin"), os.path.join(folder, "bin"))
-    shutil.copytree(os.path.join(TOP, ".git"), os.path.join(folder, ".git"))
+    git = os.path.join(TOP, ".git")
+    (shutil.copytree if os.path.isdir(git) else shutil.copy2)(git, os.path.join(folder, ".git"))
 
 
 def try_builds(made, folder, tally):
-    """That another folder gives the same bytes, and that no binary contains a path of this one."""
+    """That a build in another folder writes the same bytes, and that no binary contains a path of this machine."""
     other = os.path.join(folder, "elsewhere", "checkout")
     copied_checkout(other)
     again = dist(other)
@@ -104,7 +106,7 @@ def try_builds(made, folder, tally):
 
 
 def try_links_again(tally):
-    """That linking the library again gives the same bytes."""
+    """That linking the library again writes the same bytes."""
     archive = os.path.join(TOP, "crates/aec_c/out/libaec_c.a")
     if not (os.path.exists(archive) and tally.has("rt", "linking the library again")):
         print("skipped, since make library wasn't run here: linking the library again")
@@ -113,7 +115,7 @@ def try_links_again(tally):
     before = [data_of(path) for path in paths]
     subprocess.run(["sh", "library.sh", "--link"], cwd=TOP, check=True)
     for path, data in zip(paths, before):
-        tally.holds(data_of(path) == data, f"linking {path} again gives other bytes")
+        tally.holds(data_of(path) == data, f"linking {path} again writes other bytes")
 
 
 def try_symbols(made, tally):
