@@ -50,11 +50,11 @@ def git(*words):
 
 
 def commit():
-    """The commit of the working tree, and whether files differ from it."""
+    """The commit of the checkout, and whether a file of it was changed."""
     name = git("rev-parse", "HEAD")
     if not name:
         return "unknown"
-    return name + (" with changes" if git("status", "--porcelain") else "")
+    return name + (" with changes" if git("status", "--porcelain", "--untracked-files=no") else "")
 
 
 def sum_of(path):
