@@ -1,17 +1,20 @@
 # What a user and a developer run. The toolchain's command `rt` has to be on the path.
 PREFIX ?= /usr/local
 
-.PHONY: all try example sizes test pages man theorem wrong-bodies install bench pictures clean
+VERSION := $(shell cat VERSION)
+PYTHON ?= python3
+
+.PHONY: all try example sizes test pages man version theorem wrong-bodies install uninstall bench pictures clean
 
 # Proves the program and everything that it stands on, builds it, and leaves it in bin/aec.
 all: bin/aec
 
 bin/aec: FORCE
-	@sh build.sh
+	@at=$$($(PYTHON) packaging/proved.py commit) && sh build.sh && $(PYTHON) packaging/proved.py record "$$at" bin/aec
 
 FORCE:
 
-# Four small jobs by the program as it is written, before anything is proved.
+# Four small jobs by the program as it is written, before anything is proved. Leaves that program in bin/aec-unproved.
 try:
 	@sh try.sh
 
@@ -36,6 +39,11 @@ pages:
 # Writes man/aec.1 from docs/COMMAND.md.
 man:
 	@python3 tools/man.py
+
+# Writes the version of the file VERSION into each file that contains a copy of it.
+version:
+	@python3 tools/version.py
+	@$(MAKE) -s man pages
 
 # Writes docs/theorems/: all that a reader of a theorem has to believe. Of another one: make theorem OF="aec_edit::write_edited samples"
 theorem:
@@ -66,16 +74,21 @@ install:
 	sed 's|share/doc/aec|share/doc/$(PROGRAM)|' man/aec.1 > $(share)/man/man1/$(PROGRAM).1
 	sed '/^complete /s/ aec$$/ $(PROGRAM)/' completions/aec.bash > $(share)/bash-completion/completions/$(PROGRAM)
 	sed '/^#compdef /s/ aec$$/ $(PROGRAM)/' completions/_aec > $(share)/zsh/site-functions/_$(PROGRAM)
-	for file in README.md CHANGELOG.md CONTRIBUTING.md LICENSE docs/*.md docs/*/* bench/*.md examples/*; do \
-	    test ! -f $$file || install -D -m 644 $$file $(share)/doc/$(PROGRAM)/$$file || exit 1; done
+	$(PYTHON) packaging/pages.py $(share)/doc/$(PROGRAM)
+
+# Removes what `make install` has installed below the same PREFIX under the same PROGRAM.
+uninstall:
+	rm -f $(DESTDIR)$(PREFIX)/bin/$(PROGRAM) $(share)/man/man1/$(PROGRAM).1
+	rm -f $(share)/bash-completion/completions/$(PROGRAM) $(share)/zsh/site-functions/_$(PROGRAM)
+	rm -rf $(share)/doc/$(PROGRAM)
 
 clean:
-	rm -rf bin crates/*/out
+	rm -rf bin dist crates/*/out
 
 # The library for C and the Python module over it: bin/libaecp.a and bin/libaecp.so, proved.
-.PHONY: library test-library install-library
+.PHONY: library test-library install-library install-c install-python uninstall-library
 library:
-	@sh library.sh
+	@at=$$($(PYTHON) packaging/proved.py commit) && sh library.sh && $(PYTHON) packaging/proved.py record "$$at" bin/libaecp.a bin/libaecp.so
 
 # The tests of the library in bin/, beside the program that the gate has built.
 test-library:
@@ -85,19 +98,45 @@ test-library:
 	python3 tests/archive.py bin
 
 # Header, libraries, pkg-config file and Python module. The module goes where `python3` looks for modules, with a library of its own.
-PYTHON_DIR ?= $(shell python3 -c 'import sysconfig; print(sysconfig.get_path("purelib"))')
-install-library:
+PYTHON_DIR ?= $(shell $(PYTHON) -c 'import sysconfig; print(sysconfig.get_path("purelib"))')
+LIBDIR ?= $(PREFIX)/lib
+PC_PREFIX ?= $(PREFIX)
+info = $(DESTDIR)$(PYTHON_DIR)/aecp-$(VERSION).dist-info
+install-library: install-c install-python
+
+install-c:
 	@test -e bin/libaecp.a -a -e bin/libaecp.so || { echo "there is no bin/libaecp.a or no bin/libaecp.so: run make library first" >&2; exit 1; }
-	install -d $(DESTDIR)$(PREFIX)/include $(DESTDIR)$(PREFIX)/lib/pkgconfig $(DESTDIR)$(PYTHON_DIR)/aecp
+	install -d $(DESTDIR)$(PREFIX)/include $(DESTDIR)$(LIBDIR)/pkgconfig
 	install -m 644 include/aecp.h $(DESTDIR)$(PREFIX)/include/aecp.h
-	install -m 644 bin/libaecp.a $(DESTDIR)$(PREFIX)/lib/libaecp.a
-	install -m 755 bin/libaecp.so $(DESTDIR)$(PREFIX)/lib/libaecp.so.0
-	ln -sf libaecp.so.0 $(DESTDIR)$(PREFIX)/lib/libaecp.so
-	sed 's|@PREFIX@|$(PREFIX)|; s|@VERSION@|0.1.0|' include/aecp.pc.in > $(DESTDIR)$(PREFIX)/lib/pkgconfig/aecp.pc
+	install -m 644 bin/libaecp.a $(DESTDIR)$(LIBDIR)/libaecp.a
+	install -m 755 bin/libaecp.so $(DESTDIR)$(LIBDIR)/libaecp.so.0
+	ln -sf libaecp.so.0 $(DESTDIR)$(LIBDIR)/libaecp.so
+	sed 's|@PREFIX@|$(PC_PREFIX)|; s|@LIBDIR@|$(patsubst $(PREFIX)/%,$${prefix}/%,$(LIBDIR))|; s|@VERSION@|$(VERSION)|' include/aecp.pc.in \
+	    > $(DESTDIR)$(LIBDIR)/pkgconfig/aecp.pc
+
+install-python:
+	@test -e bin/libaecp.so || { echo "there is no bin/libaecp.so: run make library first" >&2; exit 1; }
+	install -d $(DESTDIR)$(PREFIX)/bin $(DESTDIR)$(PYTHON_DIR)/aecp $(info)
 	install -m 644 python/aecp/*.py python/aecp/py.typed $(DESTDIR)$(PYTHON_DIR)/aecp
 	install -m 755 bin/libaecp.so $(DESTDIR)$(PYTHON_DIR)/aecp/libaecp.so
-	install -d $(DESTDIR)$(PREFIX)/bin $(DESTDIR)$(PYTHON_DIR)/aecp-0.1.0.dist-info
 	printf '#!/usr/bin/env python3\nfrom aecp.cli import main\n\nmain()\n' > $(DESTDIR)$(PREFIX)/bin/aecp
 	chmod 755 $(DESTDIR)$(PREFIX)/bin/aecp
-	printf 'Metadata-Version: 2.1\nName: aecp\nVersion: 0.1.0\n' > $(DESTDIR)$(PYTHON_DIR)/aecp-0.1.0.dist-info/METADATA
-	install -m 644 python/entry_points.txt $(DESTDIR)$(PYTHON_DIR)/aecp-0.1.0.dist-info/entry_points.txt
+	printf 'Metadata-Version: 2.1\nName: aecp\nVersion: $(VERSION)\n' > $(info)/METADATA
+	install -m 644 python/entry_points.txt $(info)/entry_points.txt
+
+# Removes what `make install-library` has installed below the same PREFIX, LIBDIR and PYTHON_DIR.
+uninstall-library:
+	rm -f $(DESTDIR)$(PREFIX)/include/aecp.h $(DESTDIR)$(PREFIX)/bin/aecp $(DESTDIR)$(LIBDIR)/pkgconfig/aecp.pc
+	rm -f $(DESTDIR)$(LIBDIR)/libaecp.a $(DESTDIR)$(LIBDIR)/libaecp.so.0 $(DESTDIR)$(LIBDIR)/libaecp.so
+	rm -rf $(DESTDIR)$(PYTHON_DIR)/aecp $(info)
+
+# Packages of what `make` and `make library` have built, in dist/: a tarball, Debian packages and a wheel. UNPROVED=1 packs files that
+# these two haven't built, for a try; the packages then say that nothing is proved.
+.PHONY: dist test-packages
+UNPROVED ?=
+dist:
+	@$(PYTHON) packaging/dist.py $(if $(UNPROVED),--unproved)
+
+# Installs the packages into empty roots, runs the commands of the pages there, and removes the packages again.
+test-packages:
+	$(PYTHON) tests/packages.py

@@ -1,9 +1,10 @@
 #!/usr/bin/env python3
 """What `make install` puts where, and the completion files: installed.py PATH_OF_AEC
 
-Installs the program at PATH_OF_AEC into an empty folder, as `aec` and under another name, and looks for each file and runs the
-program from there; installs one that isn't there, which has to be refused with a line and nothing installed. Each option of --help
-has to stand in both completion files. bash, and zsh where it is installed, read theirs, and bash offers each option.
+Installs the program at PATH_OF_AEC into an empty folder, as `aec` and under another name, looks for each file, follows each link of
+the installed pages, runs the program from there, and uninstalls it, which must remove every file. Installs a program that isn't
+there, which must fail with a line and install nothing. Each option of --help must be in both completion files. bash, and zsh where
+it is installed, read theirs, and bash offers each option. Each copy of the version must be that of the file VERSION.
 """
 
 import os
@@ -18,12 +19,16 @@ sys.path.insert(0, os.path.dirname(os.path.abspath(__file__)))
 from program import Tally
 
 TOP = os.path.join(os.path.dirname(os.path.abspath(__file__)), "..")
+sys.path.insert(0, os.path.join(TOP, "packaging"))
+
+import pages
+
 WORD = r"(?<![\w-])--?\w[\w-]*"
 
 
-def install(folder, *words):
-    """The status of `make install` below a folder, and what it prints on standard error."""
-    command = ["make", "-s", "-C", TOP, "install", f"DESTDIR={folder}", "PREFIX=/usr", *words]
+def made(target, folder, *words):
+    """The status of a target of the Makefile that works below a folder, and what it prints on standard error."""
+    command = ["make", "-s", "-C", TOP, target, f"DESTDIR={folder}", "PREFIX=/usr", f"PYTHON={sys.executable}", *words]
     # No folder of a toolchain is on the path.
     done = subprocess.run(command, capture_output=True, text=True, env={"PATH": "/usr/bin:/bin"})
     return done.returncode, done.stderr
@@ -39,30 +44,64 @@ def helped_options(program):
     return sorted(found)
 
 
+def files_below(folder):
+    """The paths of all files below a folder."""
+    return [os.path.join(at, name) for at, _, names in os.walk(folder) for name in names]
+
+
+def try_links(folder, tally):
+    """That each link of each page leads to a file or folder that is there."""
+    for path in filter(lambda it: it.endswith(".md"), files_below(folder)):
+        page = os.path.relpath(path, folder)
+        with open(path, encoding="utf-8") as file:
+            text = re.sub(r"(?ms)^```.*?^```$", "", file.read())
+        for _, link in pages.LINK.findall(text):
+            target = pages.target_of(page, link)
+            is_there = target is None or os.path.exists(os.path.join(folder, target))
+            tally.holds(is_there, f"the link {link} of the installed page {page} leads to nothing")
+
+
+def version():
+    """The version of the file VERSION."""
+    with open(os.path.join(TOP, "VERSION"), encoding="utf-8") as file:
+        return file.read().strip()
+
+
+def try_version(tally):
+    """That each copy of the version is that of the file VERSION."""
+    done = subprocess.run([sys.executable, os.path.join(TOP, "tools", "version.py"), "--check"], capture_output=True, text=True)
+    tally.holds(done.returncode == 0, done.stdout)
+    with open(os.path.join(TOP, "man", "aec.1"), encoding="utf-8") as file:
+        tally.holds(f'"aec {version()}"' in file.read(), "man/aec.1 has another version: run make version")
+
+
 def try_install(program, name, tally):
-    """One installation: each file is there, and the program runs."""
+    """One installation: each file is there, each link leads to a file, the program runs, and all of it can be removed."""
     with tempfile.TemporaryDirectory() as folder:
         words = [f"BUILT={program}"] + ([] if name == "aec" else [f"PROGRAM={name}"])
-        tally.check(f"install as {name}", install(folder, *words), (0, ""))
+        tally.check(f"install as {name}", made("install", folder, *words), (0, ""))
+        try_links(os.path.join(folder, "usr", "share", "doc", name), tally)
         wanted = ["bin/" + name, f"share/man/man1/{name}.1", f"share/bash-completion/completions/{name}"]
         wanted += [f"share/zsh/site-functions/_{name}", f"share/doc/{name}/README.md", f"share/doc/{name}/docs/COMMAND.md"]
         wanted += [f"share/doc/{name}/examples/ramp.aec", f"share/doc/{name}/LICENSE", f"share/doc/{name}/docs/pictures/speed.svg"]
         for file in wanted:
             tally.check(f"{name}: {file} is there", os.path.isfile(os.path.join(folder, "usr", file)), True)
         ran = subprocess.run([os.path.join(folder, "usr", "bin", name), "--version"], capture_output=True, text=True)
-        tally.check(f"{name} --version", (ran.returncode, ran.stdout), (0, "aec 0.1.0\n"))
+        tally.check(f"{name} --version", (ran.returncode, ran.stdout), (0, f"aec {version()}\n"))
         bash = os.path.join(folder, "usr", "share", "bash-completion", "completions", name)
         ask = f'source "{bash}"; complete -p {name}'
         said = subprocess.run(["bash", "-c", ask], capture_output=True, text=True)
         tally.check(f"bash completes {name}", (said.returncode, said.stdout), (0, f"complete -F _aec {name}\n"))
         with open(os.path.join(folder, "usr", "share", "zsh", "site-functions", "_" + name), encoding="utf-8") as file:
             tally.check(f"zsh completes {name}", file.readline(), f"#compdef {name}\n")
+        tally.check(f"uninstall {name}", made("uninstall", folder, *words), (0, ""))
+        tally.check(f"what uninstall leaves of {name}", files_below(folder), [])
 
 
 def try_refusal(tally):
     """Where nothing is built nothing is installed."""
     with tempfile.TemporaryDirectory() as folder:
-        status, said = install(folder, "BUILT=no/such/aec")
+        status, said = made("install", folder, "BUILT=no/such/aec")
         tally.check("nothing is built: status", status != 0, True)
         tally.check("nothing is built: the line", "there is no no/such/aec: run make first" in said, True)
         tally.check("nothing is built: nothing is installed", os.listdir(folder), [])
@@ -92,6 +131,7 @@ def main():
     try_install(program, "aec", tally)
     try_install(program, "other-aec", tally)
     try_refusal(tally)
+    try_version(tally)
     try_completions(program, tally)
     tally.print()
     return 1 if tally.failed else 0

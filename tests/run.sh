@@ -46,7 +46,15 @@ part man python3 tools/man.py --check
 part limits python3 tests/limits.py
 part edits python3 tests/edits_apply.py
 part cited python3 tests/cited.py
+at=$(python3 packaging/proved.py commit)
 part gate rt ci
+# What `make dist` packs: the program that the gate has proved and built, and the gate's last line.
+if has_passed gate; then
+    mkdir -p bin
+    cp crates/aec/out/aec bin/aec
+    python3 packaging/proved.py record "$at" bin/aec
+    python3 packaging/proved.py gate "$at" "$kept/gate.log"
+fi
 echo "== coded samples"
 part coded on_program tests/coded.py
 echo "== coded data that is cut"

@@ -1,5 +1,5 @@
 #!/usr/bin/env python3
-"""Writes man/aec.1 from docs/COMMAND.md: man.py [--check]
+"""Writes man/aec.1 from docs/COMMAND.md and the file VERSION: man.py [--check]
 
 The page's title is the part NAME, its first block of code SYNOPSIS, and the text from there to the
 first heading DESCRIPTION; each other heading is a part. A row of a table becomes a tagged
@@ -13,6 +13,8 @@ import os
 import re
 import sys
 import textwrap
+
+from version import version
 
 TOP = os.path.join(os.path.dirname(os.path.abspath(__file__)), "..")
 SOURCE, PAGE = "docs/COMMAND.md", "man/aec.1"
@@ -143,7 +145,7 @@ def page(text):
     """The manual page."""
     title, synopsis, *rest = blocks(text)
     name, what = title[0].removeprefix("# ").split(": ", 1)
-    out = [NOTE, f'.TH {name.upper()} 1 "" "{name}" "User Commands"\n']
+    out = [NOTE, f'.TH {name.upper()} 1 "" "{name} {version()}" "User Commands"\n']
     out.append(f".SH NAME\n{name} \\- {escaped(what, CODE_SIGNS)}\n")
     command, words = synopsis[0].split(maxsplit=1)
     out.append(f".SH SYNOPSIS\n.B {command}\n{font('I', words)}\n.SH DESCRIPTION\n")

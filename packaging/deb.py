@@ -1,0 +1,183 @@
+"""The Debian packages: aec-proved (the program), libaecp0 (the shared library), libaecp-dev (header and archive)."""
+
+import gzip
+import hashlib
+import os
+import shutil
+import subprocess
+import time
+
+import elf
+import stage
+
+ARCH, TRIPLET = "amd64", "x86_64-linux-gnu"
+LIB = f"lib/{TRIPLET}"
+MAINTAINER = "The maintainers of aec <maintainers@users.noreply.citruslapis.example>"
+# The fields of each control file, besides those that all have.
+PACKAGES = {
+    "aec-proved": {
+        "Section": "utils",
+        "Description": """proved lossless coder of integer samples (CCSDS 121.0-B-3)
+ aec compresses integer samples of instruments without loss, in the format
+ CCSDS 121.0-B-3 of GRIB2 (template 5.42), HDF5 (szip) and space packets. It
+ takes the options and files of libaec's program aec, and adds sample counts,
+ ranges, and edits of a stream that is already coded.
+ .
+ A checker has proved that every function of the program keeps its contract.
+ .
+ The program is aec-proved, and aec by the alternatives system. It can be
+ installed beside libaec-tools, whose program is then aec.""",
+    },
+    "libaecp0": {
+        "Section": "libs",
+        "Multi-Arch": "same",
+        "Description": """proved lossless coding of integer samples - shared library
+ The library codes, decodes and edits integer samples in memory, in the format
+ CCSDS 121.0-B-3 of GRIB2 (template 5.42), HDF5 (szip) and space packets.
+ .
+ A checker has proved that every function of the library keeps its contract.
+ Its names begin with aecp_, so a program can also use libaec.""",
+    },
+    "libaecp-dev": {
+        "Section": "libdevel",
+        "Multi-Arch": "same",
+        "Description": """proved lossless coding of integer samples - development files
+ The library codes, decodes and edits integer samples in memory, in the format
+ CCSDS 121.0-B-3 of GRIB2 (template 5.42), HDF5 (szip) and space packets.
+ .
+ This package has the header aecp.h, the archive libaecp.a and the file aecp.pc
+ for pkg-config.""",
+    },
+}
+
+
+def control(name, version, depends, root):
+    """The text of a control file."""
+    fields = dict(PACKAGES[name])
+    described = fields.pop("Description")
+    files = [it for it in stage.below(root) if os.path.isfile(it) and not os.path.islink(it) and "/DEBIAN/" not in it]
+    size = sum((os.path.getsize(it) + 1023) // 1024 for it in files)
+    lines = {
+        "Package": name,
+        "Source": "aec-proved",
+        "Version": version,
+        "Architecture": ARCH,
+        "Maintainer": MAINTAINER,
+        "Installed-Size": size,
+        "Depends": depends,
+        **fields,
+        "Priority": "optional",
+        "Description": described,
+    }
+    if name == "aec-proved":
+        del lines["Source"]
+    return "".join(f"{key}: {value}\n" for key, value in lines.items())
+
+
+def packed(data):
+    """Bytes as gzip packs them for Debian: with -9, and with neither name nor date."""
+    return gzip.compress(data, 9, mtime=0)
+
+
+def changelog(version, moment):
+    """The changelog of the packages. CHANGELOG.md has what users get."""
+    date = time.strftime("%a, %d %b %Y %H:%M:%S +0000", time.gmtime(moment))
+    change = f"  * Version {version}. CHANGELOG.md has the changes."
+    return f"aec-proved ({version}) unstable; urgency=low\n\n{change}\n\n -- {MAINTAINER}  {date}\n"
+
+
+def documents(top, root, name, version, moment, proved):
+    """The files of /usr/share/doc that each package has."""
+    folder = os.path.join(root, "usr/share/doc", name)
+    stage.write(os.path.join(folder, "copyright"), stage.read(os.path.join(top, "packaging/debian/copyright")))
+    stage.write(os.path.join(folder, "changelog.gz"), packed(changelog(version, moment).encode()))
+    stage.write(os.path.join(folder, "PROVED"), proved.encode())
+
+
+def sums(root):
+    """The text of md5sums."""
+    found = []
+    for path in stage.below(root):
+        name = os.path.relpath(path, root)
+        if os.path.isfile(path) and not os.path.islink(path) and not name.startswith("DEBIAN/"):
+            found.append((name, hashlib.md5(stage.read(path)).hexdigest()))
+    return "".join(f"{digest}  {name}\n" for name, digest in sorted(found))
+
+
+def date_all(root, moment):
+    """Gives each file, link and folder the date of the commit."""
+    for path in [root, *stage.below(root)]:
+        os.utime(path, (moment, moment), follow_symlinks=False)
+
+
+def finish(top, root, folder, name, version, depends, moment):
+    """Writes DEBIAN/ and the package. Its path."""
+    own = os.path.join(top, "packaging/debian")
+    overrides = os.path.join(own, f"{name}.lintian-overrides")
+    if os.path.exists(overrides):
+        stage.write(os.path.join(root, "usr/share/lintian/overrides", name), stage.read(overrides))
+    for script in ("postinst", "prerm", "triggers", "shlibs"):
+        path = os.path.join(own, f"{name}.{script}")
+        if os.path.exists(path):
+            mode = 0o755 if script in ("postinst", "prerm") else 0o644
+            text = stage.read(path).replace(b"@VERSION@", version.encode())
+            stage.write(os.path.join(root, "DEBIAN", script), text, mode)
+    stage.write(os.path.join(root, "DEBIAN/md5sums"), sums(root).encode())
+    stage.write(os.path.join(root, "DEBIAN/control"), control(name, version, depends, root).encode())
+    date_all(root, moment)
+    path = os.path.join(folder, f"{name}_{version}_{ARCH}.deb")
+    subprocess.run(["dpkg-deb", "--root-owner-group", "-Zxz", "--build", root, path], check=True, stdout=subprocess.DEVNULL)
+    return path
+
+
+def libc_of(path):
+    """The dependency on the C library."""
+    return "libc6 (>= {}.{})".format(*elf.glibc_needed(path))
+
+
+def program(top, root):
+    """The program's files, as Debian wants them: manual page compressed, zsh's file where Debian's zsh looks."""
+    stage.program(top, root, "/usr", "aec-proved")
+    share = os.path.join(root, "usr/share")
+    page = os.path.join(share, "man/man1/aec-proved.1")
+    stage.write(page + ".gz", packed(stage.read(page)))
+    os.remove(page)
+    completion = os.path.join(share, "zsh/vendor-completions/_aec-proved")
+    stage.write(completion, stage.read(os.path.join(share, "zsh/site-functions/_aec-proved")))
+    shutil.rmtree(os.path.join(share, "zsh/site-functions"))
+    # The file copyright has the licence.
+    documents_folder = os.path.join(share, "doc/aec-proved")
+    shutil.rmtree(documents_folder)
+    stage.user_pages(documents_folder, ["LICENSE"])
+
+
+def split_library(top, work):
+    """The roots of libaecp0 and libaecp-dev."""
+    dev, shared = os.path.join(work, "libaecp-dev"), os.path.join(work, "libaecp0")
+    stage.library(top, dev, "/usr", LIB, "/usr")
+    moved = os.path.join(dev, "usr", LIB, "libaecp.so.0")
+    stage.write(os.path.join(shared, "usr", LIB, "libaecp.so.0"), stage.read(moved))
+    os.remove(moved)
+    return shared, dev
+
+
+def build(top, work, folder, version, moment, proved):
+    """Writes the packages into a folder. Their paths."""
+    root = os.path.join(work, "aec-proved")
+    program(top, root)
+    shared, dev = split_library(top, work)
+    places = {
+        "aec-proved": (root, {"aec": "/usr/bin/aec-proved"}),
+        "libaecp0": (shared, {"libaecp.so": f"/usr/{LIB}/libaecp.so.0"}),
+        "libaecp-dev": (dev, {"libaecp.a": f"/usr/{LIB}/libaecp.a"}),
+    }
+    depends = {
+        "aec-proved": libc_of(os.path.join(top, "bin/aec")),
+        "libaecp0": libc_of(os.path.join(top, "bin/libaecp.so")),
+        "libaecp-dev": f"libaecp0 (= {version}), libc6-dev",
+    }
+    made = []
+    for name, (at, where) in places.items():
+        documents(top, at, name, version, moment, proved(where))
+        made.append(finish(top, at, folder, name, version, depends[name], moment))
+    return made

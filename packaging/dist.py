@@ -1,0 +1,90 @@
+#!/usr/bin/env python3
+"""Packs what `make` and `make library` have built into dist/: dist.py [--unproved]
+
+A tarball, the Debian packages and the wheel. Two runs at one commit write the same bytes, in whatever folder they run: dates are that
+of the commit (or SOURCE_DATE_EPOCH), names are sorted, and no path of this machine goes in.
+
+Fails if a binary isn't what a proving build has left at this commit. With --unproved such binaries are packed for a try, and PROVED
+says so.
+"""
+
+import os
+import shutil
+import subprocess
+import sys
+import tempfile
+import time
+
+sys.dont_write_bytecode = True
+
+import deb
+import proved
+import tarball
+import wheel
+
+BINARIES = {"aec": "bin/aec", "libaecp.a": "bin/libaecp.a", "libaecp.so": "bin/libaecp.so"}
+DIST = os.path.join(proved.TOP, "dist")
+
+
+def version():
+    with open(os.path.join(proved.TOP, "VERSION"), encoding="utf-8") as file:
+        return file.read().strip()
+
+
+def moment():
+    """The seconds that every date in a package is: those of SOURCE_DATE_EPOCH, else of the commit."""
+    given = os.environ.get("SOURCE_DATE_EPOCH") or proved.git("log", "-1", "--format=%ct")
+    if not given:
+        raise proved.NotProved("there is no commit to take a date from: set SOURCE_DATE_EPOCH")
+    return int(given)
+
+
+def texts(is_proved):
+    """A function of the binaries' places in a package, which returns the text of PROVED."""
+    start = proved.head(version(), list(BINARIES.values()), is_proved)
+    sums = {name: proved.sum_of(os.path.join(proved.TOP, path)) for name, path in BINARIES.items()}
+
+    def text(places):
+        lines = [f"{sums[name]}  {place}\n" for name, place in places.items()]
+        return f"{start}\n{''.join(lines)}"
+
+    return text
+
+
+def build(is_proved):
+    """Writes all packages. Their paths."""
+    os.umask(0o022)
+    when = moment()
+    os.environ["SOURCE_DATE_EPOCH"] = str(when)
+    text = texts(is_proved)
+    shutil.rmtree(DIST, ignore_errors=True)
+    os.makedirs(DIST)
+    with tempfile.TemporaryDirectory() as work:
+        os.chmod(work, 0o755)
+        made = [tarball.build(proved.TOP, work, DIST, version(), when, text(tarball.PLACES))]
+        made += deb.build(proved.TOP, work, DIST, version(), when, text)
+        made.append(wheel.build(proved.TOP, DIST, version(), when, text(wheel.PLACES)))
+    return made
+
+
+def main():
+    is_proved = sys.argv[1:] != ["--unproved"]
+    begun = time.monotonic()
+    missing = [path for path in BINARIES.values() if not os.path.exists(os.path.join(proved.TOP, path))]
+    if missing:
+        print(f"there is no {missing[0]}: run make and make library first", file=sys.stderr)
+        return 1
+    try:
+        made = build(is_proved)
+    except (proved.NotProved, wheel.Unfit, subprocess.CalledProcessError) as fault:
+        shutil.rmtree(DIST, ignore_errors=True)
+        print(fault, file=sys.stderr)
+        return 1
+    for path in made:
+        print(f"{os.path.relpath(path, proved.TOP)}: {os.path.getsize(path)} bytes")
+    print(f"{len(made)} packages in {time.monotonic() - begun:.0f} s" + ("" if is_proved else ", of binaries that aren't proved"))
+    return 0
+
+
+if __name__ == "__main__":
+    sys.exit(main())

@@ -1,0 +1,25 @@
+"""What a built file needs of the C library, as `objdump` prints it."""
+
+import re
+import subprocess
+
+# Names of versions that aren't numbers, and the version of glibc that has them. A private name may be in one version alone.
+NAMED = {"ABI_DT_RELR": (2, 36), "PRIVATE": (99, 0)}
+
+
+def headers(path):
+    return subprocess.run(["objdump", "-p", path], capture_output=True, text=True, check=True).stdout
+
+
+def glibc_needed(path):
+    """The least version of glibc that the loader accepts for a file, as (2, 17)."""
+    found = [(0, 0)]
+    for name in re.findall(r"GLIBC_(\S+)", headers(path).partition("Version References:")[2]):
+        numbers = re.fullmatch(r"(\d+)\.(\d+)(\.\d+)?", name)
+        found.append((int(numbers[1]), int(numbers[2])) if numbers else NAMED[name])
+    return max(found)
+
+
+def libraries_needed(path):
+    """The names of the shared libraries that a file needs."""
+    return sorted(re.findall(r"^ +NEEDED +(\S+)", headers(path), re.M))

@@ -1,0 +1,95 @@
+#!/bin/sh
+# Installs the program, the library and their pages below PREFIX, or removes them again. It needs no compiler and no Python.
+#
+#     sh install.sh PREFIX
+#     sh install.sh uninstall PREFIX
+#
+# The files are those of the folders bin, lib, include and share beside this script. The program is bin/aec. With PROGRAM=aec-proved
+# in the environment it gets this name, for a machine where libaec's client is `aec`.
+set -eu
+umask 022
+from=$(cd "$(dirname "$0")" && pwd)
+program=${PROGRAM:-aec}
+
+usage() {
+    echo "usage: sh install.sh PREFIX, or sh install.sh uninstall PREFIX" >&2
+    exit 1
+}
+
+# All files, as paths below this folder.
+files() {
+    (cd "$from" && find bin lib include share \( -type f -o -type l \) | sort)
+}
+
+# The path of a file below PREFIX.
+place() {
+    case $1 in
+        bin/aec) echo "bin/$program" ;;
+        share/man/man1/aec.1) echo "share/man/man1/$program.1" ;;
+        share/bash-completion/completions/aec) echo "share/bash-completion/completions/$program" ;;
+        share/zsh/site-functions/_aec) echo "share/zsh/site-functions/_$program" ;;
+        share/doc/aec/*) echo "share/doc/$program/${1#share/doc/aec/}" ;;
+        *) echo "$1" ;;
+    esac
+}
+
+# The text of a file that contains the program's name.
+renamed() {
+    case $1 in
+        share/man/man1/aec.1) sed "s|share/doc/aec|share/doc/$program|" "$from/$1" ;;
+        share/bash-completion/completions/aec) sed "/^complete /s/ aec\$/ $program/" "$from/$1" ;;
+        share/zsh/site-functions/_aec) sed "/^#compdef /s/ aec\$/ $program/" "$from/$1" ;;
+        *) return 1 ;;
+    esac
+}
+
+install_file() {
+    to=$prefix/$(place "$1")
+    mkdir -p "$(dirname "$to")"
+    rm -f "$to"
+    if [ -L "$from/$1" ]; then
+        ln -s "$(readlink "$from/$1")" "$to"
+        return
+    fi
+    renamed "$1" > "$to" || cat "$from/$1" > "$to"
+    mode=644
+    [ ! -x "$from/$1" ] || mode=755
+    chmod $mode "$to"
+}
+
+# Removes the folders of the files, from the deepest up, if they are empty. PREFIX, and the folders that every PREFIX has, stay.
+remove_folders() {
+    files | while IFS= read -r file; do
+        folder=$(dirname "$(place "$file")")
+        while [ "$folder" != . ]; do
+            echo "$folder"
+            folder=$(dirname "$folder")
+        done
+    done | sort -ru | while IFS= read -r folder; do
+        case $folder in
+            bin | lib | include | share | share/man | share/man/man1 | share/doc) ;;
+            *) [ ! -d "$prefix/$folder" ] || rmdir "$prefix/$folder" 2> /dev/null || true ;;
+        esac
+    done
+}
+
+action=install
+if [ "${1:-}" = uninstall ]; then
+    action=uninstall
+    shift
+fi
+case ${1:-} in
+    '' | -*) usage ;;
+    /*) prefix=$1 ;;
+    *) prefix=$PWD/$1 ;;
+esac
+[ $# = 1 ] || usage
+
+if [ $action = install ]; then
+    files | while IFS= read -r file; do install_file "$file"; done
+    echo "installed in $prefix: bin/$program, lib/libaecp.a, lib/libaecp.so.0. If the loader searches $prefix/lib, run ldconfig."
+else
+    files | while IFS= read -r file; do rm -f "$prefix/$(place "$file")"; done
+    remove_folders
+    echo "removed from $prefix"
+fi

@@ -1,0 +1,79 @@
+#!/usr/bin/env python3
+"""Installs the pages for users: pages.py FOLDER [--without FILE]..
+
+Copies the pages, pictures and examples into FOLDER. A link to a file that isn't among them becomes its text, so that each link of an
+installed page leads to an installed page.
+"""
+
+import argparse
+import glob
+import os
+import re
+import sys
+
+TOP = os.path.join(os.path.dirname(os.path.abspath(__file__)), "..")
+FILES = ["README.md", "CHANGELOG.md", "SECURITY.md", "LICENSE", "docs/*.md", "docs/*/*", "bench/tables.md", "examples/*"]
+# For those who change the program. They are in the source alone.
+DEVELOPERS = {"docs/ARCHITECTURE.md", "docs/DECISIONS.md"}
+LINK = re.compile(r"!?\[([^\]]*)\]\(([^)\s]+)\)")
+
+
+def user_files(without=()):
+    """The files for users, as paths from the top of the repository."""
+    found = set()
+    for pattern in FILES:
+        paths = glob.glob(os.path.join(TOP, pattern))
+        found |= {os.path.relpath(path, TOP) for path in paths if os.path.isfile(path)}
+    return sorted(found - DEVELOPERS - set(without))
+
+
+def target_of(page, link):
+    """The path that a page's link names, from the top of the repository. None if it leads to another site or into the page."""
+    if "://" in link or link.startswith(("#", "mailto:")):
+        return None
+    return os.path.normpath(os.path.join(os.path.dirname(page), link.partition("#")[0]))
+
+
+def is_installed(target, files):
+    """Whether a link's target is an installed file, or a folder of installed files."""
+    return target in files or any(it.startswith(target + "/") for it in files)
+
+
+def with_links(page, text, files):
+    """A page's text, in which links to files that aren't installed are only their text. Blocks of code stay as they are."""
+
+    def link(found):
+        target = target_of(page, found[2])
+        return found[0] if target is None or is_installed(target, files) else found[1]
+
+    parts = re.split(r"(?ms)(^```.*?^```$)", text)
+    return "".join(part if part.startswith("```") else LINK.sub(link, part) for part in parts)
+
+
+def install(folder, without=()):
+    """Copies all files for users into a folder. The files of a folder of earlier pages are replaced."""
+    files = user_files(without)
+    for path in files:
+        with open(os.path.join(TOP, path), "rb") as file:
+            data = file.read()
+        if path.endswith(".md"):
+            data = with_links(path, data.decode(), set(files)).encode()
+        place = os.path.join(folder, path)
+        os.makedirs(os.path.dirname(place), mode=0o755, exist_ok=True)
+        with open(place, "wb") as file:
+            file.write(data)
+        os.chmod(place, 0o644)
+
+
+def main():
+    words = argparse.ArgumentParser(description="Installs the pages for users.")
+    words.add_argument("folder")
+    words.add_argument("--without", action="append", default=[])
+    asked = words.parse_args()
+    os.umask(0o022)
+    install(asked.folder, asked.without)
+    return 0
+
+
+if __name__ == "__main__":
+    sys.exit(main())

@@ -1,0 +1,131 @@
+#!/usr/bin/env python3
+"""What was proved of the built files: proved.py commit | record COMMIT FILE.. | gate COMMIT LOG
+
+commit: prints the commit of the checkout, before a build begins.
+record: after `make` or `make library` has proved and built FILE, writes FILE.proved beside it: the file's SHA-256, the commit and the
+kit. `make dist` packs a file only if these are still true. It writes them into the file PROVED of each package.
+gate: after `make test` has run the gate, writes the commit and the last line of the gate's LOG to bin/gate.
+"""
+
+import hashlib
+import os
+import subprocess
+import sys
+
+TOP = os.path.abspath(os.path.join(os.path.dirname(os.path.abspath(__file__)), ".."))
+GATE = "bin/gate"
+
+HEAD = """aec {version} for Linux on x86-64. A checker has proved that each function of the program and of the library keeps its
+contract. The page PROOFS lists what the contracts say, and what isn't proved.
+
+kit     {kit}
+commit  {commit}
+gate    {gate}
+
+SHA-256 of each binary. `grep '^[0-9a-f]' PROVED | sha256sum -c` compares them.
+"""
+UNPROVED = """aec {version} for Linux on x86-64. NOTHING IS PROVED of these binaries. They were built for trying the packages.
+
+commit  {commit}
+
+SHA-256 of each binary.
+"""
+
+
+class NotProved(Exception):
+    """A file that is to be packed isn't what a proving build has left."""
+
+
+def told(*words):
+    """What a command prints, without the end of the line. Empty if it fails."""
+    try:
+        return subprocess.run(words, cwd=TOP, capture_output=True, text=True, check=True).stdout.strip()
+    except (OSError, subprocess.CalledProcessError):
+        return ""
+
+
+def git(*words):
+    """What git prints of the checkout, whoever owns it."""
+    return told("git", "-c", "safe.directory=*", *words)
+
+
+def commit():
+    """The commit of the checkout, and whether a file of it was changed."""
+    name = git("rev-parse", "HEAD")
+    if not name:
+        return "unknown"
+    return name + (" with changes" if git("status", "--porcelain", "--untracked-files=no") else "")
+
+
+def sum_of(path):
+    """The SHA-256 of a file."""
+    with open(path, "rb") as file:
+        return hashlib.sha256(file.read()).hexdigest()
+
+
+def record(at, path):
+    """Writes what is true of a file that has just been proved and built at a commit."""
+    with open(path + ".proved", "w", encoding="utf-8") as file:
+        file.write(f"{sum_of(path)}\n{at}\n{told('rt', 'version')}\n")
+
+
+def record_gate(at, log):
+    """Keeps the last line of the gate at a commit."""
+    with open(log, encoding="utf-8") as file:
+        lines = file.read().splitlines()
+    os.makedirs(os.path.join(TOP, "bin"), exist_ok=True)
+    with open(os.path.join(TOP, GATE), "w", encoding="utf-8") as file:
+        file.write(f"{at}\n{lines[-1] if lines else 'no line'}\n")
+
+
+def kit_of(paths):
+    """The kit that has proved these files. NotProved if one is another file, of another commit, or of another kit."""
+    kits = set()
+    for path in paths:
+        try:
+            with open(os.path.join(TOP, path + ".proved"), encoding="utf-8") as file:
+                told_sum, told_commit, kit = file.read().splitlines()
+        except (OSError, ValueError):
+            raise NotProved(f"{path}.proved is missing: run make and make library") from None
+        if told_sum != sum_of(os.path.join(TOP, path)):
+            raise NotProved(f"{path} isn't the file that make has built: run make and make library")
+        if told_commit != commit():
+            raise NotProved(f"{path} was built at commit {told_commit}, and this is {commit()}: run make and make library")
+        kits.add(kit)
+    if len(kits) != 1:
+        raise NotProved(f"the files were proved by different kits, {sorted(kits)}: run make and make library")
+    return kits.pop()
+
+
+def gate():
+    """The last line of the gate at this commit, as `make test` has kept it."""
+    try:
+        with open(os.path.join(TOP, GATE), encoding="utf-8") as file:
+            at, line = file.read().splitlines()
+    except (OSError, ValueError):
+        at, line = "", ""
+    return line if at == commit() else "make test was not run at this commit on the machine that made this package"
+
+
+def head(version, paths, is_proved):
+    """The text of a file PROVED, up to the sums."""
+    if not is_proved:
+        return UNPROVED.format(version=version, commit=commit())
+    return HEAD.format(version=version, kit=kit_of(paths), commit=commit(), gate=gate())
+
+
+def main():
+    action, words = (sys.argv[1:2] or [""])[0], sys.argv[2:]
+    if action == "commit" and not words:
+        print(commit())
+    elif action in ("record", "gate") and len(words) > 1:
+        for path in words[1:]:
+            record(words[0], path) if action == "record" else record_gate(words[0], path)
+    else:
+        print(__doc__.splitlines()[0], file=sys.stderr)
+        return 1
+    return 0
+
+
+if __name__ == "__main__":
+    sys.exit(main())

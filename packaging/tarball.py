@@ -1,0 +1,60 @@
+"""The tarball: program, library and pages below a folder that is like PREFIX, and a script that installs them."""
+
+import gzip
+import os
+import tarfile
+
+import stage
+
+# Where the binaries are.
+PLACES = {"aec": "bin/aec", "libaecp.a": "lib/libaecp.a", "libaecp.so": "lib/libaecp.so.0"}
+
+
+def add(archive, path, name, moment):
+    """Adds a file, a link or a folder with nothing of this machine: no owner, no date of its own."""
+    info = archive.gettarinfo(path, name)
+    info.uid = info.gid = 0
+    info.uname = info.gname = "root"
+    info.mtime = moment
+    info.mode = 0o755 if info.isdir() or info.issym() or os.access(path, os.X_OK) else 0o644
+    if info.isreg():
+        with open(path, "rb") as file:
+            archive.addfile(info, file)
+    else:
+        archive.addfile(info)
+
+
+def fill(top, folder, version, proved):
+    """Puts everything below a folder."""
+    stage.program(top, folder, "", "aec")
+    stage.library(top, folder, "", "lib", "${pcfiledir}/../..")
+    with open(os.path.join(top, "packaging", "install.sh"), "rb") as file:
+        stage.write(os.path.join(folder, "install.sh"), file.read(), 0o755)
+    with open(os.path.join(top, "LICENSE"), "rb") as file:
+        stage.write(os.path.join(folder, "LICENSE"), file.read())
+    readme = README.format(version=version).encode()
+    stage.write(os.path.join(folder, "README"), readme)
+    stage.write(os.path.join(folder, "PROVED"), proved.encode())
+
+
+README = """aec {version} for Linux on x86-64, glibc 2.34 or newer.
+
+    sh install.sh PREFIX              installs, for example below /usr/local or $HOME/.local
+    sh install.sh uninstall PREFIX    removes what was installed
+    PROGRAM=aec-proved sh install.sh PREFIX    installs the program as aec-proved, beside libaec's aec
+
+bin/aec also runs in this folder. share/doc/aec/README.md is the first page, and PROVED says what was proved of which files.
+"""
+
+
+def build(top, work, folder, version, moment, proved):
+    """Writes the tarball into a folder. Its path."""
+    name = f"aec-{version}-x86_64-linux"
+    root = os.path.join(work, name)
+    fill(top, root, version, proved)
+    path = os.path.join(folder, name + ".tar.gz")
+    with open(path, "wb") as raw, gzip.GzipFile("", "wb", 9, raw, mtime=moment) as packed:
+        with tarfile.open(fileobj=packed, mode="w", format=tarfile.GNU_FORMAT) as archive:
+            for place in sorted([root, *stage.below(root)]):
+                add(archive, place, os.path.relpath(place, work), moment)
+    return path

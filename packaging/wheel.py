@@ -1,0 +1,114 @@
+"""The wheel of the Python module, with the library inside."""
+
+import base64
+import hashlib
+import os
+import re
+import time
+import zipfile
+
+import elf
+
+GLIBC = (2, 17)
+PLACES = {"libaecp.so": "aecp/libaecp.so"}
+TAG = f"py3-none-manylinux_{GLIBC[0]}_{GLIBC[1]}_x86_64"
+METADATA = """Metadata-Version: 2.1
+Name: aecp
+Version: {version}
+Summary: {summary}
+License: BSD-2-Clause
+License-File: LICENSE
+Keywords: ccsds,compression,szip,grib,hdf5,zarr,lossless
+Classifier: Development Status :: 4 - Beta
+Classifier: Intended Audience :: Science/Research
+Classifier: License :: OSI Approved :: BSD License
+Classifier: Operating System :: POSIX :: Linux
+Classifier: Programming Language :: Python :: 3
+Classifier: Topic :: System :: Archiving :: Compression
+Classifier: Typing :: Typed
+Requires-Python: {python}
+Provides-Extra: arrays
+Requires-Dist: numpy; extra == 'arrays'
+Provides-Extra: zarr
+Requires-Dist: numcodecs; extra == 'zarr'
+Description-Content-Type: text/markdown
+
+{readme}"""
+WHEEL = """Wheel-Version: 1.0
+Generator: aec packaging/wheel.py
+Root-Is-Purelib: false
+Tag: {tag}
+"""
+
+
+class Unfit(Exception):
+    """The library isn't one that the tag promises."""
+
+
+def check_library(path):
+    """Fails if the library needs more than the tag allows."""
+    needed, libraries = elf.glibc_needed(path), elf.libraries_needed(path)
+    if needed > GLIBC or not set(libraries) <= {"libc.so.6"}:
+        version = ".".join(map(str, needed))
+        raise Unfit(f"{path} needs glibc {version} and {', '.join(libraries)}, which {TAG} doesn't allow")
+
+
+def project_value(text, name):
+    """A text value of pyproject.toml."""
+    return re.search(rf'^{name} = "(.*)"$', text, re.M)[1]
+
+
+def module_files(folder, library):
+    """The files of the module, by their names in the wheel."""
+    names = sorted(it for it in os.listdir(os.path.join(folder, "aecp")) if it.endswith(".py") or it == "py.typed")
+    found = {f"aecp/{name}": data_of(os.path.join(folder, "aecp", name)) for name in names}
+    return {**found, "aecp/libaecp.so": data_of(library)}
+
+
+def data_of(path):
+    with open(path, "rb") as file:
+        return file.read()
+
+
+def sum_line(name, data):
+    """The line of a file in RECORD."""
+    digest = base64.urlsafe_b64encode(hashlib.sha256(data).digest()).rstrip(b"=").decode()
+    return f"{name},sha256={digest},{len(data)}\n"
+
+
+def put(archive, name, data, moment):
+    """Adds a file with the date of the commit. A zip has no date before 1980."""
+    info = zipfile.ZipInfo(name, time.gmtime(max(moment, 315532800))[:6])
+    info.external_attr = (0o100755 if name.endswith(".so") else 0o100644) << 16
+    info.compress_type = zipfile.ZIP_DEFLATED
+    archive.writestr(info, data, compresslevel=9)
+
+
+def build(top, folder, version, moment, proved):
+    """Writes the wheel into a folder. Its path."""
+    library = os.path.join(top, "bin", "libaecp.so")
+    check_library(library)
+    source = os.path.join(top, "python")
+    project = data_of(os.path.join(source, "pyproject.toml")).decode()
+    metadata = METADATA.format(
+        version=version,
+        summary=project_value(project, "description"),
+        python=project_value(project, "requires-python"),
+        readme=data_of(os.path.join(source, "README.md")).decode(),
+    )
+    info = f"aecp-{version}.dist-info"
+    files = {
+        **module_files(source, library),
+        f"{info}/LICENSE": data_of(os.path.join(top, "LICENSE")),
+        f"{info}/METADATA": metadata.encode(),
+        f"{info}/PROVED": proved.encode(),
+        f"{info}/WHEEL": WHEEL.format(tag=TAG).encode(),
+        f"{info}/entry_points.txt": data_of(os.path.join(source, "entry_points.txt")),
+    }
+    lines = "".join(sum_line(name, data) for name, data in sorted(files.items()))
+    files[f"{info}/RECORD"] = f"{lines}{info}/RECORD,,\n".encode()
+    path = os.path.join(folder, f"aecp-{version}-{TAG}.whl")
+    with zipfile.ZipFile(path, "w") as archive:
+        for name, data in sorted(files.items()):
+            put(archive, name, data, moment)
+    return path

@@ -1,0 +1,100 @@
+use crate::raw;
+use std::fmt;
+
+/// Why a call was refused. `number` is that of `aecp.h`.
+#[derive(Clone, Copy, Debug, PartialEq, Eq, Hash)]
+#[non_exhaustive]
+pub enum Error {
+    /// The format has no such options.
+    Options {
+        /// Which option.
+        number: u32,
+    },
+    /// A sample is out of range.
+    Sample {
+        /// The index of the first such sample.
+        index: u64,
+    },
+    /// The stream is cut or damaged.
+    Stream {
+        /// 6: the stream is cut. 7: a value is too large. 8: a run is too long.
+        number: u32,
+        /// The bit where the coded data set begins.
+        bit: u64,
+    },
+    /// A range is outside the samples.
+    Range {
+        /// The number of samples.
+        count: u64,
+    },
+    /// There are too many samples, or too many coded bytes.
+    Limit {
+        /// 9: samples. 16: coded bytes.
+        number: u32,
+        /// The greatest number of them.
+        limit: u64,
+    },
+    /// The coder of a workspace has been called 2^64 - 1 times.
+    Spent,
+    /// An allocation failed.
+    Memory,
+    /// The type of the elements isn't that of the stored samples. See [`Sample`](crate::Sample).
+    ElementType,
+}
+
+impl Error {
+    /// Returns the number of the fault in `aecp.h`. [`Error::ElementType`] is this crate's own, and
+    /// its number is 0.
+    pub fn number(&self) -> u32 {
+        match *self {
+            Error::Options { number }
+            | Error::Stream { number, .. }
+            | Error::Limit { number, .. } => number,
+            Error::Sample { .. } => 5,
+            Error::Range { .. } => 10,
+            Error::Spent => 11,
+            Error::Memory => 12,
+            Error::ElementType => raw::OK,
+        }
+    }
+
+    /// Returns the bit, index, count or limit that the fault names, else 0.
+    pub fn place(&self) -> u64 {
+        match *self {
+            Error::Sample { index } => index,
+            Error::Stream { bit, .. } => bit,
+            Error::Range { count } => count,
+            Error::Limit { limit, .. } => limit,
+            _ => 0,
+        }
+    }
+
+    /// The error of a reply whose fault isn't 0.
+    pub(crate) fn of(reply: raw::Reply) -> Error {
+        let (number, place) = (reply.fault, reply.place);
+        match number {
+            1..=4 | 17 => Error::Options { number },
+            5 => Error::Sample { index: place },
+            6..=8 => Error::Stream { number, bit: place },
+            9 | 16 => Error::Limit { number, limit: place },
+            10 => Error::Range { count: place },
+            11 => Error::Spent,
+            12 => Error::Memory,
+            _ => panic!("libaecp.a returned the fault {number}, which the crate aecp doesn't know"),
+        }
+    }
+}
+
+impl fmt::Display for Error {
+    fn fmt(&self, f: &mut fmt::Formatter<'_>) -> fmt::Result {
+        if *self == Error::ElementType {
+            return f.write_str("the type of the elements isn't that of the stored samples");
+        }
+        let reply = raw::Reply { fault: self.number(), place: self.place(), len: 0 };
+        let mut text = [0; 200];
+        let len = raw::text(&reply, &mut text).min(text.len() - 1);
+        f.write_str(&String::from_utf8_lossy(&text[..len]))
+    }
+}
+
+impl std::error::Error for Error {}

@@ -1,0 +1,146 @@
+//! Lossless coding of integer samples in the format CCSDS 121.0-B-3, over the proved library
+//! `libaecp.a`.
+//!
+//! ```
+//! use aecp::{decode, decode_range, encode, Options};
+//!
+//! let samples: Vec<u16> = (0..4096).map(|i| 1000 + i / 7).collect();
+//! let options = Options::new(16);
+//! let coded = encode(&samples, &options)?;
+//! assert!(coded.len() < 2 * samples.len());
+//!
+//! let back: Vec<u16> = decode(&coded, Some(4096), &options)?;
+//! assert_eq!(back, samples);
+//! let part: Vec<u16> = decode_range(&coded, Some(4096), 100, 50, &options)?;
+//! assert_eq!(part, samples[100..150]);
+//! # Ok::<(), aecp::Error>(())
+//! ```
+//!
+//! **A stream contains neither its options nor its sample count.** Keep both with the stream: no
+//! call can tell that they are wrong.
+//!
+//! The contracts of the library's calls are proved. This crate is tested, not proved. A thread
+//! needs at least 32 KiB of stack.
+#![warn(missing_docs)]
+
+mod error;
+mod options;
+#[allow(missing_docs)]
+mod raw;
+mod sample;
+mod workspace;
+
+pub use error::Error;
+pub use options::Options;
+pub use sample::Sample;
+pub use workspace::Workspace;
+
+/// The samples that a byte of a stream can stand for, at most: blocks of 64 zeros in runs of 64
+/// blocks, 9 bits a run.
+const MOST_A_BYTE: u64 = 64 * 64;
+/// The bytes that are allocated before the stream is checked, at most.
+const FIRST_ROOM: u64 = 1 << 24;
+
+/// Returns the three numbers of the version of the linked library.
+pub fn version() -> (u32, u32, u32) {
+    let number = raw::version();
+    (number / 10000, number / 100 % 100, number % 100)
+}
+
+/// Codes samples. Bytes at the end of a slice of `u8` that are no whole sample are dropped.
+///
+/// # Errors
+/// [`Error::Options`], [`Error::Sample`] with the index of the first sample that is out of range,
+/// [`Error::Limit`], [`Error::Memory`], [`Error::ElementType`].
+pub fn encode<T: Sample>(samples: &[T], options: &Options) -> Result<Vec<u8>, Error> {
+    sample::check_type::<T>(options)?;
+    let bytes = raw::bytes_of(samples);
+    let bound = options.bound((bytes.len() / options.storage()) as u64);
+    filled(bound, |out: &mut [u8]| raw::encode(&options.0, bytes, out))
+}
+
+/// Decodes the first `count` samples of a stream. Bytes after these are not read. With `None` all
+/// samples are decoded, and also the filling samples of the last block.
+///
+/// # Errors
+/// [`Error::Options`], [`Error::Stream`] with the bit where the refused coded data set begins,
+/// [`Error::Limit`], [`Error::Memory`], [`Error::ElementType`].
+///
+/// ```
+/// use aecp::{decode, Error, Options};
+///
+/// let refused = decode::<u8>(&[0x20], Some(8), &Options::new(8));
+/// assert_eq!(refused, Err(Error::Stream { number: 6, bit: 0 }));
+/// assert!(refused.unwrap_err().to_string().contains("bit 0"));
+/// ```
+pub fn decode<T: Sample>(
+    coded: &[u8],
+    count: Option<u64>,
+    options: &Options,
+) -> Result<Vec<T>, Error> {
+    sample::check_type::<T>(options)?;
+    let count = number_of(count);
+    let room = most_stored(coded, count, options);
+    filled(room, |out| raw::decode(&options.0, count, coded, out))
+}
+
+/// Decodes `len` of the first `count` samples, from place `first` on, counted from 0. The whole
+/// stream is checked.
+///
+/// # Errors
+/// Those of [`decode`], and [`Error::Range`].
+pub fn decode_range<T: Sample>(
+    coded: &[u8],
+    count: Option<u64>,
+    first: u64,
+    len: u64,
+    options: &Options,
+) -> Result<Vec<T>, Error> {
+    sample::check_type::<T>(options)?;
+    let count = number_of(count);
+    let room = most_stored(coded, len, options);
+    filled(room, |out| raw::range(&options.0, count, first, len, coded, out))
+}
+
+/// A count for C. `u64::MAX`, which stands for no count there, becomes the number below it.
+fn number_of(count: Option<u64>) -> u64 {
+    count.map_or(raw::ALL, |it| it.min(raw::ALL - 1))
+}
+
+/// A guess of the bytes that so many samples take, which a wrong count doesn't make large.
+fn most_stored(coded: &[u8], count: u64, options: &Options) -> u64 {
+    let most = (coded.len() as u64).saturating_mul(MOST_A_BYTE);
+    let stored = count.min(most).saturating_mul(options.storage() as u64);
+    stored.min(FIRST_ROOM)
+}
+
+/// A vector that a call fills. `room` is a guess of its bytes. If the call asks for more, it is
+/// made again.
+pub(crate) fn filled<T: Sample>(
+    room: u64,
+    call: impl Fn(&mut [u8]) -> raw::Reply,
+) -> Result<Vec<T>, Error> {
+    let mut room = room;
+    loop {
+        let size = std::mem::size_of::<T>() as u64;
+        let mut out: Vec<T> = zeros(room / size + u64::from(room % size != 0))?;
+        let reply = call(raw::bytes_of_mut(&mut out));
+        match reply.fault {
+            raw::OK => {
+                out.truncate(reply.len as usize / std::mem::size_of::<T>());
+                return Ok(out);
+            }
+            raw::NO_ROOM if reply.len > room => room = reply.len,
+            _ => return Err(Error::of(reply)),
+        }
+    }
+}
+
+/// A vector of so many zeros.
+pub(crate) fn zeros<T: Copy + Default>(len: u64) -> Result<Vec<T>, Error> {
+    let len = usize::try_from(len).map_err(|_| Error::Memory)?;
+    let mut out = Vec::new();
+    out.try_reserve_exact(len).map_err(|_| Error::Memory)?;
+    out.resize(len, T::default());
+    Ok(out)
+}

@@ -1,0 +1,332 @@
+//! The calls of libaecp.a. All unsafe code of this crate is in this file. Each of its functions is
+//! safe to call.
+
+use std::cell::UnsafeCell;
+use std::ffi::c_void;
+
+/// The version of the header that this file restates: 10,000, 100 and 1 times its three numbers.
+pub const VERSION: u32 = 100;
+
+pub const OK: u32 = 0;
+pub const NO_ROOM: u32 = 18;
+
+/// A sample count that stands for all samples of a stream.
+pub const ALL: u64 = u64::MAX;
+
+/// `aecp_options`.
+#[repr(C)]
+#[derive(Clone, Copy, Debug, PartialEq, Eq, Hash)]
+pub struct Options {
+    pub bits: u32,
+    pub block_size: u32,
+    pub interval: u32,
+    pub is_signed: bool,
+    pub msb_first: bool,
+    pub three_byte: bool,
+    pub preprocess: bool,
+    pub pad: bool,
+    pub restricted: bool,
+    pub even_blocks: bool,
+}
+
+/// `aecp_reply`.
+#[repr(C)]
+#[derive(Clone, Copy, Debug, Default, PartialEq, Eq)]
+pub struct Reply {
+    pub fault: u32,
+    pub place: u64,
+    pub len: u64,
+}
+
+#[repr(C)]
+struct CHandle {
+    at: *mut c_void,
+    full: bool,
+}
+
+extern "C" {
+    fn aecp_version() -> u32;
+    fn aecp_encode(
+        options: *const Options,
+        samples: *const c_void,
+        samples_len: usize,
+        out: *mut u8,
+        out_len: usize,
+        reply: *mut Reply,
+    ) -> u32;
+    fn aecp_decode(
+        options: *const Options,
+        count: u64,
+        coded: *const u8,
+        coded_len: usize,
+        out: *mut c_void,
+        out_len: usize,
+        reply: *mut Reply,
+    ) -> u32;
+    fn aecp_range(
+        options: *const Options,
+        count: u64,
+        first: u64,
+        len: u64,
+        coded: *const u8,
+        coded_len: usize,
+        out: *mut c_void,
+        out_len: usize,
+        reply: *mut Reply,
+    ) -> u32;
+    fn aecp_bound(options: *const Options, samples: u64) -> u64;
+    fn aecp_text(reply: *const Reply, out: *mut u8, out_len: usize) -> usize;
+    fn aecp_open(options: *const Options, handle: *mut CHandle, reply: *mut Reply) -> u32;
+    fn aecp_load(
+        options: *const Options,
+        count: u64,
+        coded: *const u8,
+        coded_len: usize,
+        handle: *mut CHandle,
+        reply: *mut Reply,
+    ) -> u32;
+    fn aecp_close(handle: *mut CHandle);
+    fn aecp_append(
+        handle: *mut CHandle,
+        values: *const i64,
+        values_len: usize,
+        reply: *mut Reply,
+    ) -> u32;
+    fn aecp_truncate(handle: *mut CHandle, count: u64, reply: *mut Reply) -> u32;
+    fn aecp_remove(handle: *mut CHandle, first: u64, len: u64, reply: *mut Reply) -> u32;
+    fn aecp_overwrite(
+        handle: *mut CHandle,
+        first: u64,
+        values: *const i64,
+        values_len: usize,
+        reply: *mut Reply,
+    ) -> u32;
+    fn aecp_insert(
+        handle: *mut CHandle,
+        first: u64,
+        values: *const i64,
+        values_len: usize,
+        reply: *mut Reply,
+    ) -> u32;
+    fn aecp_read(
+        handle: *mut CHandle,
+        first: u64,
+        len: u64,
+        out: *mut i64,
+        out_len: usize,
+        reply: *mut Reply,
+    ) -> u32;
+    fn aecp_write(handle: *mut CHandle, out: *mut u8, out_len: usize, reply: *mut Reply) -> u32;
+    fn aecp_size(handle: *mut CHandle) -> u64;
+    fn aecp_calls(handle: *mut CHandle) -> u64;
+}
+
+/// The version of the linked library.
+pub fn version() -> u32 {
+    // SAFETY: the function takes nothing, and reads no memory.
+    unsafe { aecp_version() }
+}
+
+/// Fails if the linked library has another version than [`VERSION`], whose structures may differ.
+fn assert_version() {
+    assert_eq!(version() / 100, VERSION / 100, "libaecp.a has another version than the crate aecp");
+}
+
+/// Codes stored samples into `out`.
+pub fn encode(options: &Options, samples: &[u8], out: &mut [u8]) -> Reply {
+    assert_version();
+    let mut reply = Reply::default();
+    // SAFETY: the pointers and lengths are those of live slices; `out` and `reply` are exclusive
+    // borrows, so they overlap nothing.
+    unsafe {
+        aecp_encode(
+            options,
+            samples.as_ptr().cast(),
+            samples.len(),
+            out.as_mut_ptr(),
+            out.len(),
+            &mut reply,
+        );
+    }
+    reply
+}
+
+/// Decodes the first `count` samples into `out`, as they are stored.
+pub fn decode(options: &Options, count: u64, coded: &[u8], out: &mut [u8]) -> Reply {
+    assert_version();
+    let mut reply = Reply::default();
+    // SAFETY: as in `encode`.
+    unsafe {
+        aecp_decode(
+            options,
+            count,
+            coded.as_ptr(),
+            coded.len(),
+            out.as_mut_ptr().cast(),
+            out.len(),
+            &mut reply,
+        );
+    }
+    reply
+}
+
+/// Decodes `len` of these samples, from place `first` on.
+pub fn range(
+    options: &Options,
+    count: u64,
+    first: u64,
+    len: u64,
+    coded: &[u8],
+    out: &mut [u8],
+) -> Reply {
+    assert_version();
+    let mut reply = Reply::default();
+    let (at, room) = (out.as_mut_ptr().cast(), out.len());
+    // SAFETY: as in `encode`.
+    unsafe {
+        aecp_range(options, count, first, len, coded.as_ptr(), coded.len(), at, room, &mut reply);
+    }
+    reply
+}
+
+/// A length in bytes that suffices for the code of so many samples. 0 if the options are refused.
+pub fn bound(options: &Options, samples: u64) -> u64 {
+    assert_version();
+    // SAFETY: the pointer is that of a live borrow.
+    unsafe { aecp_bound(options, samples) }
+}
+
+/// Writes the text of a reply and a zero into `out`. The length of the whole text, which may be
+/// longer than `out`.
+pub fn text(reply: &Reply, out: &mut [u8]) -> usize {
+    // SAFETY: as in `encode`.
+    unsafe { aecp_text(reply, out.as_mut_ptr(), out.len()) }
+}
+
+/// The samples of a stored type as bytes.
+pub fn bytes_of<T: crate::Sample>(samples: &[T]) -> &[u8] {
+    // SAFETY: `Sample` is sealed, and each type that has it is an integer: no padding, and each
+    // byte is initialised.
+    unsafe { std::slice::from_raw_parts(samples.as_ptr().cast(), std::mem::size_of_val(samples)) }
+}
+
+/// The same, to be filled.
+pub fn bytes_of_mut<T: crate::Sample>(samples: &mut [T]) -> &mut [u8] {
+    // SAFETY: as in `bytes_of`; every pattern of bits is a value of an integer.
+    unsafe {
+        std::slice::from_raw_parts_mut(samples.as_mut_ptr().cast(), std::mem::size_of_val(samples))
+    }
+}
+
+/// A handle with a workspace, or with none. Its calls take `&self`, since the type isn't `Sync`.
+pub struct Handle(UnsafeCell<CHandle>);
+
+// SAFETY: the workspace behind the pointer belongs to this handle alone, and the library keeps
+// nothing for a thread. So any thread may call, one at a time: `UnsafeCell` and the pointer leave
+// the type without `Sync`.
+unsafe impl Send for Handle {}
+
+impl Drop for Handle {
+    fn drop(&mut self) {
+        // SAFETY: the handle began as AECP_HANDLE and only the library has changed it. Nothing
+        // borrows it any more.
+        unsafe { aecp_close(self.0.get()) }
+    }
+}
+
+impl Handle {
+    /// A handle that holds no workspace.
+    fn empty() -> Handle {
+        Handle(UnsafeCell::new(CHandle { at: std::ptr::null_mut(), full: false }))
+    }
+
+    /// Makes one call with the handle.
+    fn with(&self, call: impl FnOnce(*mut CHandle, &mut Reply)) -> Reply {
+        let mut reply = Reply::default();
+        call(self.0.get(), &mut reply);
+        reply
+    }
+
+    /// A handle with an empty workspace, or with none if the reply has a fault.
+    pub fn open(options: &Options) -> (Handle, Reply) {
+        assert_version();
+        let handle = Handle::empty();
+        // SAFETY: the handle is AECP_HANDLE, and no other thread has it.
+        let reply = handle.with(|at, reply| unsafe {
+            aecp_open(options, at, reply);
+        });
+        (handle, reply)
+    }
+
+    /// The same with the samples of a stream.
+    pub fn load(options: &Options, count: u64, coded: &[u8]) -> (Handle, Reply) {
+        assert_version();
+        let handle = Handle::empty();
+        // SAFETY: as in `open`; pointer and length are those of a live slice.
+        let reply = handle.with(|at, reply| unsafe {
+            aecp_load(options, count, coded.as_ptr(), coded.len(), at, reply);
+        });
+        (handle, reply)
+    }
+
+    pub fn append(&mut self, values: &[i64]) -> Reply {
+        // SAFETY: the handle is the library's own since `open` or `load`; pointer and length are
+        // those of a live slice. The type isn't `Sync` and no call runs another, so one thread at a
+        // time has the handle.
+        self.with(|at, reply| unsafe {
+            aecp_append(at, values.as_ptr(), values.len(), reply);
+        })
+    }
+
+    pub fn truncate(&mut self, count: u64) -> Reply {
+        // SAFETY: as in `append`.
+        self.with(|at, reply| unsafe {
+            aecp_truncate(at, count, reply);
+        })
+    }
+
+    pub fn remove(&mut self, first: u64, len: u64) -> Reply {
+        // SAFETY: as in `append`.
+        self.with(|at, reply| unsafe {
+            aecp_remove(at, first, len, reply);
+        })
+    }
+
+    pub fn overwrite(&mut self, first: u64, values: &[i64]) -> Reply {
+        // SAFETY: as in `append`.
+        self.with(|at, reply| unsafe {
+            aecp_overwrite(at, first, values.as_ptr(), values.len(), reply);
+        })
+    }
+
+    pub fn insert(&mut self, first: u64, values: &[i64]) -> Reply {
+        // SAFETY: as in `append`.
+        self.with(|at, reply| unsafe {
+            aecp_insert(at, first, values.as_ptr(), values.len(), reply);
+        })
+    }
+
+    pub fn read(&self, first: u64, len: u64, out: &mut [i64]) -> Reply {
+        // SAFETY: as in `append`; `out` is an exclusive borrow.
+        self.with(|at, reply| unsafe {
+            aecp_read(at, first, len, out.as_mut_ptr(), out.len(), reply);
+        })
+    }
+
+    pub fn write(&self, out: &mut [u8]) -> Reply {
+        // SAFETY: as in `read`.
+        self.with(|at, reply| unsafe {
+            aecp_write(at, out.as_mut_ptr(), out.len(), reply);
+        })
+    }
+
+    pub fn size(&self) -> u64 {
+        // SAFETY: as in `append`.
+        unsafe { aecp_size(self.0.get()) }
+    }
+
+    pub fn calls(&self) -> u64 {
+        // SAFETY: as in `append`.
+        unsafe { aecp_calls(self.0.get()) }
+    }
+}

@@ -1,0 +1,217 @@
+"""The wheel in fresh environments of Python, and the Rust crate over the packed archive, for packages.py."""
+
+import glob
+import os
+import re
+import shutil
+import subprocess
+import sys
+
+from library_arrays import interpreter
+
+TOP = os.path.dirname(os.path.dirname(os.path.abspath(__file__)))
+
+WITHOUT_NUMPY = """
+import aecp, sys
+assert "numpy" not in sys.modules
+options = aecp.Options(bits=16)
+samples = bytes(range(200)) * 10
+coded = aecp.encode(samples, options)
+assert bytes(aecp.decode_bytes(coded, 1000, options)) == samples
+with aecp.Workspace.of_coded(coded, 1000, options) as work:
+    work[10:13] = [7, 8, 9]
+    assert list(work[10:13]) == [7, 8, 9] and len(work) == 1000
+try:
+    aecp.decode(coded, 1000, options)
+except ImportError as fault:
+    assert "numpy" in str(fault)
+else:
+    raise SystemExit("arrays without numpy")
+print(aecp.__version__)
+"""
+
+WITH_NUMPY = """
+import aecp, numpy
+samples = numpy.arange(4096, dtype="<u2")
+options = aecp.Options(bits=16)
+coded = aecp.encode(samples, options)
+assert (aecp.decode(coded, 4096, options) == samples).all()
+"""
+
+WITH_NUMCODECS = """
+import numcodecs, numpy
+codec = numcodecs.get_codec({"id": "aecp", "bits": 16})
+samples = numpy.arange(4096, dtype="<u2")
+assert (numpy.frombuffer(codec.decode(codec.encode(samples)), "<u2") == samples).all()
+try:
+    import zarr
+except ImportError:
+    print("no zarr")
+else:
+    if zarr.__version__.startswith("2"):
+        array = zarr.array(samples.reshape(64, 64), chunks=(16, 64), compressor=codec)
+        assert (array[:].ravel() == samples).all() and array.nbytes_stored < samples.nbytes
+        print("zarr", zarr.__version__)
+"""
+
+# What a caller writes, for mypy --strict.
+TYPED = """
+import aecp
+
+
+def coded(samples: bytes, options: aecp.Options) -> bytes:
+    return bytes(aecp.encode(samples, options))
+
+
+def total(work: aecp.Workspace) -> int:
+    return sum(work)
+"""
+
+
+def clean():
+    """An environment without the kit, cargo or a setting of this repository."""
+    return {"PATH": "/usr/bin:/bin", "HOME": "/nonexistent", "LC_ALL": "C.UTF-8"}
+
+
+def run(words, **more):
+    """The status of a command in a clean environment, and what it prints."""
+    done = subprocess.run(words, capture_output=True, text=True, env={**clean(), **more}, cwd="/", timeout=250)
+    return done.returncode, done.stdout + done.stderr
+
+
+def venv(python, folder, *words):
+    """A fresh environment. The path of its interpreter, or None."""
+    status, said = run([python, "-m", "venv", *words, folder])
+    if status:
+        print(f"skipped, since {python} can't make an environment: {said[-200:]}")
+        return None
+    return os.path.join(folder, "bin", "python")
+
+
+def files_of(python):
+    """The files of an environment but those that Python has compiled."""
+    top = os.path.dirname(os.path.dirname(python))
+    found = {os.path.relpath(os.path.join(at, name), top) for at, _, names in os.walk(top) for name in names}
+    return {it for it in found if "__pycache__" not in it}
+
+
+def try_bare(python, wheel, tally):
+    """The wheel without numpy: installed, used by module and command, removed."""
+    before = files_of(python)
+    status, said = run([python, "-m", "pip", "install", "--no-index", "--disable-pip-version-check", wheel])
+    tally.holds(status == 0, f"pip install: {said}")
+    status, said = run([python, "-c", WITHOUT_NUMPY])
+    tally.check("the module without numpy", (status, said.strip()), (0, open(os.path.join(TOP, "VERSION")).read().strip()))
+    command = os.path.join(os.path.dirname(python), "aecp")
+    status, said = run([command, "--help"])
+    tally.holds(status == 0 and "keep" in said, f"aecp --help: {said}")
+    try_archive(command, os.path.dirname(os.path.dirname(python)), tally)
+    status, said = run([python, "-m", "pip", "uninstall", "-y", "--disable-pip-version-check", "aecp"])
+    tally.holds(status == 0, f"pip uninstall: {said}")
+    tally.check("what the wheel leaves", sorted(files_of(python) - before), [])
+
+
+def try_archive(command, folder, tally):
+    """The command on a file: kept, and checked."""
+    path = os.path.join(folder, "durations.raw")
+    shutil.copy(os.path.join(TOP, "examples", "durations.raw"), path)
+    for words in (["keep", path, "-n", "16"], ["check", path + ".aec"]):
+        status, said = run([command, *words])
+        tally.holds(status == 0, f"aecp {words[0]}: {said}")
+    for left in glob.glob(path + "*"):
+        os.remove(left)
+
+
+def try_arrays(python, wheel, folder, tally):
+    """The wheel beside numpy, numcodecs and zarr, as far as the system has them."""
+    status, said = run([python, "-m", "pip", "install", "--no-index", "--no-deps", "--disable-pip-version-check", wheel])
+    tally.holds(status == 0, f"pip install beside numpy: {said}")
+    tally.check("the module with numpy", run([python, "-c", WITH_NUMPY]), (0, ""))
+    if run([python, "-c", "import numcodecs"])[0]:
+        tally.skip("python3-numcodecs", "the codec of the wheel")
+    else:
+        status, said = run([python, "-c", WITH_NUMCODECS])
+        tally.holds(status == 0, f"the codec by its entry point: {said}")
+        print(f"numcodecs: {said.strip() or 'without zarr 2'}")
+    try_types(python, folder, tally)
+
+
+def try_types(python, folder, tally):
+    """A typed caller of the installed module."""
+    mypy = shutil.which("mypy") or shutil.which("mypy", path="/usr/bin")
+    if not mypy:
+        tally.skip("mypy", "a typed caller of the module")
+        return
+    source = os.path.join(folder, "typed.py")
+    with open(source, "w", encoding="utf-8") as file:
+        file.write(TYPED)
+    status, said = run([mypy, "--strict", "--cache-dir", os.path.join(folder, "mypy"), "--python-executable", python, source])
+    tally.holds(status == 0, f"mypy --strict on a caller: {said}")
+
+
+def try_wheel(wheel, folder, tally):
+    """The wheel in an environment without numpy, and in one with it."""
+    bare = venv(sys.executable, os.path.join(folder, "bare"))
+    if bare:
+        try_bare(bare, wheel, tally)
+    python = interpreter()
+    full = python and venv(python, os.path.join(folder, "full"), "--system-site-packages")
+    if full:
+        try_arrays(full, wheel, folder, tally)
+    else:
+        tally.skip("python3-numpy", "the wheel beside numpy")
+
+
+def try_make(folder, tally):
+    """`make install-library` below an empty folder, and its removal."""
+    places = [f"DESTDIR={folder}", "PREFIX=/usr", "PYTHON_DIR=/usr/lib/python3/dist-packages"]
+    words = ["make", "-s", "-C", TOP, *places, f"PYTHON={sys.executable}"]
+    tally.check("make install-library", run([*words, "install-library"]), (0, ""))
+    module = os.path.join(folder, "usr/lib/python3/dist-packages")
+    status, said = run([sys.executable, "-c", "import aecp; print(aecp.__version__)"], PYTHONPATH=module)
+    tally.check("the installed module", (status, said.strip()), (0, open(os.path.join(TOP, "VERSION")).read().strip()))
+    tally.check("make uninstall-library", run([*words, "uninstall-library"]), (0, ""))
+    left = [os.path.join(at, name) for at, _, names in os.walk(folder) for name in names]
+    tally.check("what make uninstall-library leaves", left, [])
+
+
+def try_unsafe(tally):
+    """That unsafe code is in one file, with a reason at each block."""
+    for path in sorted(glob.glob(os.path.join(TOP, "rust/aecp/**/*.rs"), recursive=True)):
+        with open(path, encoding="utf-8") as file:
+            text = re.sub(r"(?m)//(?! SAFETY:).*$", "", file.read())
+        blocks = len(re.findall(r"\bunsafe\b", text))
+        if os.path.basename(path) == "raw.rs":
+            tally.check("unsafe blocks and their reasons", text.count("// SAFETY:"), blocks)
+        else:
+            tally.check(f"unsafe code in {path}", blocks, 0)
+
+
+def cargo(crate, folder, *words, **more):
+    """The status of cargo in a crate, and the end of what it prints."""
+    given = {**os.environ, "RUST_BACKTRACE": "0", "CARGO_TARGET_DIR": os.path.join(folder, "target"), "CARGO_TERM_COLOR": "never", **more}
+    given.pop("AECP_LIB_DIR", None) if "AECP_LIB_DIR" not in more else None
+    done = subprocess.run(["cargo", *words, "--offline"], cwd=crate, capture_output=True, text=True, env=given, timeout=250)
+    return done.returncode, (done.stdout + done.stderr)[-3000:]
+
+
+def try_crate(unpacked, folder, tally):
+    """The tests of the crate, by AECP_LIB_DIR and by pkg-config, and clippy."""
+    try_unsafe(tally)
+    if not tally.has("cargo", "the tests of the Rust crate"):
+        return
+    crate, lib = os.path.join(folder, "crate"), os.path.join(unpacked, "lib")
+    shutil.copytree(os.path.join(TOP, "rust/aecp"), crate, ignore=shutil.ignore_patterns("target", "Cargo.lock"))
+    status, said = cargo(crate, folder, "test", AECP_LIB_DIR=lib)
+    tally.holds(status == 0, f"cargo test: {said}")
+    print(f"cargo test: {', '.join(re.findall(r'test result: ok. ([0-9]+ passed)', said))}")
+    if shutil.which("pkg-config"):
+        status, said = cargo(crate, folder, "test", "--test", "calls", PKG_CONFIG_PATH=os.path.join(lib, "pkgconfig"))
+        tally.holds(status == 0, f"cargo test by pkg-config: {said}")
+    status, said = cargo(crate, folder, "build", AECP_LIB_DIR="/nonexistent")
+    tally.holds(status != 0 and "/nonexistent has no libaecp.a" in said, f"cargo build without the library: {said}")
+    if subprocess.run(["cargo", "clippy", "--version"], capture_output=True).returncode:
+        tally.skip("cargo-clippy", "clippy on the Rust crate")
+        return
+    status, said = cargo(crate, folder, "clippy", "--all-targets", AECP_LIB_DIR=lib, RUSTFLAGS="-D warnings")
+    tally.holds(status == 0, f"cargo clippy: {said}")

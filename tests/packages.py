@@ -1,0 +1,283 @@
+#!/usr/bin/env python3
+"""The packages of `make dist`, installed where neither the kit nor, if they need none, Python or a compiler is: packages.py [--quick]
+
+Runs `make dist` here and in a copy of the checkout elsewhere, and compares the bytes. Installs each package into an empty root, runs
+the commands of README there, removes the package, and looks for files that are left. Then the wheel in fresh environments, and the
+tests of the Rust crate over the packed archive. All versions must be that of the file VERSION.
+
+A part that needs a program which isn't on the machine is skipped, with a line. MUST_RUN names programs (`lintian cargo`): if one of
+them is missing, the test fails. If MUST_RUN contains the word `proved`, the test also fails if a binary of bin/ isn't what a proving
+build has written at this commit. With --quick the root is never Debian's least system, which takes a minute to make. Prints the
+checks that fail and, last, how many passed. Ends with 1 if one failed.
+"""
+
+import glob
+import os
+import re
+import shutil
+import subprocess
+import sys
+import tempfile
+import time
+
+HERE = os.path.dirname(os.path.abspath(__file__))
+TOP = os.path.dirname(HERE)
+sys.path.insert(0, os.path.join(TOP, "packaging"))
+sys.dont_write_bytecode = True
+
+import elf
+import package_modules
+import package_roots
+import proved
+import wheel
+from program import Tally
+
+DIST = os.path.join(TOP, "dist")
+LIB = "usr/lib/x86_64-linux-gnu"
+
+
+class Checks(Tally):
+    """A count of checks, and the programs that must be here."""
+
+    def __init__(self):
+        super().__init__()
+        self.must = os.environ.get("MUST_RUN", "").split()
+
+    def skip(self, name, what):
+        """Prints that a part is skipped, since a program isn't on the machine. Fails if it must be."""
+        print(f"skipped, since there is no {name}: {what}", flush=True)
+        if name in self.must:
+            self.holds(False, f"{name} must be here")
+
+    def has(self, name, what):
+        """Whether a program is on the path."""
+        if shutil.which(name):
+            return True
+        self.skip(name, what)
+        return False
+
+
+def version():
+    with open(os.path.join(TOP, "VERSION"), encoding="utf-8") as file:
+        return file.read().strip()
+
+
+def dist(top):
+    """Runs `make dist` in a checkout. The packages, by name. Binaries that nobody has proved are packed for a try."""
+    words = ["make", "-s", "-C", top, "dist", f"PYTHON={sys.executable}"] + ([] if is_proved() else ["UNPROVED=1"])
+    subprocess.run(words, check=True, stdout=subprocess.DEVNULL)
+    return {os.path.basename(path): path for path in glob.glob(os.path.join(top, "dist", "*"))}
+
+
+def is_proved():
+    try:
+        return bool(proved.kit_of(["bin/aec", "bin/libaecp.a", "bin/libaecp.so"]))
+    except proved.NotProved:
+        return False
+
+
+def data_of(path):
+    with open(path, "rb") as file:
+        return file.read()
+
+
+def copied_checkout(folder):
+    """A copy of the files of git, of git itself, and of bin/."""
+    for name in filter(None, proved.git("ls-files", "-coz", "--exclude-standard").split("\0")):
+        if os.path.lexists(os.path.join(TOP, name)):
+            os.makedirs(os.path.dirname(os.path.join(folder, name)), exist_ok=True)
+            shutil.copy2(os.path.join(TOP, name), os.path.join(folder, name), follow_symlinks=False)
+    shutil.copytree(os.path.join(TOP, "bin"), os.path.join(folder, "bin"))
+    git = os.path.join(TOP, ".git")
+    (shutil.copytree if os.path.isdir(git) else shutil.copy2)(git, os.path.join(folder, ".git"))
+
+
+def try_builds(made, folder, tally):
+    """That a build in another folder writes the same bytes, and that no binary contains a path of this machine."""
+    other = os.path.join(folder, "elsewhere", "checkout")
+    copied_checkout(other)
+    again = dist(other)
+    tally.check("the names of a second build", sorted(again), sorted(made))
+    for name in sorted(made):
+        tally.holds(data_of(made[name]) == data_of(again.get(name, made[name])), f"a second build of {name} has other bytes")
+    for name in ("aec", "libaecp.a", "libaecp.so"):
+        found = re.findall(rb"/(?:tmp|home|root|work)/[\w./-]+|" + re.escape(TOP.encode()), data_of(os.path.join(TOP, "bin", name)))
+        tally.check(f"paths of this machine in bin/{name}", found, [])
+
+
+def try_links_again(tally):
+    """That linking the library again writes the same bytes."""
+    archive = os.path.join(TOP, "crates/aec_c/out/libaec_c.a")
+    if not (os.path.exists(archive) and tally.has("rt", "linking the library again")):
+        print("skipped, since make library wasn't run here: linking the library again")
+        return
+    paths = [os.path.join(TOP, "bin", name) for name in ("libaecp.a", "libaecp.so")]
+    before = [data_of(path) for path in paths]
+    subprocess.run(["sh", "library.sh", "--link"], cwd=TOP, check=True)
+    for path, data in zip(paths, before):
+        tally.holds(data_of(path) == data, f"linking {path} again writes other bytes")
+
+
+def try_symbols(made, tally):
+    """That the binaries need no newer C library than the packages say, and no other library."""
+    library, program = os.path.join(TOP, "bin/libaecp.so"), os.path.join(TOP, "bin/aec")
+    needed = elf.glibc_needed(library)
+    tally.holds(needed <= wheel.GLIBC, f"the wheel is {wheel.TAG}, and the library needs glibc {needed}")
+    for path in (library, program):
+        tally.holds(set(elf.libraries_needed(path)) <= {"libc.so.6"}, f"{path} needs {elf.libraries_needed(path)}")
+    told = subprocess.run(["dpkg-deb", "-f", made[f"aec-proved_{version()}_amd64.deb"], "Depends"], capture_output=True, text=True).stdout
+    tally.check("what the package of the program needs", told.strip(), "libc6 (>= {}.{})".format(*elf.glibc_needed(program)))
+    print("glibc: the program needs {}.{}, the library {}.{}".format(*elf.glibc_needed(program), *needed))
+
+
+def commands_of(page):
+    """The commands of README's first use of the program, which work on a file of examples/."""
+    with open(page, encoding="utf-8") as file:
+        blocks = re.findall(r"(?ms)^```sh\n(.*?)^```$", file.read())
+    return next(it for it in blocks if re.search(r"^aec .*examples/", it, re.M))
+
+
+def try_commands(root, page, name, tally):
+    """README's commands in a root, with the installed examples."""
+    top = "" if root.words else root.path
+    script = f"""set -e
+export PATH="{top}/opt/aec/bin:$PATH"
+rm -rf {top}/tmp/use
+mkdir {top}/tmp/use
+cd {top}/tmp/use
+ln -s {top}{os.path.dirname(page)}/examples .
+"""
+    status, said = root.run(script + commands_of(root.inside(page)))
+    tally.holds(status == 0, f"{name}: README's commands end with {status}: {said}")
+
+
+def try_tarball(made, root, folder, tally):
+    """Unpacked, installed, used, removed."""
+    name = f"aec-{version()}-x86_64-linux"
+    before = root.files()
+    subprocess.run(["tar", "-C", folder, "-xzf", made[name + ".tar.gz"]], check=True)
+    root.copy(os.path.join(folder, name), f"/tmp/{name}")
+    place, prefix = (f"/tmp/{name}", "/opt/aec") if root.words else (root.inside(f"/tmp/{name}"), root.inside("/opt/aec"))
+    for words, script in (("sums", f"cd {place}; grep '^[0-9a-f]' PROVED | sha256sum -c"), ("install", f"sh {place}/install.sh {prefix}")):
+        status, said = root.run(script)
+        tally.holds(status == 0, f"the tarball's {words}: {said}")
+    tally.check("the tarball's program", root.run(f"{prefix}/bin/aec --version"), (0, f"aec {version()}\n"))
+    try_commands(root, "/opt/aec/share/doc/aec/README.md", "tarball", tally)
+    try_c(root.inside("/opt/aec"), "lib", "tarball", root, folder, tally)
+    status, said = root.run(f"sh {place}/install.sh uninstall {prefix}")
+    tally.holds(status == 0, f"the tarball's uninstall: {said}")
+    tally.check("what the tarball leaves", sorted(root.files() - before), [])
+    status, said = root.run(f"PROGRAM=aec-proved sh {place}/install.sh {prefix} && {prefix}/bin/aec-proved --version")
+    tally.holds(status == 0 and not os.path.exists(root.inside("/opt/aec/bin/aec")), f"the tarball under another name: {said}")
+    root.run(f"PROGRAM=aec-proved sh {place}/install.sh uninstall {prefix}")
+    tally.check("what the tarball leaves under another name", sorted(root.files() - before), [])
+
+
+def c_example():
+    """The program of docs/LIBRARY.md."""
+    with open(os.path.join(TOP, "docs", "LIBRARY.md"), encoding="utf-8") as file:
+        return re.search(r"(?s)```c\n(#include <aecp.h>.*?)```", file.read())[1]
+
+
+def try_c(prefix, lib, name, root, folder, tally):
+    """The program of docs/LIBRARY.md: compiled here by what is installed in the root, and run there."""
+    if not (tally.has("cc", "the library for C") and tally.has("pkg-config", "the library for C")):
+        return
+    source, built = os.path.join(folder, "example.c"), os.path.join(folder, f"example_{name}")
+    with open(source, "w", encoding="utf-8") as file:
+        file.write(c_example())
+    pkg = {**os.environ, "PKG_CONFIG_PATH": os.path.join(prefix, lib, "pkgconfig")}
+    if name == "deb":
+        pkg["PKG_CONFIG_SYSROOT_DIR"] = root.path
+    told = subprocess.run(["pkg-config", "--modversion", "aecp"], capture_output=True, text=True, env=pkg).stdout.strip()
+    tally.check(f"{name}: the version of aecp.pc", told, version())
+    words = subprocess.run(["pkg-config", "--cflags", "--libs", "aecp"], capture_output=True, text=True, env=pkg).stdout.split()
+    for kind in ("shared", "static"):
+        linked = words if kind == "shared" else ["-l:libaecp.a" if word == "-laecp" else word for word in words]
+        done = subprocess.run(["cc", "-o", built, source, *linked], capture_output=True, text=True)
+        tally.holds(done.returncode == 0, f"{name}: cc with {linked} says {done.stderr}")
+        if done.returncode == 0:
+            root.copy(built, "/tmp/example")
+            inside = f"{prefix}/{lib}".removeprefix(root.path if root.words else "")
+            path = f"LD_LIBRARY_PATH={inside} " if kind == "shared" and name != "deb" else ""
+            status, said = root.run(path + ("/tmp/example" if root.words else root.inside("/tmp/example")))
+            tally.holds(status == 0 and "last sample 7" in said, f"{name}: the {kind} program of LIBRARY prints {said!r}")
+
+
+def try_debs(made, root, folder, tally):
+    """The Debian packages: installed beside a file /usr/bin/aec of another package and without it, used, removed."""
+    if root.words is None:
+        print("skipped, since no other root can be entered here: dpkg")
+        return
+    debs = [f"{name}_{version()}_amd64.deb" for name in ("aec-proved", "libaecp0", "libaecp-dev")]
+    for deb in debs:
+        root.copy(made[deb], f"/tmp/{deb}")
+    before = root.files()
+    for has_other in (True, False):
+        other = root.inside("/usr/bin/aec")
+        if has_other:
+            with open(other, "w", encoding="utf-8") as file:
+                file.write("libaec's client\n")
+        # libaecp-dev needs libc6-dev, which a root without a compiler lacks.
+        status, said = root.run(f"cd /tmp && dpkg -i {debs[0]} {debs[1]} && dpkg -i --force-depends {debs[2]}")
+        tally.holds(status == 0, f"dpkg -i: {said}")
+        tally.check("aec-proved --version", root.run("aec-proved --version"), (0, f"aec {version()}\n"))
+        status, said = root.run("for name in /usr/share/doc/*/PROVED; do grep '^[0-9a-f]' $name; done | sha256sum -c")
+        tally.holds(status == 0 and said.count(": OK") >= 3, f"the sums of PROVED: {said}")
+        if has_other:
+            tally.check("a file of another package", data_of(other), b"libaec's client\n")
+        else:
+            tally.check("aec of the alternatives", root.run("aec --version"), (0, f"aec {version()}\n"))
+            try_commands(root, "/usr/share/doc/aec-proved/README.md", "deb", tally)
+            try_c(root.inside("/usr"), LIB.removeprefix("usr/"), "deb", root, folder, tally)
+        status, said = root.run("dpkg -P libaecp-dev libaecp0 aec-proved")
+        tally.holds(status == 0, f"dpkg -P: {said}")
+        if has_other:
+            tally.check("a file of another package, at last", data_of(other), b"libaec's client\n")
+            os.remove(other)
+        tally.check("what the packages leave", sorted(root.files() - before), [])
+
+
+def try_lintian(made, tally):
+    if tally.has("lintian", "lintian on the Debian packages"):
+        debs = sorted(path for name, path in made.items() if name.endswith(".deb"))
+        done = subprocess.run(["lintian", "--fail-on", "error,warning", "--tag-display-limit", "0", *debs], capture_output=True, text=True)
+        tally.check("lintian", (done.returncode, done.stdout), (0, ""))
+
+
+def try_versions(made, tally):
+    """That each package has the version of the file VERSION, in its name and inside."""
+    for name in made:
+        tally.holds(version() in name, f"{name} has another version than {version()}")
+    for name in filter(lambda it: it.endswith(".deb"), made):
+        told = subprocess.run(["dpkg-deb", "-f", made[name], "Version"], capture_output=True, text=True).stdout
+        tally.check(f"the version in {name}", told.strip(), version())
+
+
+def main():
+    begun, tally = time.monotonic(), Checks()
+    if "--quick" in sys.argv[1:]:
+        package_roots.debian_root = lambda root: False
+    tally.holds(is_proved() or "proved" not in tally.must, "the binaries of bin/ are not those of a proving build at this commit")
+    made = dist(TOP)
+    print(f"make dist: {time.monotonic() - begun:.0f} s" + ("" if is_proved() else ", of binaries that nobody has proved"), flush=True)
+    with tempfile.TemporaryDirectory() as folder:
+        try_versions(made, tally)
+        try_builds(made, folder, tally)
+        try_links_again(tally)
+        try_symbols(made, tally)
+        try_lintian(made, tally)
+        root = package_roots.Root(folder)
+        print(f"installed in {root.kind}, {time.monotonic() - begun:.0f} s after the start", flush=True)
+        try_tarball(made, root, folder, tally)
+        try_debs(made, root, folder, tally)
+        package_modules.try_make(os.path.join(folder, "made"), tally)
+        package_modules.try_wheel(next(path for name, path in made.items() if name.endswith(".whl")), folder, tally)
+        package_modules.try_crate(os.path.join(folder, f"aec-{version()}-x86_64-linux"), folder, tally)
+    print(f"packages: {time.monotonic() - begun:.0f} s")
+    tally.print()
+    return 1 if tally.failed else 0
+
+
+if __name__ == "__main__":
+    sys.exit(main())

@@ -1,0 +1,89 @@
+#!/usr/bin/env python3
+"""Puts the version of the file VERSION into each file that has to contain it: version.py [--check]
+
+The file VERSION is the one place where a version is changed. Makefile, tools/man.py, packaging/ and the tests read it. Files that
+cannot read it, such as sources and headers, contain a copy, and PLACES lists these copies. `make version` writes the copies, the
+manual page and docs/PROOFS.md.
+
+With --check nothing is written, and the script fails if a copy differs.
+"""
+
+import os
+import re
+import sys
+
+TOP = os.path.join(os.path.dirname(os.path.abspath(__file__)), "..")
+
+# The files with a copy, and the text around each copy. POINTS stands for 1.2.3, and NUMBER for 10203.
+PLACES = [
+    ("crates/aec_cli/src/words.rt", 'const VERSION: &str = "POINTS";'),
+    ("crates/aec_trials/src/words.rt", 'b"aec POINTS\\n"'),
+    ("crates/aec_c/src/exports.rt", "aecp_version() -> u32\n    ensures { result ≡ NUMBER }\n{\n    NUMBER\n}"),
+    ("crates/aec_c/claims.txt", "The version is NUMBER, that of POINTS\n"),
+    ("include/aecp.h", "The version of this header, POINTS:"),
+    ("include/aecp.h", "#define AECP_VERSION NUMBER\n"),
+    ("python/aecp/__init__.py", '__version__ = "POINTS"\n'),
+    ("python/aecp/library.py", "\nVERSION = NUMBER  # POINTS, as AECP_VERSION of aecp.h\n"),
+    ("rust/aecp/Cargo.toml", '\nversion = "POINTS"\n'),
+    ("rust/aecp/src/raw.rs", "pub const VERSION: u32 = NUMBER;\n"),
+    ("CITATION.cff", "\nversion: POINTS\n"),
+    ("docs/DECISIONS.md", "print `aec POINTS`"),
+]
+
+
+def version():
+    """The version, three numbers with points between them."""
+    with open(os.path.join(TOP, "VERSION"), encoding="utf-8") as file:
+        text = file.read().strip()
+    if not re.fullmatch(r"\d+\.\d\d?\.\d\d?", text):
+        sys.exit(f"VERSION contains {text!r}, not three numbers with points between them")
+    return text
+
+
+def number_of(points):
+    """The version as one number: 10,000, 100 and 1 times its three numbers."""
+    major, minor, patch = map(int, points.split("."))
+    return 10000 * major + 100 * minor + patch
+
+
+def filled(around, points):
+    """The text of a place with a version in it."""
+    return around.replace("POINTS", points).replace("NUMBER", str(number_of(points)))
+
+
+def pattern_of(around):
+    """A pattern for the text of a place with any version in it."""
+    return re.escape(around).replace("POINTS", r"\d+\.\d+\.\d+").replace("NUMBER", r"\d+")
+
+
+def updated(text, around, points):
+    """A file's text with the version in one of its places. None if the place isn't there exactly once."""
+    found = re.findall(pattern_of(around), text)
+    return text.replace(found[0], filled(around, points)) if len(found) == 1 else None
+
+
+def differences(is_written):
+    """A line for each place that differs or is missing. If `is_written`, each place that differs is corrected."""
+    points = version()
+    for path, around in PLACES:
+        with open(os.path.join(TOP, path), encoding="utf-8") as file:
+            text = file.read()
+        wanted = updated(text, around, points)
+        if wanted is None:
+            yield f"{path} must contain {filled(around, points)!r} exactly once"
+        elif wanted != text and is_written:
+            with open(os.path.join(TOP, path), "w", encoding="utf-8") as file:
+                file.write(wanted)
+        elif wanted != text:
+            yield f"{path} has another version than the file VERSION: run make version"
+
+
+def main():
+    found = list(differences(is_written=sys.argv[1:] != ["--check"]))
+    print("".join(f"{line}\n" for line in found), end="")
+    print(f"{len(PLACES) - len(found)} passed, {len(found)} failed")
+    return 1 if found else 0
+
+
+if __name__ == "__main__":
+    sys.exit(main())
