@@ -13,13 +13,13 @@ sys.path.append(EXAMPLES)
 from aec_runs import Refused  # noqa: E402 - it stands in the folder that was just added
 
 
-def called(action, *words):
+def called(action, *words, **named):
     """What a function of a script does with these words: 0 and what it prints, or 1 and the text
     of its refusal."""
     printed = io.StringIO()
     try:
         with contextlib.redirect_stdout(printed):
-            action(*words)
+            action(*words, **named)
     except Refused as refusal:
         return 1, str(refusal)
     return 0, printed.getvalue()
