@@ -13,6 +13,11 @@ class Refused(Exception):
     """What a script doesn't take or can't do. Its text is the line that the user reads."""
 
 
+class WrongWords(Exception):
+    """Words that a script doesn't take, whatever its files hold. Its text is the line that the user
+    reads."""
+
+
 def read_file(path):
     """The bytes of a file."""
     with open(path, "rb") as file:
@@ -28,7 +33,7 @@ def write_file(path, data):
 def write_whole(path, data, *inputs):
     """Writes a file under another name beside it, and renames that: a failure leaves what stood
     there. Refuses to write over one of the inputs."""
-    path = os.path.realpath(path)
+    asked, path = path, os.path.realpath(path)
     for name in inputs:
         if os.path.exists(path) and os.path.exists(name) and os.path.samefile(path, name):
             raise Refused(f"{name} is read, so it can't be written too")
@@ -42,6 +47,9 @@ def write_whole(path, data, *inputs):
             file.flush()
             os.fsync(file.fileno())
         os.replace(new, path)
+    except OSError as fault:
+        fault.filename = asked
+        raise
     finally:
         if os.path.exists(new):
             os.remove(new)
@@ -90,16 +98,19 @@ def bytes_of_sample(words):
     return 3 if bits <= 24 and "-3" in words else 4
 
 
+def judge_options(aec, options):
+    """Refuses options of the user that aec doesn't take, before a file is touched."""
+    status, text = said_by([aec, "-d", *options, os.devnull, os.devnull])
+    if status == 2:
+        said = text.strip().split("\n")[0]
+        raise WrongWords(said if said.startswith("aec: ") else f"aec: {said}")
+
+
 def samples_of(data, words):
     """The samples of bytes that aec has decoded by these words."""
     size, order = bytes_of_sample(words), "big" if "-m" in words else "little"
     parts = (data[first : first + size] for first in range(0, len(data), size))
     return [int.from_bytes(part, order, signed="-s" in words) for part in parts]
-
-
-class WrongWords(Exception):
-    """Words that a script doesn't take, whatever its files hold. Its text is the line that the user
-    reads."""
 
 
 def perform(doc, **actions):
