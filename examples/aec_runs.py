@@ -13,6 +13,11 @@ class Refused(Exception):
     """What a script doesn't take or can't do. Its text is the line that the user reads."""
 
 
+class WrongWords(Exception):
+    """Words that a script doesn't take, whatever its files hold. Its text is the line that the user
+    reads."""
+
+
 def read_file(path):
     """The bytes of a file."""
     with open(path, "rb") as file:
@@ -28,7 +33,7 @@ def write_file(path, data):
 def write_whole(path, data, *inputs):
     """Writes a file under another name beside it, and renames that: a failure leaves what stood
     there. Refuses to write over one of the inputs."""
-    path = os.path.realpath(path)
+    asked, path = path, os.path.realpath(path)
     for name in inputs:
         if os.path.exists(path) and os.path.exists(name) and os.path.samefile(path, name):
             raise Refused(f"{name} is read, so it can't be written too")
@@ -42,6 +47,9 @@ def write_whole(path, data, *inputs):
             file.flush()
             os.fsync(file.fileno())
         os.replace(new, path)
+    except OSError as fault:
+        fault.filename = asked
+        raise
     finally:
         if os.path.exists(new):
             os.remove(new)
@@ -90,6 +98,14 @@ def bytes_of_sample(words):
     return 3 if bits <= 24 and "-3" in words else 4
 
 
+def judge_options(aec, options):
+    """Refuses options of the user that aec doesn't take, before a file is touched."""
+    status, text = said_by([aec, "-d", *options, os.devnull, os.devnull])
+    if status == 2:
+        said = text.strip().split("\n")[0]
+        raise WrongWords(said if said.startswith("aec: ") else f"aec: {said}")
+
+
 def samples_of(data, words):
     """The samples of bytes that aec has decoded by these words."""
     size, order = bytes_of_sample(words), "big" if "-m" in words else "little"
@@ -98,20 +114,39 @@ def samples_of(data, words):
 
 
 def perform(doc, **actions):
-    """Calls the function that the first word names with the words behind it, and ends with the
-    status that it answers. What it refuses, and files that fail, are one line on standard error
-    and status 1; words that it doesn't take are status 2."""
-    first = sys.argv[1] if len(sys.argv) > 1 else "--help"
+    """Calls the function that the first word names with the words after it, and ends with its
+    status. `--NAME VALUE` is the value of a parameter that has to be named. What the function
+    refuses, and files that fail, are one line on standard error and status 1; words that it doesn't
+    take are status 2."""
+    first = sys.argv[1] if len(sys.argv) > 1 else ""
     if first not in actions and first not in ("-h", "--help"):
         names = ", ".join(actions)
         sys.exit(complain(f"the first word must be one of {names}; --help tells more", 2))
     call(doc, actions.get(first), first, sys.argv[2:])
 
 
-def words_of(action):
-    """The words that a function takes, as the user is told."""
+def parameters_of(action):
+    """The names of the parameters by place, as the user is told them, and of those to be named."""
     taken = inspect.signature(action).parameters.values()
-    return " ".join(it.name.upper() + ".." * (it.kind is it.VAR_POSITIONAL) for it in taken)
+    named = [it.name for it in taken if it.kind is it.KEYWORD_ONLY]
+    places = [it for it in taken if it.kind is not it.KEYWORD_ONLY]
+    return [it.name.upper() + ".." * (it.kind is it.VAR_POSITIONAL) for it in places], named
+
+
+def parted(words, names):
+    """The words without those that name a parameter, and the values of these."""
+    places, named, rest = [], {}, iter(words)
+    for word in rest:
+        name, sign, value = word.removeprefix("--").partition("=")
+        if not word.startswith("--") or name not in names:
+            places.append(word)
+        elif name in named:
+            raise WrongWords(f"--{name} is given twice")
+        elif sign:
+            named[name] = value
+        else:
+            named[name] = next(rest, "")
+    return places, named
 
 
 def call(doc, action, name, words):
@@ -120,15 +155,32 @@ def call(doc, action, name, words):
         print(doc.strip())
         sys.exit(0)
     try:
-        inspect.signature(action).bind(*words)
-    except TypeError:
-        sys.exit(complain(f"{name} takes the words {words_of(action)}; --help tells more", 2))
-    try:
-        sys.exit(action(*words))
+        sys.exit(called_with(action, name, words))
+    except WrongWords as wrong:
+        sys.exit(complain(f"{wrong}; --help tells more", 2))
     except Refused as refusal:
         sys.exit(complain(refusal, 1))
     except OSError as fault:
         sys.exit(complain(f"{fault.filename}: {fault.strerror}" if fault.filename else fault, 1))
+
+
+def called_with(action, name, words):
+    """What a function returns for words of the user."""
+    wanted, names = parameters_of(action)
+    places, named = parted(words, names)
+    try:
+        inspect.signature(action).bind(*places, **named)
+    except TypeError:
+        more = "".join(f" [--{it} {it[0].upper()}]" for it in names)
+        raise WrongWords(f"{name} takes the words {' '.join(wanted)}{more}") from None
+    return action(*places, **named)
+
+
+def whole_number(text, what, least=0):
+    """The number that digits say."""
+    if not (text.isascii() and text.isdecimal() and int(text) >= least):
+        raise WrongWords(f"{text} is no {what}")
+    return int(text)
 
 
 def complain(text, status):

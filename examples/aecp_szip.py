@@ -8,11 +8,15 @@ Prints the array. Needs h5py. Where a chunk isn't in the file, its elements are 
 import os
 import sys
 
-import aecp
-import numpy
-from aec_runs import call
+from aec_runs import Refused, call
 from h5_szip import chunk_at, chunk_bytes, corners, layout_of, opened
 from szip_chunks import HEAD, MSB_FIRST, PREPROCESS, STANDARD_BLOCK_SIZES, check_len, without_filler
+
+try:
+    import aecp
+    import numpy
+except ImportError as fault:
+    aecp, missing = None, str(fault)
 
 
 def options_of(layout):
@@ -52,6 +56,8 @@ def array_of(data_set):
 
 def show(file, dataset):
     """Prints all elements of a data set."""
+    if aecp is None:
+        raise Refused(missing)
     handle, data_set = opened(file, "r", dataset)
     with handle:
         print(array_of(data_set))

@@ -1,34 +1,52 @@
 #!/usr/bin/env python3
-"""The coded stream of a GRIB2 message (data representation template 5.42), of the first message of
-a file:
+"""The coded stream of a GRIB2 message (data representation template 5.42):
 
-    grib_ccsds.py options MESSAGE               prints the words for aec, with --count
-    grib_ccsds.py take MESSAGE STREAM           writes the stream of section 7
-    grib_ccsds.py put MESSAGE STREAM OUT        writes the file with another stream of the same
+    grib_ccsds.py options FILE                  prints the words for aec, with --count
+    grib_ccsds.py values AEC FILE FIRST:LEN     prints LEN values from place FIRST on, a line each
+    grib_ccsds.py set AEC FILE PLACE VALUE OUT  writes the file with another value at a place; all
+                                                others stay as they are
+    grib_ccsds.py take FILE STREAM              writes the stream of section 7
+    grib_ccsds.py put AEC FILE STREAM OUT       writes the file with another stream of the same
                                                 options and count
-    grib_ccsds.py edit AEC SCRIPT MESSAGE OUT   writes the file with its stream edited by a script
+    grib_ccsds.py edit AEC SCRIPT FILE OUT      writes the file with its stream edited by a script
                                                 that keeps the count
 
-Messages behind the first are kept as they are. The standard library is enough.
+`--message N` takes message N of FILE, counted from 1, in place of the first; the others are kept as
+they are. Places are counted from 0, without the points that a bitmap leaves out. The standard
+library is enough.
 """
 
+import struct
+from fractions import Fraction
 from typing import NamedTuple
 
-from aec_runs import Refused, perform, read_file, run_aec, write_whole
+from aec_runs import (
+    Refused,
+    WrongWords,
+    perform,
+    read_file,
+    run_aec,
+    samples_of,
+    whole_number,
+    write_whole,
+)
 
 # bits of ccsdsFlags
 SIGNED, THREE_BYTES, MSB_FIRST, PREPROCESS, RESTRICTED, PADDED, ANY_EVEN_BLOCK = (
     1 << place for place in range(7)
 )
 STANDARD_BLOCK_SIZES = (8, 16, 32, 64)
+MARK = b"GRIB"
+HEAD = 16  # bytes of section 0
 SECTION_HEAD = 5  # its length in four bytes, then its number
 TEMPLATE_END = 25  # bytes of section 5 with template 5.42
 
 
 class Message(NamedTuple):
-    """The bytes of a file, and where the first message and its sections stand in it."""
+    """The bytes of a file, and where a message and its sections lie in it."""
 
     data: bytes
+    first: int
     end: int
     sections: dict[int, tuple[int, int]]  # from its number: its first byte, and its end
 
@@ -70,18 +88,50 @@ class Coding(NamedTuple):
         return ["--count", str(self.count), *self.words()]
 
 
+class Packing(NamedTuple):
+    """How samples of so many bits stand for values: X for (R + X 2^E) / 10^D."""
+
+    reference: Fraction
+    binary: int
+    decimal: int
+    bits: int
+    is_signed: bool
+
+    def value(self, x):
+        """The value of a number without sign, as the nearest float."""
+        return float((self.reference + x * Fraction(2) ** self.binary) / Fraction(10) ** self.decimal)
+
+    def nearest(self, value):
+        """The number whose value is nearest. Refuses a value that no number of so many bits has."""
+        scaled = Fraction(value) * Fraction(10) ** self.decimal - self.reference
+        x, most = round(scaled / Fraction(2) ** self.binary), (1 << self.bits) - 1
+        if not 0 <= x <= most:
+            room = f"{float(value)} doesn't fit the packing: {self.value(0)} to {self.value(most)}"
+            raise Refused(f"{room}. The field must be packed anew, which changes other values too")
+        return x
+
+    def number(self, sample):
+        """The number without sign of a sample."""
+        return sample % (1 << self.bits)
+
+    def sample(self, x):
+        """The sample of a number without sign."""
+        return x - (1 << self.bits) if self.is_signed and x >> self.bits - 1 else x
+
+
 def number(data, first, length):
     """The number without sign in these bytes, the most significant one first."""
     return int.from_bytes(data[first : first + length], "big")
 
 
-def sections_of(data, end):
-    """Where the sections of a message stand that ends there."""
-    sections, first, last = {}, 16, 0
+def sections_of(data, begin, end):
+    """Where the sections of a message lie that begins and ends there."""
+    sections, first, last = {}, begin + HEAD, 0
     while data[first : first + 4] != b"7777" or first != end - 4:
         length, name = number(data, first, 4), number(data, first + 4, 1)
         if length < SECTION_HEAD or first + length > end - 4:
-            raise Refused(f"the message is cut or damaged: at byte {first} no section fits")
+            at = first - begin
+            raise Refused(f"the message is cut or damaged: at byte {at} no section fits")
         if name <= last:
             raise Refused("the message repeats sections: split it into one message a field")
         sections[name], last = (first, first + length), name
@@ -89,20 +139,40 @@ def sections_of(data, end):
     return sections
 
 
-def message_of(path):
-    """The first message of a file."""
-    data = read_file(path)
-    if data[:4] != b"GRIB":
+def head_of(data, first):
+    """The edition of the message that begins there, and its end."""
+    there = len(data) - first
+    if there < HEAD:
+        raise Refused(f"the message is cut: only {there} bytes are there")
+    edition = data[first + 7]
+    length = number(data, first + 8, 8) if edition == 2 else number(data, first + 4, 3)
+    return edition, first + length
+
+
+def place_of(data, path, wanted):
+    """Where the message with this number begins and ends. What lies between messages is passed
+    over."""
+    if data[: len(MARK)] != MARK:
         raise Refused(f"{path} doesn't begin with GRIB")
-    if len(data) < 16:
-        raise Refused(f"the message is cut: only {len(data)} bytes are there")
-    edition = number(data, 7, 1)
+    first = 0
+    for found in range(1, wanted):
+        first = data.find(MARK, max(head_of(data, first)[1], first + HEAD))
+        if first < 0:
+            raise Refused(f"{path} has {found} messages, none with the number {wanted}")
+    edition, end = head_of(data, first)
     if edition != 2:
         raise Refused(f"the message has edition {edition}, not 2")
-    end = number(data, 8, 8)
     if len(data) < end:
-        raise Refused(f"the message is cut: {len(data)} of its {end} bytes are there")
-    message = Message(data, end, sections_of(data, end))
+        there, length = len(data) - first, end - first
+        raise Refused(f"the message is cut: {there} of its {length} bytes are there")
+    return first, end
+
+
+def message_of(path, wanted):
+    """The message of a file that the word says, counted from 1."""
+    data = read_file(path)
+    first, end = place_of(data, path, whole_number(wanted, "number of a message", 1))
+    message = Message(data, first, end, sections_of(data, first, end))
     for needed in (5, 7):
         if needed not in message.sections:
             raise Refused(f"the message has no section {needed}")
@@ -128,15 +198,63 @@ def coding_of(message):
     return coding
 
 
+def packing_of(message):
+    """How the samples of a message stand for values."""
+    section, coding = message.section(5), coding_of(message)
+    reference = Fraction(struct.unpack(">f", section[11:15])[0])
+    is_signed = bool(coding.flags & SIGNED)
+    return Packing(reference, signed(section, 15), signed(section, 17), coding.bits, is_signed)
+
+
+def signed(data, first):
+    """The number of two bytes whose highest bit is its sign."""
+    value = number(data, first, 2)
+    return (1 << 15) - value if value >> 15 else value
+
+
 def with_stream(message, stream):
     """The bytes of the file with another stream, and the two lengths that go with it."""
     first, end = message.sections[7]
     length = SECTION_HEAD + len(stream)
     if length >= 1 << 32:
         raise Refused("the stream is too long for a section")
-    total = message.end + length - (end - first)
-    head = message.data[:8] + total.to_bytes(8, "big") + message.data[16:first]
-    return head + length.to_bytes(4, "big") + b"\7" + stream + message.data[end:]
+    total = message.end - message.first + length - (end - first)
+    before, head = message.data[: message.first], message.data[message.first : first]
+    head = head[:8] + total.to_bytes(8, "big") + head[HEAD:]
+    section = length.to_bytes(4, "big") + b"\7" + stream
+    return before + head + section + message.data[end:]
+
+
+def judge_fit(coding, aec, stream):
+    """Refuses a stream that doesn't decode by the options of a message, and one whose last byte
+    isn't needed for its count."""
+    words = ["-d", *coding.counted_words()]
+    try:
+        run_aec(aec, words, stream)
+    except Refused as fault:
+        raise Refused(f"the stream doesn't fit the message: {fault}") from fault
+    try:
+        run_aec(aec, words, stream[:-1])
+    except Refused:
+        return
+    raise Refused(f"the stream doesn't fit the message: it goes on after {coding.count} samples")
+
+
+def numbers_in(read, aec, first, length):
+    """Numbers without sign of a message, from a place on."""
+    words = coding_of(read).counted_words()
+    stored = run_aec(aec, ["--range", f"{first}:{length}", *words], read.stream())
+    return [packing_of(read).number(sample) for sample in samples_of(stored, words)]
+
+
+def edited(read, aec, script):
+    """The bytes of the file whose message a script has edited."""
+    coding = coding_of(read)
+    stream = run_aec(aec, coding.counted_words(), read.stream(), script)
+    left = count_after(script, coding.count)
+    if left != coding.count:
+        raise Refused(f"the script leaves {left} values, not the {coding.count} of the message")
+    return with_stream(read, stream)
 
 
 def count_after(script, count):
@@ -154,35 +272,60 @@ def count_after(script, count):
     return count
 
 
-def options(message):
+def options(file, *, message="1"):
     """Prints the words for aec."""
-    print(" ".join(coding_of(message_of(message)).counted_words()))
+    print(" ".join(coding_of(message_of(file, message)).counted_words()))
 
 
-def take(message, stream):
+def values(aec, file, part, *, message="1"):
+    """Prints values."""
+    first, colon, length = part.partition(":")
+    if not colon:
+        raise WrongWords(f"{part} is no FIRST:LEN")
+    first, length = whole_number(first, "place"), whole_number(length, "number of values")
+    read = message_of(file, message)
+    packing = packing_of(read)
+    for x in numbers_in(read, aec, first, length):
+        print(packing.value(x))
+
+
+def put_value(aec, file, place, value, out, *, message="1"):
+    """Writes a file with another value at a place, and prints the value before and after."""
+    place = whole_number(place, "place")
+    try:
+        wanted = Fraction(value)
+    except (ValueError, ZeroDivisionError):
+        raise WrongWords(f"{value} is no value") from None
+    read = message_of(file, message)
+    packing = packing_of(read)
+    x = packing.nearest(wanted)
+    before = numbers_in(read, aec, place, 1)[0]
+    data = edited(read, aec, b"overwrite %d %d\n" % (place, packing.sample(x)))
+    write_whole(out, data, file)
+    print(f"place {place}: {packing.value(before)} becomes {packing.value(x)}")
+
+
+def take(file, stream, *, message="1"):
     """Writes the stream of a message."""
-    read = message_of(message)
+    read = message_of(file, message)
     coding_of(read)
-    write_whole(stream, read.stream(), message)
+    write_whole(stream, read.stream(), file)
 
 
-def put(message, stream, out):
+def put(aec, file, stream, out, *, message="1"):
     """Writes a message with another stream."""
-    read = message_of(message)
-    coding_of(read)
-    write_whole(out, with_stream(read, read_file(stream)), message, stream)
+    read, coded = message_of(file, message), read_file(stream)
+    judge_fit(coding_of(read), aec, coded)
+    write_whole(out, with_stream(read, coded), file, stream)
 
 
-def edit(aec, script, message, out):
+def edit(aec, script, file, out, *, message="1"):
     """Writes a message whose stream a script has edited."""
-    read, lines = message_of(message), read_file(script)
-    coding = coding_of(read)
-    stream = run_aec(aec, coding.counted_words(), read.stream(), lines)
-    count = count_after(lines, coding.count)
-    if count != coding.count:
-        raise Refused(f"the script leaves {count} values, not the {coding.count} of the message")
-    write_whole(out, with_stream(read, stream), message, script)
+    read, lines = message_of(file, message), read_file(script)
+    write_whole(out, edited(read, aec, lines), file, script)
 
 
 if __name__ == "__main__":
-    perform(__doc__, options=options, take=take, put=put, edit=edit)
+    perform(
+        __doc__, options=options, values=values, set=put_value, take=take, put=put, edit=edit
+    )

@@ -14,16 +14,15 @@ written raw.
 
 import itertools
 import math
-import sys
 
-from aec_runs import Refused, perform, write_whole
+from aec_runs import Refused, WrongWords, perform, write_whole
 from szip_chunks import Chunk, Layout, decoded, edited
 
 try:
     import h5py
     import numpy
 except ImportError as fault:
-    sys.exit(f"h5_szip.py: {fault}: python3-h5py has it for /usr/bin/python3")
+    h5py, missing = None, str(fault)
 
 SZIP = 4  # the number of the filter
 # what HDF5 says of a chunk that isn't in the file, in its versions
@@ -32,6 +31,8 @@ NOT_STORED = ("storage is not allocated", "address isn't defined", "buf cannot b
 
 def opened(path, mode, name):
     """A file, and the data set of that name in it."""
+    if h5py is None:
+        raise Refused(f"{missing}: python3-h5py has it for /usr/bin/python3")
     try:
         file = h5py.File(path, mode)
     except OSError as fault:
@@ -113,13 +114,22 @@ def read(aec, file, dataset, out):
     write_whole(out, elements.tobytes(), file)
 
 
+def judge_words(place, value):
+    """Refuses words that are no place and no value of any data set."""
+    if not all(it.isascii() and it.isdecimal() for it in place.split(",")):
+        raise WrongWords(f"{place} is no place, such as 3,0,17")
+    try:
+        float(value)
+    except ValueError:
+        raise WrongWords(f"{value} is no value") from None
+
+
 def place_in(data_set, text):
     """The place of an element: as many numbers as the data set has dimensions, each within the
     shape."""
-    numbers = text.split(",")
-    if len(numbers) != len(data_set.shape) or not all(it.isdecimal() for it in numbers):
-        wanted = len(data_set.shape)
-        raise Refused(f"{text} is no place: {wanted} numbers are wanted, as 3,0,17")
+    numbers, wanted = text.split(","), len(data_set.shape)
+    if len(numbers) != wanted:
+        raise Refused(f"{text} is no place here: the data set has {wanted} dimensions")
     place = tuple(map(int, numbers))
     if any(i >= length for i, length in zip(place, data_set.shape)):
         raise Refused(f"{text} lies outside the shape {data_set.shape}")
@@ -144,10 +154,7 @@ def bytes_of_integer(data_set, text):
 def bytes_of_float(data_set, text):
     """A number as an element is stored."""
     dtype = data_set.dtype
-    try:
-        value = float(text)
-    except ValueError as fault:
-        raise Refused(f"{text} is no value of the type {dtype}") from fault
+    value = float(text)
     with numpy.errstate(over="ignore"):
         stored = numpy.array(value).astype(dtype)
     if numpy.isinf(stored) and not math.isinf(value):
@@ -167,6 +174,7 @@ def bytes_of_value(data_set, text):
 
 def edit(aec, file, dataset, place, value):
     """Gives an element another value. The file is opened for writing once the new chunk is made."""
+    judge_words(place, value)
     handle, data_set = opened(file, "r", dataset)
     with handle:
         layout, numbers = layout_of(data_set), place_in(data_set, place)

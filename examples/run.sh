@@ -1,6 +1,14 @@
 #!/bin/sh
 # Runs the main jobs on small files and shows each command with what came out: run.sh PATH_OF_AEC
 set -eu
+if [ $# != 1 ]; then
+    echo "usage: run.sh PATH_OF_AEC" >&2
+    exit 2
+fi
+if [ ! -x "$1" ]; then
+    echo "run.sh: $1 is no program" >&2
+    exit 1
+fi
 aec=$(realpath "$1")
 here=$(cd "$(dirname "$0")" && pwd)
 out=$(mktemp -d)

@@ -13,7 +13,16 @@ over. The standard's compression identification packet isn't read.
 import os
 from typing import NamedTuple
 
-from aec_runs import Refused, perform, read_file, require_aec, run_aec, write_whole
+from aec_runs import (
+    Refused,
+    judge_options,
+    perform,
+    read_file,
+    require_aec,
+    run_aec,
+    whole_number,
+    write_whole,
+)
 
 PRIMARY = 6  # bytes of the primary header
 IDLE = 0x7FF  # the APID of idle packets, the greatest
@@ -66,9 +75,9 @@ def skipped(packet, expected):
 
 def read(aec, file, folder, secondary, *options):
     """Decodes each packet of a file. The status."""
-    if not secondary.isdecimal():
-        raise Refused(f"{secondary} is no length of a secondary header")
+    length = whole_number(secondary, "length of a secondary header")
     require_aec(aec)
+    judge_options(aec, options)
     data = read_file(file)
     os.mkdir(folder)
     decoded, failed, expected = 0, 0, {}
@@ -79,7 +88,7 @@ def read(aec, file, folder, secondary, *options):
             if text := skipped(packet, expected):
                 print(text)
             try:
-                samples = run_aec(aec, ["-d", *options], packet.stream(int(secondary)))
+                samples = run_aec(aec, ["-d", *options], packet.stream(length))
             except Refused as refusal:
                 print(f"{packet.name()}: {refusal}")
                 failed += 1

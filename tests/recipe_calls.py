@@ -10,18 +10,20 @@ import sys
 EXAMPLES = os.path.join(os.path.dirname(os.path.abspath(__file__)), "..", "examples")
 sys.path.append(EXAMPLES)
 
-from aec_runs import Refused  # noqa: E402 - it stands in the folder that was just added
+from aec_runs import Refused, WrongWords  # noqa: E402 - in the folder that was just added
 
 
-def called(action, *words):
+def called(action, *words, **named):
     """What a function of a script does with these words: 0 and what it prints, or 1 and the text
-    of its refusal."""
+    of its refusal, or 2 where it doesn't take the words."""
     printed = io.StringIO()
     try:
         with contextlib.redirect_stdout(printed):
-            action(*words)
+            action(*words, **named)
     except Refused as refusal:
         return 1, str(refusal)
+    except WrongWords as wrong:
+        return 2, str(wrong)
     return 0, printed.getvalue()
 
 

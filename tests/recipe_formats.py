@@ -197,21 +197,64 @@ def try_packets(aec, script, tally):
 
 def try_packet_words(words, aec, script, tally):
     """Words that space_packets.py refuses; a folder `all` and packets `p` are there."""
+    usage = "read takes the words AEC FILE FOLDER SECONDARY OPTIONS.."
     for given, status, text in (
         (["all", "4", *words], 1, "all: File exists"),
-        (["new", "x", *words], 1, "x is no length of a secondary header"),
-        (["new"], 2, "read takes the words AEC FILE FOLDER SECONDARY OPTIONS..; --help tells more"),
+        (["new", "x", *words], 2, "x is no length of a secondary header; --help tells more"),
+        (["new", "4", "-n", "33"], 2, "aec: bits per sample must be 1 to 32; --help tells more"),
+        (["new"], 2, f"{usage}; --help tells more"),
     ):
         answer = script.run(PACKETS, "read", aec.path, "p", *given)
         tally.check(f"packets: {given}", answer, (status, f"space_packets.py: {text}\n"))
+        tally.holds(not os.path.exists(aec.file("new")), f"packets: {given}: a folder is left")
+
+
+def try_sample_packets(aec, script, tally):
+    """The packets that sample_packets.py makes are those that the format's rules make here, and
+    their samples are those of durations.raw."""
+    with open(os.path.join(EXAMPLES, "durations.raw"), "rb") as file:
+        samples = file.read()
+    settings = Settings(bits=12, block_size=16, interval=32)
+    fields = [aec.answer(settings.options(), samples[i : i + 1024]) for i in range(0, 8192, 1024)]
+    packets = [packet(77, number, it, bytes(4)) for number, it in enumerate(fields)]
+    path = os.path.join(EXAMPLES, "sample_packets.py")
+    tally.check("sample packets", script.run(path, aec.path, "sample"), (0, ""))
+    tally.check("sample packets: the file", aec.read("sample"), b"".join(packets))
+    answer = script.run(path, aec.path, "none/sample")
+    said = "sample_packets.py: none/sample: No such file or directory\n"
+    tally.check("sample packets: no folder", answer, (1, said))
+
+
+def try_statuses(aec, script, tally):
+    """Help, no words and wrong ones, of each script that a user runs, with h5py hidden too."""
+    names = sorted(it for it in os.listdir(EXAMPLES) if it.endswith(".py"))
+    for name in names:
+        path, more = os.path.join(EXAMPLES, name), {"env": hiding(aec.folder, "h5py", "aecp")}
+        with open(path, encoding="utf-8") as file:
+            if "__main__" not in file.read():
+                continue
+        for words in (["--help"], ["-h"]):
+            status, said = script.run(path, *words, **more)
+            tally.holds(status == 0 and said.count("\n") > 1, f"{name} {words}: {status} {said}")
+        for words in ([], ["one", "two", "three", "four"], ["--no-such-word", "x", "y"]):
+            status, said = script.run(path, *words, **more)
+            is_so = status == 2 and said.count("\n") == 1 and "--help tells more" in said
+            tally.holds(is_so, f"{name} {words}: {status} {said}")
+    runs, shell = os.path.join(EXAMPLES, "run.sh"), Program("/bin/sh", aec.folder)
+    for words, wanted in (([], 2), ([aec.path, "x"], 2), (["none"], 1)):
+        status, said = shell.run(runs, *words)
+        is_so = status == wanted and said.count("\n") == 1
+        tally.holds(is_so, f"run.sh {words}: {status} {said}")
 
 
 def try_without_h5py(aec, script, tally):
     """What h5_szip.py says where h5py isn't there."""
     said = "h5_szip.py: No module named 'h5py': python3-h5py has it for /usr/bin/python3\n"
-    for words in (["show", "none.h5", "d"], ["--help"]):
-        answer = script.run(HDF5, *words, env=hiding(aec.folder, "h5py"))
-        tally.check(f"without h5py: {words}", answer, (1, said))
+    answer = script.run(HDF5, "show", "none.h5", "d", env=hiding(aec.folder, "h5py"))
+    tally.check("without h5py", answer, (1, said))
+    path, hidden = os.path.join(EXAMPLES, "aecp_szip.py"), hiding(aec.folder, "aecp")
+    answer = script.run(path, "none.h5", "d", env=hidden)
+    tally.check("without aecp", answer, (1, "aecp_szip.py: No module named 'aecp'\n"))
 
 
 def try_refused_programs(aec, tally):
@@ -236,6 +279,8 @@ def main():
         try_bad_messages(aec, script, tally)
         try_layouts(aec, tally)
         try_packets(aec, script, tally)
+        try_sample_packets(aec, script, tally)
+        try_statuses(aec, script, tally)
         try_without_h5py(aec, script, tally)
         try_refused_programs(aec, tally)
     tally.print()

@@ -4,8 +4,8 @@ recipe_grib.py PATH_OF_AEC [--seed N] [--cases N] [--only N]
 
 eccodes writes messages of template 5.42 with 1 to 32 bits a value, signed and not, with a bitmap
 and without, standard and other even block sizes. The samples that aec decodes must be the values
-that eccodes reads, and after an edit eccodes must read what the script says and nothing else
-otherwise. Needs python3-eccodes and libeccodes-data.
+that eccodes reads, and after an edit, or another value at a place, eccodes must read that value and
+nothing else otherwise. Needs python3-eccodes and libeccodes-data.
 """
 
 import random
@@ -92,9 +92,22 @@ class Read:
         bits = 8 * bytes_of_sample(words) if self.flags & PREPROCESS else self.bits
         return sample % (1 << bits)
 
+    def value(self, number):
+        """The value of a number."""
+        return (self.reference + number * 2.0**self.binary) / 10.0**self.decimal
+
+    def numbers(self):
+        """How many numbers from 0 on eccodes reads rightly: of signed samples not always all."""
+        is_odd = self.flags & SIGNED and self.bits not in (8, 16, 32)
+        return 1 << self.bits - 1 if is_odd else 1 << self.bits
+
+    def takes_value(self, value):
+        """Whether a value is that of such a number."""
+        return value < self.value(self.numbers() - 0.5)
+
     def agrees(self, value, number):
         """Whether a value that eccodes has read is that of the number."""
-        wanted = (self.reference + number * 2.0**self.binary) / 10.0**self.decimal
+        wanted = self.value(number)
         step = 2.0**self.binary / 10.0**self.decimal
         return abs(value - wanted) <= max(1e-3 * step, 1e-12 * abs(value))
 
@@ -115,7 +128,7 @@ def try_case(number, seed, aec, tally):
         read.agrees(read.values[i], read.unsigned(x, words)) for i, x in zip(places, samples)
     )
     tally.holds(is_so, f"{what}: samples and values")
-    answer = called(grib_ccsds.put, source, aec.file("stream"), out)
+    answer = called(grib_ccsds.put, aec.path, source, aec.file("stream"), out)
     tally.check(f"{what}: its own stream put back", (answer, aec.read("out")), ((0, ""), data))
 
     place = chance.randrange(read.count)
@@ -128,6 +141,39 @@ def try_case(number, seed, aec, tally):
     tally.holds(is_so, f"{what}: the edited value")
     after.values[changed] = read.values[changed]
     tally.holds(after.values == read.values, f"{what}: the other values")
+    try_values(what, read, data, chance, aec, tally)
+
+
+def try_values(what, read, data, chance, aec, tally):
+    """Values as eccodes reads them, and another value at a place, of the second message of a file:
+    numbers that eccodes reads as they are, and values that no number has."""
+    aec.write("message", b"".join([data, b"between", data]))
+    source, out = aec.file("message"), aec.file("out")
+    more, places = {"message": "2"}, read.places()
+    first = chance.randrange(read.count)
+    length = chance.randint(1, read.count - first)
+    status, said = called(grib_ccsds.values, aec.path, source, f"{first}:{length}", **more)
+    pairs = zip(map(float, said.split()), (read.values[i] for i in places[first:]))
+    near = [abs(a - b) <= 1e-12 * max(abs(b), 1) for a, b in pairs if read.takes_value(b)]
+    is_so = status == 0 and said.count("\n") == length and all(near)
+    tally.holds(is_so, f"{what}: values: {said}")
+
+    least, most = read.value(0), read.value((1 << read.bits) - 1)
+    step = read.value(1) - least
+    x = chance.randrange(read.numbers())
+    value = read.value(x) + chance.uniform(-0.4, 0.4) * step
+    answer = called(grib_ccsds.put_value, aec.path, source, str(first), repr(value), out, **more)
+    written = aec.read("out") or b""
+    tally.holds(answer[0] == 0 and written.startswith(data + b"between"), f"{what}: set: {answer}")
+    after, changed = Read(written[len(data) + 7 :]), places[first]
+    is_so = read.agrees(after.values[changed], x)
+    tally.holds(is_so, f"{what}: the value that is set: {value}, {after.values[changed]}")
+    after.values[changed] = read.values[changed]
+    tally.holds(after.values == read.values, f"{what}: set: the other values")
+    for value in (least - 0.6 * step, most + 0.6 * step):
+        answer = called(grib_ccsds.put_value, aec.path, source, "0", repr(value), out, **more)
+        is_so = answer[0] == 1 and "doesn't fit the packing" in answer[1]
+        tally.holds(is_so, f"{what}: set {value}: {answer}")
 
 
 def main():

@@ -203,17 +203,21 @@ def try_refusals(aec, tally):
         (["none", "0", "1"], f"{path} has no data set none"),
         (["group", "0", "1"], f"{path} has no data set group"),
         (["of8", "2000", "1"], "2000 lies outside the shape (2000,)"),
-        (["of8", "0,0", "1"], "0,0 is no place: 1 numbers are wanted, as 3,0,17"),
-        (["of8", "-1", "1"], "-1 is no place: 1 numbers are wanted, as 3,0,17"),
+        (["of8", "0,0", "1"], "0,0 is no place here: the data set has 1 dimensions"),
         (["of8", "0", "256"], "256 is out of the range of uint8 with 8 bits"),
         (["of8", "0", "-1"], "-1 is out of the range of uint8 with 8 bits"),
-        (["of8", "0", "x"], "x is no value of the type uint8"),
         (["of8", "0", "1.5"], "1.5 is no value of the type uint8"),
-        (["floats", "0", "x"], "x is no value of the type float32"),
         (["floats", "0", "1e39"], "1e39 is out of the range of float32"),
     ):
         answer = called(h5_szip.edit, aec.path, path, *words)
         tally.check(f"edit {words}", answer, (1, text))
+    for words, text in (
+        (["of8", "-1", "1"], "-1 is no place, such as 3,0,17"),
+        (["of8", "1,x", "1"], "1,x is no place, such as 3,0,17"),
+        (["of8", "0", "x"], "x is no value"),
+    ):
+        answer = called(h5_szip.edit, aec.path, path, *words)
+        tally.check(f"edit {words}", answer, (2, text))
     tally.check("the file is the output", called(h5_szip.read, aec.path, path, "of8", path)[0], 1)
     answer = called(h5_szip.edit, "/bin/true", path, "of8", "0", "1")
     tally.check("a program that is none", answer[0], 1)
@@ -235,6 +239,7 @@ def try_command_lines(aec, script, tally):
     for words, wanted, text in (
         (["edit", aec.path, "bad.h5", "of8", "0", "256"], 1, "256 is out of the range of uint8"),
         (["edit", aec.path], 2, "edit takes the words AEC FILE DATASET PLACE VALUE"),
+        (["edit", aec.path, "bad.h5", "of8", "x", "1"], 2, "x is no place, such as 3,0,17"),
         (["show", "none.h5", "d"], 1, "none.h5 can't be opened as HDF5"),
         (["show", "bad.h5", "of8"], 0, "aec --count 500 -n 8 -j 8 -r 63"),
         (["read", aec.path, "bad.h5", "of8", "of8.raw"], 0, ""),

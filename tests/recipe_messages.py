@@ -9,6 +9,7 @@ from settings import Settings
 
 import grib_ccsds
 
+SIGN = 1 << 15  # of the two bytes of a scale factor
 GRIB = os.path.join(EXAMPLES, "grib_ccsds.py")
 
 
@@ -20,7 +21,7 @@ def section(number, body):
 def message(stream, count, settings, flags, template=42, bits=None, edition=2, more=b""):
     """A message with this stream. `more` stands behind section 7."""
     bits = settings.bits if bits is None else bits
-    packing = struct.pack(">fhhBBB", 250.0, -9 & 0x7FFF, 0, bits, 0, flags)
+    packing = struct.pack(">fHHBBB", 250.0, SIGN | 9, 0, bits, 0, flags)
     packing += struct.pack(">BH", settings.block_size, settings.interval)
     body = section(1, bytes(16)) + section(3, bytes(67)) + section(4, bytes(29))
     body += section(5, struct.pack(">IH", count, template) + packing)
@@ -77,8 +78,24 @@ def try_message(number, chance, aec, tally):
     answer = called(grib_ccsds.edit, aec.path, aec.file("script"), source, out)
     tally.check(f"{what}: edit", (answer, aec.read("o")), ((0, ""), edited))
     aec.write("s", stream)
-    answer = called(grib_ccsds.put, source, taken, out)
+    answer = called(grib_ccsds.put, aec.path, source, taken, out)
     tally.check(f"{what}: put", (answer, aec.read("o")), ((0, ""), edited))
+    first, length = place, chance.randint(0, len(samples) - place)
+    numbers = [x % (1 << settings.bits) for x in samples[first : first + length]]
+    answer = called(grib_ccsds.values, aec.path, out, f"{first}:{length}")
+    wanted = "".join(f"{250 + x * 2.0 ** -9}\n" for x in numbers)
+    tally.check(f"{what}: values", answer, (0, wanted))
+    try_fit(what, stream, (source, taken, out), aec, tally)
+
+
+def try_fit(what, stream, paths, aec, tally):
+    """Streams that don't fit a message: cut ones, and one with more bytes."""
+    aec.write("o", b"old")
+    for name, other in (("cut", stream[:-1]), ("none", b""), ("longer", stream + b"\0")):
+        aec.write("s", other)
+        status, said = called(grib_ccsds.put, aec.path, *paths)
+        is_so = status == 1 and said.startswith("the stream doesn't fit the message: ")
+        tally.holds(is_so and aec.read("o") == b"old", f"{what}: put {name}: {said}")
 
 
 def bad_messages(good, settings):
@@ -116,7 +133,9 @@ def try_bad_messages(aec, script, tally):
         for action, *words in (
             (grib_ccsds.options, source),
             (grib_ccsds.take, source, out),
-            (grib_ccsds.put, source, source, out),
+            (grib_ccsds.put, aec.path, source, source, out),
+            (grib_ccsds.values, aec.path, source, "0:1"),
+            (grib_ccsds.put_value, aec.path, source, "0", "250", out),
             (grib_ccsds.edit, aec.path, source, source, out),
         ):
             aec.write("m", data)
@@ -138,22 +157,60 @@ def try_bad_messages(aec, script, tally):
         tally.check(f"script {lines}: OUT", aec.read("out"), b"old")
     aec.write("script", b"overwrite 0 1")
     try_words(aec, script, tally)
-    tally.check("MESSAGE stays", aec.read("m"), good)
+    tally.check("FILE stays", aec.read("m"), good)
+    try_several(aec, script, tally)
 
 
 def try_words(aec, script, tally):
     """Words that the script doesn't take, files that aren't there, and OUT that is read too."""
     for words, wanted, text in (
         (["edit", aec.path, "script", "m", "m"], 1, "m is read, so it can't be written too"),
-        (["edit", aec.path, "m", "m"], 2, "edit takes the words AEC SCRIPT MESSAGE OUT"),
-        (["options"], 2, "options takes the words MESSAGE"),
-        (["change", "m"], 2, "the first word must be one of options, take, put, edit"),
+        (["edit", aec.path, "m", "m"], 2, "edit takes the words AEC SCRIPT FILE OUT [--message M]"),
+        (["options"], 2, "options takes the words FILE"),
+        ([], 2, "the first word must be one of options, values, set, take, put, edit"),
+        (["change", "m"], 2, "the first word must be one of options, values, set, take, put, edit"),
         (["options", "none"], 1, "none: No such file or directory"),
         (["take", "m", "none/out"], 1, "No such file or directory"),
+        (["options", "m", "--message", "2"], 1, "m has 1 messages, none with the number 2"),
+        (["options", "m", "--message", "0"], 2, "0 is no number of a message"),
+        (["options", "m", "--message"], 2, " is no number of a message"),
+        (["options", "m", "--message=1", "--message=1"], 2, "--message is given twice"),
+        (["values", aec.path, "m", "3"], 2, "3 is no FIRST:LEN"),
+        (["values", aec.path, "m", "3:-1"], 2, "-1 is no number of values"),
+        (["values", aec.path, "m", "7:2"], 1, "aec: position outside the 8 samples"),
+        (["set", aec.path, "m", "-1", "1", "o"], 2, "-1 is no place"),
+        (["set", aec.path, "m", "0", "x", "o"], 2, "x is no value"),
+        (["set", aec.path, "m", "8", "250", "o"], 1, "aec: position outside the 8 samples"),
+        (["set", aec.path, "m", "0", "249.99", "o"], 1, "249.99 doesn't fit the packing: 250.0 to"),
+        (["set", aec.path, "m", "0", "250.5", "o"], 1, "250.5 doesn't fit the packing: 250.0 to"),
     ):
         status, said = script.run(GRIB, *words)
         is_so = status == wanted and said.count("\n") == 1 and text in said
         tally.holds(is_so, f"grib_ccsds.py {words}: {status}, {said}")
-    for words in ([], ["--help"], ["edit", "--help"]):
+    for words in (["--help"], ["edit", "--help"]):
         status, said = script.run(GRIB, *words)
         tally.holds(status == 0 and said.startswith("The coded stream"), f"help {words}: {said}")
+
+
+def try_several(aec, script, tally):
+    """A file of three messages, one of them of edition 1, with bytes between them: each is found,
+    and the others stay."""
+    settings, stream = Settings(bits=8, block_size=8, interval=2), bytes.fromhex("20 09 24 92")
+    one, two = message(stream, 8, settings, 8), message(b"\0\x78", 5, settings, 8)
+    old = b"GRIB\0\0\x20\1" + b"GRIB" * 6
+    parts = [one, b"between", old, b"\r\n", two, b"after"]
+    aec.write("m", b"".join(parts))
+    for number, wanted in (
+        ("1", (0, "--count 8 -n 8 -j 8 -r 2\n")),
+        ("2", (1, "grib_ccsds.py: the message has edition 1, not 2\n")),
+        ("3", (0, "--count 5 -n 8 -j 8 -r 2\n")),
+        ("4", (1, "grib_ccsds.py: m has 3 messages, none with the number 4\n")),
+    ):
+        answer = script.run(GRIB, "options", "m", "--message", number)
+        tally.check(f"message {number}", answer, wanted)
+    answer = script.run(GRIB, "set", aec.path, "m", "4", "250.0156", "out", "--message=3")
+    said = "place 4: 250.013671875 becomes 250.015625\n"
+    tally.check("message 3: set", answer, (0, said))
+    samples = bytes([7, 7, 7, 7, 8])
+    parts[4] = message(aec.answer(settings.options(), samples), 5, settings, 8)
+    tally.check("message 3: the file", aec.read("out"), b"".join(parts))

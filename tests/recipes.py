@@ -17,8 +17,6 @@ import tempfile
 
 from program import Program, Tally, asked_of
 from recipe_calls import EXAMPLES, hiding
-from recipe_formats import packet
-from settings import Settings
 
 HERE = os.path.dirname(os.path.abspath(__file__))
 TOP = os.path.dirname(HERE)
@@ -98,7 +96,7 @@ def wanted_words(line):
 
 
 def prepare_page(aec):
-    """What the commands of the page find: `aec` and `aecp` on the path, examples/, and packets. The
+    """What the commands of the page find: `aec` and `aecp` on the path, and examples/. The
     environment to run them in."""
     bin_folder = aec.file("bin")
     os.mkdir(bin_folder)
@@ -106,13 +104,6 @@ def prepare_page(aec):
     os.symlink(EXAMPLES, aec.file("examples"))
     aec.write("bin/aecp", f'#!/bin/sh\nexec "{sys.executable}" -m aecp "$@"\n'.encode())
     os.chmod(aec.file("bin/aecp"), 0o755)
-    with open(os.path.join(EXAMPLES, "durations.raw"), "rb") as file:
-        measured = file.read()
-    settings = Settings(bits=12, block_size=16, interval=32)
-    parts = [measured[first : first + 1024] for first in range(0, 4096, 1024)]
-    fields = [aec.answer(settings.options(), part) for part in parts]
-    packets = [packet(77, number, it, b"time") for number, it in enumerate(fields)]
-    aec.write("packets.bin", b"".join(packets))
     path = f"{bin_folder}:{os.environ['PATH']}"
     return {**os.environ, "PATH": path, "PYTHONPATH": os.path.join(TOP, "python"), "AECP_LIBRARY": LIBRARY}
 
@@ -134,7 +125,7 @@ def try_page(aec, tally):
     with open(PAGE, encoding="utf-8") as file:
         text = file.read()
     words = len(text.split())
-    tally.holds(words <= 1500, f"the page has {words} words, more than 1,500")
+    tally.holds(words <= 1400, f"the page has {words} words, more than 1,400")
     for block in re.findall(r"```sh\n(.*?)```", text, re.S):
         missing = missing_for(block) or [it for it in failed_before if it in block]
         if missing:
