@@ -29,9 +29,11 @@ sizes:
 test:
 	sh tests/run.sh
 
-# Writes docs/PROOFS.md from the claims of the crates, each of whose names is checked.
+# Writes docs/PROOFS.md from the claims of the crates, each of whose names is checked, and docs/DEFINITIONS.md from the sentences over
+# the definitions.
 pages:
 	@python3 tools/pages.py
+	@python3 tools/definitions.py
 
 # Writes man/aec.1 from docs/COMMAND.md.
 man:

@@ -6,6 +6,7 @@ use Rattle.aec_params.specs.Params.{IsHeld}
 use Rattle.aec_params.specs.Mapping.{mapped_after}
 
 -- new samples are the old ones and those that values stand for, the first of them predicted from p
+-- (held samples whose mapped values are these, where the code undoes the mapping)
 pub record Unmaps (s : Settings) (p : ℤ) (values : List ℕ) (old new : List ℤ) : Type 0 where
   pub more : List ℤ
   pub appended : new ≡ old ++ more

@@ -1,5 +1,6 @@
 -- What the private functions do to the samples: places are exchanged for values, and for that
--- intervals for fresh samples.
+-- intervals for fresh samples. `apply` cites `samples_after`, `needed_calls` and `opened_intervals`
+-- in its place.
 use Rattle.std.specs.Prelude.{◌≡◌, ℕ, ◌+◌, ◌-◌, ◌*◌, ◌/◌, ◌%◌, ◌≤◌, ◌⊎◌, min, Bool}
 use Rattle.std.specs.Prelude.{◌==◌, if◌then◌else◌, None, MatchOption, is_some, List, ◌++◌, length, take, drop, ℤ}
 use Rattle.std.specs.Int.{div_ceil}
@@ -71,10 +72,11 @@ opened_by needed calls opened = if is_some (want_of_calls calls needed) then 0 e
 abbrev pub kept_behind : ℕ → ℕ → ℕ → ℕ → ℕ
 kept_behind n count stop to = min count (to * n) - stop
 
--- how many samples it codes, and how many intervals
+-- how many samples it codes
 abbrev pub fresh_total : ℕ → ℕ → ℕ → ℕ → ℕ → ℕ → ℕ
 fresh_total n count first stop to len = first % n + (len + kept_behind n count stop to)
 
+-- how many intervals it codes
 abbrev pub recoding_calls : ℕ → ℕ → ℕ → ℕ → ℕ → ℕ → ℕ
 recoding_calls n count first stop to len = div_ceil (fresh_total n count first stop to len) n
 

@@ -1,4 +1,5 @@
 -- The intervals that an exchange of places decodes: those that it touches and that keep a sample.
+-- `apply` cites `samples_after`, `needed_calls` and `opened_intervals` in its place.
 use Rattle.std.specs.Prelude.{ℕ, ◌-◌, ◌*◌, ◌/◌, List, length, take, drop, filter, ℤ}
 use Rattle.std.specs.List.{range_with_len, flat_map}
 use Rattle.std.specs.Int.{div_ceil}
@@ -17,10 +18,11 @@ opened_of n count first stop intervals = filter (keeps_a_sample n count first (s
 abbrev pub opened_by_exchange : ℕ → ℕ → ℕ → ℕ → List ℕ
 opened_by_exchange n count first stop = opened_of n count first stop (reached_intervals n first stop)
 
--- the first that is reached, where it is one of these; and those of them behind it
+-- the first that is reached, where it is one of these
 abbrev pub opened_first : ℕ → ℕ → ℕ → ℕ → List ℕ
 opened_first n count first stop = opened_of n count first stop (take 1 (reached_intervals n first stop))
 
+-- those of these behind the first that is reached
 abbrev pub opened_behind : ℕ → ℕ → ℕ → ℕ → List ℕ
 opened_behind n count first stop = opened_of n count first stop (drop 1 (reached_intervals n first stop))
 

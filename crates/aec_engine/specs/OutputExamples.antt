@@ -16,6 +16,7 @@ use Rattle.aec_engine.specs.Output.{IsRanged, not_taken, not_decoded, outside, c
 abbrev at_most : ℕ → Caps
 at_most samples = record { samples = samples; bytes = 0 }
 
+-- an input of these bytes, whose source failed behind them or not
 abbrev input : List ℕ → Bool → Input
 input bytes failed = record { bytes = bytes; failed = failed }
 
@@ -65,9 +66,11 @@ failed_after_the_limit = not_coded (TooManySamples 2) refl
 
 -- ---- ranges
 
+-- so many samples and so many bytes
 abbrev both_limits : Caps
 both_limits = record { samples = 4096; bytes = 4 }
 
+-- the samples 0 to 7, coded
 abbrev ramp_bytes : List ℕ
 ramp_bytes = 0x20 ∷ 0x09 ∷ 0x24 ∷ 0x92 ∷ []
 

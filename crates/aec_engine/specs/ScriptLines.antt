@@ -36,10 +36,11 @@ abbrev pub kept : Option Edit → Meaning
 kept (Some e) = change e
 kept None = nothing
 
--- the lines of a text, and of what is left of one
+-- the lines of a text
 abbrev pub lines_of : Text → List Text
 lines_of text = slice_split (λ byte. byte == 10) text
 
+-- the lines of what is left of a text
 abbrev pub lines_left : Option Text → List Text
 lines_left (Some text) = lines_of text
 lines_left None = []

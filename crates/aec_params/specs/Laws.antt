@@ -15,9 +15,11 @@ use Rattle.aec_params.specs.BlockShapes.{AreBlocksFrom}
 
 -- ---- codewords
 
+-- fundamental sequences tell their numbers, whatever bits follow
 abbrev pub FundamentalSequencesDiffer : Type 0
 FundamentalSequencesDiffer = (a b : ℕ) (u v : List Bool) → fs a ++ u ≡ fs b ++ v → (a ≡ b) × (u ≡ v)
 
+-- numbers in w bits are told apart, whatever bits follow
 abbrev pub BinaryNumbersDiffer : Type 0
 BinaryNumbersDiffer = (w a b : ℕ) (u v : List Bool) → a < 2 ^ w → b < 2 ^ w → binary w a ++ u ≡ binary w b ++ v → (a ≡ b) × (u ≡ v)
 
