@@ -42,6 +42,7 @@ explain() {
 
 part pages python3 tools/pages.py --check
 part definitions python3 tools/definitions.py --check
+part modules python3 tools/modules.py --check
 part theorems python3 tools/theorem.py --check
 part man python3 tools/man.py --check
 part limits python3 tests/limits.py
@@ -76,7 +77,7 @@ echo "== instructions a sample"
 part instructions on_program tests/instructions_bounded.py
 
 last=gate
-for name in pages definitions theorems man limits edits gate coded cuts damaged memory calls files small trips scripts recipes installed worked pictures instructions; do
+for name in pages definitions modules theorems man limits edits gate coded cuts damaged memory calls files small trips scripts recipes installed worked pictures instructions; do
     if ! has_passed "$name"; then
         last=$name
         break
