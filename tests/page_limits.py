@@ -1,16 +1,18 @@
 """The limits of the pages that are written by hand: how many words each has, and that none tells what another tells.
 
 Words are counted as `wc -w` does: whatever stands between blanks, code, tables and marks of lists too. What a script writes into a page,
-from a line `<!-- Written by .. -->` up to a line `<!-- end -->` or the end of the page, isn't counted. The pages are README, CHANGELOG
-and CONTRIBUTING, those of docs/, README.md of examples/ and of each crate, and bench/steps.md. Not among them: docs/theorems/,
-bench/tables.md and LICENSE, and the claims, from which docs/PROOFS.md is written.
+from a line `<!-- Written by .. -->` up to a line `<!-- end -->` or the end of the page, isn't counted. The pages are those at the top and
+of docs/, README.md of examples/ and of each crate and package, and bench/steps.md. Not among them: docs/theorems/, bench/tables.md and
+LICENSE, and the claims, from which docs/PROOFS.md is written.
 
 A run of eight words that stands in two pages is told twice. It lies within one paragraph, item or cell. Left out are blocks of code,
-heads of tables, and where links lead; code within a line is one word.
+heads of tables, and where links lead; code within a line is one word. The README of a package may say again what others say, since it is
+read alone, on an index of packages.
 
 Each link to a page leads to a file that is there, and to a heading that it has.
 """
 
+import fnmatch
 import glob
 import os
 import re
@@ -32,6 +34,7 @@ MOST = {
 }
 ALL = 24000
 FOLDERS = ("*.md", "docs/*.md", "examples/*.md", "crates/*/README.md", "bench/steps.md")
+ALONE = ("python/README.md", "rust/*/README.md")
 RUN = 8
 WRITTEN = re.compile(r"(?ms)^<!-- Written by .*?(^<!-- end -->\n|\Z)")
 
@@ -51,7 +54,7 @@ class Told(NamedTuple):
 
 def pages(top):
     """Each page written by hand with its text, without what a script has written into it."""
-    for pattern in FOLDERS:
+    for pattern in FOLDERS + ALONE:
         for path in sorted(glob.glob(os.path.join(top, pattern))):
             with open(path, encoding="utf-8") as file:
                 text = WRITTEN.sub("", file.read())
@@ -84,6 +87,8 @@ def told_twice(found):
     """Runs that two pages have, each as long as it goes."""
     places = {}
     for path, text in found.items():
+        if any(fnmatch.fnmatch(path, pattern) for pattern in ALONE):
+            continue
         for number, words in enumerate(parts_of(text)):
             for at in range(len(words) - RUN + 1):
                 places.setdefault(words[at : at + RUN], {}).setdefault(path, (number, at))

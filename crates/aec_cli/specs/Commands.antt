@@ -26,7 +26,7 @@ number_rule judge id key = record (new_rule id) {
   parser = Some judge;
 }
 
--- whole numbers of 32 bits, and of 64 bits
+-- whole numbers of 32 bits
 abbrev pub word_parser : ValueParser
 word_parser = parser.Signed (pos 0) (pos 4294967295)
 
