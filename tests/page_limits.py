@@ -39,7 +39,9 @@ RUN = 8
 WRITTEN = re.compile(r"(?ms)^<!-- Written by .*?(^<!-- end -->\n|\Z)")
 
 # Runs that stand in two pages for a reason, as the words that make them up, and why.
-TWICE = {}
+TWICE = {
+    "szip chunks of hdf5 where hdf5 has no szip": "what one example does, on the two pages that name it",
+}
 
 
 class Told(NamedTuple):

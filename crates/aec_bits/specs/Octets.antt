@@ -4,14 +4,14 @@ use Rattle.std.specs.List.{flat_map}
 use Rattle.aec_params.specs.Codewords.{binary}
 use Rattle.aec_bits.specs.Codec.{Format}
 
--- a sample in eight bits
+-- the sample x in eight bits
 abbrev pub octet_bits : ℤ → List Bool
 octet_bits x = binary 8 (nat_abs x)
 
--- whether a number is 0 to 255
+-- whether x is one of the samples 0 to 255
 abbrev pub is_octet : ℤ → Bool
 is_octet x = int_le (pos 0) x && int_lt x (pos 256)
 
--- the format: a second lawful codec, for tests and to show that there is one
+-- the format of the codec `Octets`
 abbrev pub octets : Format
 octets = record { bits_of = flat_map octet_bits; most = 4; holds = is_octet }

@@ -46,7 +46,7 @@ IsAlwaysMade = (f : Format) (limit : ℕ) (s : List ℤ) (calls : ℕ) (e : Edit
     → refusal_of f limit s e ≡ None → needed_calls f.most (length s) e ≡ 0
     → Answers f limit s calls e outcome after → (outcome ≡ Done 0) × (after ≡ calls)
 
--- which edits code nothing, and that they are made
+-- which edits code nothing, and that those of them that fit are made
 pub record EditsThatCodeNothingAreMade : Type 0 where
   pub which : (n old : ℕ) → 0 < n → CodesNothing n old
   pub made : IsAlwaysMade

@@ -22,7 +22,7 @@ opened_by_exchange n count first stop = opened_of n count first stop (reached_in
 abbrev pub opened_first : ℕ → ℕ → ℕ → ℕ → List ℕ
 opened_first n count first stop = opened_of n count first stop (take 1 (reached_intervals n first stop))
 
--- those of these behind the first that is reached
+-- those of them behind the first that is reached
 abbrev pub opened_behind : ℕ → ℕ → ℕ → ℕ → List ℕ
 opened_behind n count first stop = opened_of n count first stop (drop 1 (reached_intervals n first stop))
 

@@ -69,7 +69,7 @@ abbrev pub IsJudgedWhole : {A E : Type 0} → (Input → Result A E → Type 0) 
 IsJudgedWhole {A} {E} answers enough = (source : Taking) (input : Input) (bytes : List ℕ) (answer : Result A E)
     → source.before ≡ Some bytes → source.failures ≡ 0 → Gave source enough input → answers input answer → answers (input_of bytes false) answer
 
--- this holds of coding, decoding, ranges, edits and scripts
+-- so is what coding, decoding, a range and edits take, and what is taken of a script
 pub record WhatIsTakenIsEnough : Type 0 where
   pub coding : (s : Settings) (caps : Caps) → IsAllowed s → IsJudgedWhole (IsEncoded s caps) (are_refused s caps.samples)
   pub decoding : (s : Settings) (caps : Caps) (count : Option ℕ) → IsJudgedWhole (IsDecoded s caps count) (are_past caps.bytes)

@@ -16,7 +16,7 @@ use Rattle.aec_engine.specs.Output.{IsRanged, not_taken, not_decoded, outside, c
 abbrev at_most : ℕ → Caps
 at_most samples = record { samples = samples; bytes = 0 }
 
--- an input of these bytes, whose source failed behind them or not
+-- what a source gave
 abbrev input : List ℕ → Bool → Input
 input bytes failed = record { bytes = bytes; failed = failed }
 

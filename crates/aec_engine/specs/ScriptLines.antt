@@ -40,7 +40,7 @@ kept None = nothing
 abbrev pub lines_of : Text → List Text
 lines_of text = slice_split (λ byte. byte == 10) text
 
--- the lines of what is left of a text
+-- the lines of what is left of a text: none where nothing is left
 abbrev pub lines_left : Option Text → List Text
 lines_left (Some text) = lines_of text
 lines_left None = []
