@@ -1,5 +1,5 @@
 -- What the private functions of `choice::lengths` compute: the length of each spelling of a block,
--- as a sum. `choose` ties it to `cds_bits`, which alone it cites.
+-- as a sum. The contract of `choose` cites `cds_bits` instead.
 use Rattle.std.specs.Prelude.{ℕ, ◌+◌, ◌*◌, ◌/◌, ◌^◌, ◌<◌, ◌≤◌, Option, Some, None, List, [], ◌∷◌, length}
 use Rattle.std.specs.List.{sum_by}
 use Rattle.aec_params.specs.declared.settings.Settings.{Settings}

@@ -25,7 +25,7 @@ abbrev pub as_run_len : Option ℕ → RunLen
 as_run_len None = Rest
 as_run_len (Some z) = Blocks z
 
--- the same of that number
+-- how many zero blocks a run has by the number of its code (as `told_blocks` has it)
 abbrev pub run_len_of : ℕ → RunLen
 run_len_of m = as_run_len (told_blocks m)
 
@@ -36,7 +36,7 @@ answer_of reference (value_pairs members) = Single (block_of_members reference m
 answer_of reference (split_values k values) = Single (block_of_values reference values)
 answer_of reference (zero_blocks m) = Zeros reference (run_len_of m)
 
--- the same of a coded data set as one value
+-- what a coded data set stands for, as one value
 abbrev pub cds_of : CodedDataSet → Cds
 cds_of c = answer_of c.reference c.body
 
@@ -44,16 +44,16 @@ cds_of c = answer_of c.reference c.body
 abbrev pub checked : Settings → CodedDataSet → Option Cds
 checked s c = when (has_small_values s c) (cds_of c)
 
--- the same of its parts
+-- what a reference and a body stand for, where the values are at most 2^n - 1
 abbrev pub checked_body : Settings → Option ℕ → Body → Option Cds
 checked_body s reference body = checked s (set_of reference body)
 
--- what was found, with the block that it was read into, is what `read_cds` answers
+-- what was found, with the block that it was read into, as `read_cds` returns it
 abbrev pub as_cds : Found → Block → Cds
 as_cds SingleFound block = Single block
 as_cds (ZerosFound reference len) block = Zeros reference len
 
--- the same of what was found where something was
+-- what was found, with the block that it was read into, where something was found
 abbrev pub as_read : Option Found → Block → Option Cds
 as_read None block = None
 as_read (Some found) block = Some (as_cds found block)
@@ -65,22 +65,21 @@ HasShortSplit ZeroBlocks = ⊤
 HasShortSplit SecondExtension = ⊤
 HasShortSplit NoCompression = ⊤
 
--- whether it announces values that are written one by one
+-- whether an identifier announces values that are written one by one
 abbrev pub is_plain : Kind → Bool
 is_plain ZeroBlocks = false
 is_plain SecondExtension = false
 is_plain (Split k) = true
 is_plain NoCompression = true
 
--- the same of a body: it has values that are written one by one by sample splitting or no
--- compression
+-- whether a body has values that are written one by one, by sample splitting or no compression
 abbrev pub is_plain_body : Body → Bool
 is_plain_body (uncompressed_values values) = true
 is_plain_body (value_pairs members) = false
 is_plain_body (split_values k values) = true
 is_plain_body (zero_blocks m) = false
 
--- whether an identifier was taken that announces such values
+-- whether such an identifier was taken
 abbrev pub is_plain_taken : Taken Kind → Bool
 is_plain_taken nothing = false
 is_plain_taken (taken kind rest) = is_plain kind

@@ -1,5 +1,6 @@
 -- What the private functions of `interval::filled_blocks` compute: the blocks of samples behind
--- others of their interval, or at its start. `write_interval` ties them to `interval_bits`.
+-- others of their interval, or at its start. The contract of `write_interval` cites `interval_bits`
+-- instead.
 use Rattle.std.specs.Prelude.{◌≡◌, ℕ, ◌*◌, ◌≤◌, ⊤, Option, Some, None, ℤ, List, length}
 use Rattle.std.specs.List.{AllByRecursion}
 use Rattle.aec_params.specs.declared.settings.Settings.{Settings}

@@ -63,7 +63,7 @@ RefusesAt p fault = RefusesUpTo p.settings p.count p.limit p.bits p.block p.bit 
 
 -- a place between two steps, or where all is read: coded data sets lead there from the first bit
 -- on, and where more is wanted an interval begins. Fewer than `2^34` blocks were read: `2^32`
--- samples have far fewer (`next`, `skip`, `place` and `go_back` need it)
+-- samples have far fewer (the clauses of `next`, `skip`, `place` and `go_back` tie it)
 pub record IsPlace (p : Place) : Type 0 where
   pub few : p.block < 2 ^ 34
   pub limit : p.limit ≤ 2 ^ 32

@@ -22,7 +22,7 @@ coder_with terms progress rest refusal = record {
   refusal = refusal;
 }
 
--- the same, refused nothing
+-- a coder by its parts, refused nothing
 abbrev pub coder_at : Terms → Progress → List ℕ → Coder
 coder_at terms progress rest = coder_with terms progress rest None
 

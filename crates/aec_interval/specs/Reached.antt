@@ -8,8 +8,8 @@ use Rattle.aec_params.specs.CodedDataSets.{CodedDataSet}
 use Rattle.aec_params.specs.Reading.{LeadsTo, stream_blocks, kept_blocks, IsBlockReading, FillBlocks, counted_samples}
 use Rattle.aec_params.specs.Faults.{IsFault}
 
--- samples that fill so many blocks (serves `decode_all`, which cites `IsReading` and `IsFault`, as
--- `IsReached` and `IsReadFrom` do)
+-- samples that fill so many blocks (`decode_all` cites `IsReading` and `IsFault` instead of this,
+-- `IsReached` and `IsReadFrom`)
 pub record AreFilled (s : Settings) (count : ℕ) (samples : List ℤ) : Type 0 where
   pub blocks : List Block
   pub filled : FillBlocks s samples blocks

@@ -67,7 +67,7 @@ HasReference s true None = ⊥
 HasReference s false (Some r) = ⊥
 HasReference s false None = ⊤
 
--- how many values a block writes (§7; J - 1 in a reference block, but J by pairs)
+-- how many values a block writes, but by pairs (§7; J - 1 in a reference block)
 abbrev pub written_count : Settings → Bool → ℕ
 written_count s is_reference = if is_reference then s.block_size - 1 else s.block_size
 

@@ -61,8 +61,8 @@ move_openings n old first len gone cut =
     let kept : List ℕ = filter (keeps_a_sample n old first gone) (intervals_from n old first) in
     if len == 0 then 0 else (if len % n == 0 then (if first % n == 0 then 0 else cut) else length kept)
 
--- how many intervals hold a sample that an edit keeps and codes anew and that have to be decoded
--- first
+-- how many intervals hold a sample that an edit keeps and codes anew, so that they have to be
+-- decoded first
 abbrev pub opened_intervals : ℕ → ℕ → Edit → ℕ
 opened_intervals n old (Overwrite first values) = length (filter (keeps_a_sample n old first (length values)) (touched_intervals n first (length values)))
 opened_intervals n old (Append values) = if length values == 0 then 0 else (if old % n == 0 then 0 else 1)

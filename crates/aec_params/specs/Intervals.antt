@@ -32,7 +32,7 @@ block_sets s blocks = flat_map (λ segment. group_sets s (groups_of segment)) (s
 abbrev pub unpadded_bits : Settings → List ℤ → List Bool
 unpadded_bits s v = flat_map (cds_bits s) (block_sets s (blocks_of s v))
 
--- the same with padding, where the settings ask for it (§10; the interval's own bits, where the
--- code counts in the buffer from where it began)
+-- the code of an interval's samples, padded where the settings ask for it (§10; the interval's own
+-- bits, where the code counts in the buffer from where it began)
 abbrev pub interval_bits : Settings → List ℤ → List Bool
 interval_bits s v = if s.pad then padded_to_byte (unpadded_bits s v) else unpadded_bits s v

@@ -81,7 +81,7 @@ x_max s = if s.signed then pos (2 ^ (s.bits - 1) - 1) else pos (2 ^ s.bits - 1)
 abbrev pub is_held : Settings → ℤ → Bool
 is_held s x = int_le (x_min s) x && int_le x (x_max s)
 
--- the same as a fact (§1)
+-- that a number is a sample of these settings (§1)
 abbrev pub IsHeld : Settings → ℤ → Type 0
 IsHeld s x = IsTrue (is_held s x)
 

@@ -12,27 +12,27 @@ use Rattle.aec_params.specs.CodedDataSets.{Body, uncompressed_values, value_pair
 abbrev pub segment_left : Settings → ℕ → ℕ
 segment_left s p = min (segment_len - p % segment_len) (s.interval - p)
 
--- how many blocks the number of a run's code tells; none by 4, which stands for all that the
+-- how many blocks the number of a run's code says by itself: none for 4, which means all that the
 -- segment has left (§8; the code keeps the remainder apart until it knows the place)
 abbrev pub told_blocks : ℕ → Option ℕ
 told_blocks m = if nat_lt m 4 then Some (m + 1) else (if m == 4 then None else Some m)
 
--- how many blocks it stands for at block p (§8)
+-- how many blocks the number of a run's code stands for at block p of an interval (§8)
 abbrev pub run_len : Settings → ℕ → ℕ → ℕ
 run_len s p m = unwrap_or (told_blocks m) (segment_left s p)
 
--- how many blocks a coded data set stands for at block p (§7)
+-- how many blocks a coded data set with this body stands for at block p (§7)
 abbrev pub body_blocks : Settings → ℕ → Body → ℕ
 body_blocks s p (uncompressed_values values) = 1
 body_blocks s p (value_pairs values) = 1
 body_blocks s p (split_values k values) = 1
 body_blocks s p (zero_blocks m) = run_len s p m
 
--- the same of a coded data set (§7)
+-- how many blocks a coded data set stands for at block p (§7)
 abbrev pub block_count : Settings → ℕ → CodedDataSet → ℕ
 block_count s p c = body_blocks s p c.body
 
--- whether it stays within the segment (§12)
+-- whether a coded data set at block p stays within its segment (§12)
 abbrev pub stays_in_segment : Settings → ℕ → CodedDataSet → Bool
 stays_in_segment s p c = nat_le (block_count s p c) (segment_left s p)
 
@@ -70,14 +70,14 @@ block_of_members reference members = record { reference = reference; values = pl
 abbrev pub zero_block : Settings → Option ℕ → Block
 zero_block s reference = record { reference = reference; values = replicate s.block_size 0 }
 
--- the blocks that a coded data set stands for at block p (§12; a list of blocks, also for a run,
--- where the code pushes samples)
+-- the blocks that a reference and a body stand for at block p (§12; a list of blocks, also for a
+-- run, where the code pushes samples)
 abbrev pub blocks_in : Settings → ℕ → Option ℕ → Body → List Block
 blocks_in s p reference (uncompressed_values values) = block_of_values reference values ∷ []
 blocks_in s p reference (value_pairs members) = block_of_members reference members ∷ []
 blocks_in s p reference (split_values k values) = block_of_values reference values ∷ []
 blocks_in s p reference (zero_blocks m) = zero_block s reference ∷ replicate (run_len s p m - 1) (zero_block s None)
 
--- the same of a coded data set (§12)
+-- the blocks that a coded data set stands for at block p (§12)
 abbrev pub cds_blocks : Settings → ℕ → CodedDataSet → List Block
 cds_blocks s p c = blocks_in s p c.reference c.body

@@ -11,7 +11,7 @@ abbrev pub after_reference : Option ℕ → List ℕ → List ℕ
 after_reference None values = values
 after_reference (Some r) values = drop 1 values
 
--- the same of a block (§7)
+-- the values of a block that are written one by one (§7)
 abbrev pub written_values : Block → List ℕ
 written_values b = after_reference b.reference b.values
 
