@@ -32,9 +32,12 @@ sizes:
 test:
 	sh tests/run.sh
 
-# Writes docs/PROOFS.md from the claims of the crates, each of whose names is checked.
+# Writes docs/PROOFS.md from the claims of the crates, each of whose names is checked; docs/DEFINITIONS.md from the sentences over the
+# definitions; the tables of modules in the README of each crate.
 pages:
 	@python3 tools/pages.py
+	@python3 tools/definitions.py
+	@python3 tools/modules.py
 
 # Writes man/aec.1 from docs/COMMAND.md.
 man:

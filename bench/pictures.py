@@ -1,9 +1,10 @@
 #!/usr/bin/env python3
 """Draws the pictures of docs/pictures/ as SVG: pictures.py [--check]
 
-Times libaec's speed for each input and J, both ways, from the table in bench/tables.md; how the instructions for a sample fell, from the
-table in docs/SPEED.md; and the two pictures of docs/FORMAT.md, a coded data set bit by bit and the parts of an interval.
-With --check nothing is written, and a picture that isn't the one that would be drawn fails.
+What README shows, 48 samples and their code; times libaec's speed for each input and J, both ways, and what one edit costs by its place,
+from tables in bench/tables.md; how the instructions for a sample fell, from the table in bench/steps.md; and the two pictures of
+docs/FORMAT.md, a coded data set bit by bit and the parts of an interval. Each has colours for a dark page too. With --check nothing is
+written, and a picture that isn't the one that would be drawn fails.
 """
 
 import os
@@ -13,41 +14,109 @@ from html import escape
 
 TOP = os.path.join(os.path.dirname(os.path.abspath(__file__)), "..")
 OUT = os.path.join(TOP, "docs", "pictures")
-CODING, DECODING = "#1f6f8b", "#d9822b"
 WIDTH = 900
+# What each colour is called, on a light page and on a dark one.
+COLOURS = {
+    "paper": ("#fff", "#0d1117"),
+    "ink": ("#222", "#e6edf3"),
+    "dim": ("#555", "#9da7b3"),
+    "grid": ("#ddd", "#30363d"),
+    "edge": ("#666", "#8b949e"),
+    "coding": ("#1f6f8b", "#58a6c4"),
+    "decoding": ("#b8651b", "#e3a15a"),
+    "blue": ("#cfe8ef", "#1d4653"),
+    "sand": ("#f6e3c5", "#5a4420"),
+    "green": ("#d8ecd0", "#2c4f26"),
+    "violet": ("#ead7ee", "#4b3052"),
+    "grey": ("#eee", "#21262d"),
+    "none": ("none", "none"),
+}
+SAID = ("coding", "decoding")
+
+
+def rules(which):
+    """The colours of a light page, or of a dark one, as rules of a style sheet."""
+    return "".join(f".{it}{{fill:{both[which]}}}.{it}-line{{stroke:{both[which]}}}" for it, both in COLOURS.items())
+
+
+STYLE = f"<style>{rules(0)}@media (prefers-color-scheme:dark){{{rules(1)}}}</style>"
 
 
 def rows_below(file, heading):
-    """The rows of the first table below a heading of a page, each as its cells."""
+    """The rows of the first table below a heading of a page, its head first, each as its cells."""
     with open(os.path.join(TOP, file), encoding="utf-8") as page:
         text = page.read().split(f"\n## {heading}\n", 1)[1].split("\n## ")[0]
     table = re.search(r"(?m)(^\|.*\n)+", text).group().splitlines()
-    return [[cell.strip() for cell in row.strip("|").split("|")] for row in table[2:]]
+    rows = [[cell.strip() for cell in row.strip("|").split("|")] for row in table]
+    return rows[:1] + rows[2:]
 
 
-def text(x, y, said, anchor="start", size=14, fill="#222", more=""):
-    return f'<text x="{x:g}" y="{y:g}" text-anchor="{anchor}" font-size="{size}" fill="{fill}"{more}>{escape(said)}</text>'
+def text(x, y, said, anchor="start", size=14, colour="ink", more=""):
+    """A text in a colour."""
+    return f'<text class="{colour}" x="{x:g}" y="{y:g}" text-anchor="{anchor}" font-size="{size}"{more}>{escape(said)}</text>'
 
 
-def box(x, y, width, height, fill, stroke="none"):
-    return f'<rect x="{x:g}" y="{y:g}" width="{width:g}" height="{height:g}" fill="{fill}" stroke="{stroke}"/>'
+def box(x, y, width, height, colour, edge="none"):
+    return f'<rect class="{colour} {edge}-line" x="{x:g}" y="{y:g}" width="{width:g}" height="{height:g}"/>'
 
 
-def line(x1, y1, x2, y2, stroke="#999", more=""):
-    return f'<line x1="{x1:g}" y1="{y1:g}" x2="{x2:g}" y2="{y2:g}" stroke="{stroke}"{more}/>'
+def line(x1, y1, x2, y2, colour="edge"):
+    return f'<line class="{colour}-line" x1="{x1:g}" y1="{y1:g}" x2="{x2:g}" y2="{y2:g}"/>'
+
+
+def path(points, colour):
+    """A line through points, with a dot on each."""
+    through = " ".join(f"{x:g},{y:g}" for x, y in points)
+    drawn = f'<polyline class="none {colour}-line" points="{through}" stroke-width="2"/>'
+    return [drawn] + [f'<circle class="{colour}" cx="{x:g}" cy="{y:g}" r="3.5"/>' for x, y in points]
 
 
 def picture(height, what, parts):
     """A picture, with what it shows as its title."""
     head = f'<svg xmlns="http://www.w3.org/2000/svg" width="{WIDTH}" height="{height}" viewBox="0 0 {WIDTH} {height}" '
     head += 'font-family="sans-serif" role="img">'
-    lines = [head, f"<title>{escape(what)}</title>", box(0, 0, WIDTH, height, "#fff"), *parts, "</svg>"]
+    lines = [head, f"<title>{escape(what)}</title>", STYLE, box(0, 0, WIDTH, height, "paper"), *parts, "</svg>"]
     return "\n".join(lines) + "\n"
 
 
-def legend(y):
-    both = ((640, CODING, "coding"), (740, DECODING, "decoding"))
-    return [part for x, fill, said in both for part in (box(x, y - 11, 12, 12, fill), text(x + 18, y, said))]
+def legend(y, said=SAID):
+    both = zip((640, 740), SAID, said)
+    return [part for x, colour, name in both for part in (box(x, y - 11, 12, 12, colour), text(x + 18, y, name))]
+
+
+def stream():
+    """The samples of FORMAT.md's section 11, their intervals and blocks, and their code in widths of bits."""
+    left, bit, height = 130, 13, 34
+    parts = [text(20, 30, "What is stored where: 48 samples, and the bytes 00 04 40 30 C2 00 08", size=18)]
+    parts += [text(20, y, name) for y, name in ((72, "samples"), (114, "blocks"), (156, "intervals"), (226, "code"))]
+    block, apart = 117, 8
+    for number in range(6):
+        x = left + number * (block + apart)
+        values = "0 0 0 0 1 0 0 0" if number == 2 else "0 0 0 0 0 0 0 0"
+        parts += [box(x, 50, block, height, "paper", "edge"), text(x + block / 2, 72, values, "middle", 13)]
+        parts += [box(x, 92, block, height, "sand" if number % 2 == 0 else "paper", "edge")]
+        parts.append(text(x + block / 2, 114, "block of J = 8", "middle", 13))
+    for number in range(3):
+        x, width = left + 2 * number * (block + apart), 2 * block + apart
+        parts += [box(x, 134, width, height, "blue", "edge"), text(x + width / 2, 156, "interval of r = 2 blocks", "middle", 13)]
+    spelled = [[("0000", "blue"), ("00000000", "sand"), ("01", "green")], [("0001", "blue"), ("00000000", "sand"), ("11000011", "green")]]
+    spelled += [[("0000", "blue"), ("1", "green")], spelled[0], [("000", "grey")]]
+    x, begins = left, []
+    for number, parts_of_set in enumerate(spelled):
+        x += 6 if number in (1, 3, 4) else 0
+        begins.append(x)
+        for bits, colour in parts_of_set:
+            width = bit * len(bits)
+            parts += [box(x, 204, width, height, colour, "edge"), text(x + width / 2, 226, bits, "middle", 12)]
+            x += width
+    for number, at in ((0, 0), (1, 1), (2, 3)):
+        middle = left + 2 * number * (block + apart) + block
+        parts.append(line(middle, 168, begins[at] + 4, 204))
+    said = (("blue", "how the rest is coded"), ("sand", "the interval's first sample, as it is"), ("green", "differences, or the length of a run"))
+    for number, (colour, words) in enumerate(said):
+        parts += [box(left + 250 * number, 258, 12, 12, colour, "edge"), text(left + 18 + 250 * number, 269, words, size=13)]
+    parts.append(text(left, 296, "An edit writes the code of the intervals that it touches anew. Not in the stream: options, count, checksum.", size=13))
+    return picture(312, "48 samples, their blocks and intervals, and their code", parts)
 
 
 def speed():
@@ -61,60 +130,79 @@ def speed():
         if not number or rows[number - 1][0] != row[0]:
             parts.append(text(20, y + 17, row[0]))
         parts.append(text(left - 8, y + 17, f"J {row[1]}", "end"))
-        for place, (fill, speed) in enumerate(((CODING, row[3]), (DECODING, row[4]))):
-            width = float(speed) * scale
-            parts.append(box(left, y + 11 * place, width, 10, fill))
-            parts.append(text(left + width + 4, y + 9 + 11 * place, speed, size=10, fill="#555"))
+        for place, (colour, times) in enumerate(zip(SAID, row[3:])):
+            width = float(times) * scale
+            parts.append(box(left, y + 11 * place, width, 10, colour))
+            parts.append(text(left + width + 4, y + 9 + 11 * place, times, size=10, colour="dim"))
         y += 27
     for times in range(5):
         x = left + times * scale
-        parts.append(line(x, 55, x, y, "#222" if times == 1 else "#ddd"))
+        parts.append(line(x, 55, x, y, "ink" if times == 1 else "grid"))
         parts.append(text(x, y + 16, f"{times}", "middle", 12))
     parts.append(text(left + scale, 50, "libaec", "middle", 12))
     return picture(y + 30, "times libaec's speed for each input and J, coding and decoding", parts)
 
 
+def axes(left, right, top, bottom, most, steps):
+    """Lines for so many steps up to the most, each with its number."""
+    parts = []
+    for number in range(steps + 1):
+        y = bottom - number * (bottom - top) / steps
+        parts += [line(left, y, right, y, "grid"), text(left - 8, y + 5, f"{most * number / steps:g}", "end", 12)]
+    return parts
+
+
+def edits():
+    """Lines: what one edit costs by its place, the cheap ones and the others on scales of their own."""
+    head, *rows = rows_below("bench/tables.md", "One edit, by its place")
+    top, bottom, width = 84, 300, 330
+    parts = [text(20, 30, "Milliseconds of one edit, by its place in 64 MiB of samples", size=18)]
+    for left, names, most in ((70, rows[:2], 5), (520, rows[2:], 500)):
+        parts += axes(left, left + width, top, bottom, most, 5)
+        for colour, (name, *costs) in zip(SAID, names):
+            step = width / (len(costs) - 1)
+            parts += path([(left + i * step, bottom - float(cost) * (bottom - top) / most) for i, cost in enumerate(costs)], colour)
+        for place, (colour, row) in enumerate(zip(SAID, names)):
+            parts += [box(left + 185 * place, 54, 12, 12, colour), text(left + 18 + 185 * place, 65, row[0], size=13)]
+        for i, part in enumerate(head[1:]):
+            parts.append(text(left + i * width / (len(head) - 2), bottom + 18, part, "middle", 12))
+        parts.append(text(left + width / 2, bottom + 36, "samples before the place", "middle", 12))
+    parts.append(text(70, bottom + 62, "The code after the place is moved.", size=13))
+    parts.append(text(520, bottom + 62, "All samples after the place are decoded and coded.", size=13))
+    return picture(bottom + 78, "what one edit costs by its place", parts)
+
+
 def instructions():
     """Steps: instructions for each sample, state after state."""
-    rows = rows_below("bench/steps.md", "The steps")
+    rows = rows_below("bench/steps.md", "The steps")[1:]
     states, other = rows[:-1], rows[-1]
-    left, top, bottom = 60, 60, 340
+    left, top, bottom, most = 60, 60, 340, 400
     step = (WIDTH - left - 120) / (len(states) - 1)
-    most = 450
-
-    def place(number, count):
-        return left + number * step, bottom - count * (bottom - top) / most
-
     parts = [text(20, 30, "Instructions for each sample, state after state", size=18), *legend(30)]
-    for count in range(0, most, 100):
-        y = place(0, count)[1]
-        parts += [line(left, y, WIDTH - 120, y, "#ddd"), text(left - 8, y + 5, str(count), "end", 12)]
-    for column, fill in ((1, CODING), (2, DECODING)):
-        points = [place(number, int(row[column])) for number, row in enumerate(states) if row[column]]
-        path = " ".join(f"{x:g},{y:g}" for x, y in points)
-        parts.append(f'<polyline points="{path}" fill="none" stroke="{fill}" stroke-width="2"/>')
-        parts += [f'<circle cx="{x:g}" cy="{y:g}" r="3.5" fill="{fill}"/>' for x, y in points]
+    parts += axes(left, WIDTH - 120, top, bottom, most, 4)
+    for column, colour in enumerate(SAID, 1):
+        known = [(number, int(row[column])) for number, row in enumerate(states) if row[column]]
+        parts += path([(left + number * step, bottom - count * (bottom - top) / most) for number, count in known], colour)
     last = [row for row in states if row[1]][-1][1], [row for row in states if row[2]][-1][2]
     says = f"now {last[0]} and {last[1]}; libaec {other[1]} and {other[2]}"
     parts.append(text(WIDTH - 120, bottom - 105, says, "end", 13))
-    for number in range(len(states)):
-        parts.append(text(place(number, 0)[0], bottom + 18, str(number + 1), "middle", 12))
+    parts += [text(left + number * step, bottom + 18, str(number + 1), "middle", 12) for number in range(len(states))]
     parts.append(text(left, bottom + 40, "states in the order of bench/steps.md", size=12))
     return picture(bottom + 55, "how the instructions for each sample fell, coding and decoding", parts)
 
 
 def coded_data_set():
     """The bits of one coded data set by sample splitting with k = 1."""
-    strip = [("010", "identifier: sample splitting with k = 1", "#cfe8ef"), ("00000000", "reference sample 0, in n = 8 bits", "#f6e3c5")]
-    strip.append(("1010101010101", "fs(v / 2) of each of seven values: fs(0), then six times fs(1)", "#d8ecd0"))
-    strip += [("1000000", "the low bit of each of the values 1 2 2 2 2 2 2", "#ead7ee"), ("0", "fills the last byte", "#eee")]
+    strip = [("010", "identifier: sample splitting with k = 1", "blue"), ("00000000", "reference sample 0, in n = 8 bits", "sand")]
+    strip.append(("1010101010101", "fs(v / 2) of each of seven values: fs(0), then six times fs(1)", "green"))
+    strip += [("1000000", "the low bit of each of the values 1 2 2 2 2 2 2", "violet"), ("0", "fills the last byte", "grey")]
     side, x, y, bit = 26, 30, 80, 0
     parts = [text(20, 30, "One coded data set: the bytes 40 15 55 80", size=18)]
     for number, (bits, said, fill) in enumerate(strip):
         below = y + 60 + 28 * (len(strip) - 1 - number)
-        parts += [text(x + 4, y - 8, str(bit), "middle", 11, "#555"), line(x + 6, y + side, x + 6, below - 5)]
+        parts += [text(x + 4, y - 8, str(bit), "middle", 11, "dim"), line(x + 6, y + side, x + 6, below - 5)]
         for one in bits:
-            parts += [box(x, y, side, side, fill, "#666"), text(x + side / 2, y + 18, one, "middle")]
+            parts += [box(x, y, side, side, fill, "edge"), text(x + side / 2, y + 18, one, "middle")]
             x, bit = x + side, bit + 1
         turned = x > 700
         at = x - side * len(bits) + 6
@@ -125,25 +213,25 @@ def coded_data_set():
 def cells(begin, end, words, fill):
     """Boxes of one width from one place to another, a word in each; a reference block has a colour of its own."""
     width = (end - begin) / len(words)
-    return [(begin + i * width, width, word, "#d8ecd0" if word == "0" else fill) for i, word in enumerate(words)]
+    return [(begin + i * width, width, word, "green" if word == "0" else fill) for i, word in enumerate(words)]
 
 
 def interval():
     """An interval of 130 blocks, its segments and blocks."""
     borders = (120, 370, 620, 700, 880)
     parts = [text(20, 30, "An interval of 130 blocks, in segments of at most 64", size=18)]
-    intervals = cells(120, 700, ["interval of 130 blocks: S = 130 J samples"], "#cfe8ef") + cells(700, 880, ["next interval .."], "#eee")
+    intervals = cells(120, 700, ["interval of 130 blocks: S = 130 J samples"], "blue") + cells(700, 880, ["next interval .."], "grey")
     segments, blocks = [], []
     counts = ("64 blocks", "64 blocks", "2 blocks", "64 blocks ..")
     numbers = ("0 1 .. 63", "64 65 .. 127", "128 129", "0 1 ..")
     for i in range(4):
         begin, end = borders[i], borders[i + 1]
-        segments += cells(begin, end, [counts[i]], "#f6e3c5" if i < 3 else "#eee")
-        blocks += cells(begin, end, numbers[i].split(), "#fff")
+        segments += cells(begin, end, [counts[i]], "sand" if i < 3 else "grey")
+        blocks += cells(begin, end, numbers[i].split(), "paper")
     for y, name, boxes in ((70, "intervals", intervals), (120, "segments", segments), (170, "blocks", blocks)):
         parts.append(text(20, y + 23, name))
         for begin, width, said, fill in boxes:
-            parts += [box(begin, y, width, 36, fill, "#666"), text(begin + width / 2, y + 23, said, "middle", 13)]
+            parts += [box(begin, y, width, 36, fill, "edge"), text(begin + width / 2, y + 23, said, "middle", 13)]
     parts.append(text(120, 235, "Blocks 0 (green) are reference blocks: the reference sample, then J - 1 values.", size=13))
     parts.append(text(120, 257, "A run of zero blocks ends with its segment, and begins anew at blocks 64 and 128.", size=13))
     return picture(275, "an interval, its segments and its blocks", parts)
@@ -151,7 +239,8 @@ def interval():
 
 def main():
     stale = 0
-    for draw in (speed, instructions, coded_data_set, interval):
+    drawings = (stream, speed, edits, instructions, coded_data_set, interval)
+    for draw in drawings:
         path, drawn = os.path.join(OUT, draw.__name__ + ".svg"), draw()
         if sys.argv[1:] != ["--check"]:
             with open(path, "w", encoding="utf-8") as file:
@@ -160,7 +249,7 @@ def main():
             with open(path, encoding="utf-8") as file:
                 stale += file.read() != drawn
     if sys.argv[1:] == ["--check"]:
-        print(f"pictures: {4 - stale} passed, {stale} failed" + (": run make pictures" if stale else ""))
+        print(f"pictures: {len(drawings) - stale} passed, {stale} failed" + (": run make pictures" if stale else ""))
     return 1 if stale else 0
 
 

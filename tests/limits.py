@@ -1,8 +1,9 @@
 #!/usr/bin/env python3
 """The limits of the house: limits.py [FOLDER]
 
-Prints each place of the crates, and each script of too many lines, that passes one; and each exception of the list below that nothing
-needs. Ends with 1 where there is one. The last line counts the files that keep the limits.
+Prints each place of the crates, and each script of too many lines, that passes one; what is wrong with the pages that are written by
+hand (page_limits.py: words, what two pages tell, links); and each exception that nothing needs. Ends with 1 where there is one. The last
+line counts the files that keep the limits.
 
 Free are what the formatter puts on one line (`use`, attributes) and the rows of a table within a text.
 """
@@ -11,6 +12,10 @@ import os
 import re
 import sys
 from typing import NamedTuple
+
+sys.path.insert(0, os.path.dirname(os.path.abspath(__file__)))
+
+import page_limits
 
 TOP = os.path.abspath(sys.argv[1] if len(sys.argv) > 1 else os.path.join(os.path.dirname(__file__), ".."))
 CODE, DEFINITIONS = 400, 150  # lines of a file
@@ -147,6 +152,9 @@ def main():
     for path, start in ALLOWED.keys() - needed:
         failed += 1
         print(f"nothing needs the exception for {path}: {start}")
+    wrongs, pages = page_limits.wrongs(TOP)
+    print("".join(f"{wrong}\n" for wrong in wrongs), end="")
+    passed, failed = passed + max(pages - len(wrongs), 0), failed + len(wrongs)
     print(f"{passed} passed, {failed} failed")
     sys.exit(failed > 0)
 

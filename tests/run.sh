@@ -1,6 +1,7 @@
 #!/bin/sh
 # Runs every test, from the top of the repository, for `make test`: that generated pages are current, that files keep the limits of
-# the house, that each wrong body can be made, that each lemma is cited, then the gate, then the scripts of tests/ on the programs that the gate has built.
+# the house, that each wrong body can be made, that each lemma is cited, then the gate, then the scripts of tests/ on the programs that
+# the gate has built.
 # Fails if one part fails. At the end it prints the seconds of each part. The last line counts what passed and failed: that of the
 # gate if all parts have passed, else that of the first part that failed; the lines that say why stand before it.
 export PYTHONDONTWRITEBYTECODE=1
@@ -41,6 +42,8 @@ explain() {
 }
 
 part pages python3 tools/pages.py --check
+part definitions python3 tools/definitions.py --check
+part modules python3 tools/modules.py --check
 part theorems python3 tools/theorem.py --check
 part man python3 tools/man.py --check
 part limits python3 tests/limits.py
@@ -84,7 +87,9 @@ echo "== instructions a sample"
 part instructions on_program tests/instructions_bounded.py
 
 last=gate
-for name in pages theorems man limits edits cited gate coded cuts damaged memory calls files small trips scripts recipes installed worked pictures instructions; do
+# Every part in the order above: the first that failed is explained.
+for name in pages definitions modules theorems man limits edits cited gate coded cuts damaged memory calls files small trips scripts \
+    recipes installed worked pictures instructions; do
     if ! has_passed "$name"; then
         last=$name
         break

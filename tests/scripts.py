@@ -129,8 +129,8 @@ def try_options(program, tally):
         page = file.read().split(".SH OPTIONS\n")[1].split(".SH ")[0]
     manual = listed_options(re.findall(r"\.TP\n(.*)", page), r"\.BI? .*|\.BR .*")
     with open(os.path.join(TOP, "docs", "COMMAND.md"), encoding="utf-8") as file:
-        table = file.read().split("\n## Options\n")[1].split("\n## ")[0]
-    described = listed_options(table.splitlines(), r"\| `-[^|]*\|")
+        part = file.read().split("\n## Options\n")[1].split("\n## ")[0]
+    described = listed_options(part.splitlines(), r"- `-[^`]*`:")
     tally.check("the options of the manual page and of --help", sorted(manual), sorted(helped))
     tally.check("the options of docs/COMMAND.md and of --help", sorted(described), sorted(helped))
     tally.check("--edit is one of them", "--edit" in helped, True)

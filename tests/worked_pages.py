@@ -1,9 +1,9 @@
 #!/usr/bin/env python3
-"""The worked rows, commands and code of README.md, docs/COMMAND.md and docs/LIBRARY.md: worked_pages.py PATH_OF_AEC
+"""The worked commands, examples and code of README.md, docs/COMMAND.md and docs/LIBRARY.md: worked_pages.py PATH_OF_AEC
 
-Runs each row of README that has a command, the bytes of SOURCE and those of DEST; the commands of README's part 'Use it', of which the
-sizes that it names are looked at; and those of COMMAND's part 'Edits', whose bytes stand behind them. The code of LIBRARY's part
-'Rattle' has to stand in the file that is named before it. A page without rows, commands or code fails.
+Runs the commands of README's part 'Use it', of which the sizes that it names are looked at; and each example of COMMAND's part
+'Examples', which has options, perhaps the script, the bytes of SOURCE and those of DEST. The code of LIBRARY's part 'Rattle' has to stand
+in the file that is named before it. A page without commands, examples or code fails.
 """
 
 import os
@@ -17,7 +17,7 @@ sys.path.insert(0, os.path.dirname(os.path.abspath(__file__)))
 from program import Program, Tally
 
 TOP = os.path.join(os.path.dirname(os.path.abspath(__file__)), "..")
-ROW = re.compile(r"\| `aec ([^`]*)SOURCE DEST`(?:, SCRIPT `([^`]*)`)? \| `([0-9A-F ]+)` \| `([0-9A-F ]+)`")
+EXAMPLE = re.compile(r"^- (?:none|`(-[^`]*)`)(?: with `([^`]*)`)?: `([0-9A-F ]+)` becomes `([0-9A-F ]+)`\.$", re.M)
 
 
 def part_of(page, heading):
@@ -31,13 +31,15 @@ def commands_of(text):
     return re.search(r"```sh\n(.*?)```", text, re.S).group(1)
 
 
-def try_rows(program, tally):
-    """Each row: the bytes that DEST gets."""
-    rows = ROW.findall(part_of("README.md", "Use it"))
-    tally.check("rows of README", len(rows) >= 4, True)
-    for words, script, source, dest in rows:
+def try_examples(program, tally):
+    """Each example: the bytes that DEST gets."""
+    part = part_of("docs/COMMAND.md", "Examples")
+    examples = EXAMPLE.findall(part)
+    tally.check("examples of COMMAND", len(examples), part.count("\n- "))
+    tally.holds(len(examples) > 0, "COMMAND has no examples")
+    for words, script, source, dest in examples:
         program.write("SCRIPT", script.encode() + b"\n")
-        tally.check(f"aec {words}on {source}", program.answer(words.split(), bytes.fromhex(source)), bytes.fromhex(dest))
+        tally.check(f"aec {words} on {source}", program.answer(words.split(), bytes.fromhex(source)), bytes.fromhex(dest))
 
 
 def run_commands(program, commands):
@@ -52,15 +54,11 @@ def run_commands(program, commands):
 
 
 def try_commands(program, tally):
-    """The commands of both pages, with the sizes and bytes beside them."""
+    """The commands of README, with the size beside them."""
     commands = commands_of(part_of("README.md", "Use it"))
     tally.check("commands of README", run_commands(program, commands), (0, ""))
     coded = int(re.search(r"bytes become ([\d,]+)", commands).group(1).replace(",", ""))
     tally.check("bytes that README names", len(program.read("d.aec") or b""), coded)
-    commands = commands_of(part_of("docs/COMMAND.md", "Edits"))
-    wanted = re.search(r"# ([0-9a-f ]+)$", commands, re.M).group(1)
-    status, said = run_commands(program, commands)
-    tally.check("commands of COMMAND, Edits", (status, said.strip()), (0, wanted))
 
 
 def try_code(tally):
@@ -79,7 +77,7 @@ def main():
     try_code(tally)
     with tempfile.TemporaryDirectory() as folder:
         program = Program(sys.argv[1], folder)
-        try_rows(program, tally)
+        try_examples(program, tally)
         try_commands(program, tally)
     tally.print()
     return 1 if tally.failed else 0

@@ -18,8 +18,8 @@ docs/claims.txt has what stands around the claims; its line `@crates` gives way 
 
 Fails where a name is none; where an ensures clause of a public function (of no crate of tests), its premise, a must-fail
 edit, a test or a script of tests/ that make runs stands in no claim; where a public function that is no law stands
-neither in a claim with an edit of the gate nor among the bare ones; where the README.md of a crate has no
-line on a module; and with --check, which writes nothing, where the page isn't what is written.
+neither in a claim with an edit of the gate nor among the bare ones; and with --check, which writes nothing, where the
+page isn't what is written.
 """
 
 import os
@@ -185,15 +185,6 @@ class Names:
         left = sorted(what for key, what in wanted.items() if key not in self.named)
         self.wrongs += [f"in no claim: {what}" for what in left]
 
-    def judge_readmes(self):
-        for crate in self.crates.values():
-            readme = f"crates/{crate.name}/README.md"
-            told = re.findall(r"^\| `([\w:]+)` \|", text_of(readme), re.M)
-            missing = [one for one in crate.modules if one and one not in told]
-            gone = [one for one in told if one not in crate.modules]
-            self.wrongs += [f"{readme}: no line on the module {one}" for one in missing]
-            self.wrongs += [f"{readme}: no module {one}" for one in gone]
-
 
 def many(ones):
     return "more than one" if ones else "no"
@@ -303,7 +294,6 @@ def main():
     page = written_page(names)
     names.judge_rest()
     names.judge_guards()
-    names.judge_readmes()
     if sys.argv[1:] == ["--check"]:
         if not os.path.exists(os.path.join(TOP, PAGE)) or text_of(PAGE) != page:
             names.wrongs.append(f"{PAGE} isn't what `make pages` writes")

@@ -26,6 +26,9 @@ class Function(NamedTuple):
     is_test: bool
     # Declared by a trait, so that impls alone have a body.
     is_declared: bool
+    # The file and the line, from 0, where it stands.
+    file: str
+    at: int
 
     def path(self):
         return "::".join(part for part in (self.crate, self.module, self.owner, self.name) if part)
@@ -39,6 +42,8 @@ class Crate(NamedTuple):
     # Pairs of a trait and a type that has it.
     impls: set
     modules: list
+    # The names that its root gives out.
+    exports: set
 
 
 def text_of(path):
@@ -74,7 +79,7 @@ def functions_in(path, crate, found):
     """Adds the functions of a file to what was found, its ghost items and impls to the crate."""
     names, opened = exports_of(crate.name)
     module, owner, is_trait, is_test, clauses = module_of(path), "", False, False, {}
-    for line in text_of(path).splitlines():
+    for number, line in enumerate(text_of(path).splitlines()):
         if line.startswith("}"):
             owner, is_trait = "", False
         elif at := OWNER.match(line):
@@ -84,8 +89,9 @@ def functions_in(path, crate, found):
             clauses = {"ensures": set(), "requires": set()}
             is_open = at[3] or module in opened or (owner or at[4]) in names
             is_public = bool(is_open) and (is_trait or at[2] == "pub ")
-            path = (crate.name, module, owner, at[4])
-            found.append(Function(*path, *clauses.values(), is_public, is_test, is_trait))
+            place = (crate.name, module, owner, at[4])
+            kinds = (is_public, is_test, is_trait)
+            found.append(Function(*place, *clauses.values(), *kinds, path, number))
             is_test = False
         elif at := CLAUSE.match(line):
             clauses[at[1]].add(at[2] or "")
@@ -96,7 +102,7 @@ def functions_in(path, crate, found):
 
 
 def crate_of(name):
-    crate = Crate(name, [], {}, set(), [])
+    crate = Crate(name, [], {}, set(), [], exports_of(name)[0])
     for path in files_below(f"crates/{name}/src", ".rt"):
         functions_in(path, crate, crate.functions)
         crate.modules.append(module_of(path))

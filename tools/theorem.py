@@ -153,6 +153,8 @@ class Library:
             return Word(module, true)
         if parts[1] == "declared":
             return self.declared(crate, parts[-2] if parts[-1] == "TheVariants" else true)
+        if parts[1] == "contracts":
+            return self.declared(crate, parts[-1])
         return self.file(f"crates/{crate}/{'/'.join(parts)}.antt").items[true]
 
     def cited(self, file, lines):

@@ -22,7 +22,8 @@ pub record IsInterval (f : Format) (s : List ℤ) : Type 0 where
   pub few : length s ≤ f.most
   pub held : AreHeld f s
 
--- A lawful way: intervals of one length are told apart by their bits, whatever bits follow.
+-- A lawful way: intervals of one length are told apart by their bits, whatever bits follow. Each
+-- codec must prove it.
 pub record IsLawful (f : Format) : Type 0 where
   pub some : 1 ≤ f.most
   pub few : f.most ≤ 262144
@@ -37,6 +38,7 @@ pub record BeginsAt (f : Format) (bits : List Bool) (place count : ℕ) (s : Lis
   pub length_is : length s ≡ count
   pub stands : (rest : List Bool) × (drop place bits ≡ f.bits_of s ++ rest)
 
--- the code of samples: they are cut into intervals, and the bits of these follow each other
+-- the code of samples: they are cut into intervals, and the bits of these follow each other (one
+-- function of the whole list, with no place)
 abbrev pub code_of : Format → List ℤ → List Bool
 code_of f s = flat_map f.bits_of (pieces_of f.most s)

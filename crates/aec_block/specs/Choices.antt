@@ -25,7 +25,8 @@ spelling_by b NoCompression = uncompressed b
 spelling_by b SecondExtension = paired b
 spelling_by b (Split k) = split b k
 
--- a choice that names a spelling of the block, and its whole length
+-- a choice that names a spelling of the block, and its whole length (by the coded data set and its
+-- bits, where the code has sums)
 pub record Names (s : Settings) (b : Block) (c : CodedDataSet) (choice : Choice) : Type 0 where
   pub coding : spelling_by b choice.coding ≡ c
   pub bits : choice.bits ≡ length (cds_bits s c)

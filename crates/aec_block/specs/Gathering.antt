@@ -1,5 +1,5 @@
 -- How the private functions of reading answer: what was taken, in the place of a result, and values
--- where they are small enough.
+-- where they are small enough. `read_cds` and `skip_cds` cite none of this.
 use Rattle.std.specs.Prelude.{◌≡◌, ◌≤◌, ◌^◌, ℕ, Bool, nat_lt, true, false, if◌then◌else◌, Option, Some, None, Result, Ok, Err, List, ◌∷◌, length, drop}
 use Rattle.std.specs.List.{list_all}
 use Rattle.aec_bits.specs.BitReader.{Cursor}
@@ -31,6 +31,7 @@ no_values values = tt
 abbrev pub when : {X : Type 0} → Bool → X → Option X
 when b x = if b then Some x else None
 
+-- whether all values are below a limit
 abbrev pub all_below : ℕ → List ℕ → Bool
 all_below limit values = list_all (λ v. nat_lt v limit) values
 

@@ -1,4 +1,5 @@
--- What the private functions of `writing::joined_high_parts` compute: words of codewords.
+-- What the private functions of `writing::joined_high_parts` compute: words of codewords. The
+-- contract of `write_block` cites the bits of the spelling instead.
 use Rattle.std.specs.Prelude.{◌≡◌, ℕ, ◌+◌, ◌^◌, ◌<◌, List, ◌++◌, length}
 use Rattle.aec_params.specs.Codewords.{binary}
 use Rattle.aec_block.specs.Written.{high_parts}

@@ -1,5 +1,6 @@
 -- What the private functions of `mapping` and `mapping::small_differences` compute: the mapping on
--- offsets from the least sample, of which `top` is the greatest.
+-- offsets from the least sample, of which `top` is the greatest. The contracts of `map`,
+-- `map_list`, `unmap` and `unmap_into` cite `mapped_value` and `mapped_after` instead.
 use Rattle.std.specs.Prelude.{ℕ, ◌+◌, ◌-◌, ◌*◌, ◌/◌, ◌%◌, ◌^◌, ◌≤◌, ◌==◌, min, ◌&&◌, nat_le, nat_lt, if◌then◌else◌, ℤ, ◌-ℤ◌, unsigned_abs, ⊤, List, [], ◌∷◌}
 use Rattle.aec_params.specs.declared.settings.Settings.{Settings}
 use Rattle.aec_params.specs.Params.{x_min}

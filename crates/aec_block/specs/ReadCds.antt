@@ -20,36 +20,40 @@ use Rattle.aec_block.specs.ReadAt.{Taken, nothing, taken, set_of, kind_at, cds_a
 use Rattle.aec_block.specs.Gathering.{when}
 
 -- how many zero blocks the number of a run's code tells; without a place the rest of the segment is
--- no number
+-- no number (as `told_blocks` has it)
 abbrev pub as_run_len : Option ℕ → RunLen
 as_run_len None = Rest
 as_run_len (Some z) = Blocks z
 
+-- how many zero blocks a run has by the number of its code (as `told_blocks` has it)
 abbrev pub run_len_of : ℕ → RunLen
 run_len_of m = as_run_len (told_blocks m)
 
--- what a coded data set stands for
+-- what a coded data set stands for (as `block_of_values` and `block_of_members` have it)
 abbrev pub answer_of : Option ℕ → Body → Cds
 answer_of reference (uncompressed_values values) = Single (block_of_values reference values)
 answer_of reference (value_pairs members) = Single (block_of_members reference members)
 answer_of reference (split_values k values) = Single (block_of_values reference values)
 answer_of reference (zero_blocks m) = Zeros reference (run_len_of m)
 
+-- what a coded data set stands for, as one value
 abbrev pub cds_of : CodedDataSet → Cds
 cds_of c = answer_of c.reference c.body
 
--- what it stands for, where its values are at most 2^n - 1
+-- what it stands for, where its values are at most 2^n - 1 (the clauses of `read_cds` tie it)
 abbrev pub checked : Settings → CodedDataSet → Option Cds
 checked s c = when (has_small_values s c) (cds_of c)
 
+-- what a reference and a body stand for, where the values are at most 2^n - 1
 abbrev pub checked_body : Settings → Option ℕ → Body → Option Cds
 checked_body s reference body = checked s (set_of reference body)
 
--- what was found, with the block that it was read into
+-- what was found, with the block that it was read into, as `read_cds` returns it
 abbrev pub as_cds : Found → Block → Cds
 as_cds SingleFound block = Single block
 as_cds (ZerosFound reference len) block = Zeros reference len
 
+-- what was found, with the block that it was read into, where something was found
 abbrev pub as_read : Option Found → Block → Option Cds
 as_read None block = None
 as_read (Some found) block = Some (as_cds found block)
@@ -61,25 +65,27 @@ HasShortSplit ZeroBlocks = ⊤
 HasShortSplit SecondExtension = ⊤
 HasShortSplit NoCompression = ⊤
 
--- whether it announces values that are written one by one
+-- whether an identifier announces values that are written one by one
 abbrev pub is_plain : Kind → Bool
 is_plain ZeroBlocks = false
 is_plain SecondExtension = false
 is_plain (Split k) = true
 is_plain NoCompression = true
 
--- the same of a body: it has values that are written one by one
+-- whether a body has values that are written one by one, by sample splitting or no compression
 abbrev pub is_plain_body : Body → Bool
 is_plain_body (uncompressed_values values) = true
 is_plain_body (value_pairs members) = false
 is_plain_body (split_values k values) = true
 is_plain_body (zero_blocks m) = false
 
+-- whether such an identifier was taken
 abbrev pub is_plain_taken : Taken Kind → Bool
 is_plain_taken nothing = false
 is_plain_taken (taken kind rest) = is_plain kind
 
--- whether the first bits are the identifier of a plain body
+-- whether the first bits are the identifier of a plain body (as the code judges it; the clause
+-- `seen` of `read_plain` ties it, which cites `IsReadPlain`)
 abbrev pub begins_plain : Settings → List Bool → Bool
 begins_plain s bits = is_plain_taken (kind_at (id_len s) bits)
 
@@ -89,7 +95,8 @@ abbrev pub HasNoPlain : Settings → List Bool → Type 0
 HasNoPlain s bits = (c : CodedDataSet) (rest : List Bool) → cds_at s false bits ≡ taken c rest → is_plain_body c.body ≡ true → has_small_values s c ≡ false
 
 -- the coded data set c, whose values are at most 2^n - 1, is read as what it stands for, and the
--- cursor moves behind it
+-- cursor moves behind it (that there is one, where the code takes many codewords from a word of 64
+-- bits)
 pub record IsReadAs (s : Settings) (is_reference : Bool) (old new : Cursor) (c : CodedDataSet) (cds : Cds) : Type 0 where
   pub set : IsSetAt s is_reference old.list old.pos c
   pub small : has_small_values s c ≡ true

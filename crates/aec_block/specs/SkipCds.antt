@@ -19,6 +19,7 @@ body_len (value_pairs members) = Blocks 1
 body_len (split_values k values) = Blocks 1
 body_len (zero_blocks m) = run_len_of m
 
+-- for how many blocks a coded data set stands
 abbrev pub set_len : CodedDataSet → RunLen
 set_len c = body_len c.body
 
@@ -27,15 +28,17 @@ abbrev pub read_len : Cds → RunLen
 read_len (Single block) = Blocks 1
 read_len (Zeros reference len) = len
 
--- for how many blocks it stands, where its values are at most 2^n - 1
+-- for how many blocks it stands, where its values are at most 2^n - 1 (the clauses of `skip_cds`
+-- tie it)
 abbrev pub judged_len : Settings → CodedDataSet → Option RunLen
 judged_len s c = when (has_small_values s c) (set_len c)
 
+-- for how many blocks a reference and a body stand, where the values are at most 2^n - 1
 abbrev pub judged_body_len : Settings → Option ℕ → Body → Option RunLen
 judged_body_len s reference body = judged_len s (set_of reference body)
 
 -- the coded data set c, whose values are at most 2^n - 1, is gone over as `IsReadAs` has it, and
--- stands for so many blocks
+-- stands for so many blocks (the code reads values only where it must judge each)
 pub record IsSkippedAs (s : Settings) (is_reference : Bool) (old new : Cursor) (c : CodedDataSet) (len : RunLen) : Type 0 where
   pub read : IsReadAs s is_reference old new c (cds_of c)
   pub told : len ≡ set_len c

@@ -11,26 +11,30 @@ use Rattle.aec_params.specs.Spellings.{shortest_spelling}
 use Rattle.aec_params.specs.Runs.{run_code}
 use Rattle.aec_bits.specs.BitBuf.{Bits}
 
--- the values without their k low bits, these bits, and both
+-- the fundamental sequences of the values without their k low bits
 abbrev pub high_parts : ℕ → List ℕ → List Bool
 high_parts k values = flat_map (λ v. fs (v / 2 ^ k)) values
 
+-- the k low bits of the values
 abbrev pub low_parts : ℕ → List ℕ → List Bool
 low_parts k values = flat_map (λ v. binary k (v % 2 ^ k)) values
 
--- a number that n bits spell, which are those of values of k bits each
+-- a number that n bits spell, which are those of values of k bits each (the clauses of
+-- `write_block` tie it)
 pub record Spells (k n : ℕ) (values : List ℕ) (number : ℕ) : Type 0 where
   pub below : number < 2 ^ n
   pub bits : binary n number ≡ flat_map (binary k) values
 
+-- both: what splitting with k writes of values
 abbrev pub split_parts : ℕ → List ℕ → List Bool
 split_parts k values = high_parts k values ++ low_parts k values
 
--- the bits of the shortest spelling of a block
+-- the bits of the shortest spelling of a block (a whole list, where the code appends part by part
+-- into reserved room)
 abbrev pub shortest_bits : Settings → Block → List Bool
 shortest_bits s b = cds_bits s (shortest_spelling s b)
 
--- the bits of a run of z zero blocks, which ends its segment or not
+-- the bits of a run of z zero blocks, which ends its segment or not (a whole list, likewise)
 abbrev pub run_bits : Settings → Option ℕ → ℕ → Bool → List Bool
 run_bits s reference z is_last = cds_bits s (record { reference = reference; body = zero_blocks (run_code z is_last) })
 

@@ -28,7 +28,7 @@ abbrev pub edit_reply : Result ℕ Fault → Reply
 edit_reply (Ok coded) = done coded
 edit_reply (Err fault) = refused_for fault
 
--- an edit of a workspace, and its reply
+-- an edit of a workspace, and its reply (what `apply` of aec_edit promises)
 pub record MakesEdit (e : Edit) (before after : OpenWorkspace) (reply : Reply) : Type 0 where
   pub answer : Result ℕ Fault
   pub replied : reply ≡ edit_reply answer

@@ -31,6 +31,7 @@ abbrev pub size_in : Option OpenWorkspace → ℕ
 size_in (Some w) = length w.workspace.samples
 size_in None = 0
 
+-- the number of the coder's calls; none where no workspace is held
 abbrev pub calls_in : Option OpenWorkspace → ℕ
 calls_in (Some w) = w.workspace.codec.calls
 calls_in None = 0
@@ -40,6 +41,7 @@ abbrev pub IsCodeOf : OpenWorkspace → Result (List ℕ) Fault → Type 0
 IsCodeOf w (Ok bytes) = bytes ≡ bytes_of (code_of (format_of w) w.workspace.samples)
 IsCodeOf w (Err fault) = fault ≡ Memory
 
+-- the bytes of the code of a workspace's samples, put into a buffer
 pub data WritesOut (old new : Option OpenWorkspace) (before after : List ℕ) (reply : Reply) : Type 0 where
   written : (w : OpenWorkspace) (answer : Result (List ℕ) Fault) → old ≡ Some w → new ≡ Some w → IsCodeOf w answer → after ≡ left_of answer before
       → reply ≡ reply_to answer (length before) → WritesOut old new before after reply
@@ -57,6 +59,7 @@ pub record IsSameBut (before after : OpenWorkspace) : Type 0 where
   pub calls : after.workspace.codec.calls ≡ before.workspace.codec.calls
   pub format : format_of after ≡ format_of before
 
+-- the samples of a range, put into a buffer
 pub data ReadsOut (first len : ℕ) (old new : Option OpenWorkspace) (before after : List ℤ) (reply : Reply) : Type 0 where
   read : (w w' : OpenWorkspace) (answer : Result (List ℤ) Fault) → old ≡ Some w → new ≡ Some w' → IsSameBut w w'
       → IsRangeOf w.workspace.samples first len answer → after ≡ left_of answer before → reply ≡ reply_to answer (length before)

@@ -11,7 +11,7 @@ use Rattle.aec_c.specs.contracts.handle.OpenWorkspace.{the_row}
 abbrev pub heap : Global
 heap = record { memory = record { seal = record {} } }
 
--- the block at p with a workspace, or nothing
+-- the block at p with a workspace, or nothing (in the kit's own terms of ownership)
 abbrev pub handle_owns : Bool → Ptr → Option the_row.Denot → Fml
 handle_owns true p (Some work) = box_owns (ghosts.dealloc_token heap) the_row p work
 handle_owns true p None = ffalse

@@ -45,13 +45,15 @@ place_of (Script line) = line
 place_of (StreamTooLong limit) = limit
 place_of EvenBlockSize = 0
 
--- the replies: an answer of so many bytes, an answer that takes so many, a refusal
+-- the reply for an answer of so many bytes
 abbrev pub done : ℕ → Reply
 done len = record { fault = 0; place = 0; len = len }
 
+-- the reply where an answer takes so many bytes and the buffer has fewer
 abbrev pub wants_room : ℕ → Reply
 wants_room len = record { fault = 18; place = 0; len = len }
 
+-- the reply for a refusal
 abbrev pub refused_for : Fault → Reply
 refused_for fault = record { fault = number_of fault; place = place_of fault; len = 0 }
 

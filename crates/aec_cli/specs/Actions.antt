@@ -13,7 +13,7 @@ abbrev pub HasNoScript : Action → Type 0
 HasNoScript (Edit script count) = ⊥
 HasNoScript _ = Unit {0}
 
--- what an action with no script answers to an input
+-- what an action with no script answers to an input (an edit by a script has `LeavesEdited`)
 abbrev pub IsAnswerOf : Action → Settings → Caps → Input → Result (List ℕ) Fault → Type 0
 IsAnswerOf Encode s caps = IsEncoded s caps
 IsAnswerOf (Decode count) s caps = IsDecoded s caps count
@@ -28,6 +28,6 @@ are_enough (Decode count) s caps = are_past caps.bytes
 are_enough (Range first len count) s caps = are_past caps.bytes
 are_enough (Edit script count) s caps = are_past caps.bytes
 
--- the limits of the program
+-- the limits of the program (COMMAND: Limits, time and memory)
 abbrev pub program_caps : Caps
 program_caps = record { samples = 2 ^ 32; bytes = 2 ^ 35 }

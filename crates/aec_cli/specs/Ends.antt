@@ -13,7 +13,8 @@ is_some (Some x) = true
 abbrev pub HasSynced : Done → Type 0
 HasSynced done = is_some done.synced ≡ true
 
--- the status of a run that ends so: 0 where it is done, and else that of its failure
+-- the status of a run that ends so: 0 where it is done, and else that of its failure (COMMAND: Exit
+-- status)
 abbrev pub run_status : Result Done Failure → ℕ
 run_status (Ok done) = 0
 run_status (Err failure) = status_of failure

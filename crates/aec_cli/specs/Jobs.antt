@@ -24,6 +24,7 @@ pub data Work : Type 0 where
   cutting : ℕ → ℕ → Option ℕ → Work
   editing : Text → Option ℕ → Work
 
+-- what is done, as the code holds it
 abbrev pub work_of : Action → Work
 work_of action.Encode = coding
 work_of (action.Decode count) = decoding count
@@ -37,6 +38,7 @@ pub record Task : Type 0 where
   pub source : Text
   pub dest : Text
 
+-- one job, as the code holds it
 abbrev pub task_of : Job → Task
 task_of j = record { settings = j.params; work = work_of j.action; source = string_bytes j.source; dest = string_bytes j.dest }
 
@@ -44,7 +46,7 @@ task_of j = record { settings = j.params; work = work_of j.action; source = stri
 unfoldable pub is_given : Text → Found → Bool
 is_given id f = option_map_or (λ text. bytes_eq text (codes "true")) (first_value f id) false
 
--- the number of an option, and the default where it has none
+-- the number of an option, and the default where it has none (COMMAND: Options)
 unfoldable pub word_of : ℕ → Text → Found → ℕ
 word_of default id f = unwrap_or (option_and_then (option_number 32) (one_text f id)) default
 
@@ -56,7 +58,7 @@ count_of f = option_and_then (option_number 64) (one_text f (codes "count"))
 unfoldable pub file_of : Text → Found → Text
 file_of id f = unwrap_or (first_value f id) []
 
--- the settings: the usual numbers where no others are asked for, and each flag
+-- the settings: the usual numbers where no others are asked for, and each flag (COMMAND: Options)
 unfoldable pub settings_of : Found → Settings
 settings_of f = record {
   bits = word_of usual_settings.bits (codes "bits") f;
@@ -88,7 +90,8 @@ abbrev pub refused_where : Bool → Usage → Option Usage
 refused_where holds usage = if holds then Some usage else None
 
 -- Why no action is asked for, the first that holds: more than one; a sample count and none that
--- reads coded data; a range whose text is none.
+-- reads coded data; a range whose text is none. (COMMAND: Order of a run; tests in their order,
+-- where the code matches on both at once)
 unfoldable pub action_refusal : Found → Option Usage
 action_refusal f =
     option_or (refused_where (nat_lt 1 (actions_given f)) Jobs)
@@ -103,6 +106,7 @@ work_asked f = option_map_or (λ script. editing script (count_of f)) (first_val
 
 -- ---- the job
 
+-- the job that the words ask for where nothing is refused
 abbrev pub asked_task : Found → Task
 asked_task f = record {
   settings = settings_of f;
@@ -112,7 +116,7 @@ asked_task f = record {
 }
 
 -- why there is no job: the refusal of its action, and else the first rule of the format that its
--- settings break
+-- settings break (COMMAND: Order of a run)
 abbrev pub job_refusal : Found → Option Usage
 job_refusal f = option_or (action_refusal f) (option_map (λ fault. Setting fault) (settings_fault (settings_of f)))
 

@@ -15,7 +15,7 @@ use Rattle.aec_cli.specs.declared.failure.Failure.TheVariants as failure
 use Rattle.aec_cli.specs.declared.start.StartFault.{StartFault}
 use Rattle.aec_cli.specs.declared.start.StartFault.TheVariants as start
 
--- words that make no job: 2; but want of memory is no fault of the words
+-- words that make no job: 2; but want of memory is no fault of the words (COMMAND: Exit status)
 abbrev pub usage_status : Usage → ℕ
 usage_status Jobs = 2
 usage_status Count = 2
@@ -23,13 +23,13 @@ usage_status Range = 2
 usage_status (Setting fault) = 2
 usage_status Memory = 1
 
--- and everything else: 1
+-- and everything else: 1 (COMMAND: Exit status)
 abbrev pub status_of : Failure → ℕ
 status_of (failure.Usage usage) = usage_status usage
 status_of (failure.Fault fault) = 1
 status_of (failure.Edit fault) = 1
 
--- where a process begins no run: 2 for words that are no text, and else 1
+-- where a process begins no run: 2 for words that are no text, and else 1 (COMMAND: Exit status)
 abbrev pub start_status : StartFault → ℕ
 start_status start.Stream = 1
 start_status start.Words = 2
@@ -42,6 +42,7 @@ ConcernsWords start.Words = Unit {0}
 ConcernsWords start.Memory = Unit {0}
 
 -- where a parse gives no matches: 0 for what was asked for, 1 for want of memory, and else 2
+-- (COMMAND: Exit status)
 abbrev pub parse_status : ErrorKind → ℕ
 parse_status kind.DisplayHelp = 0
 parse_status kind.DisplayVersion = 0
@@ -54,7 +55,7 @@ IsStatusAmong status [] = ⊥
 IsStatusAmong status (k ∷ ks) = (status ≡ parse_status k) ⊎ IsStatusAmong status ks
 
 -- where the words have mistakes of these kinds, the status is that of one of them, or 1 for want of
--- memory
+-- memory (COMMAND: Exit status; nothing is said of words without mistakes)
 abbrev pub EndsByMistake : Kinds → ℕ → Type 0
 EndsByMistake [] status = Unit {0}
 EndsByMistake (k ∷ ks) status = (status ≡ 1) ⊎ IsStatusAmong status (k ∷ ks)
@@ -66,12 +67,12 @@ abbrev pub IsFoundIn : List Text → Found → Type 0
 IsFoundIn words found = rows_of found ≡ matches_of aec_app words
 
 -- the status of a refused job; where there is a job, it is done or refused, and its words are in
--- order
+-- order (COMMAND: Exit status; a job that is done isn't told from one that is refused)
 abbrev pub EndsByRefusal : Result Task Usage → ℕ → Type 0
 EndsByRefusal (Ok task) status = status ≤ 1
 EndsByRefusal (Err usage) status = status ≡ usage_status usage
 
 -- Words without a mistake end with the status of the first refusal of their job, where it has one;
--- where it has none with 0 or 1; or with 1 for want of memory.
+-- where it has none with 0 or 1; or with 1 for want of memory. (COMMAND: Exit status)
 abbrev pub EndsByWords : List Text → ℕ → Type 0
 EndsByWords words status = (status ≡ 1) ⊎ ((found : Found) × IsFoundIn words found × EndsByRefusal (job_of found) status)

@@ -1,5 +1,6 @@
 -- What the private functions do to the samples: places are exchanged for values, and for that
--- intervals for fresh samples.
+-- intervals for fresh samples. The contract of `apply` cites `samples_after`, `needed_calls` and
+-- `opened_intervals` instead.
 use Rattle.std.specs.Prelude.{◌≡◌, ℕ, ◌+◌, ◌-◌, ◌*◌, ◌/◌, ◌%◌, ◌≤◌, ◌⊎◌, min, Bool}
 use Rattle.std.specs.Prelude.{◌==◌, if◌then◌else◌, None, MatchOption, is_some, List, ◌++◌, length, take, drop, ℤ}
 use Rattle.std.specs.Int.{div_ceil}

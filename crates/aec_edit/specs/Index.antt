@@ -1,5 +1,6 @@
 -- How a workspace is kept: the code of its samples, the places where the intervals begin in it, and
--- the number of samples.
+-- the number of samples. The contract of `apply` cites `samples_after`, `needed_calls` and
+-- `opened_intervals` instead.
 use Rattle.std.specs.Prelude.{◌≡◌, ℕ, ◌+◌, Bool, List, [], ◌∷◌, length, ℤ}
 use Rattle.aec_params.specs.Cutting.{pieces_of}
 use Rattle.std.proofs.Common.{sym, ◌∙◌}

@@ -1,4 +1,5 @@
 -- The intervals that an exchange of places decodes: those that it touches and that keep a sample.
+-- The contract of `apply` cites `samples_after`, `needed_calls` and `opened_intervals` instead.
 use Rattle.std.specs.Prelude.{ℕ, ◌-◌, ◌*◌, ◌/◌, List, length, take, drop, filter, ℤ}
 use Rattle.std.specs.List.{range_with_len, flat_map}
 use Rattle.std.specs.Int.{div_ceil}

@@ -16,7 +16,7 @@ all_left s (e ∷ edits) [] = s
 all_left s (e ∷ edits) (outcome ∷ outcomes) = all_left (samples_left s e outcome) edits outcomes
 
 -- the outcomes of edits, one for each, every one from the samples and the calls that those before
--- it have left
+-- it have left (over both lists, where the code has a loop)
 abbrev pub AnswersAll : Format → ℕ → List ℤ → ℕ → List Edit → List Outcome → ℕ → Type 0
 AnswersAll f limit s calls [] [] after = after ≡ calls
 AnswersAll f limit s calls [] (outcome ∷ outcomes) after = ⊥
@@ -24,7 +24,8 @@ AnswersAll f limit s calls (e ∷ edits) [] after = ⊥
 AnswersAll f limit s calls (e ∷ edits) (outcome ∷ outcomes) after =
     (between : ℕ) × Answers f limit s calls e outcome between × AnswersAll f limit (samples_left s e outcome) between edits outcomes after
 
--- how many intervals were coded for the edits that were made
+-- how many intervals were coded for the edits that were made (a sum over the outcomes, where the
+-- code counts in the codec)
 abbrev pub all_coded : List Outcome → ℕ
 all_coded [] = 0
 all_coded (Done coded ∷ outcomes) = coded + all_coded outcomes
@@ -37,7 +38,7 @@ opened_for n old e (Done coded) = opened_intervals n old e
 opened_for n old e (Refused Memory) = opened_intervals n old e
 opened_for n old e (Refused fault) = 0
 
--- the same for edits, each with its outcome
+-- the same for edits, each with its outcome (a sum, likewise)
 abbrev pub all_opened : ℕ → List ℤ → List Edit → List Outcome → ℕ
 all_opened n s [] outcomes = 0
 all_opened n s (e ∷ edits) [] = 0

@@ -11,7 +11,7 @@ pub record Room : Type 0 where
   pub intervals : ℕ
 
 -- the samples, the most of them that there may be, the codec with its counts of calls, and the room
--- of the code
+-- of the code (the code keeps no samples)
 pub record Contents (C : Type 0) : Type 0 where
   pub samples : List ℤ
   pub limit : ℕ
@@ -31,12 +31,14 @@ pub record IsScratchRoom (n front back bits starts : ℕ) : Type 0 where
 abbrev pub interval_count : Format → List ℤ → ℕ
 interval_count f s = div_ceil (length s) f.most
 
--- where interval i begins in the code of samples: after the code of the samples before it
+-- where interval i begins in the code of samples: after the code of the samples before it (by the
+-- code of a front of the samples, where the code has an index)
 abbrev pub start_of : Format → List ℤ → ℕ → ℕ
 start_of f s i = length (code_of f (take (i * f.most) s))
 
 -- bytes have one reading with so many samples: their bits begin with the code of these held
--- samples, whatever follows, and with that of no other held list of so many
+-- samples, whatever follows, and with that of no other held list of so many (by any codec, where
+-- the code decodes interval by interval)
 pub record HasOneReading (f : Format) (bytes : List ℕ) (samples : List ℤ) : Type 0 where
   pub held : AreHeld f samples
   pub begins : (rest : List Bool) × (bits_of_bytes bytes ≡ code_of f samples ++ rest)

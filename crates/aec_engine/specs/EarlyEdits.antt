@@ -41,7 +41,8 @@ StopsEarly f limit script s fault =
     (rest : List ℤ) (due : ℕ) → due ≤ 2 ^ 63 → StopsEditing f limit due (s ++ rest) script.edits script.lines fault
 
 -- all samples that bits are read as were taken over, and the edits up to those ahead were made
--- meanwhile
+-- meanwhile (the code takes them over by whole intervals; `IsInside` of aec_edit says which edits
+-- are made early)
 abbrev pub LoadsAll : Format → ℕ → Listing → Place → Listing → List ℤ → ℕ → Type 0
 LoadsAll f limit script start ahead left calls =
     (xs : List ℤ) → AreSamplesOf start xs → LeadsToEdits f limit (left_of xs (first_calls f xs)) script (left_of left calls) ahead

@@ -22,7 +22,7 @@ use Rattle.aec_engine.specs.Scripts.{Listing, listing_of}
 use Rattle.aec_engine.specs.Transfers.{Input, Taking, Putting, are_past, Gave, WroteNothing, IsBegunFirst, answer_by}
 
 -- why a script is refused: as an input that is read whole, and else for its first line that is no
--- edit
+-- edit (COMMAND: Order of a run)
 abbrev pub script_refusal : ℕ → Input → Option Fault
 script_refusal limit script = option_or (intake_refusal limit script) (option_map (λ n. Script n) (listing_of script.bytes).bad)
 
@@ -37,7 +37,8 @@ left_of samples calls = record { samples = samples; calls = calls }
 
 -- What is left by edits of the samples s, made one after the other, of which each has its line,
 -- after so many calls of the coder: each calls it as often as it needs. Or why the first that is
--- refused is, with its line: it doesn't fit, or too few calls are left for it.
+-- refused is, with its line: it doesn't fit, or too few calls are left for it. (COMMAND: Edits;
+-- over lists of samples, where the code has streams, and one count of calls)
 abbrev pub edits_left : Format → ℕ → ℕ → List ℤ → List Edit → List ℕ → Result Left EditFault
 edits_left f limit calls s (e ∷ edits) (n ∷ lines) =
     option_map_or (λ fault. Err (Line n fault)) (due_refusal f limit s calls e)
@@ -61,7 +62,7 @@ pub record Recoded : Type 0 where
   pub bytes : List ℕ
   pub calls : ℕ
 
--- what carrying out a script answers
+-- what carrying out a script answers (COMMAND: Edits)
 pub data IsEdited (s : Settings) (caps : Caps) (count : Option ℕ) (script input : Input) : Result Recoded EditFault → Type 0 where
   -- the script is refused before the input is looked at
   no_script : (fault : Fault) → script_refusal caps.bytes script ≡ Some fault → IsEdited s caps count script input (Err (Plain fault))

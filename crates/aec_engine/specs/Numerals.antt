@@ -8,7 +8,8 @@ use Rattle.std.specs.Str.Parse.{digits_value, without_leading_plus}
 abbrev pub Text : Type 0
 Text = List ℕ
 
--- one decimal digit or more, and nothing else
+-- one decimal digit or more, and nothing else (a test on a list, where the code has the library's
+-- `parse`)
 abbrev pub is_numeral : Text → Bool
 is_numeral text = nat_lt 0 (length text) && list_all (λ byte. nat_lt (digit_value byte) 10) text
 
@@ -18,11 +19,12 @@ fits_i64 (pos n) = nat_lt n (2 ^ 63)
 fits_i64 (negsuc n) = nat_lt n (2 ^ 63)
 
 -- the whole number below 2^width that a text writes in decimal digits and in nothing else, where it
--- is one
+-- is one (COMMAND: Ranges; by the value of a list of digits, with no loop that stops at the first
+-- bad one)
 abbrev pub decimal_in : ℕ → Text → Option ℕ
 decimal_in width text = if is_numeral text && nat_lt (digits_value 10 text) (2 ^ width) then Some (digits_value 10 text) else None
 
--- the same where a plus may stand first, as in the number of an option
+-- the same where a plus may stand first, as in the number of an option (COMMAND: Options)
 abbrev pub option_number : ℕ → Text → Option ℕ
 option_number width text = decimal_in width (without_leading_plus text)
 
@@ -31,6 +33,7 @@ abbrev pub numbers_in : List Text → Option (ℕ × ℕ)
 numbers_in (first ∷ len ∷ []) = option_and_then (λ i. option_map (λ n. (i, n)) (decimal_in 64 len)) (decimal_in 64 first)
 numbers_in _ = None
 
--- `FIRST:LEN`: cut at its colons, the text is two numbers
+-- `FIRST:LEN`: cut at its colons, the text is two numbers (COMMAND: Ranges; cut at every colon,
+-- where the code cuts at the first)
 abbrev pub range_in : Text → Option (ℕ × ℕ)
 range_in text = numbers_in (slice_split (λ byte. byte == 58) text)

@@ -18,15 +18,16 @@ use Rattle.aec_engine.specs.Transfers.{Input, Taking, are_past, Gave}
 -- ---- coding
 
 -- bytes with a sample that is refused, whatever follows them: one that is too many, or out of range
+-- (COMMAND: Order of a run; of all bytes together, where the code judges sample by sample)
 abbrev pub are_refused : Settings → ℕ → List ℕ → Bool
 are_refused s limit bytes = is_some (judged_samples limit (samples_of_bytes s bytes))
 
 -- why an input is not coded: the first refusal of its samples, and after them the failure of its
--- source
+-- source (COMMAND: Order of a run)
 abbrev pub coding_refusal : Settings → ℕ → Input → Option Fault
 coding_refusal s limit input = option_or (judged_samples limit (samples_of_bytes s input.bytes)) (if input.failed then Some Read else None)
 
--- what coding answers
+-- what coding answers (COMMAND: Limits, time and memory; nothing is said of how its bytes are read)
 pub data IsEncoded (s : Settings) (caps : Caps) (input : Input) : Result (List ℕ) Fault → Type 0 where
   not_coded : (fault : Fault) → coding_refusal s caps.samples input ≡ Some fault → IsEncoded s caps input (Err fault)
   -- the bytes of the samples' code
@@ -35,11 +36,11 @@ pub data IsEncoded (s : Settings) (caps : Caps) (input : Input) : Result (List �
 
 -- ---- decoding
 
--- samples as bytes, one after the other
+-- samples as bytes, one after the other (COMMAND: Stored samples)
 abbrev pub all_stored : Settings → List ℤ → List ℕ
 all_stored s samples = flat_map (stored_bytes s) samples
 
--- the refusal of an input that is read whole
+-- the refusal of an input that is read whole (COMMAND: Order of a run)
 abbrev pub intake_refusal : ℕ → Input → Option Fault
 intake_refusal limit input = if nat_lt limit (length input.bytes) then Some (StreamTooLong limit) else (if input.failed then Some Read else None)
 
@@ -56,7 +57,7 @@ pub record GaveSamples (s : Settings) (caps : Caps) (count : Option ℕ) (source
   pub gave : Gave source (are_past caps.bytes) input
   pub read : IsRead s caps count input samples
 
--- what decoding answers
+-- what decoding answers (COMMAND: Order of a run)
 pub data IsDecoded (s : Settings) (caps : Caps) (count : Option ℕ) (input : Input) : Result (List ℕ) Fault → Type 0 where
   -- the input is refused before it is read as coded data
   not_taken : (fault : Fault) → intake_refusal caps.bytes input ≡ Some fault → IsDecoded s caps count input (Err fault)
@@ -73,7 +74,8 @@ pub data IsDecoded (s : Settings) (caps : Caps) (count : Option ℕ) (input : In
 abbrev pub samples_from : ℕ → ℕ → List ℤ → List ℤ
 samples_from first len samples = take len (drop first samples)
 
--- what cutting out a range answers
+-- what cutting out a range answers (COMMAND: Ranges; a refusal of decoding, then of its place, else
+-- the stored bytes of the part)
 pub data IsRanged (s : Settings) (caps : Caps) (count : Option ℕ) (first len : ℕ) (input : Input) : Result (List ℕ) Fault → Type 0 where
   -- the refusals of decoding: the whole input has to be sound
   not_decoded : (fault : Fault) → IsDecoded s caps count input (Err fault) → IsRanged s caps count first len input (Err fault)

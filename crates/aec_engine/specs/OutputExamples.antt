@@ -66,9 +66,11 @@ failed_after_the_limit = not_coded (TooManySamples 2) refl
 
 -- ---- ranges
 
+-- so many samples and so many bytes
 abbrev both_limits : Caps
 both_limits = record { samples = 4096; bytes = 4 }
 
+-- the samples 0 to 7, coded
 abbrev ramp_bytes : List ℕ
 ramp_bytes = 0x20 ∷ 0x09 ∷ 0x24 ∷ 0x92 ∷ []
 

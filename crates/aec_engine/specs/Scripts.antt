@@ -19,17 +19,19 @@ abbrev pub is_word : Text → Bool
 is_word [] = false
 is_word (byte ∷ bytes) = true
 
--- the words of a line, which blanks part
+-- the words of a line, which blanks part (COMMAND: Scripts; the whole line cut at each blank,
+-- without what is empty, where the code goes from word to word)
 abbrev pub words_of : Text → List Text
 words_of line = filter is_word (slice_split is_blank line)
 
--- the whole number of 64 bits that a sign or nothing and decimal digits write
+-- the whole number of 64 bits that a sign or nothing and decimal digits write (COMMAND: Scripts; by
+-- the value of a list of digits)
 abbrev pub signed_in : Text → Option ℤ
 signed_in word =
     if is_numeral (without_leading_sign word) && fits_i64 (signed_digits_value 10 word)
     then Some (signed_digits_value 10 word) else None
 
--- a value has a minus or nothing before its digits
+-- a value has a minus or nothing before its digits (COMMAND: Scripts)
 abbrev pub value_in : Text → Option ℤ
 value_in word = if slice_index word 0 == 43 then None else signed_in word
 
@@ -40,7 +42,7 @@ values_in (word ∷ words) = option_and_then (λ x. option_map (λ xs. x ∷ xs)
 
 -- ---- lines
 
--- what a line says: nothing, an edit, or neither
+-- what a line says: nothing, an edit, or neither (COMMAND: Scripts)
 pub data Meaning : Type 0 where
   nothing : Meaning
   change : Edit → Meaning
@@ -51,31 +53,32 @@ abbrev pub change_if : Option Edit → Meaning
 change_if (Some e) = change e
 change_if None = unknown
 
--- `FIRST V..`
+-- `FIRST V..` (COMMAND: Edits)
 abbrev pub overwrite_in : List Text → Option Edit
 overwrite_in [] = None
 overwrite_in (first ∷ values) = option_and_then (λ i. option_map (λ xs. Overwrite i xs) (values_in values)) (decimal_in 64 first)
 
--- `V..`
+-- `V..` (COMMAND: Edits)
 abbrev pub append_in : List Text → Option Edit
 append_in values = option_map (λ xs. Append xs) (values_in values)
 
--- `COUNT`
+-- `COUNT` (COMMAND: Edits)
 abbrev pub truncate_in : List Text → Option Edit
 truncate_in (count ∷ []) = option_map (λ n. Truncate n) (decimal_in 64 count)
 truncate_in _ = None
 
--- `FIRST V..`
+-- `FIRST V..` (COMMAND: Edits)
 abbrev pub insert_in : List Text → Option Edit
 insert_in [] = None
 insert_in (first ∷ values) = option_and_then (λ i. option_map (λ xs. Insert i xs) (values_in values)) (decimal_in 64 first)
 
--- `FIRST LEN`
+-- `FIRST LEN` (COMMAND: Edits)
 abbrev pub remove_in : List Text → Option Edit
 remove_in (first ∷ len ∷ []) = option_and_then (λ i. option_map (λ n. Remove i n) (decimal_in 64 len)) (decimal_in 64 first)
 remove_in _ = None
 
--- the first word names the edit; a line whose first word begins with `#` says nothing
+-- the first word names the edit; a line whose first word begins with `#` says nothing (COMMAND:
+-- Scripts; on the list of all words, where the code judges a line before it keeps its values)
 abbrev pub meaning_of_words : List Text → Meaning
 meaning_of_words [] = nothing
 meaning_of_words (name ∷ words) =
@@ -86,14 +89,14 @@ meaning_of_words (name ∷ words) =
     else (if bytes_eq name (codes "insert") then change_if (insert_in words)
     else (if bytes_eq name (codes "remove") then change_if (remove_in words) else unknown)))))
 
--- one carriage return at the end of a line is no part of it
+-- one carriage return at the end of a line is no part of it (COMMAND: Scripts)
 abbrev pub meaning_of : Text → Meaning
 meaning_of line = meaning_of_words (words_of (strip_carriage_return line))
 
 -- ---- whole scripts
 
 -- the edits before the first line that is none, the numbers of their lines, and the number of that
--- line
+-- line (COMMAND: Scripts)
 pub record Listing : Type 0 where
   pub edits : List Edit
   pub lines : List ℕ
@@ -110,6 +113,7 @@ abbrev pub listing_from : ℕ → List Text → Listing
 listing_from n [] = record { edits = []; lines = []; bad = None }
 listing_from n (line ∷ lines) = listed n (meaning_of line) (listing_from (n + 1) lines)
 
--- lines end with line feeds, and are counted from 1
+-- lines end with line feeds, and are counted from 1 (COMMAND: Scripts; the whole script cut at its
+-- line feeds)
 abbrev pub listing_of : Text → Listing
 listing_of bytes = listing_from 1 (slice_split (λ byte. byte == 10) bytes)

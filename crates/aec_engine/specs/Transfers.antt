@@ -19,13 +19,13 @@ pub record FailsWithin (before after : Option (List ℕ)) (failures limit : ℕ)
   pub failed : failures ≡ 1
   pub within : length bytes ≤ limit
 
--- bytes of a source that pass the limit
+-- bytes of a source that pass the limit (COMMAND: Limits, time and memory)
 pub record PassesLimit (before after : Option (List ℕ)) (failures limit : ℕ) (bytes : List ℕ) : Type 0 where
   pub taken : Consumes before after bytes
   pub sound : failures ≡ 0
   pub past : limit < length bytes
 
--- why a source was not read whole
+-- why a source was not read whole (COMMAND: Diagnostics)
 pub data RefusesIntake (before after : Option (List ℕ)) (failures limit : ℕ) : Fault → Type 0 where
   no_memory : RefusesIntake before after failures limit Memory
   source_failed : (bytes : List ℕ) → FailsWithin before after failures limit bytes → RefusesIntake before after failures limit Read
@@ -90,7 +90,7 @@ pub record IsBegunFirst (sink : Putting) : Type 0 where
 
 -- What an engine leaves whose answers are a function of its input: its answer written and begun
 -- once; or its refusal and nothing written; want of memory and nothing written; or a front of its
--- answer where the sink failed.
+-- answer where the sink failed. (COMMAND: Coding and DEST)
 pub data Leaves (answers : Input → Result (List ℕ) Fault → Type 0) (source : Taking) (enough : List ℕ → Bool) (sink : Putting)
     : Result (Unit {0}) Fault → Type 0 where
   written : (input : Input) (bytes : List ℕ) → Gave source enough input → answers input (Ok bytes) → Appends sink.before sink.after bytes

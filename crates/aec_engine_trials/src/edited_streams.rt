@@ -1,3 +1,5 @@
+//! `decode_edited`: edits from nothing, coded and decoded.
+
 use crate::asserts::same;
 use aec_edit::Outcome;
 use aec_engine::decode_edited;

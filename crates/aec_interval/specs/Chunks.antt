@@ -1,5 +1,6 @@
 -- What the private functions of `interval::filled_blocks` compute: the blocks of samples behind
--- others of their interval, or at its start.
+-- others of their interval, or at its start. The contract of `write_interval` cites `interval_bits`
+-- instead.
 use Rattle.std.specs.Prelude.{◌≡◌, ℕ, ◌*◌, ◌≤◌, ⊤, Option, Some, None, ℤ, List, length}
 use Rattle.std.specs.List.{AllByRecursion}
 use Rattle.aec_params.specs.declared.settings.Settings.{Settings}
@@ -15,6 +16,7 @@ abbrev pub values_after : Settings → Option ℤ → List ℤ → List ℕ
 values_after s None v = mapped_values s v
 values_after s (Some previous) v = mapped_after s previous v
 
+-- the reference sample of a block behind them, where there is one
 abbrev pub reference_after : Settings → Option ℤ → List ℤ → Option ℕ
 reference_after s None v = reference_of s v
 reference_after s (Some previous) v = None

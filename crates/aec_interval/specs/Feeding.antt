@@ -10,6 +10,7 @@ use Rattle.aec_interval.specs.Taking.{TakenSamples, taken_groups}
 
 -- what is kept between pieces: the samples of an interval that isn't complete, the bytes of a
 -- sample that isn't complete, how many samples there were so far, and the refusal, if there was one
+-- (lists, where the code has a vector and four bytes)
 pub record Coder : Type 0 where
   pub settings : Settings
   pub limit : ℕ
@@ -22,10 +23,12 @@ pub record Coder : Type 0 where
 abbrev pub fresh_coder : Settings → ℕ → Coder
 fresh_coder s limit = record { settings = s; limit = limit; held = []; rest = []; count = 0; refusal = None }
 
--- the front of a list that is whole pieces of n, and what is left behind it
+-- the front of a list that is whole pieces of n (cut by division, where the code counts up to an
+-- interval)
 abbrev pub whole_front : {X : Type 0} → ℕ → List X → List X
 whole_front n xs = take (length xs / n * n) xs
 
+-- what is left behind that front
 abbrev pub left_behind : {X : Type 0} → ℕ → List X → List X
 left_behind n xs = drop (length xs / n * n) xs
 
@@ -37,7 +40,9 @@ taken_of c piece = taken_groups c.settings c.limit c.count (byte_groups c.settin
 abbrev pub samples_with : Coder → List ℕ → List ℤ
 samples_with c piece = c.held ++ (taken_of c piece).samples
 
--- the coder behind a piece: it holds what is left of the samples and of the bytes
+-- the coder behind a piece: it holds what is left of the samples and of the bytes (of the whole
+-- piece, where the code takes up to an interval at once, and goes sample by sample where one is
+-- refused)
 abbrev pub fed : Coder → List ℕ → Coder
 fed c piece = record {
   settings = c.settings;
@@ -48,7 +53,8 @@ fed c piece = record {
   refusal = (taken_of c piece).refusal;
 }
 
--- the bits that a piece adds: the code of the intervals that are complete with it
+-- the bits that a piece adds: the code of the intervals that are complete with it (of the whole
+-- piece, likewise)
 abbrev pub fed_bits : Coder → List ℕ → List Bool
 fed_bits c piece = stream_of c.settings (whole_front (interval_len c.settings) (samples_with c piece))
 

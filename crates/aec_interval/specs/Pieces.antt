@@ -9,7 +9,7 @@ use Rattle.aec_params.specs.Reading.{is_wanted, LeadsTo, stream_blocks, kept_blo
 use Rattle.aec_interval.specs.Reached.{RefusesUpTo}
 
 -- what is read and under which terms, the block that comes next, and the bit where its coded data
--- set begins
+-- set begins (numbers and lists, where the code has a `BitReader` and a block number)
 pub record Place : Type 0 where
   pub settings : Settings
   pub count : Option ℕ
@@ -52,7 +52,7 @@ pub record ReadsInterval (p : Place) (samples : List ℤ) (q : Place) : Type 0 w
   pub within : q.block ≤ p.block + p.settings.interval
   pub to_end : is_wanted_at q ≡ true → q.block ≡ p.block + p.settings.interval
 
--- the samples that were read up to a place
+-- the samples that were read up to a place (by one step from the first bit, of any length)
 abbrev pub HasRead : Place → List ℤ → Type 0
 HasRead p samples = ReadsPiece (place_at p.settings p.count p.limit p.bits 0 0) samples p
 
@@ -63,7 +63,7 @@ RefusesAt p fault = RefusesUpTo p.settings p.count p.limit p.bits p.block p.bit 
 
 -- a place between two steps, or where all is read: coded data sets lead there from the first bit
 -- on, and where more is wanted an interval begins. Fewer than `2^34` blocks were read: `2^32`
--- samples have far fewer
+-- samples have far fewer (the clauses of `next`, `skip`, `place` and `go_back` tie it)
 pub record IsPlace (p : Place) : Type 0 where
   pub few : p.block < 2 ^ 34
   pub limit : p.limit ≤ 2 ^ 32

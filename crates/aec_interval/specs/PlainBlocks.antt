@@ -1,5 +1,6 @@
 -- Plain blocks read one behind the other: what the private functions of `reading::plain` do for
--- every reading that comes to the first of them.
+-- every reading that comes to the first of them. The contract of `decode_all` cites `IsReading` and
+-- `IsFault` instead.
 use Rattle.std.specs.Prelude.{◌≡◌, ◌<◌, ◌≤◌, ℕ, ◌+◌, ◌-◌, ◌/◌, ◌%◌, ℤ, List}
 use Rattle.std.specs.List.{AllByRecursion}
 use Rattle.aec_params.specs.declared.settings.Settings.{Settings}

@@ -1,5 +1,5 @@
 -- What the private functions of `stream_coder::pieces` keep: a coder that was not refused anything,
--- by its parts.
+-- by its parts. `StreamCoder::feed` cites none of this.
 use Rattle.std.specs.Prelude.{◌≡◌, ℕ, ◌+◌, ◌*◌, ◌%◌, ◌<◌, ◌≤◌, ◌⊎◌, Bool, Option, None, Result, MatchResult, OnOk, OnErr, IfErr, ℤ, List, [], ◌++◌, length}
 use Rattle.std.specs.List.{AllByRecursion}
 use Rattle.aec_params.specs.declared.settings.Settings.{Settings}
@@ -11,6 +11,7 @@ use Rattle.aec_interval.specs.Feeding.{Coder, Feeds, StopsFeeding, whole_front, 
 use Rattle.aec_interval.specs.declared.stream_coder.pieces.Progress.{Progress}
 use Rattle.aec_interval.specs.declared.stream_coder.pieces.Terms.{Terms}
 
+-- a coder by its parts
 abbrev pub coder_with : Terms → Progress → List ℕ → Option Fault → Coder
 coder_with terms progress rest refusal = record {
   settings = terms.params;
@@ -21,6 +22,7 @@ coder_with terms progress rest refusal = record {
   refusal = refusal;
 }
 
+-- a coder by its parts, refused nothing
 abbrev pub coder_at : Terms → Progress → List ℕ → Coder
 coder_at terms progress rest = coder_with terms progress rest None
 

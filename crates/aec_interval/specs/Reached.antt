@@ -8,7 +8,8 @@ use Rattle.aec_params.specs.CodedDataSets.{CodedDataSet}
 use Rattle.aec_params.specs.Reading.{LeadsTo, stream_blocks, kept_blocks, IsBlockReading, FillBlocks, counted_samples}
 use Rattle.aec_params.specs.Faults.{IsFault}
 
--- samples that fill so many blocks
+-- samples that fill so many blocks (`decode_all` cites `IsReading` and `IsFault` instead of this,
+-- `IsReached` and `IsReadFrom`)
 pub record AreFilled (s : Settings) (count : ℕ) (samples : List ℤ) : Type 0 where
   pub blocks : List Block
   pub filled : FillBlocks s samples blocks
@@ -50,12 +51,12 @@ pub data RefusesUpTo (s : Settings) (count : Option ℕ) (limit : ℕ) (bits : L
   no_room : (h : LeadsBehindOne s count limit bits first start) → h.block ≤ end → RefusesUpTo s count limit bits first start end Memory
   wrong_before : (fault : Fault) (h : IsFault s count limit bits first start fault) → h.block < end → RefusesUpTo s count limit bits first start end fault
 
--- the refusal of a sample count that is above the limit
+-- the refusal of a sample count that is above the limit (§12; before any coded data set is read)
 abbrev pub count_refusal : ℕ → Option ℕ → Option Fault
 count_refusal limit (Some count) = if nat_lt limit count then Some (TooManySamples limit) else None
 count_refusal limit None = None
 
--- why bits are not decoded: a count above the limit, and else what the reading meets
+-- why bits are not decoded: a count above the limit, and else what the reading meets (§12)
 pub data RefusesDecoding (s : Settings) (count : Option ℕ) (limit : ℕ) (bits : List Bool) : Fault → Type 0 where
   above_limit : (fault : Fault) → count_refusal limit count ≡ Some fault → RefusesDecoding s count limit bits fault
   unread : (fault : Fault) → count_refusal limit count ≡ None → RefusesReading s count limit bits 0 0 fault → RefusesDecoding s count limit bits fault

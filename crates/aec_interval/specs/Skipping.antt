@@ -11,11 +11,12 @@ use Rattle.aec_params.specs.Faults.{IsFault}
 use Rattle.aec_interval.specs.Pieces.{Place, place_at, ReadsPiece, ReadsInterval}
 
 -- from block `first` at position `start` on, some coded data sets lead to block i at position b
+-- (serves `StreamReader::skip`, as `asked_len` does)
 pub record IsLedTo (s : Settings) (count : Option ℕ) (limit : ℕ) (bits : List Bool) (first start i b : ℕ) : Type 0 where
   pub sets : List CodedDataSet
   pub leads : LeadsTo s count limit bits first start sets i b
 
--- the fault of a coded data set that would begin before block `end`
+-- the fault of a coded data set that would begin before block `end` (`IsFault`, bounded)
 pub record IsFaultBefore (s : Settings) (count : Option ℕ) (limit : ℕ) (bits : List Bool) (first start end : ℕ) (fault : Fault) : Type 0 where
   pub wrong : IsFault s count limit bits first start fault
   pub before : wrong.block < end
@@ -25,7 +26,7 @@ abbrev pub asked_len : Settings → Option ℕ → ℕ → ℕ → ℕ
 asked_len s None i j = (j - i) * s.block_size
 asked_len s (Some count) i j = min ((j - i) * s.block_size) (count - i * s.block_size)
 
--- the next interval is read as so many samples
+-- the next interval is read as so many samples (`ReadsInterval` with the samples left open)
 pub record HasInterval (p : Place) (len : ℕ) (q : Place) : Type 0 where
   pub samples : List ℤ
   pub read : ReadsInterval p samples q

@@ -1,5 +1,6 @@
 -- What the steps of a reading need and how far they come, whether they make samples or go over
--- them: for the private functions of `reading`, `reading::plain` and `reading::skipping`.
+-- them: for the private functions of `reading`, `reading::plain` and `reading::skipping`. The
+-- contract of `decode_all` cites `IsReading` and `IsFault` instead.
 use Rattle.std.specs.Prelude.{◌≡◌, ◌<◌, ◌≤◌, ◌+◌, ◌%◌, ◌^◌, ℕ, Bool, true, Option, IfSome, List}
 use Rattle.std.specs.Int.{div_ceil}
 use Rattle.aec_params.specs.declared.settings.Settings.{Settings}

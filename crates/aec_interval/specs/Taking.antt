@@ -6,11 +6,13 @@ use Rattle.aec_params.specs.declared.fault.Fault.{Fault}
 use Rattle.aec_params.specs.declared.fault.Fault.TheVariants.{SampleRange, TooManySamples}
 use Rattle.aec_params.specs.Stored.{number_in, sample_of_number}
 
--- the samples that were taken, and why no more were, if one was refused
+-- the samples that were taken, and why no more were, if one was refused (§2, §12; one list with its
+-- refusal, where the code pushes samples and codes between them)
 pub record TakenSamples : Type 0 where
   pub samples : List ℤ
   pub refusal : Option Fault
 
+-- no samples, and why none were taken, if one was refused
 abbrev pub none_taken : Option Fault → TakenSamples
 none_taken refusal = record { samples = []; refusal = refusal }
 
@@ -34,7 +36,8 @@ taken_groups s limit i [] = none_taken None
 taken_groups s limit i (g ∷ gs) = taken_before (judged_sample s limit i g) (taken_groups s limit (i + 1) gs)
 
 -- the same refusal by what bytes are as a whole: samples past the limit are too many, whatever they
--- hold; before it the first that is none of the settings is out of range
+-- hold; before it the first that is none of the settings is out of range (by cases of
+-- `samples_of_bytes`; the claim `judged` of `CutsMakeNoDifference` ties both)
 abbrev pub judged_samples : ℕ → Result (List ℤ) ℕ → Option Fault
 judged_samples limit (Ok samples) = if nat_lt limit (length samples) then Some (TooManySamples limit) else None
 judged_samples limit (Err bad) = Some (if nat_lt bad limit then SampleRange bad else TooManySamples limit)

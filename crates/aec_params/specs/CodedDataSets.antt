@@ -5,7 +5,8 @@ use Rattle.aec_params.specs.declared.settings.Settings.{Settings}
 use Rattle.aec_params.specs.Params.{id_len, split_count}
 use Rattle.aec_params.specs.Codewords.{fs, binary}
 
--- what stands after the identifier and the reference sample
+-- what stands after the identifier and the reference sample (§7; by one of four kinds. A run is the
+-- number that its code spells)
 pub data Body : Type 0 where
   -- no compression: the values
   uncompressed_values : List ℕ → Body
@@ -17,69 +18,75 @@ pub data Body : Type 0 where
   zero_blocks : ℕ → Body
 
 -- a coded data set: in an interval's first block, with preprocessing, it has a reference sample
+-- (§7; a value, where the code writes or reads bits at once and never holds one)
 pub record CodedDataSet : Type 0 where
   pub reference : Option ℕ
   pub body : Body
 
--- the number of a pair
+-- the number of a pair (§7; without bound, where the choice counts in 64 bits and stops at a pair
+-- that adds up to 2^16, and writing counts in 128. Law `each_number_is_one_pair`)
 abbrev pub pair_number : ℕ → ℕ → ℕ
 pair_number a b = (a + b) * (a + b + 1) / 2 + b
 
--- the codewords of consecutive pairs
+-- the codewords of consecutive pairs (§7)
 abbrev pub pair_bits : List ℕ → List Bool
 pair_bits [] = []
 pair_bits (a ∷ []) = []
 pair_bits (a ∷ (b ∷ values)) = fs (pair_number a b) ++ pair_bits values
 
--- the identifier: that of the zero block and of the second extension has one bit more
+-- the identifier: that of the zero block and of the second extension has one bit more (§6; by its
+-- number in L or L + 1 bits)
 abbrev pub identifier : Settings → Body → List Bool
 identifier s (uncompressed_values values) = binary (id_len s) (2 ^ id_len s - 1)
 identifier s (value_pairs values) = binary (id_len s + 1) 1
 identifier s (split_values k values) = binary (id_len s) (k + 1)
 identifier s (zero_blocks m) = binary (id_len s + 1) 0
 
--- the reference sample in n bits, where there is one
+-- the reference sample in n bits, where there is one (§7)
 abbrev pub reference_bits : Settings → Option ℕ → List Bool
 reference_bits s None = []
 reference_bits s (Some r) = binary s.bits r
 
 -- the bits behind them: values in n bits, codewords of pairs, high parts and then low parts, or a
--- run's number
+-- run's number (§7)
 abbrev pub body_bits : Settings → Body → List Bool
 body_bits s (uncompressed_values values) = flat_map (binary s.bits) values
 body_bits s (value_pairs values) = pair_bits values
 body_bits s (split_values k values) = flat_map (λ v. fs (v / 2 ^ k)) values ++ flat_map (λ v. binary k (v % 2 ^ k)) values
 body_bits s (zero_blocks m) = fs m
 
--- the bits of a coded data set
+-- the bits of a coded data set (§7; one function from a value to bits. Reading has no such
+-- function: it is that a value with these bits stands here)
 abbrev pub cds_bits : Settings → CodedDataSet → List Bool
 cds_bits s c = identifier s c.body ++ (reference_bits s c.reference ++ body_bits s c.body)
 
--- a reference sample stands there exactly where one is due, and fits n bits
+-- a reference sample stands there exactly where one is due, and fits n bits (§7)
 abbrev pub HasReference : Settings → Bool → Option ℕ → Type 0
 HasReference s true (Some r) = r < 2 ^ s.bits
 HasReference s true None = ⊥
 HasReference s false (Some r) = ⊥
 HasReference s false None = ⊤
 
--- how many values a block writes
+-- how many values a block writes, but by pairs (§7; J - 1 in a reference block)
 abbrev pub written_count : Settings → Bool → ℕ
 written_count s is_reference = if is_reference then s.block_size - 1 else s.block_size
 
 -- as many values as a block writes, pairs as many as it has; values without compression fit n bits,
--- and k is that of an option
+-- and k is that of an option (§7)
 abbrev pub HasBody : Settings → Bool → Body → Type 0
 HasBody s is_reference (uncompressed_values values) = (length values ≡ written_count s is_reference) × AllByRecursion (λ v. v < 2 ^ s.bits) values
 HasBody s is_reference (value_pairs values) = length values ≡ s.block_size
 HasBody s is_reference (split_values k values) = (k < split_count s) × (length values ≡ written_count s is_reference)
 HasBody s is_reference (zero_blocks m) = ⊤
 
--- the shape of a coded data set, for any numbers as values, of a reference block or of another
+-- the shape of a coded data set, for any numbers as values, of a reference block or of another (§7;
+-- k may be n or more)
 pub record HasShape (s : Settings) (is_reference : Bool) (c : CodedDataSet) : Type 0 where
   pub reference : HasReference s is_reference c.reference
   pub body : HasBody s is_reference c.body
 
--- the numbers that are values: not the first member of the first pair in a reference block
+-- the numbers that are values: not the first member of the first pair in a reference block (§12; a
+-- list, where the code passes over that member)
 abbrev pub judged_in : Option ℕ → Body → List ℕ
 judged_in reference (uncompressed_values values) = values
 judged_in None (value_pairs values) = values
@@ -87,6 +94,7 @@ judged_in (Some r) (value_pairs values) = drop 1 values
 judged_in reference (split_values k values) = values
 judged_in reference (zero_blocks m) = []
 
--- whether the values of a coded data set are at most 2^n - 1
+-- whether the values of a coded data set are at most 2^n - 1 (§12; judged after the whole, where
+-- the code judges each value, or the sum of the high parts)
 abbrev pub has_small_values : Settings → CodedDataSet → Bool
 has_small_values s c = list_all (λ v. nat_lt v (2 ^ s.bits)) (judged_in c.reference c.body)

@@ -3,10 +3,12 @@ use Rattle.std.specs.Prelude.{ℕ, ◌-◌, ◌%◌, List, length}
 use Rattle.std.specs.Int.{div_ceil}
 use Rattle.std.specs.Simd.{first_chunks}
 
--- a list in consecutive pieces of n; the last is shorter where n does not divide the length
+-- a list in consecutive pieces of n; the last is shorter where n does not divide the length (§3; a
+-- list of lists, where the code takes one piece at a time. No other cut is of this kind: law
+-- `pieces_are_the_cut`)
 abbrev pub pieces_of : {X : Type 0} → ℕ → List X → List (List X)
 pieces_of n xs = first_chunks n (div_ceil (length xs) n) xs
 
--- how much is missing from m to the next multiple of n
+-- how much is missing from m to the next multiple of n (§3, §10)
 abbrev pub up_to_multiple : ℕ → ℕ → ℕ
 up_to_multiple n m = (n - m % n) % n

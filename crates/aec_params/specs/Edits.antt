@@ -5,7 +5,7 @@ use Rattle.std.specs.Int.{div_ceil}
 use Rattle.aec_params.specs.declared.edit.Edit.{Edit}
 use Rattle.aec_params.specs.declared.edit.Edit.TheVariants.{Overwrite, Append, Truncate, Insert, Remove}
 
--- the samples after an edit that fits
+-- the samples after an edit that fits (COMMAND: Edits)
 abbrev pub samples_after : List ℤ → Edit → List ℤ
 samples_after samples (Overwrite first values) = take first samples ++ (values ++ drop (first + length values) samples)
 samples_after samples (Append values) = samples ++ values
@@ -14,6 +14,7 @@ samples_after samples (Insert first values) = take first samples ++ (values ++ d
 samples_after samples (Remove first len) = take first samples ++ drop (first + len) samples
 
 -- the numbers of the intervals of n samples in which the len places from first on lie, each once
+-- (consecutive ones: law `edits_touch_few`)
 abbrev pub touched_intervals : ℕ → ℕ → ℕ → List ℕ
 touched_intervals n first len = dedup (λ i k. i == k) (map (λ place. place / n) (range_with_len first len))
 
@@ -29,7 +30,7 @@ inside_calls n first = if first % n == 0 then 0 else 1
 -- how many intervals an insertion or a removal of len samples at place first codes, where new
 -- samples are there then: none for no samples; for samples that fill whole intervals as many as
 -- come, and one more where the place lies inside of an interval; for any other number all from that
--- of the place on
+-- of the place on (by lengths alone, where the code counts the samples that it codes)
 abbrev pub move_calls : ℕ → ℕ → ℕ → ℕ → ℕ → ℕ
 move_calls n first len come new =
     if len == 0 then 0 else (if len % n == 0 then come + inside_calls n first else div_ceil new n - first / n)
@@ -60,7 +61,8 @@ move_openings n old first len gone cut =
     let kept : List ℕ = filter (keeps_a_sample n old first gone) (intervals_from n old first) in
     if len == 0 then 0 else (if len % n == 0 then (if first % n == 0 then 0 else cut) else length kept)
 
--- how many intervals hold a sample that an edit keeps and codes anew
+-- how many intervals hold a sample that an edit keeps and codes anew, so that they have to be
+-- decoded first
 abbrev pub opened_intervals : ℕ → ℕ → Edit → ℕ
 opened_intervals n old (Overwrite first values) = length (filter (keeps_a_sample n old first (length values)) (touched_intervals n first (length values)))
 opened_intervals n old (Append values) = if length values == 0 then 0 else (if old % n == 0 then 0 else 1)

@@ -15,9 +15,11 @@ use Rattle.aec_params.specs.BlockShapes.{AreBlocksFrom}
 
 -- ---- codewords
 
+-- fundamental sequences tell their numbers, whatever bits follow
 abbrev pub FundamentalSequencesDiffer : Type 0
 FundamentalSequencesDiffer = (a b : ℕ) (u v : List Bool) → fs a ++ u ≡ fs b ++ v → (a ≡ b) × (u ≡ v)
 
+-- numbers in w bits are told apart, whatever bits follow
 abbrev pub BinaryNumbersDiffer : Type 0
 BinaryNumbersDiffer = (w a b : ℕ) (u v : List Bool) → a < 2 ^ w → b < 2 ^ w → binary w a ++ u ≡ binary w b ++ v → (a ≡ b) × (u ≡ v)
 
@@ -37,7 +39,7 @@ abbrev pub TellsKeys : {X K : Type 0} → (X → Bool) → (X → List Bool) →
 TellsKeys {X} test code key =
     (a b : X) (u v : List Bool) → test a ≡ true → test b ≡ true → code a ++ u ≡ code b ++ v → (key a ≡ key b) × (u ≡ v)
 
--- such a code tells the keys of lists of one length
+-- a code that tells keys tells the keys of lists of one length
 abbrev pub ListsAreTold : Type 0 → Type 0 → Type 0
 ListsAreTold X K = (test : X → Bool) (code : X → List Bool) (key : X → K) → TellsKeys test code key
     → (xs ys : List X) (u v : List Bool) → length xs ≡ length ys → list_all test xs ≡ true → list_all test ys ≡ true
@@ -64,7 +66,8 @@ pub record EachPatternIsOneSample (s : Settings) : Type 0 where
   pub one_to_one : (x y : ℤ) → IsHeld s x → IsHeld s y → sample_pattern s x ≡ sample_pattern s y → x ≡ y
   pub onto : (m : ℕ) → m < 2 ^ s.bits → (x : ℤ) × IsHeld s x × (sample_pattern s x ≡ m)
 
--- both, at any settings of the format and any prediction that is a sample
+-- samples stand for values and for patterns one to one, at any settings of the format and any
+-- prediction that is a sample
 pub record SamplesAreValues : Type 0 where
   pub values : (s : Settings) (p : ℤ) → IsAllowed s → IsHeld s p → EachValueIsOneSample s p
   pub patterns : (s : Settings) → IsAllowed s → EachPatternIsOneSample s

@@ -8,50 +8,54 @@ use Rattle.aec_params.specs.declared.fault.Fault.TheVariants.{SampleRange, Memor
 use Rattle.aec_params.specs.Params.{storage_len, pattern_value}
 
 -- a sample in all bits of its bytes: unsigned with zeros in the unused bits, signed with its sign
--- in them
+-- in them (§2; by the sign, where the code takes a remainder)
 abbrev pub stored_number : Settings → ℤ → ℕ
 stored_number s (pos m) = m
 stored_number s (negsuc m) = 2 ^ (8 * storage_len s) - (m + 1)
 
--- the bytes of a sample, in the order of the settings
+-- the bytes of a sample, in the order of the settings (§2; by the library's digits of a number,
+-- where the code calls `byteorder`)
 abbrev pub stored_bytes : Settings → ℤ → List ℕ
 stored_bytes s x =
     if s.msb_first then big_bytes (storage_len s) (stored_number s x)
     else little_bytes (storage_len s) (stored_number s x)
 
--- the number in the bytes of one sample
+-- the number in the bytes of one sample (§2, backwards)
 abbrev pub number_in : Settings → List ℕ → ℕ
 number_in s bytes =
     if s.msb_first then big_number (storage_len s) bytes else little_number (storage_len s) bytes
 
--- whether the sign bit, bit n - 1, and all bits above it are set
+-- whether the sign bit, bit n - 1, and all bits above it are set (§2; by a quotient, where the code
+-- shifts)
 abbrev pub has_sign_above : Settings → ℕ → Bool
 has_sign_above s u =
     (u / 2 ^ (s.bits - 1) == 2 ^ (8 * storage_len s - (s.bits - 1)) - 1)
 
 -- the sample that a stored number is: its unused bits are zero, or where samples are signed copies
--- of its sign
+-- of its sign (§2)
 abbrev pub sample_of_number : Settings → ℕ → Option ℤ
 sample_of_number s u =
     if nat_lt u (2 ^ s.bits) then Some (pattern_value s u)
     else (if s.signed && has_sign_above s u then Some (pattern_value s (u % 2 ^ s.bits)) else None)
 
--- the whole groups of bytes that hold a sample each; what is left over at the end is in none
+-- the whole groups of bytes that hold a sample each; what is left over at the end is in none (§2;
+-- the list of groups, where the code walks over pieces of a slice)
 abbrev pub byte_groups : Settings → List ℕ → List (List ℕ)
 byte_groups s bytes = first_chunks (storage_len s) (length bytes / storage_len s) bytes
 
--- one sample, where there is one, before what comes after it
+-- one sample, where there is one, before what comes after it (§2)
 abbrev pub sample_before : Option ℤ → ℕ → Result (List ℤ) ℕ → Result (List ℤ) ℕ
 sample_before None i later = Err i
 sample_before (Some x) i (Ok xs) = Ok (x ∷ xs)
 sample_before (Some x) i (Err k) = Err k
 
--- the samples of the groups, or the place of the first group that is none, counted from i
+-- the samples of the groups, or the place of the first group that is none, counted from i (§2)
 abbrev pub samples_of_groups : Settings → ℕ → List (List ℕ) → Result (List ℤ) ℕ
 samples_of_groups s i [] = Ok []
 samples_of_groups s i (g ∷ gs) = sample_before (sample_of_number s (number_in s g)) i (samples_of_groups s (i + 1) gs)
 
--- the samples that bytes are, or the index of the first that is none
+-- the samples that bytes are, or the index of the first that is none (§2; one function with both
+-- answers, where the code goes over the bytes twice, to judge and to take)
 abbrev pub samples_of_bytes : Settings → List ℕ → Result (List ℤ) ℕ
 samples_of_bytes s bytes = samples_of_groups s 0 (byte_groups s bytes)
 
@@ -61,7 +65,7 @@ samples_behind xs (Ok ys) = Ok (xs ++ ys)
 samples_behind xs (Err k) = Err k
 
 -- What a reading of stored samples answers, seen by view: the samples, or want of memory in their
--- place; where a sample is none of the settings, its index and nothing else.
+-- place; where a sample is none of the settings, its index and nothing else. (§2)
 abbrev pub AnswersSamples : {X : Type 0} → (X → List ℤ) → Result (List ℤ) ℕ → Result X Fault → Type 0
 AnswersSamples view (Ok xs) (Ok answer) = view answer ≡ xs
 AnswersSamples view (Ok xs) (Err e) = e ≡ Memory

@@ -1,3 +1,5 @@
+//! Lists of bits and their readers.
+
 ghost use Rattle.std.specs.Prelude.{◌<◌, ◌≤◌, ◌^◌, length};
 
 use crate::asserts::{holds, holds_at, same, same_at};

@@ -1,3 +1,5 @@
+//! Sources and sinks.
+
 use super::bits::{bits_in, sample_bytes};
 use crate::asserts::{same, same_at};
 use aec_bits::{ReadSource, Sink, Source, WriteSink};

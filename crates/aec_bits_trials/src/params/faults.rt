@@ -1,3 +1,5 @@
+//! Texts of refusals, limits, and the samples of an edit.
+
 use crate::asserts::{holds, same};
 use aec_params::{Edit, Fault, Limits, Samples};
 use std::test::Fail;

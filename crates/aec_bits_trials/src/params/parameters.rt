@@ -1,3 +1,5 @@
+//! Parameters, allowed and refused.
+
 use crate::asserts::{holds, same, same_at};
 use crate::settings::{even_blocks, restricted, width};
 use aec_params::{Fault, Params, Settings};

@@ -1,3 +1,5 @@
+//! One sample as it is stored.
+
 use crate::asserts::{holds, same, same_at};
 use crate::settings::{msb_first, three_byte, width};
 use aec_params::{Fault, Params, Settings, put_sample, read_samples};

@@ -1,3 +1,5 @@
+//! Lists of samples as they are stored.
+
 use crate::asserts::{holds, holds_at, same, same_at};
 use crate::settings::{msb_first, three_byte, width};
 use aec_params::{Params, Settings, append_samples, first_bad, load_samples, put_samples};

@@ -1,0 +1,149 @@
+"""The limits of the pages that are written by hand: how many words each has, and that none tells what another tells.
+
+Words are counted as `wc -w` does: whatever stands between blanks, code, tables and marks of lists too. What a script writes into a page,
+from a line `<!-- Written by .. -->` up to a line `<!-- end -->` or the end of the page, isn't counted. The pages are those at the top and
+of docs/, README.md of examples/ and of each crate and package, and bench/steps.md. Not among them: docs/theorems/, bench/tables.md and
+LICENSE, and the claims, from which docs/PROOFS.md is written.
+
+A run of eight words that stands in two pages is told twice. It lies within one paragraph, item or cell. Left out are blocks of code,
+heads of tables, and where links lead; code within a line is one word. The README of a package may say again what others say, since it is
+read alone, on an index of packages.
+
+Each link to a page leads to a file that is there, and to a heading that it has.
+"""
+
+import fnmatch
+import glob
+import os
+import re
+from typing import NamedTuple
+
+MOST = {
+    "README.md": 900,
+    "CHANGELOG.md": 600,
+    "CONTRIBUTING.md": 2000,
+    "docs/ARCHITECTURE.md": 2000,
+    "docs/ARCHIVE.md": 1000,
+    "docs/CHECK.md": 800,
+    "docs/COMMAND.md": 2600,
+    "docs/DECISIONS.md": 3500,
+    "docs/FORMAT.md": 3300,
+    "docs/LIBRARY.md": 1000,
+    "docs/RECIPES.md": 1400,
+    "docs/SPEED.md": 1300,
+}
+ALL = 24000
+FOLDERS = ("*.md", "docs/*.md", "examples/*.md", "crates/*/README.md", "bench/steps.md")
+ALONE = ("python/README.md", "rust/*/README.md")
+RUN = 8
+WRITTEN = re.compile(r"(?ms)^<!-- Written by .*?(^<!-- end -->\n|\Z)")
+
+# Runs that stand in two pages for a reason, as the words that make them up, and why.
+TWICE = {
+    "szip chunks of hdf5 where hdf5 has no szip": "what one example does, on the two pages that name it",
+}
+
+
+class Told(NamedTuple):
+    """A run of words that two pages have."""
+
+    words: tuple
+    pages: tuple
+
+    def __str__(self):
+        return f"{' and '.join(self.pages)} both say: {' '.join(self.words)}"
+
+
+def pages(top):
+    """Each page written by hand with its text, without what a script has written into it."""
+    for pattern in FOLDERS + ALONE:
+        for path in sorted(glob.glob(os.path.join(top, pattern))):
+            with open(path, encoding="utf-8") as file:
+                text = WRITTEN.sub("", file.read())
+            if text.strip():
+                yield os.path.relpath(path, top), text
+
+
+def too_long(found):
+    """What passes a limit of words."""
+    counts = {path: len(text.split()) for path, text in found.items()}
+    for path, most in MOST.items():
+        if counts.get(path, 0) > most:
+            yield f"{path}: {counts[path]} words, at most {most}"
+    if sum(counts.values()) > ALL:
+        yield f"all pages written by hand: {sum(counts.values())} words, at most {ALL}"
+
+
+def parts_of(text):
+    """The paragraphs, items and cells of a page, each as its words."""
+    text = re.sub(r"(?ms)^ *```.*?^ *```$", "\n", text)
+    text = re.sub(r"(?m)^\|.*\n(?=\|[-|: ]+\|$)", "\n", text)
+    text = re.sub(r"(?m)^    .*$|<!--.*?-->", "", text)
+    text = re.sub(r"\]\([^)]*\)", "]", text)
+    for block in re.split(r"\n\s*\n|\n(?=\s*(?:[-*#>|]|\d+\.) )", text):
+        for part in re.split(r"(?<!\\)\|", block) if block.lstrip().startswith("|") else [block]:
+            yield tuple(word.lower() for word in re.findall(r"`[^`]*`|[^\W_]+(?:['-][^\W_]+)*", part))
+
+
+def told_twice(found):
+    """Runs that two pages have, each as long as it goes."""
+    places = {}
+    for path, text in found.items():
+        if any(fnmatch.fnmatch(path, pattern) for pattern in ALONE):
+            continue
+        for number, words in enumerate(parts_of(text)):
+            for at in range(len(words) - RUN + 1):
+                places.setdefault(words[at : at + RUN], {}).setdefault(path, (number, at))
+    twice = {run: tuple(sorted(where)) for run, where in places.items() if len(where) > 1}
+    joined = []
+    for run, where in sorted(twice.items(), key=lambda it: (it[1], places[it[0]][it[1][0]])):
+        last = joined[-1] if joined else None
+        if last and last.pages == where and last.words[-RUN + 1 :] == run[:-1]:
+            joined[-1] = Told(last.words + run[-1:], where)
+        else:
+            joined.append(Told(run, where))
+    return joined
+
+
+def headings(text):
+    """What the headings of a page are called in links."""
+    names = re.findall(r"(?m)^#+ (.*)", re.sub(r"(?ms)^```.*?^```$", "", text))
+    return {re.sub(r"[^\w -]", "", name.lower()).replace(" ", "-") for name in names}
+
+
+def lost_links(top, path, text):
+    """The links of a page that lead nowhere."""
+    for link in re.findall(r"\]\(([^)\s]+)\)", text):
+        file, _, heading = link.partition("#")
+        target = os.path.normpath(os.path.join(top, os.path.dirname(path), file)) if file else os.path.join(top, path)
+        if "://" in link:
+            continue
+        if not os.path.exists(target):
+            yield f"{path}: no file {file}"
+        elif heading and target.endswith(".md"):
+            with open(target, encoding="utf-8") as page:
+                if heading not in headings(page.read()):
+                    yield f"{path}: no heading {link}"
+
+
+def wrongs(top):
+    """What is wrong, and how many pages there are."""
+    found = dict(pages(top))
+    wrong, needed = list(too_long(found)), set()
+    for path, text in found.items():
+        wrong += lost_links(top, path, text)
+    for told in told_twice(found):
+        kept = [it for it in TWICE if it in " ".join(told.words)]
+        needed.update(kept)
+        if not kept:
+            wrong.append(str(told))
+    wrong += [f"no two pages say any more: {it}" for it in TWICE if it not in needed]
+    return wrong, len(found)
+
+
+if __name__ == "__main__":
+    TOP = os.path.join(os.path.dirname(os.path.abspath(__file__)), "..")
+    FOUND = dict(pages(TOP))
+    print("".join(f"{len(text.split()):6} {path}\n" for path, text in FOUND.items()), end="")
+    print(f"{sum(len(text.split()) for text in FOUND.values()):6} in all, at most {ALL}")
+    print("".join(f"{wrong}\n" for wrong in wrongs(TOP)[0]), end="")

@@ -1,0 +1,192 @@
+#!/usr/bin/env python3
+"""Writes docs/DEFINITIONS.md: definitions.py [--check]
+
+Each definition of crates/*/specs with the sentence over it, by crate and file, in the order of the
+crate's specs/Lib.antt. First come those that the contract of a public function, type or trait
+cites, itself or by another definition; then those that serve proofs alone. A sentence's `§7` is a
+section of docs/FORMAT.md, its `COMMAND: Edits` a part of docs/COMMAND.md: both become links.
+
+Fails where a definition that a public contract cites has no sentence, where a section or a part
+that a sentence names isn't there, and with --check, which writes nothing, where the page isn't
+what is written.
+"""
+
+import os
+import re
+import sys
+
+from sources import TOP, all_crates, files_below, text_of
+from theorem import DECLARED, Library, Word, words_above
+
+PAGE = "docs/DEFINITIONS.md"
+HEAD = """<!-- Written by `make pages` from the sentences over the definitions. -->
+
+# The definitions
+
+For whoever checks that the proofs speak of the right thing: each definition of `crates/*/specs` with its sentence. Ask
+of each whether it says what its sentence says. A sentence that is a rule of the format names its section of
+[FORMAT.md](FORMAT.md) (§), or its part of [COMMAND.md](COMMAND.md). In brackets also stands what sets a definition apart
+from the code, since one that is the program again would prove nothing.
+
+The definitions are lists, tables and relations over whole numbers without bound (ℕ, ℤ). `s` is the settings.
+[CHECK.md](CHECK.md) says what stands against a wrong one: worked values (`Worked..` in `proofs/`, `..Examples` in
+`specs/`), which the checker computes, the laws of each crate's `laws.rt`, and independent programs.
+"""
+PUBLIC = """## What public contracts cite
+
+A reader of the contracts needs these, and no others. Read them from the lowest crate upwards, the files of a crate in
+this order: what is cited mostly stands before what cites it."""
+PRIVATE = """## What serves proofs alone
+
+Contracts of private functions, proofs, examples and tests use these. No public contract cites them, so no promise
+rests on them: skip them unless you change a proof."""
+
+
+def headings(page):
+    """What each heading of a page is called in a link, by its text."""
+    names = re.findall(r"^##+ (.*)", text_of(page), re.M)
+    return {name: re.sub(r"[^\w -]", "", name.lower()).replace(" ", "-") for name in names}
+
+
+class Links:
+    """Sections and parts as links, and those that aren't there."""
+
+    def __init__(self):
+        self.sections = {name.split(".")[0]: link for name, link in headings("docs/FORMAT.md").items()}
+        self.parts = headings("docs/COMMAND.md")
+        self.wrongs = []
+
+    def section(self, found):
+        if found[1] not in self.sections:
+            self.wrongs.append(f"docs/FORMAT.md has no section {found[1]}")
+            return found[0]
+        return f"[§{found[1]}](FORMAT.md#{self.sections[found[1]]})"
+
+    def part(self, found):
+        named = [name for name in self.parts if re.match(rf"{re.escape(name)}(?!\w)", found[1])]
+        if not named:
+            self.wrongs.append(f"docs/COMMAND.md has no part {found[1]}")
+            return found[0]
+        name = max(named, key=len)
+        return f"[COMMAND: {name}](COMMAND.md#{self.parts[name]}){found[1][len(name):]}"
+
+    def text(self, sentence):
+        sentence = re.sub(r"§(\d+)", self.section, sentence)
+        return re.sub(r"COMMAND: ([^;)]*)", self.part, sentence)
+
+
+def contract_lines(lines, start):
+    """A function's signature and contract, from its first line up to its body or its semicolon."""
+    for at in range(start, len(lines)):
+        if lines[at].strip() in ("{", "{}") or lines[at].endswith(";"):
+            return lines[start : at + 1]
+    return lines[start:]
+
+
+def public_roots(library, crates):
+    """Pairs of a file and lines of it: what is public of each crate, but for crates of tests."""
+    for crate in crates.values():
+        if crate.name.endswith("_trials"):
+            continue
+        for one in crate.functions:
+            if one.is_public:
+                file = library.file(one.file)
+                yield file, contract_lines(file.text.split("\n"), one.at)
+        for path in files_below(f"crates/{crate.name}/src", ".rt"):
+            file = library.file(path)
+            for item in {item.at: item for item in file.items.values()}.values():
+                if item.name in crate.exports and DECLARED.match(item.lines[0]):
+                    yield file, item.lines
+
+
+def cited_by(library, roots):
+    """The keys of all that lines cite, themselves or by what they cite."""
+    found, left = set(), list(roots)
+    while left:
+        file, lines = left.pop()
+        for meaning in library.cited(file, lines):
+            if not isinstance(meaning, Word) and meaning.key() not in found:
+                found.add(meaning.key())
+                left.append((library.file(meaning.path), meaning.lines))
+    return found
+
+
+def spec_files(crate):
+    """The files of a crate's definitions, in the order in which they are listed."""
+    index = f"crates/{crate}/specs/Lib.antt"
+    if os.path.exists(os.path.join(TOP, index)):
+        for name in re.findall(r"^pub mod (\w+)", text_of(index), re.M):
+            yield f"crates/{crate}/specs/{name}.antt"
+
+
+def sentence_of(words):
+    return " ".join(word.strip().removeprefix("--").strip() for word in words)
+
+
+def subject_of(path):
+    """The comment at the front of a file."""
+    words = []
+    for line in text_of(path).splitlines():
+        if not line.startswith("-- "):
+            break
+        words.append(line)
+    return sentence_of(words)
+
+
+def list_of(items, links):
+    lines = []
+    for item in items:
+        sentence = links.text(sentence_of(item.words))
+        lines.append(f"- `{item.name}`" + (f": {sentence}" if sentence else ""))
+    return "\n".join(lines)
+
+
+def part_of(library, crates, keep, links):
+    """The definitions that are to be kept, by crate and file, and how many they are."""
+    parts, count = [], 0
+    for crate in crates:
+        files = []
+        for path in spec_files(crate):
+            items = {item.at: item for item in library.file(path).items.values()}
+            kept = [items[at] for at in sorted(items) if keep(items[at])]
+            if kept:
+                name = os.path.basename(path).removesuffix(".antt")
+                head = f"**[{name}](../{path})**. {links.text(subject_of(path))}".rstrip()
+                files.append(f"{head}\n\n{list_of(kept, links)}")
+                count += len(kept)
+        if files:
+            parts += [f"### {crate}", *files]
+    return "\n\n".join(parts), count
+
+
+def written_page():
+    """The page, what is wrong, and how many definitions are public and how many aren't."""
+    library, links, crates = Library(), Links(), all_crates()
+    public = cited_by(library, public_roots(library, crates))
+    first, many = part_of(library, crates, lambda item: item.key() in public, links)
+    second, few = part_of(library, crates, lambda item: item.key() not in public, links)
+    wrongs = links.wrongs
+    for path, file in sorted(library.files.items()):
+        items = file.items.values() if "/specs/" in path else ()
+        silent = {it.at: it.name for it in items if it.key() in public and not it.words}
+        wrongs += [f"{path}: {name} has no sentence" for name in silent.values()]
+    page = "\n\n".join([HEAD.strip(), PUBLIC, first, PRIVATE, second])
+    return page + "\n", wrongs, (many, few)
+
+
+def main():
+    page, wrongs, counts = written_page()
+    if sys.argv[1:] == ["--check"]:
+        if not os.path.exists(os.path.join(TOP, PAGE)) or text_of(PAGE) != page:
+            wrongs.append(f"{PAGE} isn't what `make pages` writes")
+    else:
+        with open(os.path.join(TOP, PAGE), "w", encoding="utf-8") as file:
+            file.write(page)
+        print(f"{PAGE}: {counts[0]} definitions that public contracts cite, {counts[1]} others")
+    print("".join(f"FAILED: {wrong}\n" for wrong in wrongs), end="")
+    print(f"{sum(counts)} passed, {len(wrongs)} failed")
+    return 1 if wrongs else 0
+
+
+if __name__ == "__main__":
+    sys.exit(main())
