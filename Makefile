@@ -62,7 +62,7 @@ bench: bin/aec
 	python3 bench/instructions.py bin/aec
 	python3 bench/edits.py bin/aec
 
-# The pictures of docs/, from the tables of bench/ and docs/.
+# The pictures of docs/, from the tables of bench/.
 pictures:
 	python3 bench/pictures.py
 

@@ -16,7 +16,7 @@ import re
 import sys
 
 from sources import TOP, all_crates, files_below, text_of
-from theorem import DECLARED, Library, Word, words_above
+from theorem import DECLARED, Library, Word
 
 PAGE = "docs/DEFINITIONS.md"
 HEAD = """<!-- Written by `make pages` from the sentences over the definitions. -->
