@@ -31,6 +31,7 @@ no_values values = tt
 abbrev pub when : {X : Type 0} → Bool → X → Option X
 when b x = if b then Some x else None
 
+-- whether all values are below the limit
 abbrev pub all_below : ℕ → List ℕ → Bool
 all_below limit values = list_all (λ v. nat_lt v limit) values
 

@@ -38,12 +38,14 @@ pairs_length [] = 0
 pairs_length (a ∷ []) = 0
 pairs_length (a ∷ (b ∷ values)) = pair_number a b + 1 + pairs_length values
 
--- bits of the spelling by no compression, by second extension, and by splitting with k
+-- the number of bits of the spelling by no compression
 abbrev pub uncompressed_length : Settings → Block → ℕ
 uncompressed_length s b = head_length s b.reference + length (written_values b) * s.bits
 
+-- that of the spelling by the second extension
 abbrev pub paired_length : Settings → Block → ℕ
 paired_length s b = head_length s b.reference + 1 + pairs_length b.values
 
+-- that of the spelling by splitting with k
 abbrev pub split_length : Settings → Block → ℕ → ℕ
 split_length s b k = head_length s b.reference + split_values_length k (written_values b)

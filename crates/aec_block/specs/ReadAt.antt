@@ -18,6 +18,7 @@ abbrev pub then_at : {X Y : Type 0} → Taken X → (X → List Bool → Taken Y
 then_at nothing next = nothing
 then_at (taken x rest) next = next x rest
 
+-- f of what was taken, with the same bits behind it
 abbrev pub map_taken : {X Y : Type 0} → (X → Y) → Taken X → Taken Y
 map_taken f nothing = nothing
 map_taken f (taken x rest) = taken (f x) rest
@@ -45,12 +46,16 @@ values_at value_at (suc n) bits = then_at (value_at bits) (λ v rest. map_taken 
 abbrev pub kind_of_last : ℕ → Kind
 kind_of_last last = if last == 0 then ZeroBlocks else SecondExtension
 
+-- what an identifier of so many bits announces, whose number isn't 0: ones alone no compression,
+-- and every other number j splitting with k = j - 1
 abbrev pub kind_of_number : ℕ → ℕ → Kind
 kind_of_number len number = if number == 2 ^ len - 1 then NoCompression else Split (number - 1)
 
+-- what an identifier announces whose first bits spell the number; a 0 needs one more bit
 abbrev pub kind_after : ℕ → ℕ → List Bool → Taken Kind
 kind_after len number bits = if number == 0 then map_taken kind_of_last (binary_at 1 bits) else taken (kind_of_number len number) bits
 
+-- what the identifier announces that begins the bits, of so many bits or one more
 abbrev pub kind_at : ℕ → List Bool → Taken Kind
 kind_at len bits = then_at (binary_at len bits) (kind_after len)
 
@@ -69,6 +74,7 @@ abbrev pub pair_after : ℕ → ℕ → Pair
 pair_after zero second = record { first = second + 1; second = 0 }
 pair_after (suc first) second = record { first = first; second = second + 1 }
 
+-- the same for a pair
 abbrev pub next_pair : Pair → Pair
 next_pair p = pair_after p.first p.second
 
@@ -77,6 +83,7 @@ abbrev pub pair_with_number : ℕ → Pair
 pair_with_number zero = record { first = 0; second = 0 }
 pair_with_number (suc m) = next_pair (pair_with_number m)
 
+-- the two members of a pair, and then others
 abbrev pub before_members : Pair → List ℕ → List ℕ
 before_members p members = p.first ∷ (p.second ∷ members)
 
@@ -91,6 +98,7 @@ joined_values k [] lows = []
 joined_values k (high ∷ highs) [] = []
 joined_values k (high ∷ highs) (low ∷ lows) = (high * 2 ^ k + low) ∷ joined_values k highs lows
 
+-- the lowest k bits of n values, joined with the high parts of these
 abbrev pub lows_at : ℕ → ℕ → List ℕ → List Bool → Taken (List ℕ)
 lows_at k n highs bits = map_taken (joined_values k highs) (values_at (binary_at k) n bits)
 
@@ -98,6 +106,7 @@ lows_at k n highs bits = map_taken (joined_values k highs) (values_at (binary_at
 abbrev pub split_at : ℕ → ℕ → List Bool → Taken (List ℕ)
 split_at k n bits = then_at (values_at fs_at n bits) (lows_at k n)
 
+-- the body of the kind that an identifier announced
 abbrev pub body_at : Settings → Bool → Kind → List Bool → Taken Body
 body_at s is_reference NoCompression bits = map_taken uncompressed_values (values_at (binary_at s.bits) (written_count s is_reference) bits)
 body_at s is_reference SecondExtension bits = map_taken value_pairs (members_at (s.block_size / 2) bits)
@@ -106,12 +115,15 @@ body_at s is_reference ZeroBlocks bits = map_taken zero_blocks (fs_at bits)
 
 -- ---- a coded data set
 
+-- a coded data set of these parts
 abbrev pub set_of : Option ℕ → Body → CodedDataSet
 set_of reference body = record { reference = reference; body = body }
 
+-- a coded data set, from the bits behind its identifier and its reference sample
 abbrev pub set_after_reference : Settings → Bool → Kind → Option ℕ → List Bool → Taken CodedDataSet
 set_after_reference s is_reference kind reference bits = map_taken (set_of reference) (body_at s is_reference kind bits)
 
+-- a coded data set, from the bits behind its identifier
 abbrev pub set_after_kind : Settings → Bool → Kind → List Bool → Taken CodedDataSet
 set_after_kind s is_reference kind bits = then_at (reference_at s is_reference bits) (set_after_reference s is_reference kind)
 

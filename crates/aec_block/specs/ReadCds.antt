@@ -25,6 +25,7 @@ abbrev pub as_run_len : Option ℕ → RunLen
 as_run_len None = Rest
 as_run_len (Some z) = Blocks z
 
+-- the same for the number m of a run's code
 abbrev pub run_len_of : ℕ → RunLen
 run_len_of m = as_run_len (told_blocks m)
 
@@ -35,6 +36,7 @@ answer_of reference (value_pairs members) = Single (block_of_members reference m
 answer_of reference (split_values k values) = Single (block_of_values reference values)
 answer_of reference (zero_blocks m) = Zeros reference (run_len_of m)
 
+-- the same for a whole coded data set
 abbrev pub cds_of : CodedDataSet → Cds
 cds_of c = answer_of c.reference c.body
 
@@ -42,6 +44,7 @@ cds_of c = answer_of c.reference c.body
 abbrev pub checked : Settings → CodedDataSet → Option Cds
 checked s c = when (has_small_values s c) (cds_of c)
 
+-- the same for a coded data set of these parts
 abbrev pub checked_body : Settings → Option ℕ → Body → Option Cds
 checked_body s reference body = checked s (set_of reference body)
 
@@ -50,6 +53,7 @@ abbrev pub as_cds : Found → Block → Cds
 as_cds SingleFound block = Single block
 as_cds (ZerosFound reference len) block = Zeros reference len
 
+-- the same, where something was found
 abbrev pub as_read : Option Found → Block → Option Cds
 as_read None block = None
 as_read (Some found) block = Some (as_cds found block)
@@ -75,6 +79,7 @@ is_plain_body (value_pairs members) = false
 is_plain_body (split_values k values) = true
 is_plain_body (zero_blocks m) = false
 
+-- the same of an identifier that was taken, and not where none was
 abbrev pub is_plain_taken : Taken Kind → Bool
 is_plain_taken nothing = false
 is_plain_taken (taken kind rest) = is_plain kind

@@ -19,6 +19,7 @@ body_len (value_pairs members) = Blocks 1
 body_len (split_values k values) = Blocks 1
 body_len (zero_blocks m) = run_len_of m
 
+-- the same for a whole coded data set
 abbrev pub set_len : CodedDataSet → RunLen
 set_len c = body_len c.body
 
@@ -31,6 +32,7 @@ read_len (Zeros reference len) = len
 abbrev pub judged_len : Settings → CodedDataSet → Option RunLen
 judged_len s c = when (has_small_values s c) (set_len c)
 
+-- the same for a coded data set of these parts
 abbrev pub judged_body_len : Settings → Option ℕ → Body → Option RunLen
 judged_body_len s reference body = judged_len s (set_of reference body)
 

@@ -11,10 +11,11 @@ use Rattle.aec_params.specs.Spellings.{shortest_spelling}
 use Rattle.aec_params.specs.Runs.{run_code}
 use Rattle.aec_bits.specs.BitBuf.{Bits}
 
--- the values without their k low bits, these bits, and both
+-- the values without their k low bits, as fundamental sequences
 abbrev pub high_parts : ℕ → List ℕ → List Bool
 high_parts k values = flat_map (λ v. fs (v / 2 ^ k)) values
 
+-- the k low bits of each value
 abbrev pub low_parts : ℕ → List ℕ → List Bool
 low_parts k values = flat_map (λ v. binary k (v % 2 ^ k)) values
 
@@ -23,6 +24,7 @@ pub record Spells (k n : ℕ) (values : List ℕ) (number : ℕ) : Type 0 where
   pub below : number < 2 ^ n
   pub bits : binary n number ≡ flat_map (binary k) values
 
+-- all high parts, and then all low parts
 abbrev pub split_parts : ℕ → List ℕ → List Bool
 split_parts k values = high_parts k values ++ low_parts k values
 

@@ -26,10 +26,11 @@ number_rule judge id key = record (new_rule id) {
   parser = Some judge;
 }
 
--- whole numbers of 32 bits, and of 64 bits
+-- whole numbers of 32 bits
 abbrev pub word_parser : ValueParser
 word_parser = parser.Signed (pos 0) (pos 4294967295)
 
+-- whole numbers of 64 bits
 abbrev pub long_parser : ValueParser
 long_parser = parser.Unsigned 0 18446744073709551615
 
@@ -83,6 +84,7 @@ file_rules = file_rule (codes "SOURCE") ∷ file_rule (codes "DEST") ∷ []
 abbrev pub versioned_app : Text → App
 versioned_app name = on_top (λ shape. record shape { has_version = true }) (new_app name)
 
+-- the command `aec`: its name, and all its options and files in order
 unfoldable pub aec_app : App
 aec_app = with_rules (with_rules (with_rules (with_rules (with_rules (versioned_app (codes "aec")) number_rules) coding_rules)
     storage_rules) work_rules) file_rules

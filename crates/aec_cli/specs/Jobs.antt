@@ -24,6 +24,7 @@ pub data Work : Type 0 where
   cutting : ℕ → ℕ → Option ℕ → Work
   editing : Text → Option ℕ → Work
 
+-- what an action does
 abbrev pub work_of : Action → Work
 work_of action.Encode = coding
 work_of (action.Decode count) = decoding count
@@ -37,6 +38,7 @@ pub record Task : Type 0 where
   pub source : Text
   pub dest : Text
 
+-- what a job is
 abbrev pub task_of : Job → Task
 task_of j = record { settings = j.params; work = work_of j.action; source = string_bytes j.source; dest = string_bytes j.dest }
 
@@ -103,6 +105,7 @@ work_asked f = option_map_or (λ script. editing script (count_of f)) (first_val
 
 -- ---- the job
 
+-- the job that the words ask for, where nothing is refused
 abbrev pub asked_task : Found → Task
 asked_task f = record {
   settings = settings_of f;

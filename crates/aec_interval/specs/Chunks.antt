@@ -15,6 +15,7 @@ abbrev pub values_after : Settings → Option ℤ → List ℤ → List ℕ
 values_after s None v = mapped_values s v
 values_after s (Some previous) v = mapped_after s previous v
 
+-- the reference of the first block of these samples: only at the start of an interval there is one
 abbrev pub reference_after : Settings → Option ℤ → List ℤ → Option ℕ
 reference_after s None v = reference_of s v
 reference_after s (Some previous) v = None

@@ -22,10 +22,11 @@ pub record Coder : Type 0 where
 abbrev pub fresh_coder : Settings → ℕ → Coder
 fresh_coder s limit = record { settings = s; limit = limit; held = []; rest = []; count = 0; refusal = None }
 
--- the front of a list that is whole pieces of n, and what is left behind it
+-- the front of a list that is whole pieces of n
 abbrev pub whole_front : {X : Type 0} → ℕ → List X → List X
 whole_front n xs = take (length xs / n * n) xs
 
+-- what is left behind that front
 abbrev pub left_behind : {X : Type 0} → ℕ → List X → List X
 left_behind n xs = drop (length xs / n * n) xs
 

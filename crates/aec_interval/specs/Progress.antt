@@ -11,6 +11,7 @@ use Rattle.aec_interval.specs.Feeding.{Coder, Feeds, StopsFeeding, whole_front, 
 use Rattle.aec_interval.specs.declared.stream_coder.pieces.Progress.{Progress}
 use Rattle.aec_interval.specs.declared.stream_coder.pieces.Terms.{Terms}
 
+-- the coder that has these parts
 abbrev pub coder_with : Terms → Progress → List ℕ → Option Fault → Coder
 coder_with terms progress rest refusal = record {
   settings = terms.params;
@@ -21,6 +22,7 @@ coder_with terms progress rest refusal = record {
   refusal = refusal;
 }
 
+-- the coder that has these parts and was not refused anything
 abbrev pub coder_at : Terms → Progress → List ℕ → Coder
 coder_at terms progress rest = coder_with terms progress rest None
 

@@ -11,6 +11,7 @@ pub record TakenSamples : Type 0 where
   pub samples : List ℤ
   pub refusal : Option Fault
 
+-- no samples, and why not, if one was refused
 abbrev pub none_taken : Option Fault → TakenSamples
 none_taken refusal = record { samples = []; refusal = refusal }
 

@@ -15,9 +15,12 @@ use Rattle.aec_params.specs.BlockShapes.{AreBlocksFrom}
 
 -- ---- codewords
 
+-- fundamental sequences that begin the same bits are those of one number, and the same bits follow
+-- them
 abbrev pub FundamentalSequencesDiffer : Type 0
 FundamentalSequencesDiffer = (a b : ℕ) (u v : List Bool) → fs a ++ u ≡ fs b ++ v → (a ≡ b) × (u ≡ v)
 
+-- the same for numbers in w bits each
 abbrev pub BinaryNumbersDiffer : Type 0
 BinaryNumbersDiffer = (w a b : ℕ) (u v : List Bool) → a < 2 ^ w → b < 2 ^ w → binary w a ++ u ≡ binary w b ++ v → (a ≡ b) × (u ≡ v)
 

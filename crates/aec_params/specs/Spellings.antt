@@ -31,6 +31,7 @@ split b k = record { reference = b.reference; body = split_values k (written_val
 abbrev pub compressed_spellings : Settings → Block → List CodedDataSet
 compressed_spellings s b = paired b ∷ map (split b) (range_with_len 0 (split_count s))
 
+-- no compression, and then these
 abbrev pub spellings : Settings → Block → List CodedDataSet
 spellings s b = uncompressed b ∷ compressed_spellings s b
 
