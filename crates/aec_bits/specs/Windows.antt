@@ -34,8 +34,7 @@ abbrev pub numbers_of_word : ℕ → ℕ → ℕ → ℕ → List ℕ
 numbers_of_word w zero left word = []
 numbers_of_word w (suc n) left word = (word / 2 ^ (left - w) % 2 ^ w) ∷ numbers_of_word w n (left - w) word
 
--- Each number times the power of two at its place, modulo 2^32, so that w of its bits move to the
--- top. These are the numbers that the topmost w of the 32 bits then spell.
+-- the top w bits of each number times its power, modulo 2^32, as numbers
 abbrev pub moved_to_top : ℕ → List ℕ → List ℕ → List ℕ
 moved_to_top w [] powers = []
 moved_to_top w (x ∷ xs) [] = []

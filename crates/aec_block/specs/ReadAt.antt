@@ -18,7 +18,7 @@ abbrev pub then_at : {X Y : Type 0} → Taken X → (X → List Bool → Taken Y
 then_at nothing next = nothing
 then_at (taken x rest) next = next x rest
 
--- what begins the bits, as what it stands for
+-- f of what was taken, with the same bits behind it
 abbrev pub map_taken : {X Y : Type 0} → (X → Y) → Taken X → Taken Y
 map_taken f nothing = nothing
 map_taken f (taken x rest) = taken (f x) rest

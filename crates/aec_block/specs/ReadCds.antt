@@ -95,8 +95,8 @@ abbrev pub HasNoPlain : Settings → List Bool → Type 0
 HasNoPlain s bits = (c : CodedDataSet) (rest : List Bool) → cds_at s false bits ≡ taken c rest → is_plain_body c.body ≡ true → has_small_values s c ≡ false
 
 -- the coded data set c, whose values are at most 2^n - 1, is read as what it stands for, and the
--- cursor moves behind it (that there is one, where the code takes many codewords from a word of 64
--- bits)
+-- cursor moves behind it (says that such a set stands there; the code takes many codewords from a
+-- word of 64 bits)
 pub record IsReadAs (s : Settings) (is_reference : Bool) (old new : Cursor) (c : CodedDataSet) (cds : Cds) : Type 0 where
   pub set : IsSetAt s is_reference old.list old.pos c
   pub small : has_small_values s c ≡ true

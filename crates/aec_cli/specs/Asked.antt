@@ -3,7 +3,7 @@ use Rattle.aec_cli.specs.declared.job.Asked.{Asked}
 use Rattle.aec_cli.specs.declared.job.Asked.TheVariants as asked
 use Rattle.aec_cli.specs.Jobs.{Work, coding, decoding, cutting, editing}
 
--- what is done
+-- the work that `Asked` names
 abbrev pub work_meant : Asked → Work
 work_meant asked.Encode = coding
 work_meant (asked.Decode count) = decoding count

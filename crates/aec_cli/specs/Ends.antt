@@ -1,20 +1,34 @@
 -- What shows that a run is done.
-use Rattle.std.specs.Prelude.{◌≡◌, Bool, true, false, ℕ, Option, None, Some, Result, Ok, Err}
+use Rattle.std.specs.Prelude.{◌≡◌, ◌⊎◌, ◌<◌, ℕ, ⊤, Result, Ok, Err, MatchOption}
+use Rattle.std.specs.declared.io.ErrorKind.TheVariants.{InvalidInput, Unsupported}
+use Rattle.aec_cli.specs.declared.again.SyncAnswer.{SyncAnswer}
 use Rattle.aec_cli.specs.declared.done.Done.{Done}
+use Rattle.aec_cli.specs.declared.ending.End.{End}
+use Rattle.aec_cli.specs.declared.ending.End.TheVariants as end
 use Rattle.aec_cli.specs.declared.failure.Failure.{Failure}
 use Rattle.aec_cli.specs.Statuses.{status_of}
 
--- there is something
-abbrev is_some : {X : Type 0} → Option X → Bool
-is_some None = false
-is_some (Some x) = true
+-- the sync was done, or its error says that the file can't be synced, as a pipe or a terminal can't
+abbrev pub IsWrittenOut : SyncAnswer → Type 0
+IsWrittenOut answer = MatchOption answer.error ⊤ (λ kind. (kind ≡ InvalidInput) ⊎ (kind ≡ Unsupported))
 
--- a file was made, and it is synced or can't be
+-- a file was made, and by the answer of its sync it is written out
 abbrev pub HasSynced : Done → Type 0
-HasSynced done = is_some done.synced ≡ true
+HasSynced done = MatchOption done.synced ⊥ (λ synced. IsWrittenOut synced.answer)
 
--- the status of a run that ends so: 0 where it is done, and else that of its failure (COMMAND: Exit
--- status)
-abbrev pub run_status : Result Done Failure → ℕ
-run_status (Ok done) = 0
-run_status (Err failure) = status_of failure
+-- how the program ends by what a run returned
+abbrev pub end_of_run : Result Done Failure → End
+end_of_run (Ok done) = end.Done done
+end_of_run (Err failure) = end.Failed failure
+
+-- the status of the process: 0 where the job is done, and else that of its failure
+abbrev pub end_status : End → ℕ
+end_status (end.Unstarted status) = status
+end_status (end.Done done) = 0
+end_status (end.Failed failure) = status_of failure
+
+-- Where the status is 0, the job is done and its file is written out. No failure has the status 0.
+abbrev pub IsDoneAtZero : End → Type 0
+IsDoneAtZero (end.Unstarted status) = 0 < status
+IsDoneAtZero (end.Done done) = HasSynced done
+IsDoneAtZero (end.Failed failure) = ⊤

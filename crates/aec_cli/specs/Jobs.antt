@@ -24,7 +24,7 @@ pub data Work : Type 0 where
   cutting : ℕ → ℕ → Option ℕ → Work
   editing : Text → Option ℕ → Work
 
--- what is done, as the code holds it
+-- the work that the code's `Action` is
 abbrev pub work_of : Action → Work
 work_of action.Encode = coding
 work_of (action.Decode count) = decoding count
@@ -38,7 +38,7 @@ pub record Task : Type 0 where
   pub source : Text
   pub dest : Text
 
--- one job, as the code holds it
+-- the task that the code's `Job` is
 abbrev pub task_of : Job → Task
 task_of j = record { settings = j.params; work = work_of j.action; source = string_bytes j.source; dest = string_bytes j.dest }
 

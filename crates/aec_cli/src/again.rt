@@ -1,6 +1,6 @@
 //! Calls of a file that are made again where a signal interrupts them.
 
-ghost use Rattle.std.specs.Prelude.{◌≡◌, ◌≢◌, ◌↔◌, IfErr, IsTrue, MatchResult, false};
+ghost use Rattle.std.specs.Prelude.{◌≡◌, ◌≢◌, ◌↔◌, IfErr, IsTrue, MatchResult, Some, None};
 ghost use Rattle.std.specs.Io.{ReadsAtMost, WritesAtMost};
 ghost use Rattle.std.specs.Io.KnownBytes.{Keeps, ReadConsumes, WriteAppends};
 ghost use Rattle.std.specs.IoError.{error_kind};
@@ -16,14 +16,13 @@ fn is_interrupted(error: &Error) -> bool
     error.kind() == ErrorKind::Interrupted
 }
 
-// Whether a sync failed because a signal interrupted it.
-fn was_interrupted(answer: &io::Result<()>) -> bool
-    ensures { MatchResult answer.now (λ _. result ≡ false)
-        (λ e. IsTrue result ↔ (error_kind e ≡ ErrorKind.Interrupted)) }
+// The kind of a call's error; none where the call did what it was asked for.
+fn error_of(answer: io::Result<()>) -> Option<ErrorKind>
+    ensures { MatchResult answer (λ _. result ≡ None) (λ e. result ≡ Some (error_kind e)) }
 {
     match answer {
-        Ok(()) => false,
-        Err(error) => is_interrupted(error),
+        Ok(()) => None,
+        Err(error) => Some(error.kind()),
     }
 }
 
@@ -51,36 +50,37 @@ impl<T> Again<T> {
     }
 }
 
-/// What the last call of a sync answered. Only `Again::sync` makes it.
-#[derive(Drop)]
+/// What the last call of a sync answered: the kind of its error, if it failed. Only `Again::sync`
+/// makes one.
+#[derive(Debug, PartialEq, Eq, Drop)]
 pub(crate) struct SyncAnswer {
-    result: io::Result<()>,
+    error: Option<ErrorKind>,
 }
 
 impl SyncAnswer {
     ghost use Rattle.std.specs.Prelude.{◌≡◌};
 
-    pub(crate) fn into_result(self) -> io::Result<()>
-        ensures { result ≡ self.result }
+    /// The kind of the error, if the sync failed.
+    pub(crate) fn error(&self) -> Option<ErrorKind>
+        ensures { result ≡ self.now.error }
     {
-        let SyncAnswer { result } = self;
-        result
+        self.error
     }
 }
 
 impl<T: OpenFile> Again<T> {
     /// Has the system write out what the file was given.
     pub(crate) fn sync(&self) -> SyncAnswer
-        ensures again { IfErr result.result (λ e. error_kind e ≢ ErrorKind.Interrupted) }
+        ensures again { result.error ≢ Some ErrorKind.Interrupted }
     {
         for _ in 0..u64::MAX {
-            let result = self.file.sync_all();
-            if !was_interrupted(&result) {
-                return SyncAnswer { result };
+            let error = error_of(self.file.sync_all());
+            if error != Some(ErrorKind::Interrupted) {
+                return SyncAnswer { error };
             }
         }
         SyncAnswer {
-            result: Err(too_many_tries()),
+            error: Some(ErrorKind::TimedOut),
         }
     }
 }

@@ -1,43 +1,48 @@
-//! What shows that a run is done: its file is synced, or there is none.
+//! The end of a run: a file that the system wrote out, or no file.
 
-ghost use Rattle.std.specs.Prelude.{◌≡◌, ◌⊎◌, ◌↔◌, IfErr, IsOk, IsTrue};
-ghost use Rattle.std.specs.IoError.{error_kind};
+ghost use Rattle.std.specs.Prelude.{◌≡◌, ◌⊎◌, ◌↔◌, Some, None, IfOk, IfErr, IsOk, IsTrue};
 ghost use Rattle.aec_params.specs.declared.fault.Fault.TheVariants.{Write as WriteFault};
-ghost use Rattle.aec_cli.specs.Ends.{HasSynced};
+ghost use Rattle.aec_cli.specs.Ends.{IsWrittenOut};
 
 use crate::again::{Again, SyncAnswer};
 use aec_params::Fault;
 use std::fs::OpenFile;
 use std::io::ErrorKind;
 
-/// Shows that a file was synced, or can't be. Only `write_out` returns it.
+/// The end of a file that was written: what its sync answered. Without a sync there is no
+/// `SyncAnswer`, and without that no `Synced`.
 #[derive(Debug, PartialEq, Eq, Drop)]
-pub(crate) struct Synced(());
+pub(crate) struct Synced {
+    answer: SyncAnswer,
+}
 
-/// Shows that a `DestSink` has ended well. Only `DestSink::finish` returns it.
+/// The end of a `DestSink` that has not failed. It holds the end of the sink's file, or nothing if
+/// the sink made no file.
 #[derive(Debug, PartialEq, Eq, Drop)]
 pub struct Done {
     synced: Option<Synced>,
 }
 
 impl Done {
-    /// The end of a sink whose file is synced.
+    /// The end of a sink with a file.
     pub(crate) fn of_a_file(synced: Synced) -> Done
-        ensures { HasSynced result }
+        ensures { result.synced ≡ Some synced }
     {
         Done {
             synced: Some(synced),
         }
     }
 
-    /// The end of a sink that was never begun, so that it made no file.
-    pub(crate) fn without_a_file() -> Done {
+    /// The end of a sink that made no file, since it was never begun.
+    pub(crate) fn without_a_file() -> Done
+        ensures { result.synced ≡ None }
+    {
         Done { synced: None }
     }
 }
 
-// Whether an error of this kind says that a file can't be synced, as a pipe or a terminal, which is
-// done as it is. Every other kind is a failure of the file.
+// Whether an error of this kind says that the file can't be synced, as a pipe or a terminal can't.
+// Such a file is written out all the same. Every other kind is a failure of the file.
 fn cant_be_synced(kind: ErrorKind) -> bool
     ensures { IsTrue result
         ↔ ((kind ≡ ErrorKind.InvalidInput) ⊎ (kind ≡ ErrorKind.Unsupported)) }
@@ -45,23 +50,33 @@ fn cant_be_synced(kind: ErrorKind) -> bool
     matches!(kind, ErrorKind::InvalidInput | ErrorKind::Unsupported)
 }
 
+// Whether a file is written out by the answer of its sync.
+fn is_written_out(answer: &SyncAnswer) -> bool
+    ensures { IsTrue result ↔ IsWrittenOut answer.now }
+{
+    match answer.error() {
+        None => true,
+        Some(kind) => cant_be_synced(kind),
+    }
+}
+
 // Judges the answer of a sync.
 fn judged(answer: SyncAnswer) -> Result<Synced, Fault>
-    ensures done { IsOk result ↔ IfErr answer.result (λ error.
-        (error_kind error ≡ ErrorKind.InvalidInput)
-        ⊎ (error_kind error ≡ ErrorKind.Unsupported)) }
+    ensures done { IsOk result ↔ IsWrittenOut answer }
+    ensures answer { IfOk result (λ synced. synced.answer ≡ answer) }
     ensures fault { IfErr result (λ e. e ≡ WriteFault) }
 {
-    match answer.into_result() {
-        Ok(()) => Ok(Synced(())),
-        Err(error) if cant_be_synced(error.kind()) => Ok(Synced(())),
-        Err(_) => Err(Fault::Write),
+    if is_written_out(&answer) {
+        Ok(Synced { answer })
+    } else {
+        Err(Fault::Write)
     }
 }
 
 /// Has the system write out what an open file was given.
 pub(crate) fn write_out<T: OpenFile>(file: &Again<T>) -> Result<Synced, Fault>
-    ensures { IfErr result (λ e. e ≡ WriteFault) }
+    ensures done { IfOk result (λ synced. IsWrittenOut synced.answer) }
+    ensures fault { IfErr result (λ e. e ≡ WriteFault) }
 {
     judged(file.sync())
 }

@@ -1,12 +1,12 @@
 //! Files as devices: a source that is opened by its first call, and a sink that is created by
 //! `begin`.
 
-ghost use Rattle.std.specs.Prelude.{◌≡◌, ◌≤◌, ◌<◌, false, [], Some, IfOk, IfErr, IsOk, IsErr, length};
+ghost use Rattle.std.specs.Prelude.{◌≡◌, ◌≤◌, ◌<◌, true, false, [], Some, Ok, IfOk, IfErr, IsOk, IsErr, length};
 ghost use Rattle.std.specs.Io.KnownBytes.{ReadConsumes, WriteAppends};
 ghost use Rattle.aec_params.specs.declared.fault.Fault.TheVariants.{Read as ReadFault, Write as WriteFault};
 ghost use Rattle.aec_bits.specs.Devices.{FailsOnce};
 ghost use Rattle.aec_cli.specs.Ends.{HasSynced};
-ghost use Rattle.aec_cli.specs.Openings.{is_open, is_unopened, IsTried, IsTriedReading};
+ghost use Rattle.aec_cli.specs.Openings.{is_closed, is_open, is_unopened, IsTried, IsTriedReading};
 
 use crate::again::Again;
 use crate::done::{Done, write_out};
@@ -88,7 +88,10 @@ impl<'a, F: Files> Source for FileSource<'a, F> {
         ensures bytes { ReadConsumes (⟦<FileSource<'a, F> as Source>⟧.left self.old)
             (⟦<FileSource<'a, F> as Source>⟧.left self.new) result buf.new }
         ensures closed { IfOk result (λ k. k ≡ 0 → 0 < length buf.new
-            → ⟦<FileSource<'a, F> as Source>⟧.left self.new ≡ Some []) }
+            → (is_closed self.new.file ≡ true)
+            × (⟦<FileSource<'a, F> as Source>⟧.left self.new ≡ Some [])) }
+        ensures ended { is_closed self.old.file ≡ true
+            → (result ≡ Ok 0) × (is_closed self.new.file ≡ true) }
         ensures failure { FailsOnce ReadFault (⟦<FileSource<'a, F> as Source>⟧.failed self.old)
             (⟦<FileSource<'a, F> as Source>⟧.failed self.new) result }
     {

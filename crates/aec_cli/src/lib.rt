@@ -4,6 +4,7 @@
 
 mod again;
 mod done;
+mod ending;
 mod failure;
 mod files;
 mod job;
@@ -17,6 +18,7 @@ pub use aec_engine::{
     encode, encode_bytes, laws, range, script,
 };
 pub use done::Done;
+pub use ending::End;
 pub use failure::{Failure, status};
 pub use files::{DestSink, FileSource};
 pub use job::{Action, Job, settings};

@@ -7,12 +7,13 @@ ghost use Rattle.clap.specs.Values.{kind_of};
 ghost use Rattle.clap.specs.Walk.{Text};
 ghost use Rattle.aec_cli.specs.Actions.{HasNoScript, IsAnswerOf, are_enough, program_caps};
 ghost use Rattle.aec_cli.specs.Commands.{aec_app};
-ghost use Rattle.aec_cli.specs.Ends.{HasSynced, run_status};
+ghost use Rattle.aec_cli.specs.Ends.{HasSynced, end_of_run, end_status, IsDoneAtZero};
 ghost use Rattle.aec_engine.specs.Editing.{LeavesEdited};
 ghost use Rattle.aec_cli.specs.Statuses.{EndsByMistake, EndsByWords, parse_status, status_of};
 ghost use Rattle.aec_engine.specs.Transfers.{Taking, taking_of, Putting, putting_of, Leaves};
 
 use crate::done::Done;
+use crate::ending::End;
 use crate::failure::{Failure, status};
 use crate::files::{DestSink, FileSource};
 use crate::job::{Action, Job, settings};
@@ -26,30 +27,37 @@ use std::alloc::Global;
 use std::io::Write;
 use std::rt::Files;
 
-/// Runs the program on its words, of which the first is the program's name, and answers its status:
-/// 0, 1 or 2. What belongs on standard output is written to `out`, what belongs on standard error
-/// to `err`; a fault of either changes nothing.
+/// Runs the program on its words, of which the first is the program's name, and returns how it
+/// ended, with the status 0, 1 or 2. A job ends with 0 only if its file is written out. What
+/// belongs on standard output is written to `out`, what belongs on standard error to `err`; a fault
+/// of either changes nothing.
 pub fn perform<F: Files, O: Write, E: Write>(
     rt: &F,
     alloc: Global,
     words: Vec<String>,
     out: &mut O,
     err: &mut E,
-) -> u8
-    ensures bound { result ≤ 2 }
-    ensures mistakes { EndsByMistake (fault_of aec_app (map string_bytes words.items)) result }
+) -> End
+    ensures bound { end_status result ≤ 2 }
+    ensures mistakes { EndsByMistake (fault_of aec_app (map string_bytes words.items))
+        (end_status result) }
     ensures refusals { let given : List Text = map string_bytes words.items in
-        fault_of aec_app given ≡ [] → EndsByWords given result }
+        fault_of aec_app given ≡ [] → EndsByWords given (end_status result) }
+    ensures done { fault_of aec_app (map string_bytes words.items) ≡ [] → IsDoneAtZero result }
 {
     let matches = match parse(alloc, words.as_slice()) {
         Ok(matches) => matches,
-        Err(error) => return answer(&error, out, err),
+        Err(error) => {
+            return End::Unstarted {
+                status: answer(&error, out, err),
+            };
+        }
     };
     let job = match settings(alloc, &matches) {
         Ok(job) => job,
-        Err(usage) => return report(Failure::Usage(usage), err),
+        Err(usage) => return failed(Failure::Usage(usage), err),
     };
-    finish(rt, alloc, job, err)
+    ended(run(rt, alloc, job), err)
 }
 
 // The limits of the program: 2^32 samples, and 2^35 bytes of coded data.
@@ -144,23 +152,22 @@ fn run<F: Files>(rt: &F, alloc: Global, job: Job) -> Result<Done, Failure>
     sink.finish().map_err(Failure::Fault)
 }
 
-// Does a job, and answers the status: 0 where it was done, and 1 where it was refused and its
-// failure printed.
-fn finish<F: Files, E: Write>(rt: &F, alloc: Global, job: Job, err: &mut E) -> u8
-    ensures { result ≤ 1 }
+// How the program ends by what a run returned. A failure is printed.
+fn ended<E: Write>(run: Result<Done, Failure>, err: &mut E) -> End
+    ensures { result ≡ end_of_run run }
 {
-    ended(run(rt, alloc, job), err)
+    match run {
+        Ok(done) => End::Done(done),
+        Err(failure) => failed(failure, err),
+    }
 }
 
-// The status of a run that ends so: 0 where it is done, and else that of its failure, which is
-// printed.
-fn ended<E: Write>(end: Result<Done, Failure>, err: &mut E) -> u8
-    ensures { result ≡ run_status end }
+// Prints the line of a failure, with which the program ends.
+fn failed<E: Write>(failure: Failure, err: &mut E) -> End
+    ensures { result ≡ End.Failed failure }
 {
-    match end {
-        Ok(_done) => 0,
-        Err(failure) => report(failure, err),
-    }
+    let _ = report(failure, err);
+    End::Failed(failure)
 }
 
 // Prints the line of a failure, and answers its status.

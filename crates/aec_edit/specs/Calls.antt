@@ -14,7 +14,8 @@ abbrev pub want_of_calls : ℕ → ℕ → Option Fault
 want_of_calls calls needed = if nat_lt (2 ^ 64 - 1 - calls) needed then Some Spent else None
 
 -- what an edit of the samples s is refused for where there is memory: it does not fit, or too few
--- calls are left (of the whole edit, where the code refuses as it goes)
+-- calls are left (one function of edit and calls, where the code judges each rule in its own place,
+-- before any call)
 abbrev pub due_refusal : Format → ℕ → List ℤ → ℕ → Edit → Option Fault
 due_refusal f limit s calls e = option_or (refusal_of f limit s e) (want_of_calls calls (needed_calls f.most (length s) e))
 

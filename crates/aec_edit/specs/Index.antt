@@ -33,7 +33,7 @@ KeptSamples f count bits starts = (s : List ℤ) × IsKeptCode f count bits star
 unfoldable pub kept_samples : {f : Format} {count : ℕ} {bits : List Bool} {starts : List ℕ} → KeptSamples f count bits starts → List ℤ
 kept_samples kept = kept.0
 
--- that samples are kept so is a proposition
+-- two proofs that samples are kept so are equal
 IsKeptCode-prop : (f : Format) (count : ℕ) (bits : List Bool) (starts : List ℕ) (s : List ℤ) → IsProp (IsKeptCode f count bits starts s)
 IsKeptCode-prop f count bits starts s = hlevel props
 

@@ -44,6 +44,6 @@ pub record CutsMakeNoDifference (s : Settings) (limit : ℕ) : Type 0 where
   pub more : (bytes piece : List ℕ) (before between after : List Bool) (d e : Coder) → Feeds (fresh_coder s limit) bytes before between d
       → Feeds d piece between after e → Feeds (fresh_coder s limit) (bytes ++ piece) before after e
 
--- this holds at all settings and limits
+-- `CutsMakeNoDifference` at all allowed settings and all limits
 abbrev pub AllCutsMakeNoDifference : Type 0
 AllCutsMakeNoDifference = (s : Settings) (limit : ℕ) → IsAllowed s → CutsMakeNoDifference s limit

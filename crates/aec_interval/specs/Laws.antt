@@ -40,7 +40,7 @@ pub record BitsAreReadInOneWay (s : Settings) (count : Option ℕ) (limit : ℕ)
   pub one_reading : (xs ys : List ℤ) → IsReading s count limit bits xs → IsReading s count limit bits ys → xs ≡ ys
   pub one_fault : (e f : Fault) → IsFault s count limit bits 0 0 e → IsFault s count limit bits 0 0 f → e ≡ f
 
--- this holds of all bits, with any count and limit
+-- `BitsAreReadInOneWay` at all allowed settings, for all bits, counts and limits
 abbrev pub AllBitsAreReadInOneWay : Type 0
 AllBitsAreReadInOneWay = (s : Settings) (count : Option ℕ) (limit : ℕ) (bits : List Bool) → IsAllowed s → BitsAreReadInOneWay s count limit bits
 
@@ -49,7 +49,7 @@ pub record ReadingsAreSamples (s : Settings) (limit : ℕ) (bits : List Bool) : 
   pub held : (count : Option ℕ) (samples : List ℤ) → IsReading s count limit bits samples → AllByRecursion (IsHeld s) samples
   pub counted : (count : ℕ) (samples : List ℤ) → IsReading s (Some count) limit bits samples → length samples ≡ count
 
--- this holds of all bits
+-- `ReadingsAreSamples` at all allowed settings, for all limits and bits
 abbrev pub AllReadingsAreSamples : Type 0
 AllReadingsAreSamples = (s : Settings) (limit : ℕ) (bits : List Bool) → IsAllowed s → ReadingsAreSamples s limit bits
 
@@ -75,6 +75,6 @@ pub record CodesAreShortest (s : Settings) (samples : List ℤ) : Type 0 where
   pub stream : AllByRecursion (IsHeld s) samples → s.pad ≡ false → (codes : List (List Bool)) → ReadsEach s codes (intervals_of s samples)
       → length (stream_of s samples) ≤ length (flat_map (λ code. code) codes)
 
--- this holds of all samples
+-- `CodesAreShortest` at all allowed settings, for all samples
 abbrev pub AllCodesAreShortest : Type 0
 AllCodesAreShortest = (s : Settings) (samples : List ℤ) → IsAllowed s → CodesAreShortest s samples

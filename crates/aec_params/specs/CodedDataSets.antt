@@ -67,12 +67,12 @@ HasReference s true None = ⊥
 HasReference s false (Some r) = ⊥
 HasReference s false None = ⊤
 
--- how many values a block writes, but by pairs (§7; J - 1 in a reference block)
+-- how many values of a block are written one by one (§7): J, and J - 1 in a reference block
 abbrev pub written_count : Settings → Bool → ℕ
 written_count s is_reference = if is_reference then s.block_size - 1 else s.block_size
 
--- as many values as a block writes, pairs as many as it has; values without compression fit n bits,
--- and k is that of an option (§7)
+-- One by one a body has as many values as a block writes, and by pairs as many members as a block
+-- has values; values without compression fit n bits, and k is that of an option (§7)
 abbrev pub HasBody : Settings → Bool → Body → Type 0
 HasBody s is_reference (uncompressed_values values) = (length values ≡ written_count s is_reference) × AllByRecursion (λ v. v < 2 ^ s.bits) values
 HasBody s is_reference (value_pairs values) = length values ≡ s.block_size

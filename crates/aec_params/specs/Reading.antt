@@ -13,8 +13,9 @@ use Rattle.aec_params.specs.Places.{block_count, IsLawfulAt, cds_blocks}
 
 -- lawful coded data sets from block p of an interval on that reach block n; the last may go past it
 -- in its segment (§12; by any option for any block, cut into any runs. No function reads by this or
--- by `ReadsBlocks`: they serve the laws `intervals_are_read` and `codes_are_shortest` of
--- aec_interval, and `each_code_is_read` ties them to `IsReading`)
+-- by `ReadsBlocks`: they serve the clause `shortest` of `encode_all` and the laws
+-- `intervals_are_read` and `codes_are_shortest` of aec_interval; `each_code_is_read` ties them to
+-- `IsReading`)
 abbrev pub Covers : Settings → ℕ → ℕ → List CodedDataSet → Type 0
 Covers s n p [] = IsTrue (nat_le n p)
 Covers s n p (c ∷ sets) = (p < n) × IsLawfulAt s p c × Covers s n (p + block_count s p c) sets
@@ -63,7 +64,7 @@ keeps_limit s (Some count) limit i = true
 keeps_limit s None limit i = nat_le (i * s.block_size) limit
 
 -- from block i at position b, wanted and lawful coded data sets within the limit lead to block j at
--- position e (§12; that some list of them does, where the code finds them bit by bit)
+-- position e (§12; a relation on a given list, where the code finds the sets bit by bit)
 abbrev pub LeadsTo : Settings → Option ℕ → ℕ → List Bool → ℕ → ℕ → List CodedDataSet → ℕ → ℕ → Type 0
 LeadsTo s count limit bits i b [] j e = (j ≡ i) × (e ≡ b)
 LeadsTo s count limit bits i b (c ∷ sets) j e =

@@ -36,8 +36,8 @@ pub enum Fault {
     /// A place is outside the samples that are present.
     #[error("position outside the {count} samples")]
     OutOfRange { count: u64 },
-    /// Fewer calls of the coder are left of `u64::MAX` than are needed: none for an interval, or
-    /// not enough for an edit that fits. No call is made then.
+    /// `Spent`: to code an interval, or to make an edit that fits, needs more calls of the interval
+    /// coder than are left, since a codec makes at most `u64::MAX`. None is made then.
     #[error("coder calls are spent")]
     Spent,
     /// A growth was refused.

@@ -97,6 +97,6 @@ pub(crate) fn run_of<F: Files>(
     let words = words_of(alloc, words)?;
     let mut out = Vec::new(alloc);
     let mut err = Vec::new(alloc);
-    let status = perform(rt, alloc, words, &mut out, &mut err);
-    Ok((status, out, err))
+    let end = perform(rt, alloc, words, &mut out, &mut err);
+    Ok((end.status(), out, err))
 }

@@ -339,7 +339,7 @@ fn broken_streams_change_no_status(rt: HostRuntime) -> Result<(), Fail> {
         let words = words_of(rt.alloc(), words)?;
         same(
             &rt,
-            perform(&rt, rt.alloc(), words, &mut Broken, &mut Broken),
+            perform(&rt, rt.alloc(), words, &mut Broken, &mut Broken).status(),
             expected,
         );
     }

@@ -1,4 +1,5 @@
-//! The choice of the shortest option for a block of any number of values: k rises from 0.
+//! The choice of the shortest option for any block. It tries k = 0, 1, 2, .. until the next k isn't
+//! shorter.
 
 ghost use Rattle.std.specs.Prelude.{◌≡◌, ◌*◌, ◌^◌, ◌<◌, ◌≤◌, length};
 ghost use Rattle.aec_block.specs.BlockShape.{most_values};

@@ -1,0 +1,31 @@
+//! How the program ends.
+
+ghost use Rattle.std.specs.Prelude.{◌≡◌};
+ghost use Rattle.aec_cli.specs.Ends.{end_status};
+
+use crate::done::Done;
+use crate::failure::{Failure, status};
+
+/// How the program ended.
+#[derive(Debug, PartialEq, Eq, Drop)]
+pub enum End {
+    /// The words were not read as a job's: help, the version or a mistake was printed.
+    Unstarted { status: u8 },
+    /// The job is done.
+    Done(Done),
+    /// The words make no job, or the job was refused: the line of the failure was printed.
+    Failed(Failure),
+}
+
+impl End {
+    /// The status of the process.
+    pub fn status(&self) -> u8
+        ensures { result ≡ end_status self.now }
+    {
+        match self {
+            End::Unstarted { status } => *status,
+            End::Done(_done) => 0,
+            End::Failed(failure) => status(failure),
+        }
+    }
+}
