@@ -5,13 +5,13 @@ mod codewords;
 pub(crate) mod plain;
 pub(crate) mod values;
 
-ghost use Rattle.std.specs.Prelude.{◌≡◌, ◌+◌, ◌≤◌, true, length, IfOk, IfErr, OnErr};
+ghost use Rattle.std.specs.Prelude.{◌≡◌, ◌+◌, ◌≤◌, ◌<◌, ◌^◌, true, length, IfOk, IfErr, OnErr};
 ghost use Rattle.std.specs.Option.{is_some};
 ghost use Rattle.aec_params.specs.Params.{IsAllowed, id_len};
 ghost use Rattle.aec_params.specs.CodedDataSets.{CodedDataSet};
 ghost use Rattle.aec_bits.specs.BitReader.{has_one};
 ghost use Rattle.aec_block.specs.declared.cds.Found.TheVariants.{Single};
-ghost use Rattle.aec_block.specs.ReadAt.{map_taken, kind_at, reference_at, body_at, cds_at};
+ghost use Rattle.aec_block.specs.ReadAt.{map_taken, binary_at, kind_at, reference_at, body_at, cds_at};
 ghost use Rattle.aec_block.specs.Gathering.{bits_at, as_taken, as_taken_by, when};
 ghost use Rattle.aec_block.specs.ReadCds.{run_len_of, checked, checked_body, as_cds, as_read, HasShortSplit, is_plain, IsReadAs};
 ghost use Rattle.aec_params.specs.Faults.{IsNotRead};
@@ -62,6 +62,20 @@ pub(crate) fn read_kind(params: &Params, reader: &mut BitReader) -> Result<Kind,
     })
 }
 
+/// The reference sample's pattern.
+#[inline(always)]
+pub(crate) fn read_pattern(params: &Params, reader: &mut BitReader) -> Result<u32, Fault>
+    requires within { reader.old.pos ≤ length reader.old.list }
+    ensures taken { binary_at params.now.bits (bits_at reader.old)
+        ≡ as_taken result (bits_at reader.new) }
+    ensures below { IfOk result (λ pattern. pattern < 2 ^ params.now.bits) }
+    ensures list { reader.new.list ≡ reader.old.list }
+    ensures within { reader.new.pos ≤ length reader.new.list }
+{
+    let pattern = read_number(reader, params.bits())?;
+    Ok(pattern as u32)
+}
+
 /// The reference sample's pattern, where one is due.
 #[inline(always)]
 pub(crate) fn read_reference(
@@ -79,8 +93,8 @@ pub(crate) fn read_reference(
     if !is_ref {
         return Ok(None);
     }
-    let pattern = read_number(reader, params.bits())?;
-    Ok(Some(pattern as u32))
+    let pattern = read_pattern(params, reader)?;
+    Ok(Some(pattern))
 }
 
 /// How many zero blocks the number of a run's code stands for; 4 is the remainder code.

@@ -1,5 +1,5 @@
 -- The front of a stream whose bytes are kept, and the rest of it that is put behind them.
-use Rattle.std.proofs.Common.{◌≡◌, ℕ, ◌+◌, ◌*◌, ◌-◌, ◌%◌, ◌<◌, ◌≤◌, ◌^◌, true, Option, None, Result, Err, OnOk, IfErr, ℤ, List, [], ◌++◌, length, take, drop, refl, sym, ap, ap₂, ◌∙◌, subst, arith}
+use Rattle.std.proofs.Common.{◌≡◌, ℕ, ◌+◌, ◌*◌, ◌-◌, ◌%◌, ◌<◌, ◌≤◌, ◌^◌, max, true, Option, None, Result, Err, OnOk, IfErr, ℤ, List, [], ◌++◌, length, take, drop, refl, sym, ap, ap₂, ◌∙◌, subst, arith}
 use Rattle.std.proofs.Math.Nat.{zero-mod}
 use Rattle.std.proofs.lemmas.List.{length-append, take_all}
 use Rattle.aec_params.specs.declared.settings.Settings.{Settings}
@@ -9,8 +9,8 @@ use Rattle.aec_params.specs.Params.{IsAllowed, interval_len}
 use Rattle.aec_params.specs.Reading.{IsReading}
 use Rattle.aec_interval.specs.Reached.{count_refusal, RefusesReading}
 use Rattle.aec_interval.specs.Reached as reached
-use Rattle.aec_interval.specs.Pieces.{Place, IsPlace, is_wanted_at, ReadsInterval}
-use Rattle.aec_interval.proofs.PieceReadingLemmas.{has_read_nothing, has_read_more, has_read_front}
+use Rattle.aec_interval.specs.Pieces.{Place, IsPlace, is_wanted_at, ReadsIntervals}
+use Rattle.aec_interval.proofs.PieceReadingLemmas.{has_read_nothing, has_read_several, has_read_front}
 use Rattle.aec_interval.proofs.ReachedPlaceLemmas.{place-within}
 use Rattle.aec_engine.specs.Output.{all_stored, samples_from}
 use Rattle.aec_engine.specs.ReadingTwice.{AreFewKept, AreSamplesOf, HaveSamples, KeepsFront, DecodesBits, SettlesOne, PutsAllOrFront}
@@ -46,12 +46,12 @@ keeps_none start s bytes block bit none = subst (λ p. KeepsFront p s 0 bytes) (
     at_start = ap (λ i. place_from start i start.bit) block ∙ ap (λ b. place_from start 0 b) bit
 
 pub keeps_more : (start p q : Place) (s : Settings) (before len more : ℕ) (bytes room bytes_then : List ℕ) (ys part : List ℤ) → IsAllowed start.settings
-    → p ≡ place_from start p.block p.bit → KeepsFront p s before bytes → ReadsInterval p ys q → q.block < 2 ^ 34
+    → p ≡ place_from start p.block p.bit → KeepsFront p s before bytes → ReadsIntervals p ys q → q.block < 2 ^ 34
     → (is_wanted_at q ≡ true → q.block % q.settings.interval ≡ 0) → room ≡ bytes → bytes_then ≡ room ++ all_stored s part → part ≡ ys
     → len ≡ length ys → more ≡ before + len → KeepsFront q s more bytes_then
 keeps_more start p q s before len more bytes room bytes_then ys part a same keeps step few begins stays adds is counts adds_up = record {
   samples = keeps.samples ++ ys;
-  read = has_read_more p q keeps.samples ys (subst IsAllowed (sym (settings-same start p same)) a) keeps.read step;
+  read = has_read_several p q keeps.samples ys (subst IsAllowed (sym (settings-same start p same)) a) keeps.read step;
   counted = omega (arith, length-append keeps.samples ys, keeps.counted, counts, adds_up);
   kept = adds ∙ ap₂ (λ l part. l ++ all_stored s part) (stays ∙ keeps.kept) is ∙ sym (all_stored-append s keeps.samples ys);
   few = few;
@@ -84,12 +84,12 @@ few_then start p room made len interval most same there at_most is asks few =
     (asks (length start.bits) (subst (λ n. AreFewKept room (4 * n) (length start.bits)) (sym is) few)
     (omega (arith, at_most, bit-within start p same there)))
 
--- no more samples are read than an interval has
-pub few_read : (start p q : Place) (s : Settings) (len : ℕ) (part ys : List ℤ) → p ≡ place_from start p.block p.bit → start.settings ≡ s
-    → len ≡ interval_len s → part ≡ ys → ReadsInterval p ys q → length part ≤ len
-few_read start p q s len part ys same is counted all step =
-    let few : length ys ≤ interval_len s = subst (λ s. length ys ≤ interval_len s) (settings-same start p same ∙ is) step.few in
-    omega (arith, few, counted, ap length all)
+-- samples whose bytes there is room for
+pub room_for : (start p : Place) (s : Settings) (len most count more left : ℕ) → p ≡ place_from start p.block p.bit → start.settings ≡ s
+    → len ≡ interval_len s → count ≤ max most (interval_len p.settings) → 4 * most ≤ left → more ≡ 4 * len → more ≤ left → 4 * count ≤ left
+room_for start p s len most count more left same is counted few within more_is fits =
+    let settings : interval_len p.settings ≡ interval_len s = ap interval_len (settings-same start p same ∙ is) in
+    omega (arith, settings, counted, few, within, more_is, fits)
 
 -- ---- kept bytes and those of the rest
 

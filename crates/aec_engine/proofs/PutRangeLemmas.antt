@@ -13,9 +13,9 @@ use Rattle.aec_params.specs.Params.{IsAllowed, IsHeld, interval_len}
 use Rattle.aec_params.specs.Stored.{stored_bytes}
 use Rattle.aec_params.specs.Reading.{IsReading}
 use Rattle.aec_bits.specs.Devices.{AppendsFront}
-use Rattle.aec_interval.specs.Pieces.{Place, is_wanted_at, ReadsPiece, ReadsInterval, HasRead, RefusesAt}
+use Rattle.aec_interval.specs.Pieces.{Place, is_wanted_at, ReadsPiece, ReadsIntervals, HasRead, RefusesAt}
 use Rattle.aec_interval.proofs.ReadingLemmas.{bits_are_read_in_one_way}
-use Rattle.aec_interval.proofs.PieceReadingLemmas.{has_read_more, has_read_all, has_read_front, lacks_memory_only, piece_is_held}
+use Rattle.aec_interval.proofs.PieceReadingLemmas.{has_read_several, has_read_all, has_read_front, lacks_memory_only, piece_is_held}
 use Rattle.aec_interval.proofs.BlockLemmas.{all_left, all_right}
 use Rattle.aec_engine.specs.Output.{all_stored, samples_from}
 use Rattle.aec_engine.specs.ReadingTwice.{AreSamplesOf, IsBegun, PutsPart, PutsAllOrFront}
@@ -115,14 +115,14 @@ behind s put waiting put_then waiting_then first len xs ys part so_far next is =
 
 pub puts_more : (start p q : Place) (s : Settings) (first len skip left skip_then left_then : ℕ) (before mid after : Option (List ℕ))
     (waiting waiting_then : List ℕ)
-    (ys part : List ℤ) → IsAllowed start.settings → PutsSoFar start p s first len skip left before mid waiting → ReadsInterval p ys q → q.block < 2 ^ 34
+    (ys part : List ℤ) → IsAllowed start.settings → PutsSoFar start p s first len skip left before mid waiting → ReadsIntervals p ys q → q.block < 2 ^ 34
     → (is_wanted_at q ≡ true → q.block % q.settings.interval ≡ 0) → part ≡ samples_from skip left ys
     → PutsPart mid after waiting (all_stored s part) waiting_then → skip_then ≡ skip - length ys → left_then ≡ left - length part
     → PutsSoFar start q s first len skip_then left_then before after waiting_then
 puts_more start p q s first len skip left skip_then left_then before mid after waiting waiting_then ys part a so_far step few begins is puts skips
     leaves = record {
       samples = so_far.samples ++ ys;
-      read = has_read_more p q so_far.samples ys (subst IsAllowed (sym (settings-same start p so_far.same)) a) so_far.read step;
+      read = has_read_several p q so_far.samples ys (subst IsAllowed (sym (settings-same start p so_far.same)) a) so_far.read step;
       same = same_next start p q so_far.same step.piece.same;
       few = few;
       begins = begins;
@@ -193,7 +193,7 @@ pub none_waited : {X : Type 0} (r : Result X Fault) (before after : Option (List
 none_waited r before after waiting more none puts = subst (λ l. PutsAllOrFront before after (l ++ more) r) none puts
 
 pub puts_front : (start p q : Place) (s : Settings) (first len skip left : ℕ) (before mid after : Option (List ℕ)) (waiting : List ℕ) (ys part xs : List ℤ)
-    → IsAllowed start.settings → PutsSoFar start p s first len skip left before mid waiting → ReadsInterval p ys q
+    → IsAllowed start.settings → PutsSoFar start p s first len skip left before mid waiting → ReadsIntervals p ys q
     → (is_wanted_at q ≡ true → q.block % q.settings.interval ≡ 0) → part ≡ samples_from skip left ys → AppendsFront mid after (waiting ++ all_stored s part)
     → AreSamplesOf start xs → AppendsFront before after (all_stored s (samples_from first len xs))
 puts_front start p q s first len skip left before mid after waiting ys part xs a so_far step begins is front given =
@@ -212,7 +212,7 @@ puts_front start p q s first len skip left before mid after waiting ys part xs a
     same = same_next start p q so_far.same step.piece.same
 
     rest : (zs : List ℤ) × (xs ≡ both ++ zs)
-    rest = has_read_front q both xs (subst IsAllowed (sym (settings-same start q same)) a) (has_read_more p q so_far.samples ys allowed so_far.read step) begins
+    rest = has_read_front q both xs (subst IsAllowed (sym (settings-same start q same)) a) (has_read_several p q so_far.samples ys allowed so_far.read step) begins
         (subst (λ (p : Place). IsReading p.settings p.count p.limit p.bits xs) (sym same) given.reading)
 
     later : List ℤ
@@ -287,7 +287,7 @@ part_is_held start p q s skip left ys part same settings piece is =
 pub puts_front_err : (r : Result (Unit {0}) Fault) (fault : Fault) (start p q : Place) (s : Settings) (first len skip left : ℕ)
     (before mid after : Option (List ℕ))
     (waiting : List ℕ) (ys part : List ℤ) → r ≡ Err fault
-    → IsAllowed start.settings → PutsSoFar start p s first len skip left before mid waiting → ReadsInterval p ys q
+    → IsAllowed start.settings → PutsSoFar start p s first len skip left before mid waiting → ReadsIntervals p ys q
     → (is_wanted_at q ≡ true → q.block % q.settings.interval ≡ 0) → part ≡ samples_from skip left ys → AppendsFront mid after (waiting ++ all_stored s part)
     → (xs : List ℤ) → AreSamplesOf start xs → PutsAllOrFront before after (all_stored s (samples_from first len xs)) r
 puts_front_err r fault start p q s first len skip left before mid after waiting ys part is a so_far step begins part_is front xs given =

@@ -9,9 +9,9 @@ use Rattle.aec_params.specs.Params.{IsAllowed}
 use Rattle.aec_params.specs.Reading.{IsReading}
 use Rattle.aec_params.proofs.SettingLaws.{block_size-most}
 use Rattle.aec_interval.specs.Reached.{RefusesReading, wrong_before}
-use Rattle.aec_interval.specs.Pieces.{Place, place_at, is_wanted_at, IsPlace, ReadsInterval, HasRead, RefusesAt}
+use Rattle.aec_interval.specs.Pieces.{Place, place_at, is_wanted_at, IsPlace, ReadsIntervals, HasRead, RefusesAt}
 use Rattle.aec_interval.specs.Skipping.{HasInterval, IsFaultAt}
-use Rattle.aec_interval.proofs.PieceReadingLemmas.{has_read_nothing, has_read_more, has_read_all, has_read_refused, has_read_few}
+use Rattle.aec_interval.proofs.PieceReadingLemmas.{has_read_nothing, has_read_several, several-of_one, has_read_all, has_read_refused, has_read_few}
 use Rattle.aec_engine.specs.ReadingTwice.{EndsAt, HaveSamples, IsBegun}
 
 -- a place that was come to from another one
@@ -32,11 +32,11 @@ settings-same start p same = ap (λ (p : Place). p.settings) same
 pub same_next : (start p q : Place) → p ≡ place_from start p.block p.bit → q ≡ place_from p q.block q.bit → q ≡ place_from start q.block q.bit
 same_next start p q first second = second ∙ ap (λ (p : Place). place_from p q.block q.bit) first
 
-pub counts_more : (start p q : Place) (total more : ℕ) (ys : List ℤ) → IsAllowed start.settings → CountsSoFar start p total → ReadsInterval p ys q
+pub counts_more : (start p q : Place) (total more : ℕ) (ys : List ℤ) → IsAllowed start.settings → CountsSoFar start p total → ReadsIntervals p ys q
     → more ≡ total + length ys → q.block < 2 ^ 34 → CountsSoFar start q more
 counts_more start p q total more ys a so_far step is few = record {
   samples = so_far.samples ++ ys;
-  read = has_read_more p q so_far.samples ys (subst IsAllowed (sym (settings-same start p so_far.same)) a) so_far.read step;
+  read = has_read_several p q so_far.samples ys (subst IsAllowed (sym (settings-same start p so_far.same)) a) so_far.read step;
   counted = omega (arith, length-append so_far.samples ys, so_far.counted, is);
   same = same_next start p q so_far.same step.piece.same;
   few = few;
@@ -85,7 +85,7 @@ ends_at start p total bit so_far done is = subst (EndsAt start) (sym is) (record
 pub counts_interval : (start p q : Place) (total more len : ℕ) → IsAllowed start.settings → CountsSoFar start p total → HasInterval p len q → more ≡ total + len
     → q.block < 2 ^ 34 → CountsSoFar start q more
 counts_interval start p q total more len a so_far has is few =
-    counts_more start p q total more has.samples a so_far has.read (omega (arith, is, has.counted)) few
+    counts_more start p q total more has.samples a so_far (several-of_one p q has.samples has.read) (omega (arith, is, has.counted)) few
 
 -- so many samples can be counted, with those of the interval
 pub counts_within : (start p q : Place) (total len : ℕ) → IsAllowed start.settings → CountsSoFar start p total → HasInterval p len q → q.block < 2 ^ 34

@@ -39,6 +39,7 @@ pub mod ReadIntervalLemmas
 pub mod PlainLemmas
 pub mod ReachedPlaceLemmas
 pub mod PieceReadingLemmas
+pub mod ShortLemmas
 pub mod SkippingLemmas
 pub mod IntervalFormatLemmas
 pub mod IntervalReadingLemmas

@@ -21,7 +21,7 @@ use Rattle.aec_params.proofs.SettingLaws.{block_size-positive, interval-positive
 use Rattle.aec_params.proofs.SampleLaws.{interval_len-positive}
 use Rattle.aec_bits.proofs.CodeLaws.{pieces_of-append}
 use Rattle.aec_interval.specs.Reached.{RefusesReading, no_memory, faulty}
-use Rattle.aec_interval.specs.Pieces.{Place, place_at, is_wanted_at, counted_from, ReadsPiece, ReadsInterval, HasRead, RefusesAt}
+use Rattle.aec_interval.specs.Pieces.{Place, place_at, is_wanted_at, counted_from, ReadsPiece, ReadsInterval, ReadsIntervals, HasRead, RefusesAt}
 use Rattle.aec_interval.specs.PieceLaws.{AllStepsAreTheReading}
 use Rattle.aec_interval.proofs.CuttingLemmas.{div_ceil-bounds, div_ceil-times}
 use Rattle.aec_interval.proofs.BlockLemmas.{all_left}
@@ -54,7 +54,7 @@ all_blocks_of-append s k front back a whole =
     ap (flat_map (blocks_of s)) (pieces_of-append (interval_len s) k front back (interval_len-positive s a) whole)
     ∙ flat_map-append (blocks_of s) (pieces_of (interval_len s) front) (pieces_of (interval_len s) back)
 
-FillBlocks-append : (s : Settings) (k : ℕ) (front back : List ℤ) (bs cs : List Block) → IsAllowed s → length front ≡ k * interval_len s
+pub FillBlocks-append : (s : Settings) (k : ℕ) (front back : List ℤ) (bs cs : List Block) → IsAllowed s → length front ≡ k * interval_len s
     → FillBlocks s front bs → FillBlocks s back cs → FillBlocks s (front ++ back) (bs ++ cs)
 FillBlocks-append s k front back bs cs a whole first second = record {
   held = all_both (IsHeld s) front back first.held second.held;
@@ -261,9 +261,17 @@ has_read_nothing s count limit bits =
     none None = refl
     none (Some n) = sym (take_all (n - 0 * s.block_size) [] (omega arith))
 
--- the samples of a step behind those before it
+-- one step is several
+pub several-of_one : (p q : Place) (ys : List ℤ) → ReadsInterval p ys q → ReadsIntervals p ys q
+several-of_one p q ys step = record { wanted = step.wanted; begins = step.begins; piece = step.piece; ahead = step.ahead }
+
+-- the samples of several steps behind those before them
+pub has_read_several : (p q : Place) (xs ys : List ℤ) → IsAllowed p.settings → HasRead p xs → ReadsIntervals p ys q → HasRead q (xs ++ ys)
+has_read_several p q xs ys a read steps = read-more p.settings a p.count p.limit p.bits p.block p.bit xs read steps.wanted steps.begins ys q steps.piece
+
+-- those of one
 pub has_read_more : (p q : Place) (xs ys : List ℤ) → IsAllowed p.settings → HasRead p xs → ReadsInterval p ys q → HasRead q (xs ++ ys)
-has_read_more p q xs ys a read step = read-more p.settings a p.count p.limit p.bits p.block p.bit xs read step.wanted step.begins ys q step.piece
+has_read_more p q xs ys a read step = has_read_several p q xs ys a read (several-of_one p q ys step)
 
 -- they are all where no more is wanted
 pub has_read_all : (p : Place) (xs : List ℤ) → IsAllowed p.settings → HasRead p xs → is_wanted_at p ≡ false → IsReading p.settings p.count p.limit p.bits xs

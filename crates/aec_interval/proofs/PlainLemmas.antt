@@ -70,60 +70,78 @@ pub few_samples : (count : Option ℕ) (limit : ℕ) → limit ≤ 2 ^ 32 → If
 few_samples None limit low counted = low
 few_samples (Some n) limit low counted = counted
 
--- a reading has come to a block that needs no test of its place, and a one is left
-module _ (s : Settings) (wanted : Wanted) (end i : ℕ) (old : Cursor) (samples : List ℤ) (allowed : IsAllowed s) (here : IsUntestedAt s wanted end i old samples)
-    (before : i < end) (one : has_one (bits_at old) ≡ true) where
-  wanted_by : (count : Option ℕ) → IsUntestedEnd s count wanted.limit wanted.first end → is_wanted s count old.list i old.pos ≡ true
+-- a block of the interval that begins at block `first`, which needs no test of its place, and a one
+-- is left
+module _ (s : Settings) (count : Option ℕ) (limit first end i : ℕ) (old : Cursor) (allowed : IsAllowed s) (aligned : first % s.interval ≡ 0) (after : first ≤ i)
+    (ends : IsUntestedEnd s count limit first end) (before : i < end) (one : has_one (bits_at old) ≡ true) where
+  wanted_by : (count : Option ℕ) → IsUntestedEnd s count limit first end → is_wanted s count old.list i old.pos ≡ true
   wanted_by None ends = one
   wanted_by (Some n) ends = lt-ltb i (div_ceil n s.block_size) (omega (arith, ends.needed, before))
 
-  wanted_here : is_wanted s wanted.count old.list i old.pos ≡ true
-  wanted_here = wanted_by wanted.count here.untested
+  pub wanted_here : is_wanted s count old.list i old.pos ≡ true
+  wanted_here = wanted_by count ends
 
-  place : i % s.interval ≡ i - wanted.first
-  place = place-behind s wanted.first i here.aligned (omega (arith, here.behind)) (omega (arith, before, here.untested.within))
-
-  due : false ≡ is_reference_block s (i % s.interval)
-  due = sym (and_right s.preprocess (i % s.interval == 0) (ne_eqb (i % s.interval) 0 (λ e. omega (arith, e, place, here.behind))))
+  pub untested-place : i % s.interval ≡ i - first
+  untested-place = place-behind s first i aligned after (omega (arith, before, ends.within))
 
   fits : 1 ≤ segment_left s (i % s.interval)
   fits = omega (arith, mod-lt i (interval-positive s allowed))
 
-  keeps_by : (count : Option ℕ) → keeps_limit s count wanted.limit end ≡ true → keeps_limit s count wanted.limit (i + 1) ≡ true
+  keeps_by : (count : Option ℕ) → keeps_limit s count limit end ≡ true → keeps_limit s count limit (i + 1) ≡ true
   keeps_by None keeps =
       let fewer : (i + 1) * s.block_size ≤ end * s.block_size = mul-le-mul_right s.block_size (omega (arith, before)) in
-      le-leb ((i + 1) * s.block_size) wanted.limit (omega (arith, fewer, leb-true (end * s.block_size) wanted.limit keeps))
+      le-leb ((i + 1) * s.block_size) limit (omega (arith, fewer, leb-true (end * s.block_size) limit keeps))
   keeps_by (Some n) keeps = refl
 
-  placed : Ok (i + 1) ≡ block_behind s wanted.count wanted.limit i 1 0
-  placed =
-      let keeps = keeps_by wanted.count here.untested.keeps in
+  pub untested-placed : Ok (i + 1) ≡ block_behind s count limit i 1 0
+  untested-placed =
+      let keeps = keeps_by count ends.keeps in
       sym (ap (λ b. if b then Err (RunTooLong 0)
-      else (if keeps_limit s wanted.count wanted.limit (i + 1) then Ok (i + 1) else Err (TooManySamples wanted.limit)))
+      else (if keeps_limit s count limit (i + 1) then Ok (i + 1) else Err (TooManySamples limit)))
       (le-ltb (segment_left s (i % s.interval)) 1 fits)
-      ∙ ap (λ b. if b then Ok (i + 1) else Err (TooManySamples wanted.limit)) keeps)
+      ∙ ap (λ b. if b then Ok (i + 1) else Err (TooManySamples limit)) keeps)
 
-  unpadded : (pad : Bool) → (pad ≡ true → end < wanted.first + s.interval) → (pad && ((i + 1) % s.interval == 0)) ≡ false
+  unpadded : (pad : Bool) → (pad ≡ true → end < first + s.interval) → (pad && ((i + 1) % s.interval == 0)) ≡ false
   unpadded false padded = refl
   unpadded true padded =
-      let next : (i + 1) % s.interval ≡ i + 1 - wanted.first =
-      place-behind s wanted.first (i + 1) here.aligned (omega (arith, here.behind)) (omega (arith, before, padded refl)) in
-      ne_eqb ((i + 1) % s.interval) 0 (λ e. omega (arith, e, next, here.behind))
+      let next : (i + 1) % s.interval ≡ i + 1 - first =
+      place-behind s first (i + 1) aligned (omega (arith, after)) (omega (arith, before, padded refl)) in
+      ne_eqb ((i + 1) % s.interval) 0 (λ e. omega (arith, e, next, after))
+
+  pub untested-begins : (list : List Bool) (b : ℕ) → b ≡ begin_of s list (i + 1) b
+  untested-begins list b = sym (ap (λ skips. if skips then min (next_multiple_of b 8) (length list) else b) (unpadded s.pad ends.unpadded))
+
+-- a reading has come to such a block, which isn't the first of its interval
+module _ (s : Settings) (wanted : Wanted) (end i : ℕ) (old : Cursor) (samples : List ℤ) (allowed : IsAllowed s) (here : IsUntestedAt s wanted end i old samples)
+    (before : i < end) (one : has_one (bits_at old) ≡ true) where
+  after : wanted.first ≤ i
+  after = omega (arith, here.behind)
+
+  wanted_there : is_wanted s wanted.count old.list i old.pos ≡ true
+  wanted_there = wanted_here s wanted.count wanted.limit wanted.first end i old allowed here.aligned after here.untested before one
+
+  due : false ≡ is_reference_block s (i % s.interval)
+  due =
+      let place = untested-place s wanted.count wanted.limit wanted.first end i old allowed here.aligned after here.untested before one in
+      sym (and_right s.preprocess (i % s.interval == 0) (ne_eqb (i % s.interval) 0 (λ e. omega (arith, e, place, here.behind))))
+
+  placed : Ok (i + 1) ≡ block_behind s wanted.count wanted.limit i 1 0
+  placed = untested-placed s wanted.count wanted.limit wanted.first end i old allowed here.aligned after here.untested before one
 
   begins : (list : List Bool) (b : ℕ) → b ≡ begin_of s list (i + 1) b
-  begins list b = sym (ap (λ skips. if skips then min (next_multiple_of b 8) (length list) else b) (unpadded s.pad here.untested.unpadded))
+  begins = untested-begins s wanted.count wanted.limit wanted.first end i old allowed here.aligned after here.untested before one
 
   -- there a plain block was read
   module _ (new : Cursor) (values : List ℕ) (read : IsReadPlain s old new values) where
     pub plain-next : IsNextBlock s samples (block_of_values None values)
     plain-next =
-        next-cds s wanted.count wanted.limit wanted.first wanted.start old new i samples allowed here.reached wanted_here false
+        next-cds s wanted.count wanted.limit wanted.first wanted.start old new i samples allowed here.reached wanted_there false
         (Single (block_of_values None values)) (Blocks 1) due refl (read.set, read.read) 0 (i + 1) placed (kept_count s wanted.count i (i + 1 - i))
         (i - wanted.first) here.aligned refl refl
 
     pub place-next : (more : List ℤ) → FillsNext s samples more (block_of_values None values ∷ []) → IsUntestedAt s wanted end (i + 1) new more
     place-next more fills = record {
-      reached = reached-next s wanted.count wanted.limit wanted.first wanted.start old new i samples allowed here.reached wanted_here false
+      reached = reached-next s wanted.count wanted.limit wanted.first wanted.start old new i samples allowed here.reached wanted_there false
           (Single (block_of_values None values)) (Blocks 1) due refl (read.set, read.read) 0 (i + 1) placed (kept_count s wanted.count i (i + 1 - i))
           more new.list new.pos refl fills refl (begins new.list new.pos);
       aligned = here.aligned;

@@ -14,3 +14,4 @@ pub mod PieceLaws
 pub mod Skipping
 pub mod Steps
 pub mod PlainBlocks
+pub mod ShortIntervals

@@ -2,6 +2,7 @@
 
 mod plain;
 pub(crate) mod samples;
+pub(crate) mod short;
 pub(crate) mod skipping;
 pub(crate) mod whole;
 mod zero_runs;

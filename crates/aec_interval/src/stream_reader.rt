@@ -1,6 +1,7 @@
 //! A reader of samples, interval by interval.
 
 use crate::reached_place::ReachedPlace;
+use crate::reading::short::read_short;
 use crate::reading::skipping::{count_asked, skip_interval};
 use crate::reading::whole::judge_count;
 use crate::reading::{Wanted, cut_to_count, read_interval, wants_more};
@@ -35,13 +36,13 @@ impl<'a> Model for StreamReader<'a> {
 }
 
 impl<'a> StreamReader<'a> {
-    ghost use Rattle.std.specs.Prelude.{◌≡◌, ◌<◌, ◌≤◌, ◌%◌, ◌^◌, true, false, [], vec_capacity, IfSome, IfOk, IfErr, OnErr};
+    ghost use Rattle.std.specs.Prelude.{◌≡◌, ◌<◌, ◌≤◌, ◌%◌, ◌^◌, max, true, false, [], vec_len, vec_capacity, IfSome, IfOk, IfErr, OnErr};
     ghost use Rattle.std.specs.Option.{is_some};
     ghost use Rattle.std.specs.Result.{result_err};
     ghost use Rattle.aec_params.specs.declared.fault.Fault.TheVariants.{Memory};
     ghost use Rattle.aec_params.specs.Params.{interval_len};
     ghost use Rattle.aec_interval.specs.Reached.{count_refusal};
-    ghost use Rattle.aec_interval.specs.Pieces.{place_at, is_wanted_at, IsPlace, ReadsInterval, RefusesAt};
+    ghost use Rattle.aec_interval.specs.Pieces.{place_at, is_wanted_at, IsPlace, ReadsInterval, ReadsIntervals, RefusesAt};
     ghost use Rattle.aec_interval.specs.Skipping.{HasInterval, IsFaultAt};
 
     /// A reader at the first bit, which asks for the first `count` samples, or without a count for
@@ -151,6 +152,62 @@ impl<'a> StreamReader<'a> {
                 Err(fault)
             }
         }
+    }
+
+    /// Reads the next intervals, if they are short and the vector has room for them. Else false, and
+    /// the reader is where it was.
+    fn next_short(&mut self, most: u64, samples: &mut Vec<i64>) -> bool
+        ensures read { result ≡ true → ReadsIntervals self.old samples.new.items self.new }
+        ensures at_most { result ≡ true → vec_len samples.new ≤ most }
+        ensures stays { result ≡ false → self.new ≡ self.old }
+        ensures few { self.new.block < 2 ^ 34 }
+        ensures ends { is_wanted_at self.new ≡ true
+            → self.new.block % self.new.settings.interval ≡ 0 }
+        ensures capacity { vec_capacity samples.old ≤ vec_capacity samples.new }
+    {
+        let from = Wanted {
+            first: self.block,
+            start: self.reader.pos(),
+            count: self.count,
+            limit: self.limit,
+        };
+        if !wants_more(&self.params, from, &self.reader, self.block) {
+            return false;
+        }
+        let end = read_short(&self.params, from, most, &mut self.reader, samples);
+        if end == from.first {
+            return false;
+        }
+        self.block = end;
+        cut_to_count(&self.params, from, samples);
+        true
+    }
+
+    /// Puts the samples of the next interval in the place of those that were handed in, as `next`
+    /// does, or those of several short intervals: as many as the vector has room for, and `most`
+    /// samples allow. All else is as with `next`.
+    pub fn next_few(&mut self, most: u64, samples: &mut Vec<i64>) -> Result<bool, Fault>
+        ensures more { IfOk result (λ more. more ≡ is_wanted_at self.old) }
+        ensures read { IfOk result
+            (λ more. more ≡ true → ReadsIntervals self.old samples.new.items self.new) }
+        ensures at_most { IfOk result
+            (λ more. vec_len samples.new ≤ max most (interval_len self.old.settings)) }
+        ensures done { IfOk result (λ more. more ≡ false → self.new ≡ self.old) }
+        ensures empty { IfOk result (λ more. more ≡ false → samples.new.items ≡ []) }
+        ensures refuses { IfErr result (λ fault. RefusesAt self.old fault) }
+        ensures err { OnErr result (self.new ≡ self.old) }
+        ensures cleared { OnErr result (samples.new.items ≡ []) }
+        ensures full { IfErr result
+            (λ fault. fault ≡ Memory → vec_capacity samples.old < interval_len self.old.settings) }
+        ensures capacity { vec_capacity samples.old ≤ vec_capacity samples.new }
+        ensures few { self.new.block < 2 ^ 34 }
+        ensures ends { is_wanted_at self.new ≡ true
+            → self.new.block % self.new.settings.interval ≡ 0 }
+    {
+        if self.next_short(most, samples) {
+            return Ok(true);
+        }
+        self.next(samples)
     }
 
     /// Goes over the next interval as `next` does, without its samples. How many of them are asked

@@ -1,7 +1,8 @@
 //! Reads what nearly all coded data sets are: one block without a reference sample, whose values
 //! are written one by one.
 
-ghost use Rattle.std.specs.Prelude.{◌≡◌, ◌≤◌, ◌<◌, ◌^◌, true, false, length, None, IfOk, OnErr};
+ghost use Rattle.std.specs.Prelude.{◌≡◌, ◌≤◌, ◌<◌, ◌+◌, ◌^◌, true, false, length, Some, None, IfSome, IfOk, OnErr};
+ghost use Rattle.std.specs.Option.{is_some};
 ghost use Rattle.std.specs.List.{AllByRecursion};
 ghost use Rattle.aec_params.specs.CodedDataSets.{CodedDataSet, has_small_values};
 ghost use Rattle.aec_params.specs.Faults.{IsSetAt};
@@ -11,11 +12,11 @@ ghost use Rattle.aec_bits.specs.BitReader.{has_one};
 ghost use Rattle.aec_block.specs.declared.cds.Cds.TheVariants.{Single};
 ghost use Rattle.aec_block.specs.ReadAt.{taken, map_taken, cds_at};
 ghost use Rattle.aec_block.specs.Gathering.{bits_at};
-ghost use Rattle.aec_block.specs.ReadCds.{checked, is_plain_body, begins_plain, HasNoPlain, IsReadPlain};
+ghost use Rattle.aec_block.specs.ReadCds.{checked, is_plain_body, begins_plain, HasNoPlain, IsReadPlain, IsReadFirst};
 
 use crate::reading::codewords::read_block_numbers;
 use crate::reading::values::read_usual_split;
-use crate::reading::{Kind, read_kind};
+use crate::reading::{Kind, read_kind, read_pattern};
 use aec_bits::BitReader;
 use aec_params::{Fault, Params};
 
@@ -102,6 +103,83 @@ pub fn read_plain<const N: usize>(
         Err(_) => {
             reader.seek(start);
             false
+        }
+    }
+}
+
+/// Puts the values that are written of the coded data set that comes next, one with a reference
+/// sample, into `values`, if it is plain and all are at most the greatest that the width has.
+/// Returns the pattern of the reference sample; else `None`, or a fault.
+#[inline(always)]
+fn fill_first<const M: usize>(
+    params: &Params,
+    reader: &mut BitReader,
+    values: &mut [u32],
+) -> Result<Option<u32>, Fault>
+    requires within { reader.old.pos ≤ length reader.old.list }
+    requires count { length values.old + 1 ≡ params.now.block_size }
+    ensures taken { IfOk result (λ found. IfSome found (λ pattern.
+        map_taken (checked params.now) (cds_at params.now true (bits_at reader.old))
+        ≡ taken (Some (Single (block_of_values (Some pattern) values.new))) (bits_at reader.new))) }
+    ensures one { IfOk result (λ found. is_some found ≡ true → has_one (bits_at reader.old) ≡ true) }
+    ensures below { IfOk result (λ found. IfSome found (λ pattern. pattern < 2 ^ params.now.bits)) }
+    ensures allowed { IsAllowed params.now }
+    ensures len { length values.new ≡ length values.old }
+    ensures list { reader.new.list ≡ reader.old.list }
+    ensures within { reader.new.pos ≤ length reader.new.list }
+{
+    let kind = read_kind(params, reader)?;
+    let pattern = read_pattern(params, reader)?;
+    match kind {
+        Kind::NoCompression => {
+            read_block_numbers(reader, params.bits(), values)?;
+            Ok(Some(pattern))
+        }
+        Kind::Split(k) => {
+            if !read_usual_split::<M>(params, reader, k, values)? {
+                return Ok(None);
+            }
+            Ok(Some(pattern))
+        }
+        _ => Ok(None),
+    }
+}
+
+/// Reads the coded data set that begins at the reader's place as one with a reference sample and
+/// goes behind it, if it is plain and its values are at most the greatest that the width has:
+/// they stand in `values` then, with 0 in the reference place. Returns the pattern of the reference
+/// sample. Else `None`, and the reader is where it was; what stands in `values` isn't said. Takes
+/// no memory. Compiled into the place of the call where `M` values are written.
+#[inline(always)]
+pub fn read_plain_first<const M: usize>(
+    params: &Params,
+    reader: &mut BitReader,
+    values: &mut [u32],
+) -> Option<u32>
+    requires { length values.old ≡ params.now.block_size }
+    ensures read { IfSome result (λ pattern.
+        IsReadFirst params.now reader.old reader.new pattern values.new) }
+    ensures below { IfSome result (λ pattern.
+        AllByRecursion (λ v. v < 2 ^ params.now.bits) values.new) }
+    ensures pattern { IfSome result (λ pattern. pattern < 2 ^ params.now.bits) }
+    ensures one { is_some result ≡ true → has_one (bits_at reader.old) ≡ true }
+    ensures stays { is_some result ≡ false → reader.new ≡ reader.old }
+    ensures len { length values.new ≡ length values.old }
+    ensures list { reader.new.list ≡ reader.old.list }
+{
+    // What the parameters promise is told by their calls.
+    let _len = params.interval_len();
+    let start = reader.pos();
+    values[0] = 0;
+    match fill_first::<M>(params, reader, &mut values[1..]) {
+        Ok(Some(pattern)) => Some(pattern),
+        Ok(None) => {
+            reader.seek(start);
+            None
+        }
+        Err(_) => {
+            reader.seek(start);
+            None
         }
     }
 }

@@ -8,7 +8,9 @@ ghost use Rattle.aec_interval.specs.Pieces.{IsPlace, place_at};
 ghost use Rattle.aec_engine.specs.Transfers.{Putting, putting_of};
 ghost use Rattle.aec_engine.specs.ReadingTwice.{AreFewKept, DecodesBits, GrowsForFew, KeepsFront, SettlesOne};
 
-use crate::engine::two_readings::{WAITING, append_stored, deliver_range, judge_from};
+use crate::engine::two_readings::{
+    WAITING, append_stored, deliver_range, judge_from, samples_within,
+};
 use aec_bits::Sink;
 use aec_interval::StreamReader;
 use aec_params::{Fault, Params};
@@ -115,7 +117,9 @@ fn keep_front(
     let more = 4 * params.interval_len() as usize;
     let mut room = 0;
     let mut before = 0;
-    while has_room(bytes, &mut room, more, most_kept(params, reader)) && reader.next(samples)? {
+    while has_room(bytes, &mut room, more, most_kept(params, reader))
+        && reader.next_few(samples_within(room - bytes.len()), samples)?
+    {
         append_stored(params, samples, bytes);
         before += samples.len() as u64;
     }

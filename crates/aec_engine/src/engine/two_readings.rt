@@ -157,6 +157,13 @@ pub(crate) fn part_of(samples: &[i64], skip: u64, left: u64) -> &[i64]
     &rest[..(left as usize).min(rest.len())]
 }
 
+/// The bytes of so many samples have room in so many bytes.
+pub(crate) fn samples_within(bytes: usize) -> u64
+    ensures fit { 4 * result ≤ bytes }
+{
+    bytes as u64 / 4
+}
+
 /// How many samples' bytes are appended at once: few enough to be cleared and then filled in the
 /// nearest memory.
 const STORED_AT_ONCE: usize = 256;
@@ -191,6 +198,9 @@ fn append_part(params: &Params, samples: &[i64], bytes: &mut Vec<u8>)
         .unwrap();
     put_samples(params, samples, &mut bytes[start..]);
 }
+
+/// For the samples of several short intervals there is as much room as a reader uses at once.
+const AT_ONCE: usize = 2048;
 
 /// So many bytes wait at most before they are put.
 pub(crate) const WAITING: usize = 65536;
@@ -271,7 +281,7 @@ fn put_range<W: Sink>(
     let _len = params.interval_len();
     let mut skip = first - before;
     let mut left = len;
-    while left > 0 && reader.next(samples)? {
+    while left > 0 && reader.next_few(samples_within(bytes.capacity() - bytes.len()), samples)? {
         let part = part_of(samples, skip, left);
         left -= part.len() as u64;
         put_part(params, part, bytes, sink)?;
@@ -339,7 +349,7 @@ pub(crate) fn buffers(alloc: Global, params: &Params) -> Result<(Vec<i64>, Vec<u
     ensures fault { IfErr result (λ e. e ≡ Memory) }
 {
     let len = params.interval_len() as usize;
-    let samples = Vec::with_capacity(alloc, len)?;
+    let samples = Vec::with_capacity(alloc, len.max(AT_ONCE))?;
     let bytes = Vec::with_capacity(alloc, WAITING + 4 * len)?;
     Ok((samples, bytes))
 }

@@ -81,7 +81,7 @@ fn fill_plain_block<const N: usize>(
 /// Reads the blocks that come next, `most` of them, as long as they are plain ones, and puts their
 /// samples, `size` each, behind the first `from`. How many blocks were read.
 #[inline(always)]
-fn fill_plain_blocks<const N: usize>(
+pub(crate) fn fill_plain_blocks<const N: usize>(
     params: &Params,
     reader: &mut BitReader,
     most: usize,

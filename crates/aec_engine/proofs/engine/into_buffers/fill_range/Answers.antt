@@ -1,6 +1,7 @@
 use Rattle.std.proofs.Common.{Some, [], take, inl, inr, arith, sym, subst, ap, refl, ◌∙◌}
 use Rattle.aec_params.specs.Params.{IsAllowed, interval_len}
 use Rattle.aec_engine.specs.Output.{samples_from}
+use Rattle.aec_interval.proofs.PieceReadingLemmas.{several-of_one}
 use Rattle.aec_engine.proofs.PutRangeLemmas.{puts_none, puts_more, not_refused, part_is_held}
 use Rattle.aec_engine.proofs.FillLemmas.{taken_none, puts_behind, length-behind, part_fits, all_filled}
 use Rattle.aec_engine.proofs.engine.into_buffers.fill_range.Goals as goal
@@ -52,7 +53,8 @@ loop-left-preserved c =
     c.put_behind-at.ensures.bytes in
     record {
       puts = puts_more c.args.reader.now c.loop-left.reader c.next.new.self c.args.params.now c.args.first c.args.len c.loop-left.skip c.loop-left.left _ _
-          _ _ _ [] [] c.next.new.samples.items c.part_of-part.result.now a c.loop-left.invariant.puts step c.next.ensures.few c.next.ensures.ends is
+          _ _ _ [] [] c.next.new.samples.items c.part_of-part.result.now a c.loop-left.invariant.puts
+          (several-of_one c.loop-left.reader c.next.new.self c.next.new.samples.items step) c.next.ensures.few c.next.ensures.ends is
           (puts_behind c.args.params.now c.loop-left.at c.put_behind-at.result c.loop-left.out c.put_behind-at.new.out c.part_of-part.result.now
           c.loop-left.invariant.within c.put_behind-at.ensures.bytes c.put_behind-at.ensures.end) (omega arith) refl;
       within = omega (arith, c.put_behind-at.ensures.end, room, long);

@@ -1,9 +1,9 @@
-use Rattle.std.proofs.Common.{arith, refl, sym, subst}
+use Rattle.std.proofs.Common.{◌-◌, vec_len, length, ap, arith, refl, sym, subst}
 use Rattle.std.proofs.lemmas.List.{nil_from_length}
 use Rattle.std.proofs.lemmas.Result.{err_from_is_err_and}
 use Rattle.aec_params.specs.Params.{IsAllowed}
 use Rattle.aec_engine.proofs.ReadTwiceLemmas.{same_next, counts_more, counts_few, counts_refused}
-use Rattle.aec_engine.proofs.KeepingLemmas.{counts_kept, few_none, few_read, few_then, few_within, keeps_none, keeps_more}
+use Rattle.aec_engine.proofs.KeepingLemmas.{counts_kept, few_none, few_then, room_for, few_within, keeps_none, keeps_more}
 use Rattle.aec_engine.proofs.engine.keeping.keep_front.Goals as goal
 
 pub loop-reader-init : goal.loop-reader-init
@@ -18,39 +18,47 @@ loop-reader-init c = record {
   buffer = omega arith;
 }
 
-pub returns-in_err-next-clause-refuses : goal.returns-in_err-next-clause-refuses
-returns-in_err-next-clause-refuses c =
+pub returns-in_err-next_few-clause-refuses : goal.returns-in_err-next_few-clause-refuses
+returns-in_err-next_few-clause-refuses c =
     let exit = err_from_is_err_and c.from_residual.result c.from_residual.ensures.1 in
     counts_refused _ _ _ c.args.reader.now c.loop-reader.reader c.loop-reader.before (subst IsAllowed (sym c.requires.settings) c.interval_len.ensures.allowed)
     exit.1 exit.2 (counts_kept c.args.reader.now c.loop-reader.reader c.args.params.now _ _ c.loop-reader.invariant.same c.loop-reader.invariant.keeps)
-    c.in_err-next.ensures.refuses
+    c.in_err-next_few.ensures.refuses
 
 pub overflow_add-before : goal.overflow_add-before
 overflow_add-before c =
     let a = subst IsAllowed (sym c.requires.settings) c.interval_len.ensures.allowed in
     let counts = counts_kept c.args.reader.now c.loop-reader.reader c.args.params.now _ _ c.loop-reader.invariant.same c.loop-reader.invariant.keeps in
-    let most = counts_few c.args.reader.now c.next.new.self _ a
-    (counts_more c.args.reader.now c.loop-reader.reader c.next.new.self c.loop-reader.before _ c.next.new.samples.items a counts
-    (c.in_ok-next.ensures.read c.if-branch.true) refl c.next.ensures.few) in
-    omega (arith, most, c.len.ensures, c.next.new.samples.ok)
+    let most = counts_few c.args.reader.now c.next_few.new.self _ a
+    (counts_more c.args.reader.now c.loop-reader.reader c.next_few.new.self c.loop-reader.before _ c.next_few.new.samples.items a counts
+    (c.in_ok-next_few.ensures.read c.if-branch.true) refl c.next_few.ensures.few) in
+    omega (arith, most, c.len-in-loop-reader.ensures, c.next_few.new.samples.ok)
 
 pub loop-reader-preserved : goal.loop-reader-preserved
 loop-reader-preserved c =
-    let step = c.in_ok-next.ensures.read c.if-branch.true in
-    let most = few_read c.args.reader.now c.loop-reader.reader c.next.new.self _ _ _ _ c.loop-reader.invariant.same c.requires.settings
-    c.interval_len.ensures.value c.deref.ensures.value step in
+    let step = c.in_ok-next_few.ensures.read c.if-branch.true in
+    let most = room_for c.args.reader.now c.loop-reader.reader c.args.params.now c.interval_len.result c.samples_within.result
+    (vec_len c.next_few.new.samples) _ (c.has_room.new.room - vec_len c.has_room.new.bytes) c.loop-reader.invariant.same c.requires.settings
+    c.interval_len.ensures.value (c.in_ok-next_few.ensures.at_most) (omega (arith, c.samples_within.ensures, c.len.ensures)) refl
+    (omega (arith, c.has_room.ensures.room c.loop-reader-test.true)) in
     let spare = few_then c.args.reader.now c.loop-reader.reader c.loop-reader.room c.has_room.new.room _ _ _ c.loop-reader.invariant.same
     c.most_kept.ensures.reached c.most_kept.ensures.bits c.interval_len.ensures.value c.has_room.ensures.few c.loop-reader.invariant.spare in
     record {
-      keeps = keeps_more c.args.reader.now c.loop-reader.reader c.next.new.self c.args.params.now c.loop-reader.before c.len.result _ c.loop-reader.bytes.items
+      keeps = keeps_more c.args.reader.now c.loop-reader.reader c.next_few.new.self c.args.params.now c.loop-reader.before c.len-in-loop-reader.result _ c.loop-reader.bytes.items
           _ _ _ _ (subst IsAllowed (sym c.requires.settings) c.interval_len.ensures.allowed) c.loop-reader.invariant.same c.loop-reader.invariant.keeps step
-          c.next.ensures.few c.next.ensures.ends c.has_room.ensures.items c.append_stored.ensures.items c.deref.ensures.value
-          (omega (arith, c.len.ensures, c.next.new.samples.ok)) refl;
-      same = same_next c.args.reader.now c.loop-reader.reader c.next.new.self c.loop-reader.invariant.same step.piece.same;
+          c.next_few.ensures.few c.next_few.ensures.ends c.has_room.ensures.items c.append_stored.ensures.items c.deref.ensures.value
+          (omega (arith, c.len-in-loop-reader.ensures, c.next_few.new.samples.ok)) refl;
+      same = same_next c.args.reader.now c.loop-reader.reader c.next_few.new.self c.loop-reader.invariant.same step.piece.same;
       there = omega (arith, c.has_room.ensures.there c.loop-reader.invariant.there, c.append_stored.ensures.capacity);
       spare = spare;
-      few = few_within _ c.has_room.new.room _ _
-          (omega (arith, c.has_room.ensures.room c.loop-reader-test.true, c.has_room.ensures.len, c.append_stored.ensures.len, most)) spare;
-      room = omega (arith, c.loop-reader.invariant.room, c.next.ensures.capacity);
+      few = few_within _ c.has_room.new.room _ _ (omega (
+        arith,
+        c.has_room.ensures.room c.loop-reader-test.true,
+        c.append_stored.ensures.len,
+        ap length c.deref.ensures.value,
+        c.next_few.new.samples.ok,
+        most,
+      )) spare;
+      room = omega (arith, c.loop-reader.invariant.room, c.next_few.ensures.capacity);
       buffer = omega (arith, c.loop-reader.invariant.buffer, c.has_room.ensures.capacity, c.append_stored.ensures.capacity);
     }

@@ -1,0 +1,238 @@
+-- Whole intervals of plain blocks, of which none needs a test of its place.
+use Rattle.std.proofs.Common.{◌≡◌, ℕ, ◌+◌, ◌-◌, ◌*◌, ◌/◌, ◌%◌, ◌<◌, ◌≤◌, ◌^◌, ◌==◌, ◌&&◌, Bool, true, false, if◌then◌else◌, Option, Some, None, IfSome, unwrap_or, Ok, ℤ, List, [], ◌∷◌, ◌++◌, length, take, drop, ⊎_elim, refl, sym, ap, ◌∙◌, subst, arith}
+use Rattle.std.proofs.Math.Nat.{mul-le-mul_right, add-mul-mod_self_right, add-mul, div-mul-le_self, le-mul_of_pos_right}
+use Rattle.std.proofs.lemmas.Bool.{cases_lt}
+use Rattle.std.proofs.lemmas.List.{take_at, length-take-le}
+use borrow.Rule.Slice.PartMut.{put_mid}
+use Rattle.std.specs.List.{AllByRecursion}
+use Rattle.aec_params.specs.declared.settings.Settings.{Settings}
+use Rattle.aec_params.specs.Params.{IsAllowed, IsHeld, interval_len, sample_pattern}
+use Rattle.aec_params.specs.Blocks.{Block}
+use Rattle.aec_params.specs.Places.{is_reference_block}
+use Rattle.aec_params.specs.CodedDataSets.{CodedDataSet}
+use Rattle.aec_params.specs.Reading.{is_wanted, LeadsTo, stream_blocks, kept_blocks, FillBlocks}
+use Rattle.aec_params.proofs.SettingLaws.{block_size-positive, interval-positive}
+use Rattle.aec_bits.specs.BitReader.{Cursor, has_one}
+use Rattle.aec_block.specs.declared.cds.RunLen.TheVariants.{Blocks}
+use Rattle.aec_block.specs.declared.cds.Cds.TheVariants.{Single}
+use Rattle.aec_block.specs.Gathering.{bits_at}
+use Rattle.aec_block.specs.ReadCds.{IsReadFirst}
+use Rattle.aec_block.specs.Unmapping.{Unmaps}
+use Rattle.aec_interval.specs.NextBlock.{IsNextBlock, FillsNext}
+use Rattle.aec_interval.specs.NextSet.{kept_count, block_behind}
+use Rattle.aec_interval.specs.Reached.{IsReached}
+use Rattle.aec_interval.specs.Pieces.{Place, place_at, counted_from, ReadsIntervals}
+use Rattle.aec_interval.specs.Steps.{IsUntestedEnd}
+use Rattle.aec_interval.specs.PlainBlocks.{IsUntestedAt, ReadsPlain}
+use Rattle.aec_interval.specs.ShortIntervals.{AreWithin, begun_at, ReadsFirst, ReadsWhole}
+use Rattle.aec_interval.proofs.NextFillLemmas.{fills_block_reference}
+use Rattle.aec_interval.proofs.ReadNextLemmas.{reached-start, next-cds, reached-next}
+use Rattle.aec_interval.proofs.PlaceLemmas.{LeadsTo-append, stream_blocks-append}
+use Rattle.aec_interval.proofs.ReachedLemmas.{length-stream_blocks, kept_blocks-append, kept_blocks-wanted}
+use Rattle.aec_interval.proofs.PieceReadingLemmas.{FillBlocks-append}
+use Rattle.aec_interval.proofs.PlainLemmas.{untested-within, few_samples, wanted_here, untested-placed, untested-begins}
+
+-- ---- the first block of an interval
+
+module _ (s : Settings) (old new : Cursor) (pattern : ℕ) (values : List ℕ) (x : ℤ) (more : List ℤ) (allowed : IsAllowed s) (on : s.preprocess ≡ true)
+    (read : IsReadFirst s old new pattern values) (one : has_one (bits_at old) ≡ true) (held : IsHeld s x) (pattern_is : sample_pattern s x ≡ pattern)
+    (unmaps : Unmaps s x values [] more) where
+  abbrev block : Block
+  block = record { reference = Some pattern; values = values }
+
+  module _ (count : Option ℕ) (limit i : ℕ) (aligned : i % s.interval ≡ 0) (ends : IsUntestedEnd s count limit i (i + s.interval)) where
+    before : i < i + s.interval
+    before = omega (arith, interval-positive s allowed)
+
+    wanted : is_wanted s count old.list i old.pos ≡ true
+    wanted = wanted_here s count limit i (i + s.interval) i old allowed aligned (omega arith) ends before one
+
+    due : true ≡ is_reference_block s (i % s.interval)
+    due = sym (ap (λ b. b && (i % s.interval == 0)) on ∙ ap (λ n. n == 0) aligned)
+
+    placed : Ok (i + 1) ≡ block_behind s count limit i 1 0
+    placed = untested-placed s count limit i (i + s.interval) i old allowed aligned (omega arith) ends before one
+
+    begun : IsReached s count limit old.list i old.pos i old.pos []
+    begun = reached-start s count limit old.list i old.pos old.pos [] refl refl
+
+    next : IsNextBlock s [] block
+    next = next-cds s count limit i old.pos old new i [] allowed begun wanted true (Single block) (Blocks 1) due refl (read.set, read.read) 0 (i + 1) placed
+        (kept_count s count i (i + 1 - i)) (i - i) aligned refl refl
+
+    fills : FillsNext s [] more (block ∷ [])
+    fills = fills_block_reference s [] more block pattern x values allowed next refl held pattern_is refl unmaps
+
+    pub first-leads : IsUntestedAt s (begun_at count limit i old.pos) (i + s.interval) (i + 1) new more
+    first-leads = record {
+      reached = reached-next s count limit i old.pos old new i [] allowed begun wanted true (Single block) (Blocks 1) due refl (read.set, read.read)
+          0 (i + 1) placed (kept_count s count i (i + 1 - i)) more new.list new.pos refl fills refl
+          (untested-begins s count limit i (i + s.interval) i old allowed aligned (omega arith) ends before one new.list new.pos);
+      aligned = aligned;
+      behind = omega arith;
+      untested = ends;
+    }
+
+  pub reads_first : new.list ≡ old.list → ReadsFirst s old new more
+  reads_first same = record { list = same; held = subst (AllByRecursion (IsHeld s)) (sym unmaps.appended) unmaps.held; leads = first-leads }
+
+-- ---- one interval
+
+whole_end : (s : Settings) (count : Option ℕ) (limit i n : ℕ) → IsAllowed s → n ≡ i + s.interval → AreWithin s count limit n → IsUntestedEnd s count limit i n
+whole_end s count limit i n allowed is within =
+    untested-within s count limit i n 0 n allowed within.low within.counted is (sym (ap (λ b. if b then 1 else 0) within.unpadded)) (omega arith) within.samples
+
+-- its first block, and the others
+pub reads_interval : (s : Settings) (rest : ℕ) (old mid new : Cursor) (first samples : List ℤ) → IsAllowed s → 1 + rest ≡ s.interval → ReadsFirst s old mid first
+    → ReadsPlain s rest mid first new samples → ReadsWhole s 1 old new samples
+reads_interval s rest old mid new first samples allowed all begun plain = record {
+  list = plain.list ∙ begun.list;
+  leads = λ count limit i aligned within.
+      let one : i + 1 * s.interval ≡ i + s.interval = omega arith in
+      let ends : IsUntestedEnd s count limit i (i + s.interval) = subst (IsUntestedEnd s count limit i) one (whole_end s count limit i _ allowed one within) in
+      let there = plain.leads (begun_at count limit i old.pos) (i + s.interval) (i + 1) (omega (arith, all)) (begun.leads count limit i aligned ends) in
+      let end : i + 1 + rest ≡ i + 1 * s.interval = omega (arith, all) in
+      subst (λ j. IsReached s count limit old.list i old.pos j new.pos samples) end
+      (subst (λ list. IsReached s count limit list i old.pos (i + 1 + rest) new.pos samples) (plain.list ∙ begun.list) there.reached);
+}
+
+-- ---- intervals one behind the other
+
+pub reads_none : (s : Settings) (old new : Cursor) (samples : List ℤ) → new ≡ old → samples ≡ [] → ReadsWhole s 0 old new samples
+reads_none s old new samples same none = record {
+  list = ap (λ (cursor : Cursor). cursor.list) same;
+  leads = λ count limit i aligned within.
+      let nothing : i ≡ i + 0 * s.interval = omega arith in
+      subst (λ j. IsReached s count limit old.list i old.pos j new.pos samples) nothing
+      (reached-start s count limit old.list i old.pos new.pos samples (ap (λ (cursor : Cursor). cursor.pos) same) none);
+}
+
+wanted_first : (s : Settings) (count : Option ℕ) (limit : ℕ) (bits : List Bool) (i b : ℕ) (sets : List CodedDataSet) (j e : ℕ) → i < j
+    → LeadsTo s count limit bits i b sets j e → is_wanted s count bits i b ≡ true
+wanted_first s count limit bits i b [] j e further leads = absurd (omega (arith, further, leads.0))
+wanted_first s count limit bits i b (c ∷ sets) j e further leads = leads.0
+
+-- a reading that goes on where an interval begins
+module _ (s : Settings) (count : Option ℕ) (limit : ℕ) (bits : List Bool) (first start n i b j e : ℕ) (xs ys : List ℤ) (allowed : IsAllowed s)
+    (i_is : i ≡ first + n * s.interval) (further : i < j) (front : IsReached s count limit bits first start i b xs)
+    (back : IsReached s count limit bits i b j e ys) where
+  abbrev front-blocks : List Block
+  front-blocks = stream_blocks s first front.sets
+
+  wanted-back : is_wanted s count bits i b ≡ true
+  wanted-back = wanted_first s count limit bits i b back.sets j e further back.leads
+
+  before-len : first + length front-blocks ≡ i
+  before-len = length-stream_blocks s count limit bits first start front.sets i b (interval-positive s allowed) front.leads
+
+  front-filled : FillBlocks s xs front-blocks
+  front-filled = subst (FillBlocks s xs) (kept_blocks-wanted s count bits first i b front-blocks before-len wanted-back) front.filled
+
+  front-whole : length xs ≡ n * interval_len s
+  front-whole =
+      front-filled.whole ∙ (ap (λ k. k * s.block_size) (omega (arith, before-len, i_is)) ∙ regrouped n s.interval s.block_size)
+    where
+      regrouped : (k r j : ℕ) → k * r * j ≡ k * (j * r)
+      regrouped k r j = omega arith
+
+  reached-join : IsReached s count limit bits first start j e (xs ++ ys)
+  reached-join = record {
+    sets = front.sets ++ back.sets;
+    leads = LeadsTo-append s count limit bits first start front.sets i b back.sets j e front.leads back.leads;
+    filled = subst (FillBlocks s (xs ++ ys))
+        (sym (ap (kept_blocks s count first) (stream_blocks-append s count limit bits first start front.sets i b back.sets front.leads)
+        ∙ kept_blocks-append s count bits first i b front-blocks (stream_blocks s i back.sets) before-len wanted-back))
+        (FillBlocks-append s n xs ys front-blocks (kept_blocks s count i (stream_blocks s i back.sets)) allowed front-whole front-filled back.filled);
+  }
+
+within_less : (s : Settings) (count : Option ℕ) (limit i j : ℕ) → i ≤ j → AreWithin s count limit j → AreWithin s count limit i
+within_less s count limit i j less within = record {
+  unpadded = within.unpadded;
+  low = within.low;
+  counted = within.counted;
+  samples = omega (arith, mul-le-mul_right s.block_size less, within.samples);
+}
+
+-- and one more
+pub reads_one_more : (s : Settings) (n : ℕ) (old mid new : Cursor) (xs ys all : List ℤ) → IsAllowed s → ReadsWhole s n old mid xs → ReadsWhole s 1 mid new ys
+    → all ≡ xs ++ ys → ReadsWhole s (n + 1) old new all
+reads_one_more s n old mid new xs ys all allowed front back is = record {
+  list = back.list ∙ front.list;
+  leads = λ count limit i aligned within.
+      let middle : ℕ = i + n * s.interval in
+      let end : middle + 1 * s.interval ≡ i + (n + 1) * s.interval = one_end i n s.interval in
+      let there : middle % s.interval ≡ 0 = add-mul-mod_self_right i n s.interval ∙ aligned in
+      let first = front.leads count limit i aligned (within_less s count limit _ _ (omega (arith, end)) within) in
+      let last = back.leads count limit middle there (subst (AreWithin s count limit) (sym end) within) in
+      let joined =
+      reached-join s count limit old.list i old.pos n middle mid.pos (middle + 1 * s.interval) new.pos xs ys allowed refl
+      (omega (arith, interval-positive s allowed)) first
+      (subst (λ list. IsReached s count limit list middle mid.pos (middle + 1 * s.interval) new.pos ys) front.list last) in
+      subst (IsReached s count limit old.list i old.pos (i + (n + 1) * s.interval) new.pos) (sym is)
+      (subst (λ j. IsReached s count limit old.list i old.pos j new.pos (xs ++ ys)) end joined);
+}
+  where
+    one_end : (i n r : ℕ) → i + n * r + 1 * r ≡ i + (n + 1) * r
+    one_end i n r = omega arith
+
+-- what stands before a part stays
+pub front_kept : (xs part : List ℤ) (at k : ℕ) → at ≤ length xs → take at (put_mid at k xs part) ≡ take at xs
+front_kept xs part at k within = take_at (take at xs) (part ++ drop k (drop at xs)) at (length-take-le at xs within)
+
+-- ---- how many samples
+
+pub whole_len : (n j r len : ℕ) → 0 < r → n ≡ j → len ≡ j * r → len ≡ n + (r - 1) * n
+whole_len n j r len some same is =
+    is ∙ (ap (λ r. j * r) (omega (arith, some)) ∙ (expanded (r - 1) j ∙ ap (λ j. j + (r - 1) * j) (sym same)))
+  where
+    expanded : (k j : ℕ) → j * (k + 1) ≡ j + k * j
+    expanded k j = omega arith
+
+pub part_fits : (at count most len interval total : ℕ) → at ≡ count * len → count < most → len ≡ interval → most * interval ≤ total → at + len ≤ total
+part_fits at count most len interval total place below same room =
+    let more : (count + 1) * len ≤ most * len = mul-le-mul_right len (omega (arith, below)) in
+    omega (arith, more, add-mul count 1 len, ap (λ n. most * n) same, place, room)
+
+pub whole_within : (first n r j samples left len : ℕ) → 0 < n → 0 < len → len ≡ j * r → left ≡ samples - first * j → n ≤ left / len
+    → (first + n * r) * j ≤ samples
+whole_within first n r j samples left len some positive len_is left_is within =
+    let most : n * len ≤ left / len * len = mul-le-mul_right len within in
+    let least : 1 * len ≤ n * len = mul-le-mul_right len (omega (arith, some)) in
+    omega (arith, most, least, div-mul-le_self left len, expanded first n r j, ap (λ l. n * l) len_is, left_is, positive)
+  where
+    expanded : (first n r j : ℕ) → (first + n * r) * j ≡ first * j + n * (j * r)
+    expanded first n r j = omega arith
+
+pub parts_within : (k q total len interval most : ℕ) → k ≤ q → q ≡ total / len → len ≡ interval → total ≤ most → k * interval ≤ most
+parts_within k q total len interval most fewer is same within =
+    let all : k * len ≤ q * len = mul-le-mul_right len fewer in
+    omega (arith, all, ap (λ q. q * len) is, div-mul-le_self total len, ap (λ n. k * n) same, within)
+
+pub within_few : (s : Settings) (count : Option ℕ) (limit first n : ℕ) → IsAllowed s → first < 2 ^ 34
+    → (0 < n → AreWithin s count limit (first + n * s.interval)) → first + n * s.interval < 2 ^ 34
+within_few s count limit first n allowed few within = ⊎_elim some none (cases_lt 0 n)
+  where
+    some : 0 < n → first + n * s.interval < 2 ^ 34
+    some there =
+        let last : ℕ = first + n * s.interval in
+        let is = within there in
+        omega (arith, is.samples, few_samples count limit is.low is.counted, le-mul_of_pos_right last (block_size-positive s allowed))
+
+    none : n ≤ 0 → first + n * s.interval < 2 ^ 34
+    none least = let nothing : n ≡ 0 = omega (arith, least) in omega (arith, ap (λ n. n * s.interval) nothing, few)
+
+-- ---- by places
+
+pub place-several : (p : Place) (s : Settings) (count : Option ℕ) (limit : ℕ) (list bits : List Bool) (first bit start i b : ℕ) (samples asked : List ℤ)
+    → place_at s count limit list first bit ≡ p → start ≡ bit → bits ≡ list → first % s.interval ≡ 0 → is_wanted s count list first bit ≡ true
+    → IsReached s count limit bits first start i b samples → first < i → asked ≡ counted_from s count first samples
+    → ReadsIntervals p asked (place_at s count limit bits i b)
+place-several p s count limit list bits first bit start i b samples asked is begins same aligned wanted reached further asked_is =
+    let from : place_at s count limit bits first start ≡ p =
+    ap (λ l. place_at s count limit l first start) same ∙ (ap (place_at s count limit list first) begins ∙ is) in
+    subst (λ p. ReadsIntervals p asked (place_at s count limit bits i b)) from (record {
+      wanted = ap (λ l. is_wanted s count l first start) same ∙ (ap (is_wanted s count list first) begins ∙ wanted);
+      begins = aligned;
+      piece = record { sets = reached.sets; leads = reached.leads; all_samples = samples; filled = reached.filled; counted = asked_is; same = refl };
+      ahead = further;
+    })

@@ -1,0 +1,69 @@
+use Rattle.std.proofs.Common.{rules, ◌≡◌, ◌+◌, ◌-◌, ◌*◌, ◌≤◌, ◌∙◌, length, take, drop, refl, sym, ap, subst, arith}
+use Rattle.std.proofs.Math.Nat.{add-mul}
+use Rattle.std.proofs.lemmas.List.{length-take, length-drop, length-replicate, nil_from_length}
+use Rattle.std.proofs.lemmas.Slice.{take-put_mid}
+use borrow.Rule.Slice.PartMut.{put_mid}
+use Rattle.aec_params.specs.Params.{interval_len}
+use Rattle.aec_interval.specs.ShortIntervals.{ReadsWhole}
+use Rattle.aec_interval.proofs.ShortLemmas.{reads_none, reads_one_more, front_kept, part_fits}
+use Rattle.aec_interval.proofs.reading.short.fill_intervals.Goals as goal
+
+pub loop-count-init : goal.loop-count-init
+loop-count-init g c = record {
+  reads = reads_none _ _ _ _ refl (nil_from_length (take 0 c.args.samples.now) (length-take 0 c.args.samples.now ∙ omega arith));
+  stays = λ none. refl;
+  within = search rules;
+  place = search rules;
+  values = length-replicate _ _ ∙ c.requires.size;
+  len = search rules;
+}
+
+pub slice_bounds-part-end : goal.slice_bounds-part-end
+slice_bounds-part-end g c =
+    let inv = c.loop-count.invariant in
+    let fits : c.loop-count.at + c.interval_len-len.result ≤ length c.loop-count.samples =
+    part_fits c.loop-count.at c.loop-count.count c.args.most c.interval_len-len.result (interval_len c.args.params.now) (length c.loop-count.samples)
+    inv.place (omega (arith, c.loop-count-test.true)) c.interval_len-len.ensures.value (omega (arith, c.requires.room, inv.len)) in
+    search (rules, fits)
+
+pub returns-then-not-fill_interval-clause-reads : goal.returns-then-not-fill_interval-clause-reads
+returns-then-not-fill_interval-clause-reads g c =
+    let inv = c.loop-count.invariant in
+    let s = c.args.params.now in
+    let at = c.loop-count.at in
+    let k = at + c.interval_len-len.result - at in
+    let fits : at + c.interval_len-len.result ≤ length c.loop-count.samples =
+    part_fits c.loop-count.at c.loop-count.count c.args.most c.interval_len-len.result (interval_len c.args.params.now) (length c.loop-count.samples)
+    inv.place (omega (arith, c.loop-count-test.true)) c.interval_len-len.ensures.value (omega (arith, c.requires.room, inv.len)) in
+    let place : at ≡ c.loop-count.count * interval_len s = inv.place ∙ ap (λ n. c.loop-count.count * n) c.interval_len-len.ensures.value in
+    let part = c.fill_interval.new.samples in
+    let kept = front_kept c.loop-count.samples part at k (omega (arith, fits)) in
+    let all = put_mid at k c.loop-count.samples part in
+    subst (λ cursor. ReadsWhole s c.loop-count.count c.args.reader.now cursor (take (c.loop-count.count * interval_len s) all))
+    (sym (c.if-not-fill_interval.ensures.stays refl))
+    (subst (λ n. ReadsWhole s c.loop-count.count c.args.reader.now c.loop-count.reader (take n all)) place
+    (subst (ReadsWhole s c.loop-count.count c.args.reader.now c.loop-count.reader) (sym kept) inv.reads))
+
+pub loop-count-preserved : goal.loop-count-preserved
+loop-count-preserved g c =
+    let inv = c.loop-count.invariant in
+    let s = c.args.params.now in
+    let at = c.loop-count.at in
+    let len = c.interval_len-len.result in
+    let k = at + len - at in
+    let part = c.fill_interval.new.samples in
+    let fits : at + len ≤ length c.loop-count.samples =
+    part_fits c.loop-count.at c.loop-count.count c.args.most c.interval_len-len.result (interval_len c.args.params.now) (length c.loop-count.samples)
+    inv.place (omega (arith, c.loop-count-test.true)) c.interval_len-len.ensures.value (omega (arith, c.requires.room, inv.len)) in
+    let size : length part ≡ len =
+    omega (arith, c.fill_interval.ensures.len, length-take k (drop at c.loop-count.samples), length-drop at c.loop-count.samples, fits) in
+    record {
+      reads = reads_one_more s _ _ _ _ (take at c.loop-count.samples) part _ c.interval_len-len.ensures.allowed inv.reads
+          (c.if-not-fill_interval.ensures.ok refl)
+          (take-put_mid at k c.loop-count.samples part (at + len) (omega (arith, size)) (omega (arith, fits)));
+      stays = λ none. absurd (omega (arith, none));
+      within = search rules;
+      place = omega (arith, inv.place, add-mul c.loop-count.count 1 len);
+      values = search rules;
+      len = search rules;
+    }

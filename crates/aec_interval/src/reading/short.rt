@@ -1,0 +1,238 @@
+//! Short intervals read several at a time, each of plain blocks alone, where no block needs a test
+//! of its place: `read_short` says how many may be, `fill_intervals` goes on while one comes,
+//! `fill_interval` reads one, `fill_first_block` its first block.
+
+ghost use Rattle.std.specs.Prelude.{◌≡◌, ◌≤◌, ◌<◌, ◌+◌, ◌-◌, ◌*◌, ◌%◌, ◌^◌, ℕ, true, false, length, take, vec_len, vec_capacity, IfSome};
+ghost use Rattle.std.specs.List.{AllByRecursion};
+ghost use Rattle.aec_params.specs.Params.{IsHeld, interval_len};
+ghost use Rattle.aec_block.specs.BlockShape.{most_values};
+ghost use Rattle.aec_interval.specs.Reached.{IsReached};
+ghost use Rattle.aec_interval.specs.PlainBlocks.{ReadsPlain};
+ghost use Rattle.aec_interval.specs.ShortIntervals.{AreWithin, ReadsFirst, ReadsWhole};
+
+use crate::reading::Wanted;
+use crate::reading::plain::fill_plain_blocks;
+use aec_bits::BitReader;
+use aec_block::{read_plain_first, unmap_into};
+use aec_params::Params;
+
+/// At most so many samples are read at a time.
+const AT_ONCE: u64 = 2048;
+
+/// Intervals of more blocks are read one at a time: what is paid for each is little then.
+const MOST_BLOCKS: u32 = 8;
+
+/// Reads the block that comes next as the first of its interval, if it is a plain one, and puts its
+/// samples into the front of `samples`. Else false.
+#[inline(always)]
+fn fill_first_block<const M: usize>(
+    params: &Params,
+    reader: &mut BitReader,
+    values: &mut [u32],
+    samples: &mut [i64],
+) -> bool
+    requires on { params.now.preprocess ≡ true }
+    requires count { length values.old ≡ params.now.block_size }
+    requires room { params.now.block_size ≤ length samples.old }
+    ensures ok { result ≡ true → ReadsFirst params.now reader.old reader.new
+        (take params.now.block_size samples.new) }
+    ensures list { reader.new.list ≡ reader.old.list }
+    ensures count { length values.new ≡ length values.old }
+    ensures len { length samples.new ≡ length samples.old }
+{
+    // Called for its clause alone: the parameters are allowed.
+    let _len = params.interval_len();
+    match read_plain_first::<M>(params, reader, values) {
+        None => false,
+        Some(pattern) => {
+            let first = params.value(pattern);
+            let len = values.len();
+            unmap_into(params, first, values, &mut samples[..len]);
+            true
+        }
+    }
+}
+
+/// Reads the other blocks of an interval of which the first was read, if they are plain ones, and
+/// puts their samples behind those of the first. Else false.
+#[inline(always)]
+fn fill_rest<const N: usize>(params: &Params, reader: &mut BitReader, samples: &mut [i64]) -> bool
+    requires size { N ≡ params.now.block_size }
+    requires small { N ≤ most_values }
+    requires held { AllByRecursion (IsHeld params.now) (take N samples.old) }
+    requires len { length samples.old ≡ interval_len params.now }
+    ensures ok { result ≡ true → ReadsPlain params.now (params.now.interval - 1) reader.old
+        (take N samples.old) reader.new samples.new }
+    ensures list { reader.new.list ≡ reader.old.list }
+    ensures len { length samples.new ≡ length samples.old }
+{
+    let rest = params.interval() as usize - 1;
+    if rest == 0 {
+        return true;
+    }
+    fill_plain_blocks::<N>(params, reader, rest, samples, N, N) == rest
+}
+
+/// Reads the interval that comes next, if all its blocks are plain ones, and puts its samples into
+/// `samples`. Else false, and the reader is where it was.
+#[inline(always)]
+fn fill_interval<const N: usize, const M: usize>(
+    params: &Params,
+    reader: &mut BitReader,
+    values: &mut [u32],
+    samples: &mut [i64],
+) -> bool
+    requires on { params.now.preprocess ≡ true }
+    requires size { N ≡ params.now.block_size }
+    requires small { N ≤ most_values }
+    requires count { length values.old ≡ params.now.block_size }
+    requires len { length samples.old ≡ interval_len params.now }
+    ensures ok { result ≡ true → ReadsWhole params.now 1 reader.old reader.new samples.new }
+    ensures stays { result ≡ false → reader.new ≡ reader.old }
+    ensures count { length values.new ≡ length values.old }
+    ensures len { length samples.new ≡ length samples.old }
+{
+    // What the parameters promise is told by their calls.
+    let _len = params.interval_len();
+    let start = reader.pos();
+    if fill_first_block::<M>(params, reader, values, samples)
+        && fill_rest::<N>(params, reader, samples)
+    {
+        return true;
+    }
+    reader.seek(start);
+    false
+}
+
+/// Reads the intervals that come next, `most` of them, as long as all their blocks are plain ones,
+/// and puts their samples into `samples`. How many intervals were read.
+#[inline(never)]
+fn fill_intervals<const N: usize, const M: usize>(
+    params: &Params,
+    reader: &mut BitReader,
+    most: usize,
+    samples: &mut [i64],
+) -> usize
+    requires on { params.now.preprocess ≡ true }
+    requires size { N ≡ params.now.block_size }
+    requires small { N ≤ most_values }
+    requires room { most * interval_len params.now ≤ length samples.old }
+    ensures reads { ReadsWhole params.now result reader.old reader.new
+        (take (result * interval_len params.now) samples.new) }
+    ensures stays { result ≡ 0 → reader.new ≡ reader.old }
+    ensures list { reader.new.list ≡ reader.old.list }
+    ensures within { result ≤ most }
+    ensures len { length samples.new ≡ length samples.old }
+{
+    // A copy that no other call can see stays in registers.
+    let own = *params;
+    let len = own.interval_len() as usize;
+    let mut values = [0u32; N];
+    let mut count = 0;
+    let mut at = 0;
+    while count < most {
+        let part = &mut samples[at..at + len];
+        if !fill_interval::<N, M>(&own, reader, &mut values, part) {
+            return count;
+        }
+        count += 1;
+        at += len;
+    }
+    count
+}
+
+/// The same, compiled for the usual block sizes; none of others are read.
+fn fill_usual_intervals(
+    params: &Params,
+    reader: &mut BitReader,
+    most: usize,
+    samples: &mut [i64],
+) -> usize
+    requires on { params.now.preprocess ≡ true }
+    requires room { most * interval_len params.now ≤ length samples.old }
+    ensures reads { 0 < result → ReadsWhole params.now result reader.old reader.new
+        (take (result * interval_len params.now) samples.new) }
+    ensures stays { result ≡ 0 → reader.new ≡ reader.old }
+    ensures list { reader.new.list ≡ reader.old.list }
+    ensures within { result ≤ most }
+    ensures len { length samples.new ≡ length samples.old }
+{
+    match params.block_size() {
+        8 => fill_intervals::<8, 7>(params, reader, most, samples),
+        16 => fill_intervals::<16, 15>(params, reader, most, samples),
+        32 => fill_intervals::<32, 31>(params, reader, most, samples),
+        64 => fill_intervals::<64, 63>(params, reader, most, samples),
+        _ => 0,
+    }
+}
+
+/// How many intervals from `wanted.first` on need no test of their place: their samples are within
+/// the count or the limit.
+fn untested_intervals(params: &Params, wanted: Wanted) -> u64
+    requires unpadded { params.now.pad ≡ false }
+    requires few { wanted.first < 2 ^ 34 }
+    requires limit { wanted.limit ≤ 2 ^ 32 }
+    requires counted { IfSome wanted.count (λ count. count ≤ 2 ^ 32) }
+    ensures { (n : ℕ) → 0 < n → n ≤ result → AreWithin params.now wanted.count wanted.limit
+        (wanted.first + n * params.now.interval) }
+{
+    let samples = wanted.count.unwrap_or(wanted.limit);
+    let before = wanted.first * u64::from(params.block_size());
+    samples.saturating_sub(before) / params.interval_len()
+}
+
+/// How many intervals are read at a time, for which there is room: at most `most` samples. None
+/// where an interval has many blocks, or padding, or no reference sample.
+fn intervals_at_once(params: &Params, wanted: Wanted, most: u64, capacity: usize) -> u64
+    requires few { wanted.first < 2 ^ 34 }
+    requires limit { wanted.limit ≤ 2 ^ 32 }
+    requires counted { IfSome wanted.count (λ count. count ≤ 2 ^ 32) }
+    ensures on { 0 < result → params.now.preprocess ≡ true }
+    ensures within { (n : ℕ) → 0 < n → n ≤ result → AreWithin params.now wanted.count wanted.limit
+        (wanted.first + n * params.now.interval) }
+    ensures most { result * interval_len params.now ≤ most }
+    ensures room { result * interval_len params.now ≤ 2048 }
+{
+    if params.pad() || !params.preprocess() || params.interval() > MOST_BLOCKS {
+        return 0;
+    }
+    let room = most.min(AT_ONCE).min(capacity as u64) / params.interval_len();
+    room.min(untested_intervals(params, wanted))
+}
+
+/// Reads the intervals that come next, as long as all their blocks are plain ones, and puts their
+/// samples in the place of those that are there, at most `most`. The number of the block that comes
+/// then: `wanted.first` where none was read, and what stands in `samples` isn't said then. Takes no
+/// memory.
+pub(crate) fn read_short(
+    params: &Params,
+    wanted: Wanted,
+    most: u64,
+    reader: &mut BitReader,
+    samples: &mut Vec<i64>,
+) -> u64
+    requires begins { reader.old.pos ≡ wanted.start }
+    requires aligned { wanted.first % params.now.interval ≡ 0 }
+    requires few { wanted.first < 2 ^ 34 }
+    requires limit { wanted.limit ≤ 2 ^ 32 }
+    requires counted { IfSome wanted.count (λ count. count ≤ 2 ^ 32) }
+    ensures reached { wanted.first < result → IsReached params.now wanted.count wanted.limit
+        reader.new.list wanted.first wanted.start result reader.new.pos samples.new.items }
+    ensures stays { result ≡ wanted.first → reader.new ≡ reader.old }
+    ensures list { reader.new.list ≡ reader.old.list }
+    ensures forward { wanted.first ≤ result }
+    ensures few { result < 2 ^ 34 }
+    ensures ends { result % params.now.interval ≡ 0 }
+    ensures len { wanted.first < result → vec_len samples.new ≤ most }
+    ensures capacity { vec_capacity samples.old ≤ vec_capacity samples.new }
+{
+    let len = params.interval_len();
+    let asked = intervals_at_once(params, wanted, most, samples.capacity());
+    if asked == 0 || samples.resize((asked * len) as usize, 0).is_err() {
+        return wanted.first;
+    }
+    let all = samples.as_mut_slice();
+    let count = fill_usual_intervals(params, reader, asked as usize, all);
+    samples.truncate(count * len as usize);
+    wanted.first + count as u64 * u64::from(params.interval())
+}
