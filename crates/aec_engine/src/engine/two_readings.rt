@@ -1,6 +1,6 @@
 //! Coded bits read twice: once to judge them, and once to write the samples that they stand for.
 
-ghost use Rattle.std.specs.Prelude.{◌≡◌, ℕ, ◌+◌, ◌*◌, ◌<◌, ◌≤◌, ◌++◌, [], List, ℤ, length, vec_len, vec_capacity, IfOk, IfErr, OnOk, OnErr};
+ghost use Rattle.std.specs.Prelude.{◌≡◌, ℕ, ◌+◌, ◌*◌, ◌<◌, ◌≤◌, ◌++◌, [], max, List, ℤ, length, vec_len, vec_capacity, IfOk, IfErr, OnOk, OnErr};
 ghost use Rattle.std.specs.List.{AllByRecursion};
 ghost use Rattle.std.specs.Io.KnownBytes.{Appends, Keeps};
 ghost use Rattle.aec_params.specs.declared.fault.Fault.TheVariants.{Memory, Write as WriteFault};
@@ -337,14 +337,14 @@ pub(crate) fn deliver_range<W: Sink>(
     put_range(params, reader, before, first, len, samples, bytes, sink)
 }
 
-/// Returns room for the samples of an interval, and room for their bytes behind a piece of
-/// `WAITING` bytes, no more.
+/// Returns room for `AT_ONCE` samples or an interval, whichever is more, and room for the bytes of
+/// an interval behind a piece of `WAITING` bytes, no more.
 pub(crate) fn buffers(alloc: Global, params: &Params) -> Result<(Vec<i64>, Vec<u8>), Fault>
     ensures room { IfOk result (λ made. interval_len params.now ≤ vec_capacity made.0) }
     ensures empty { IfOk result (λ made. vec_len made.1 ≡ 0) }
     ensures buffer { IfOk result
         (λ made. 65536 + 4 * interval_len params.now ≤ vec_capacity made.1) }
-    ensures few { IfOk result (λ made. (vec_capacity made.0 ≤ interval_len params.now)
+    ensures few { IfOk result (λ made. (vec_capacity made.0 ≤ max (interval_len params.now) 2048)
         × (vec_capacity made.1 ≤ 65536 + 4 * interval_len params.now)) }
     ensures fault { IfErr result (λ e. e ≡ Memory) }
 {
