@@ -1,5 +1,6 @@
 """Stops of the command `aecp`: at each call of the system, at random moments, on a full disk, by ^C, and two processes at once."""
 
+import itertools
 import os
 import random
 import resource
@@ -39,16 +40,16 @@ def ended(child):
 
 
 def stop_at(number, after):
-    """Makes this process kill itself at the call of the system with this number, before it is made or after."""
-    left = [number]
+    """Makes this process kill itself at the call of the system with this number, before it is made or after. Threads make them too."""
+    numbers = itertools.count(1)
 
     def stopping(call):
         def made(*words, **more):
-            left[0] -= 1
-            if left[0] == 0 and not after:
+            is_last = next(numbers) == number
+            if is_last and not after:
                 os.kill(os.getpid(), signal.SIGKILL)
             answer = call(*words, **more)
-            if left[0] == 0:
+            if is_last:
                 os.kill(os.getpid(), signal.SIGKILL)
             return answer
 

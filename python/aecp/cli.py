@@ -33,6 +33,9 @@ EXAMPLES = {
 }
 
 
+STOPS = (signal.SIGINT, signal.SIGTERM, signal.SIGHUP)
+
+
 def add_options(parser: argparse.ArgumentParser, needs_bits: bool) -> None:
     """The options of coding, as `aec` has them."""
     group = parser.add_argument_group("options of coding")
@@ -118,6 +121,9 @@ def words() -> argparse.ArgumentParser:
 
 
 def interrupted(number: int, _: Any) -> NoReturn:
+    """Stops what is done. A second stop is too late: what was begun is taken back by then."""
+    for it in STOPS:
+        signal.signal(it, signal.SIG_IGN)
     raise KeyboardInterrupt(number)
 
 
@@ -135,8 +141,9 @@ def quiet_pipes() -> Iterator[None]:
 def main(argv: Optional[list[str]] = None) -> NoReturn:
     """Does what the words say, and ends with the status."""
     asked = words().parse_args(argv)
-    for number in (signal.SIGTERM, signal.SIGHUP):
-        signal.signal(number, interrupted)
+    for stop in STOPS:
+        if signal.getsignal(stop) is not signal.SIG_IGN:  # as under nohup
+            signal.signal(stop, interrupted)
     try:
         from aecp import verbs
     except ImportError as error:

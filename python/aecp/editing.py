@@ -6,15 +6,15 @@ import base64
 import csv
 import io
 import re
-from concurrent.futures import ThreadPoolExecutor
+from concurrent.futures import Future, ThreadPoolExecutor
 from typing import Any, Optional
 
 from aecp.calls import decode_bytes, encode
 from aecp.faults import Fault
 from aecp.notes import WRITER, Note, Sum, now, sha256_of
 from aecp.options import Options
-from aecp.pairs import Damaged, Opened, Pair, Refused
-from aecp.scripts import Change, change_of, difference, judged, made, script_within
+from aecp.pairs import Damaged, Opened, Pair, Refused, is_of, other_bytes, read_if_there
+from aecp.scripts import Change, change_of, difference, judged, made, parts_of, script_within
 
 SHOWN = 20  # bad lines that are shown
 
@@ -36,37 +36,62 @@ def judge_samples(samples: Any, note: Note) -> None:
         raise Damaged("other samples", "the samples aren't those of the note: their SHA-256 is another. The options may be wrong")
 
 
+def begun(pair: Pair, pool: ThreadPoolExecutor) -> tuple[Opened, Future[None]]:
+    """The note and the stream of a locked pair, and what raises Damaged where the stream hasn't the sum of its note, once that is
+    known."""
+    note, stream = pair.note(), read_if_there(pair.path)
+    if stream is None or len(stream) != note.stream.bytes:
+        note, stream = pair.open()
+    return Opened(note, stream), pool.submit(judge_stream, stream, note)
+
+
+def judge_stream(stream: bytes, note: Note) -> None:
+    """Damaged where a stream isn't that of a note."""
+    if not is_of(stream, note):
+        raise Damaged("other bytes", other_bytes(stream, note))
+
+
 def edit(pair: Pair, script: bytes, allow_empty: bool) -> str:
     """Edits a kept stream by a script, under the lock. The text that says what was done."""
-    opened = pair.open()
-    note, options = opened.note, opened.note.options
-    checked = judged(script, note.count, options, allow_empty)
-    if checked.complaints:
-        more = len(checked.complaints) - SHOWN
-        lines = checked.complaints[:SHOWN] + ([f"and {more} more lines"] if more > 0 else [])
-        raise Refused("the script is refused, and nothing is changed:\n  " + "\n  ".join(lines))
     with ThreadPoolExecutor(4) as pool:
-        before = samples_in(opened)
+        opened, has_sum = begun(pair, pool)
+        note, options, decoding = opened.note, opened.note.options, pool.submit(samples_in, opened)
+        checked = judged(script, note.count, options, allow_empty)
+        has_sum.result()
+        refuse_lines(checked.complaints)
+        before = decoding.result()
         sound = pool.submit(judge_samples, before, note)
         after = made(before, checked.edits, options)
         coded, sum_after = pool.submit(encode, after, options), pool.submit(Sum.of, after)
-        change = change_of(after, before, options.storage)
+        change = change_of(after, before, options.storage, parts_of(checked.edits, options.storage))
         inverse = inverse_of(opened, after, before, change)
         stream = coded.result()
-        same, sum_stream = pool.submit(comes_back, stream, after, checked.left, options), pool.submit(Sum.of, stream)
+        sum_stream = pool.submit(Sum.of, stream)
         sound.result()
-        same.result()
-    new = note.after(checked.left, sum_after.result(), sum_stream.result(), [])
-    entry: dict[str, Any] = {"what": "edit", "when": now(), "by": WRITER, "samples_changed": change.samples}
-    entry.update({"script": script.decode("utf-8", "surrogateescape"), "inverse": inverse})
-    entry.update({"before": note.sums(), "after": new.sums()})
-    pair.replace(note.after(new.count, new.samples, new.stream, [*note.history, entry]), stream)
+        same = pool.submit(judge_return, stream, after, checked.left, options, before)
+        new = note.after(checked.left, sum_after.result(), sum_stream.result(), [])
+        entry: dict[str, Any] = {"what": "edit", "when": now(), "by": WRITER, "samples_changed": change.samples}
+        entry.update({"script": script.decode("utf-8", "surrogateescape"), "inverse": inverse})
+        entry.update({"before": note.sums(), "after": new.sums()})
+        pair.replace(note.after(new.count, new.samples, new.stream, [*note.history, entry]), stream, same.result)
     return f"{change.samples} samples changed, {checked.left} samples now, {len(opened.stream)} bytes became {len(stream)}"
 
 
-def comes_back(stream: bytes, samples: Any, count: int, options: Options) -> None:
-    """Refuses a new stream that doesn't decode to its samples."""
-    if decode_bytes(stream, count, options) != samples:
+def refuse_lines(complaints: list[str]) -> None:
+    """Refuses a script with lines that are no edits or don't fit."""
+    if complaints:
+        more = len(complaints) - SHOWN
+        lines = complaints[:SHOWN] + ([f"and {more} more lines"] if more > 0 else [])
+        raise Refused("the script is refused, and nothing is changed:\n  " + "\n  ".join(lines))
+
+
+def judge_return(stream: bytes, samples: bytearray, count: int, options: Options, spare: bytearray) -> None:
+    """Refuses a new stream that doesn't decode to its samples. Memory of the same length is used anew."""
+    if len(spare) == len(samples):
+        is_same = len(decode_bytes(stream, count, options, spare)) == len(samples) and spare == samples
+    else:
+        is_same = decode_bytes(stream, count, options) == samples
+    if not is_same:
         raise Refused("the new stream doesn't decode to its samples: nothing is changed. Please report this")
 
 
@@ -89,12 +114,14 @@ def last_edit(note: Note) -> Optional[int]:
 
 def undo(pair: Pair) -> str:
     """Takes the last edit of a kept stream back, under the lock. The text that says what was done."""
-    opened = pair.open()
-    note, place = opened.note, last_edit(opened.note)
-    if place is None:
-        raise Refused("there is no edit to take back")
-    entry = note.history[place]
-    wanted, stream = entry["before"], earlier_stream(opened, entry)
+    with ThreadPoolExecutor(4) as pool:
+        opened, has_sum = begun(pair, pool)
+        note, place = opened.note, last_edit(opened.note)
+        if place is None:
+            has_sum.result()
+            raise Refused("there is no edit to take back")
+        entry = note.history[place]
+        wanted, stream = entry["before"], earlier_stream(opened, entry, pool, has_sum)
     if len(stream) != wanted["stream"]["bytes"] or sha256_of(stream) != wanted["stream"]["sha256"]:
         raise Refused("the earlier stream can't be restored bit for bit: nothing is changed")
     undone = {"what": "undo", "edit": place, "when": now(), "by": WRITER, "before": note.sums(), "after": wanted}
@@ -104,17 +131,22 @@ def undo(pair: Pair) -> str:
     return f"the edit of {entry['when']} is taken back, bit for bit: {count} samples, {len(stream)} bytes"
 
 
-def earlier_stream(opened: Opened, entry: dict[str, Any]) -> bytes:
+def earlier_stream(opened: Opened, entry: dict[str, Any], pool: ThreadPoolExecutor, has_sum: Future[None]) -> bytes:
     """The stream before an edit, the last one of the history."""
     inverse, options = entry["inverse"], opened.note.options
     if "stream" in inverse:
+        has_sum.result()
         return base64.b64decode(inverse["stream"])
-    samples = samples_in(opened)
-    judge_samples(samples, opened.note)
+    decoding = pool.submit(samples_in, opened)
     back = judged(inverse["script"].encode("ascii"), opened.note.count, options)
+    has_sum.result()
+    samples = decoding.result()
+    sound = pool.submit(judge_samples, samples, opened.note)
     if back.complaints:
         raise Refused(f"the inverse script doesn't fit: {back.complaints[0]}")
-    return encode(made(samples, back.edits, options), options)
+    stream = encode(made(samples, back.edits, options), options)
+    sound.result()
+    return stream
 
 
 def log_lines(note: Note) -> list[str]:

@@ -2,28 +2,28 @@
 
 from __future__ import annotations
 
+import contextlib
 import fnmatch
 import functools
 import os
 import re
 import stat
-import sys
 from collections.abc import Iterable, Iterator
-from concurrent.futures import Future, ThreadPoolExecutor
 from dataclasses import dataclass, replace
-from typing import Any, NamedTuple, Optional
+from typing import Any, Callable, NamedTuple, Optional, TypeVar, Union
 
 from aecp.calls import decode_bytes, encode
 from aecp.faults import Fault, OptionsRefused, SampleRefused
 from aecp.notes import WRITER, Note, Sum, now, sha256_of, words_of
 from aecp.options import Options
-from aecp.pairs import NOTE, OLD_NOTE, STREAM, Damaged, Pair, Refused, read_if_there, shown, sync_folder
+from aecp.pairs import NOTE, OLD_NOTE, STREAM, Damaged, Pair, Refused, read_if_there, shown
+from aecp.writing import New, Syncing, sync_folder
 
 OURS = (STREAM, NOTE, OLD_NOTE)
 HIDDEN = re.compile(r"\.(.*\.aec)\.([0-9a-f]{12}\.new|json\.new|lock)", re.S)
 TEXTS = ["README*", *(f"*.{end}" for end in ("txt", "md", "csv", "tsv", "json", "xml", "html", "log", "py", "sh", "toml", "yaml", "yml"))]
 FRONT = 1 << 18  # bytes that a hint looks at
-AT_ONCE = 3  # files of a process that wait for the disk, or are coded
+T = TypeVar("T")
 
 
 class Outcome(NamedTuple):
@@ -104,31 +104,70 @@ def leftovers_in(folder: str) -> dict[str, list[str]]:
     return found
 
 
+class Held(NamedTuple):
+    """What lasts as long as its stack: new files, and locks, of which the first in each folder has a file of its own."""
+
+    stack: contextlib.ExitStack
+    syncing: Syncing
+    first: dict[str, Pair]
+
+    def lock(self, pair: Pair, wait: bool) -> bool:
+        """Locks a pair. False where another run has the lock, and there is no waiting."""
+        if pair.folder in self.first and pair.lock_beside(self.first[pair.folder]):
+            self.stack.callback(pair.remove_lock)
+            return True
+        is_locked = self.stack.enter_context(pair.locked(wait))
+        if is_locked:
+            self.first.setdefault(pair.folder, pair)
+        return is_locked
+
+
+class Begun(NamedTuple):
+    """A file whose stream and note are written, and have no names yet."""
+
+    pair: Pair
+    new: list[New]
+    outcome: Outcome
+
+
 def keep_all(keeping: Keeping, files: list[Found]) -> list[Outcome]:
-    """Keeps each file, while earlier ones wait for the disk."""
-    sys.setswitchinterval(0.0001)  # a thread that has waited for the disk waits no longer for the one that codes
-    waiting: list[Future[Outcome]] = []
-    with ThreadPoolExecutor(AT_ONCE) as pool:
-        for file in files:
-            waiting.append(pool.submit(keep, keeping, file))
-    outcomes = [it.result() for it in waiting]
-    for folder in {os.path.dirname(os.path.realpath(it.path)) for it in outcomes if it.kind == "kept"}:
+    """Keeps each file. Those that another run is at work on come last, one by one."""
+    outcomes = keep_together(keeping, files, wait=False)
+    done = [outcome or keep_together(keeping, [file], wait=True)[0] for file, outcome in zip(files, outcomes)]
+    kept = [it for it in done if it is not None]
+    for folder in {os.path.dirname(os.path.realpath(it.path)) for it in kept if it.kind == "kept"}:
         sync_folder(folder)
-    if keeping.remove:
-        outcomes = [removed(keeping, it) for it in outcomes]
-    return outcomes
+    return [removed(keeping, it) for it in kept] if keeping.remove else kept
 
 
 def keep(keeping: Keeping, file: Found) -> Outcome:
     """Keeps a file, or says why it doesn't."""
+    return keep_all(keeping, [file])[0]
+
+
+def keep_together(keeping: Keeping, files: list[Found], wait: bool) -> list[Optional[Outcome]]:
+    """Keeps each file: all streams and notes are written and synced, then they get their names. None for a file whose lock another run
+    has, if it doesn't wait."""
+    with contextlib.ExitStack() as stack:
+        held = Held(stack, Syncing(stack), {})
+        begun = [refusing(it.path, functools.partial(begin, keeping, it, held, wait)) for it in files]
+        failed = held.syncing.failures()
+        outcomes = [refusing(it.outcome.path, functools.partial(end, it, failed)) if isinstance(it, Begun) else it for it in begun]
+    return outcomes
+
+
+def refusing(path: str, work: Callable[[], T]) -> Union[T, Outcome]:
+    """What a piece of work on a file gives, or why it was refused."""
     try:
-        return keep_or_refuse(keeping, file)
+        return work()
     except Refused as refusal:
-        return Outcome(file.path, "refused", str(refusal))
+        return Outcome(path, "refused", str(refusal))
     except OSError as error:
-        return Outcome(file.path, "refused", said_of(error, file.path))
-    except (MemoryError, Fault) as error:
-        return Outcome(file.path, "refused", str(error) or "out of memory")
+        return Outcome(path, "refused", said_of(error, path))
+    except MemoryError:
+        return Outcome(path, "refused", "out of memory")
+    except Fault as fault:
+        return Outcome(path, "refused", str(fault))
 
 
 def said_of(error: OSError, path: str) -> str:
@@ -138,28 +177,43 @@ def said_of(error: OSError, path: str) -> str:
     return text if name is None or name == path else f"{text}: {shown(name if isinstance(name, str) else os.fsdecode(name))}"
 
 
-def keep_or_refuse(keeping: Keeping, file: Found) -> Outcome:
+def begin(keeping: Keeping, file: Found, held: Held, wait: bool) -> Union[Begun, Outcome, None]:
+    """Codes a file and writes its stream and its note, under a lock that lasts as `held` does. None where another run has the lock."""
     pair = Pair(file.path + STREAM)
     if pair.is_kept() and pair.name not in leftovers_in(pair.folder):
         return judge_kept(keeping, file.path, pair)
-    with pair.locked():
-        left = [path for path in leftovers_in(pair.folder).get(pair.name, []) if path != pair.lock_path]
-        mended = pair.mend(left) if left else None
-        if pair.is_kept():
-            return judge_kept(keeping, file.path, pair, mended or "")
-        if os.path.lexists(pair.path):
-            raise Refused(f"{shown(pair.name)} exists and has no note: move it away")
-        before, data = os.stat(file.path), read_if_there(file.path)
-        if data is None:
-            raise Refused("there is no such file")
-        if not file.is_named and len(data) % keeping.options.storage:
-            return Outcome(file.path, "passed", f"passed over: {len(data)} bytes are no whole samples of {keeping.options.storage}")
-        note, stream = coded(keeping, data, before)
-        if os.path.lexists(pair.note_path):
-            os.unlink(pair.note_path)
-            mended = "its note had no stream, and is written anew"
-        pair.create(pair.write_new(note, stream))
-    return Outcome(file.path, "kept", mended or "", len(data), len(stream))
+    if not held.lock(pair, wait):
+        return None
+    left = [path for path in leftovers_in(pair.folder).get(pair.name, []) if path != pair.lock_path]
+    mended = pair.mend(left) if left else None
+    if pair.is_kept():
+        return judge_kept(keeping, file.path, pair, mended or "")
+    if os.path.lexists(pair.path):
+        raise Refused(f"{shown(pair.name)} exists and has no note: move it away")
+    before, data = os.stat(file.path), read_if_there(file.path)
+    if data is None:
+        raise Refused("there is no such file")
+    if not file.is_named and len(data) % keeping.options.storage:
+        return Outcome(file.path, "passed", f"passed over: {len(data)} bytes are no whole samples of {keeping.options.storage}")
+    note, stream = coded(keeping, data, before)
+    new = pair.write_new(note, stream)
+    for it in new:
+        held.stack.callback(it.drop)
+    held.syncing.begin(new)
+    return Begun(pair, new, Outcome(file.path, "kept", mended or "", len(data), len(stream)))
+
+
+def end(begun: Begun, failed: dict[str, OSError]) -> Outcome:
+    """Gives a stream and its note their names, if they could be synced."""
+    pair, outcome = begun.pair, begun.outcome
+    for it in begun.new:
+        if it.path in failed:
+            raise failed[it.path]
+    if os.path.lexists(pair.note_path):
+        os.unlink(pair.note_path)
+        outcome = outcome._replace(said="its note had no stream, and is written anew")
+    pair.create(begun.new)
+    return outcome
 
 
 def coded(keeping: Keeping, data: bytes, status: os.stat_result) -> tuple[Note, bytes]:

@@ -81,7 +81,10 @@ class Note:
     def text(self) -> bytes:
         """The bytes of the note's file."""
         fields = self.json_fields()
-        return json.dumps({**fields, "note_sha256": sum_of(fields)}, indent=1).encode("ascii") + b"\n"
+        lines = [f'"{name}": {json.dumps(value)}' for name, value in fields.items() if name != "history"]
+        entries = ",\n  ".join(map(json.dumps, self.history))
+        lines += [f'"history": [\n  {entries}\n ]', f'"note_sha256": "{sum_of(fields)}"']
+        return ("{\n " + ",\n ".join(lines) + "\n}\n").encode("ascii")
 
     def sums(self) -> dict[str, Any]:
         """The count and the sums of a stream and its samples, as an entry of the history has them."""

@@ -14,9 +14,10 @@ import os
 import re
 import stat
 from collections.abc import Iterator
-from typing import NamedTuple, Optional
+from typing import Callable, NamedTuple, Optional
 
 from aecp.notes import BadNote, Note, note_of, old_note_of, sha256_of
+from aecp.writing import New, Syncing, remove_all, sync_folder
 
 STREAM, NOTE, OLD_NOTE = ".aec", ".aec.json", ".aec.note"
 TRIES = 20
@@ -115,9 +116,12 @@ class Pair:
             yield file is not None
         finally:
             if file is not None:
-                with contextlib.suppress(OSError):
-                    os.unlink(self.lock_path)
+                self.remove_lock()
                 os.close(file)
+
+    def remove_lock(self) -> None:
+        with contextlib.suppress(OSError):
+            os.unlink(self.lock_path)
 
     def take_lock(self, wait: bool) -> Optional[int]:
         """The open lock file. Another run removes it at its end, so that it has to be looked at again once it is locked."""
@@ -136,6 +140,15 @@ class Pair:
                 os.close(file)
                 raise
             os.close(file)
+
+    def lock_beside(self, other: Pair) -> bool:
+        """Makes the lock file of a locked pair of the same folder that of this one too, if this one has none. To make and remove a file
+        for each lock takes some file systems longer than all else that is done to a pair."""
+        try:
+            os.link(other.lock_path, self.lock_path)
+        except OSError:
+            return False
+        return True
 
     def leftovers(self) -> list[str]:
         """The paths of what a run has written and given no name."""
@@ -181,37 +194,46 @@ class Pair:
         os.rename(path, self.path)
         return "a stopped run is finished: the stream has its name"
 
-    def write_new(self, note: Note, stream: bytes) -> list[str]:
-        """Writes a stream and its note under the names for new ones. Their paths."""
-        paths = [self.new_stream_path(note.stream.sha256), self.new_note_path]
+    def write_new(self, note: Note, stream: bytes) -> list[New]:
+        """Writes a stream and its note under the names for new ones."""
+        first = New(self.new_stream_path(note.stream.sha256), stream)
         try:
-            for path, data in zip(paths, (stream, note.text())):
-                write_synced(path, data)
+            return [first, New(self.new_note_path, note.text())]
         except BaseException:
-            remove_all(paths)
+            first.drop()
             raise
-        return paths
 
-    def create(self, paths: list[str]) -> None:
-        """Gives what `write_new` has written its names, where nothing has them."""
+    def create(self, new: list[New]) -> None:
+        """Gives a stream and its note, which are synced, their names, where nothing has them: both, or none."""
         try:
-            os.link(paths[0], self.path)
-            os.link(paths[1], self.note_path)
-        finally:
-            remove_all(paths)
-
-    def replace(self, note: Note, stream: bytes) -> None:
-        """Puts a stream and its note in the place of those that are there."""
-        paths = self.write_new(note, stream)
-        try:
-            mode = stat.S_IMODE(os.stat(self.path).st_mode)
-            for path in paths:
-                os.chmod(path, mode)
-        except OSError:
-            remove_all(paths)
+            os.link(new[0].path, self.path)
+            os.link(new[1].path, self.note_path)
+        except BaseException:
+            with contextlib.suppress(OSError):
+                if is_same(self.path, new[0].path) and not is_same(self.note_path, new[1].path):
+                    os.unlink(self.path)
             raise
-        os.rename(paths[1], self.note_path)
-        os.rename(paths[0], self.path)
+
+    def replace(self, note: Note, stream: bytes, judge: Callable[[], None] = lambda: None) -> None:
+        """Puts a stream and its note in the place of those that are there, once `judge` has raised nothing."""
+        new = self.write_new(note, stream)
+        try:
+            with contextlib.ExitStack() as stack:
+                for it in new:
+                    stack.callback(it.close)
+                syncing = Syncing(stack)
+                syncing.begin(new)
+                for error in syncing.failures().values():
+                    raise error
+                judge()
+                mode = stat.S_IMODE(os.stat(self.path).st_mode)
+                for it in new:
+                    os.chmod(it.path, mode)
+        except BaseException:
+            remove_all(it.path for it in new)
+            raise
+        os.rename(new[1].path, self.note_path)  # from here on the next run finishes what is left to do
+        os.rename(new[0].path, self.path)
         sync_folder(self.folder)
         with contextlib.suppress(FileNotFoundError):
             os.unlink(self.old_note_path)
@@ -238,35 +260,12 @@ def read_if_there(path: str) -> Optional[bytes]:
         return None
 
 
-def write_synced(path: str, data: bytes) -> None:
-    """Writes a file anew, so that it outlives a loss of power once it has another name."""
-    file = os.open(path, os.O_WRONLY | os.O_CREAT | os.O_TRUNC | os.O_CLOEXEC, 0o666)
+def is_same(path: str, other: str) -> bool:
+    """Whether two names are those of one file."""
     try:
-        rest = memoryview(data)
-        while rest:
-            rest = rest[os.write(file, rest) :]
-        os.fsync(file)
-    except OSError as error:
-        error.filename = error.filename or path
-        raise
-    finally:
-        os.close(file)
-
-
-def remove_all(paths: list[str]) -> None:
-    for path in paths:
-        with contextlib.suppress(OSError):
-            os.unlink(path)
-
-
-def sync_folder(folder: str) -> None:
-    """Makes the names in a folder outlive a loss of power, where the file system does that."""
-    with contextlib.suppress(OSError):
-        file = os.open(folder, os.O_RDONLY | os.O_CLOEXEC)
-        try:
-            os.fsync(file)
-        finally:
-            os.close(file)
+        return os.path.samestat(os.lstat(path), os.lstat(other))
+    except FileNotFoundError:
+        return False
 
 
 def shown(name: str) -> str:

@@ -13,8 +13,9 @@ from aecp.editing import judge_samples, samples_in
 from aecp.faults import Fault, LimitPassed, OptionsRefused, StreamRefused
 from aecp.notes import Note, words_of
 from aecp.options import Options
-from aecp.pairs import Opened, Refused, remove_all, shown, sync_folder, write_synced
+from aecp.pairs import Opened, Refused, shown
 from aecp.scripts import MOST_SAMPLES, Store
+from aecp.writing import remove_all, sync_folder, write_synced
 
 MOST_PIXELS = 1 << 26
 

@@ -137,13 +137,33 @@ def made(data: bytes, edits: list[Edit], options: Options) -> bytearray:
     return out
 
 
-def differing_runs(before: bytes, after: bytes, width: int) -> Iterator[tuple[int, int]]:
-    """The runs of samples that differ in two lists of the same length: the first place of each, and the one after its last."""
+def parts_of(edits: list[Edit], width: int) -> Optional[list[tuple[int, int]]]:
+    """Where edits that only overwrite may have changed stored samples: the first byte and the length of each part, in order. None where
+    other edits may have moved samples."""
+    if any(edit.name != "overwrite" for edit in edits):
+        return None
+    parts: list[tuple[int, int]] = []
+    end = -1
+    for first, last in sorted(edit.exchanged(0) for edit in edits):
+        if first > end:
+            parts.append((first * width, 0))
+        end = max(end, last)
+        parts[-1] = parts[-1][0], end * width - parts[-1][0]
+    return parts
+
+
+def all_parts(size: int, width: int) -> Iterator[tuple[int, int]]:
+    """All of so many bytes, in parts."""
+    for first in range(0, size, SMALL_PART * width):
+        yield first, SMALL_PART * width
+
+
+def differing_runs(before: bytes, after: bytes, width: int, parts: Optional[list[tuple[int, int]]] = None) -> Iterator[tuple[int, int]]:
+    """The runs of samples that differ in two lists of the same length: the first place of each, and the one after its last. Only these
+    parts can differ, where they are known."""
     begun = end = -1
-    for part in range(0, len(before), SMALL_PART * width):
-        if before[part : part + SMALL_PART * width] == after[part : part + SMALL_PART * width]:
-            continue
-        for at in differing_places(before, after, part, SMALL_PART * width, width):
+    for first, length in all_parts(len(before), width) if parts is None else parts:
+        for at in differing_places(before, after, first, length, width):
             if at != end:
                 if begun >= 0:
                     yield begun, end
@@ -209,8 +229,8 @@ class Change(NamedTuple):
     samples: int
 
 
-def change_of(before: bytes, after: bytes, width: int) -> Change:
-    """The way that names fewer samples."""
+def change_of(before: bytes, after: bytes, width: int, parts: Optional[list[tuple[int, int]]] = None) -> Change:
+    """The way that names fewer samples. Only these parts can differ, where they are known."""
     both = min(len(before), len(after))
     number = abs(len(before) - len(after)) // width
     front, end, most = 0, 0, 2 * both
@@ -220,7 +240,7 @@ def change_of(before: bytes, after: bytes, width: int) -> Change:
         most = max(len(before), len(after)) // width - front - end
         before, after = before[:both], after[:both]
     runs = []
-    for run in differing_runs(before, after, width):
+    for run in differing_runs(before, after, width, parts):
         number += run[1] - run[0]
         if number > most:
             return Change(None, front, end, most)

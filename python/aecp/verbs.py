@@ -36,8 +36,10 @@ def refusing(path: str, work: Callable[[], int]) -> int:
         raise
     except OSError as error:
         return complain(f"{shown(path)}: {keeping.said_of(error, path)}")
-    except (MemoryError, Fault) as error:
-        return complain(f"{shown(path)}: {error or 'out of memory'}")
+    except MemoryError:
+        return complain(f"{shown(path)}: out of memory")
+    except Fault as fault:
+        return complain(f"{shown(path)}: {fault}")
 
 
 def options_of(asked: argparse.Namespace) -> Options:
