@@ -10,8 +10,8 @@
  * what a call allocates it frees before it returns, but for the workspace of a handle. Threads may call at once, each with an `out`, a
  * `reply` and a handle of its own.
  *
- * The least stack of a thread, as the tests measure it: 32 KiB for aecp_encode, aecp_decode and aecp_range; 16 KiB for the others. At
- * least 4 KiB are left then, and the thread itself takes some 8 KiB.
+ * The least stack of a thread, as the tests measure it: 32 KiB for aecp_encode, aecp_decode, aecp_range and aecp_edit; 16 KiB for the
+ * others. At least 4 KiB are left then, and the thread itself takes some 8 KiB.
  */
 #ifndef AECP_H
 #define AECP_H
@@ -68,6 +68,7 @@ enum {
     AECP_OUT_OF_RANGE = 10,    /* place: how many samples there are */
     AECP_SPENT = 11,           /* the coder of a workspace has been called 2^64 - 1 times */
     AECP_MEMORY = 12,
+    AECP_SCRIPT = 15,          /* place: the first line that is no edit, counted from 1 */
     AECP_STREAM_TOO_LONG = 16, /* place: the greatest length in bytes, 2^40 */
     AECP_EVEN_BLOCK_SIZE = 17,
     AECP_NO_ROOM = 18,         /* len: the bytes, or samples, that the answer takes */
@@ -96,6 +97,21 @@ uint32_t aecp_decode(const aecp_options *options, uint64_t count, const uint8_t 
 uint32_t aecp_range(const aecp_options *options, uint64_t count, uint64_t first, uint64_t len, const uint8_t *coded,
                     size_t coded_len, void *out, size_t out_len, aecp_reply *reply);
 
+/* How aecp_edit ended. `samples` is the number of samples of the edited stream, with AECP_NO_ROOM too, and 0 after every other fault. If
+ * one edit of the script is refused, `line` is its line, counted from 1, and `reply` says why; else `line` is 0. */
+typedef struct {
+    aecp_reply reply;
+    uint64_t line;
+    uint64_t samples;
+} aecp_edit_reply;
+
+/* Applies a script of edits, as docs/COMMAND.md describes it, to the first `count` samples of a stream, or to all with AECP_ALL, and puts
+ * the edited stream into `out`. All lines apply, or none. Returns `reply->reply.fault`. Faults: options; SCRIPT; those of aecp_decode; then
+ * of one edit, with its line: OUT_OF_RANGE, SAMPLE_RANGE, TOO_MANY_SAMPLES, SPENT, MEMORY. Allocates up to three times the stream, and the
+ * script. Trap: keep `samples` with the edited stream. With AECP_ALL the filler of the last block becomes samples. */
+uint32_t aecp_edit(const aecp_options *options, uint64_t count, const void *script, size_t script_len, const uint8_t *coded,
+                   size_t coded_len, uint8_t *out, size_t out_len, aecp_edit_reply *reply);
+
 /* A length in bytes that suffices for the code of so many samples, whatever they are; 0 where the options are refused or there are more
  * than 2^32. Takes no memory. Trap: it counts samples and not bytes, and is 0 for no samples too. */
 uint64_t aecp_bound(const aecp_options *options, uint64_t samples);
@@ -114,12 +130,12 @@ typedef struct {
 
 #define AECP_HANDLE {0, false}
 
-/* Opens an empty workspace of at most 2^32 samples; what the handle held is freed. Faults: options, MEMORY, and then the handle
- * is as it was. Takes memory, which is freed by aecp_close. Trap: a handle that isn't zeros at first is memory that is freed. */
+/* Opens an empty workspace of at most 2^32 samples. On success the workspace that the handle held is freed; after a fault the handle is as
+ * it was. Faults: options, MEMORY. aecp_close frees what it allocates. Trap: a handle that isn't zeros at first is memory that is freed. */
 uint32_t aecp_open(const aecp_options *options, aecp_handle *handle, aecp_reply *reply);
 
 /* The same with the samples that a stream is read as: its first `count`, or all with AECP_ALL; `reply->len` is their number, and each
- * of their intervals has been coded once. Faults: those of aecp_decode but NO_ROOM and STREAM_TOO_LONG; then the handle is as it was.
+ * of their intervals has been coded once. Faults: those of aecp_decode but NO_ROOM and STREAM_TOO_LONG.
  * Takes memory for the stream and eight bytes a sample until it returns.
  * Trap: the samples are coded anew, so aecp_write need not give the bytes of another coder. */
 uint32_t aecp_load(const aecp_options *options, uint64_t count, const uint8_t *coded, size_t coded_len, aecp_handle *handle,

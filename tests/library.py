@@ -9,6 +9,7 @@ FOLDER has libaecp.a and libaecp.so. In turn, by the C program library_calls.c a
   - the least stack of a thread for each call, which aecp.h names (library_memory.py);
   - eight threads at once; NULL for a buffer of no bytes; a run under valgrind, where it is installed, that loses no memory;
   - samples and coded bytes in each kind of buffer that Python has (library_buffers.py);
+  - streams edited by scripts by chance, beside a model (library_edits.py);
   - the program in C of docs/LIBRARY.md, and one that is C and C++ (library_types.py);
   - lists by chance with settings by chance: beside the plain coder, the program at PATH_OF_AEC, and libaec's client.
 And the names that the shared library defines and needs.
@@ -29,6 +30,7 @@ from typing import NamedTuple
 import plain_coder
 from damaged_cases import some_samples, some_settings
 from library_buffers import try_buffers
+from library_edits import try_scripts
 from library_memory import try_freed, try_refusals, try_stacks
 from library_types import try_types, try_version
 from program import Program, Tally
@@ -39,7 +41,7 @@ TOP = os.path.join(os.path.dirname(os.path.abspath(__file__)), "..")
 THEIRS = os.environ.get("LIBAEC", "/usr/bin/aec")
 ALL, NO_ROOM, MEMORY = 2**64 - 1, 18, 12
 CALLS = {"bound", "decode", "encode", "range", "text", "open", "load", "close", "read", "write", "size", "calls",
-         "version", "append", "insert", "overwrite", "remove", "truncate"}
+         "version", "append", "insert", "overwrite", "remove", "truncate", "edit"}
 EIGHT, CODED = bytes(range(8)), bytes.fromhex("20092492")
 FLAGS = {"signed": "s", "msb_first": "m", "three_byte": "3", "pad": "p", "restricted": "t", "even_blocks": "e"}
 
@@ -81,6 +83,7 @@ ROWS = [
 ]
 # The samples of CODED with three numbers put in, as library_calls.c does it.
 EDITED = (Call("edit", USUAL, CODED, 8, 2), bytes(plain_coder.stream([0, 1, 9, 9, 9, 2, 3, 4, 5, 6, 7], USUAL)))
+SCRIPTED = (EDITED[0]._replace(name="script"), EDITED[1])
 # Each with its number, its place and its text. The eight samples take 3 + 8 + 2 + 6 * 3 = 31 bits.
 REFUSED = [
     (Call("encode", USUAL._replace(bits=0), b""), 1, 0, "bits per sample must be 1 to 32"),
@@ -158,6 +161,7 @@ def try_nulls(in_c, tally):
     """NULL in the place of buffers of no bytes: the answer where none is needed, and else the length that is."""
     none = ["encode 0 0", "decode 0 0", "decode 0 0", "range 0 0", "decode 6 0"]
     some = ["encode 18 5", "decode 18 8", "range 18 3", f"text {len('the buffer is shorter than the answer, whose length is 3')}"]
+    some += ["edit 0 0", "edit 18 5"]
     tally.check("nulls", in_c.program.run("nulls"), (0, "\n".join([*none, *some, ""])))
 
 
@@ -180,7 +184,7 @@ def try_valgrind(in_c, tally):
     if not shutil.which("valgrind"):
         return
     judge = ["valgrind", "-q", "--leak-check=full", "--error-exitcode=9", in_c.program.path]
-    calls = [row[0] for row in [*ROWS, EDITED]] + [REFUSED[7][0], REFUSED[10][0]]
+    calls = [row[0] for row in [*ROWS, EDITED, SCRIPTED]] + [REFUSED[7][0], REFUSED[10][0]]
     for words in [call.words(100) for call in calls] + [["nulls"]]:
         ended = subprocess.run([*judge, *words], capture_output=True)
         tally.check(f"valgrind: {words[0]}: {ended.stderr[-300:]}", ended.returncode, 0)
@@ -351,7 +355,7 @@ def try_in_c(asked, folder, aecp, tally):
     try_types(include, os.path.join(asked.library, "libaecp.a"), folder, tally)
     try_rows(in_c, aecp, tally)
     try_rooms(in_c, tally)
-    rows = [(call, Answer(0, 0, len(wanted), wanted, "no fault")) for call, wanted in [*ROWS, EDITED]]
+    rows = [(call, Answer(0, 0, len(wanted), wanted, "no fault")) for call, wanted in [*ROWS, EDITED, SCRIPTED]]
     library = build(folder)
     try_refusals(in_c, library, rows, Answer(MEMORY, 0, 0, b"", "out of memory"), tally)
     try_freed(Program(handles, folder), library, tally)
@@ -368,6 +372,7 @@ def main():
     with tempfile.TemporaryDirectory() as folder:
         try_names(asked.library, tally)
         try_buffers(aecp, tally)
+        try_scripts(aecp, asked.seed, tally)
         if has_compiler():
             try_in_c(asked, folder, aecp, tally)
         theirs = Program(THEIRS, folder) if os.path.exists(THEIRS) else None

@@ -34,12 +34,24 @@ static uint32_t edited(const asked *it, uint8_t *out, aecp_reply *reply) {
     return number;
 }
 
+/* The same by a script. The line of a refused edit has to be the first, and only an edited stream has samples. */
+static uint32_t scripted(const asked *it, uint8_t *out, aecp_reply *reply) {
+    char script[64];
+    aecp_edit_reply made = {{99, 99, 99}, 99, 99};
+    int len = snprintf(script, sizeof script, "insert %llu 9 9 9\n", (unsigned long long)it->first);
+    uint32_t number = aecp_edit(&it->options, it->count, script, (size_t)len, it->given, it->given_len, out, it->room, &made);
+    *reply = made.reply;
+    if (number == 0 || number == AECP_NO_ROOM) return made.samples == it->count + 3 && made.line == 0 ? number : 97;
+    return made.samples == 0 && made.line == (number == AECP_OUT_OF_RANGE) ? number : made.line == 1 && number == AECP_MEMORY ? number : 96;
+}
+
 static uint32_t made(const asked *it, uint8_t *out, aecp_reply *reply) {
     if (!strcmp(it->call, "encode"))
         return aecp_encode(&it->options, it->given, it->given_len, out, it->room, reply);
     if (!strcmp(it->call, "decode"))
         return aecp_decode(&it->options, it->count, it->given, it->given_len, out, it->room, reply);
     if (!strcmp(it->call, "edit")) return edited(it, out, reply);
+    if (!strcmp(it->call, "script")) return scripted(it, out, reply);
     return aecp_range(&it->options, it->count, it->first, it->len, it->given, it->given_len, out, it->room, reply);
 }
 
@@ -147,6 +159,11 @@ static int nulls(void) {
     say("decode", aecp_decode(&options, 8, coded, made.len, 0, 0, &reply), &reply);
     say("range", aecp_range(&options, 8, 2, 3, coded, made.len, 0, 0, &reply), &reply);
     printf("text %zu\n", aecp_text(&reply, 0, 0));
+    aecp_edit_reply edited;
+    uint32_t number = aecp_edit(&options, AECP_ALL, 0, 0, 0, 0, 0, 0, &edited);
+    say("edit", number, &edited.reply);
+    number = aecp_edit(&options, 8, 0, 0, coded, made.len, 0, 0, &edited);
+    say("edit", number, &edited.reply);
     return 0;
 }
 

@@ -31,6 +31,16 @@ static void fill(void) {
     }
 }
 
+/* A stream edited by a script of each kind of edit, which ends where the first 100 values are appended. */
+static int is_edited(void) {
+    static char script[8000];
+    aecp_edit_reply edited;
+    int len = sprintf(script, "insert %d 0 1\nremove 0 700\noverwrite 5 1 0\ntruncate 900\nappend", FRONT);
+    for (int i = 0; i < 100; i++) len += sprintf(script + len, " %lld", (long long)values[i]);
+    if (aecp_edit(&options, SAMPLES, script, (size_t)len, coded, coded_len, back, ROOM, &edited)) return 0;
+    return edited.samples == 1000;
+}
+
 static int is(const char *name) {
     return !strcmp(call, name);
 }
@@ -43,6 +53,7 @@ static int ends(void) {
     if (is("encode")) return !aecp_encode(&options, samples, samples_len, back, ROOM, &reply);
     if (is("decode")) return !aecp_decode(&options, SAMPLES, coded, coded_len, back, ROOM, &reply);
     if (is("range")) return !aecp_range(&options, SAMPLES, FRONT, PART, coded, coded_len, back, ROOM, &reply);
+    if (is("edit")) return is_edited();
     if (is("bound")) return aecp_bound(&options, SAMPLES) >= coded_len;
     if (is("open")) return !aecp_open(&options, &handle, &reply);
     if (is("load")) return !aecp_load(&options, SAMPLES, coded, coded_len, &handle, &reply);

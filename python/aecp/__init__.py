@@ -5,6 +5,7 @@
     >>> coded = aecp.encode(samples, options)           # a numpy array or bytes -> bytes
     >>> aecp.decode(coded, len(samples), options)       # -> numpy.ndarray
     >>> aecp.decode_range(coded, len(samples), 100, 50, options)
+    >>> coded, count = aecp.edit(coded, len(samples), "insert 100 7 8 9\nremove 0 5\n", options)
 
 A coded stream contains neither its options nor its sample count. Keep both with the stream: no call can tell that they are wrong.
 `encode`, `decode_bytes` and `decode_range_bytes` need the standard library alone; `decode` and `decode_range` return numpy arrays.
@@ -18,8 +19,9 @@ __version__ = "0.1.0"
 
 try:
     from aecp.calls import decode, decode_bytes, decode_range, decode_range_bytes, encode
-    from aecp.faults import Fault, LimitPassed, NoMemory, OptionsRefused, RangeRefused, SampleRefused, StreamRefused
+    from aecp.faults import Fault, LimitPassed, NoMemory, OptionsRefused, RangeRefused, SampleRefused, ScriptRefused, StreamRefused
     from aecp.options import Options
+    from aecp.streams import edit
     from aecp.workspace import Workspace
 except ImportError:
     # The command says in a line of its own that there is no library, and gives help without one.
@@ -27,6 +29,6 @@ except ImportError:
         raise
 
 __all__ = [
-    "Fault", "LimitPassed", "NoMemory", "Options", "OptionsRefused", "RangeRefused", "SampleRefused", "StreamRefused",
-    "Workspace", "__version__", "decode", "decode_bytes", "decode_range", "decode_range_bytes", "encode",
+    "Fault", "LimitPassed", "NoMemory", "Options", "OptionsRefused", "RangeRefused", "SampleRefused", "ScriptRefused",
+    "StreamRefused", "Workspace", "__version__", "decode", "decode_bytes", "decode_range", "decode_range_bytes", "edit", "encode",
 ]  # fmt: skip

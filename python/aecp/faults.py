@@ -3,18 +3,19 @@
 from __future__ import annotations
 
 BITS_PER_SAMPLE, BLOCK_SIZE, INTERVAL, RESTRICTED_WIDTH, SAMPLE_RANGE, TRUNCATED, VALUE_TOO_LARGE, RUN_TOO_LONG = range(1, 9)
-TOO_MANY_SAMPLES, OUT_OF_RANGE, MEMORY, STREAM_TOO_LONG, EVEN_BLOCK_SIZE, NO_ROOM, NOT_OPEN = 9, 10, 12, 16, 17, 18, 19
+TOO_MANY_SAMPLES, OUT_OF_RANGE, MEMORY, SCRIPT, STREAM_TOO_LONG, EVEN_BLOCK_SIZE, NO_ROOM, NOT_OPEN = 9, 10, 12, 15, 16, 17, 18, 19
 
 
 class Fault(ValueError):
-    """A refusal. `number` is that of aecp.h, `place` what it names there, else 0; the text says both in words."""
+    """A refusal. `number` is that of aecp.h, `place` what it names there, else 0; the text says both in words. `line` is the line of a
+    script that it is about, counted from 1, else 0."""
 
-    def __init__(self, number: int, place: int, text: str) -> None:
+    def __init__(self, number: int, place: int, text: str, line: int = 0) -> None:
         super().__init__(text)
-        self.number, self.place, self.text = number, place, text
+        self.number, self.place, self.text, self.line = number, place, text, line
 
-    def __reduce__(self) -> tuple[type[Fault], tuple[int, int, str]]:
-        return type(self), (self.number, self.place, self.text)
+    def __reduce__(self) -> tuple[type[Fault], tuple[int, int, str, int]]:
+        return type(self), (self.number, self.place, self.text, self.line)
 
 
 class OptionsRefused(Fault):
@@ -53,6 +54,10 @@ class LimitPassed(Fault):
         return self.place
 
 
+class ScriptRefused(Fault):
+    """The script has a line that is no edit: `line` is the first."""
+
+
 class NoMemory(Fault, MemoryError):
     """An allocation failed. The samples are as they were; intervals that were coded before are counted by `Workspace.calls`."""
 
@@ -61,10 +66,12 @@ KINDS: dict[int, type[Fault]] = {
     BITS_PER_SAMPLE: OptionsRefused, BLOCK_SIZE: OptionsRefused, INTERVAL: OptionsRefused, RESTRICTED_WIDTH: OptionsRefused,
     EVEN_BLOCK_SIZE: OptionsRefused, SAMPLE_RANGE: SampleRefused, TRUNCATED: StreamRefused, VALUE_TOO_LARGE: StreamRefused,
     RUN_TOO_LONG: StreamRefused, OUT_OF_RANGE: RangeRefused, TOO_MANY_SAMPLES: LimitPassed, STREAM_TOO_LONG: LimitPassed,
-    MEMORY: NoMemory,
+    MEMORY: NoMemory, SCRIPT: ScriptRefused,
 }  # fmt: skip
 
 
-def fault_of(number: int, place: int, text: str) -> Fault:
-    """The exception of a refusal."""
-    return KINDS.get(number, Fault)(number, place, text)
+def fault_of(number: int, place: int, text: str, line: int = 0) -> Fault:
+    """The exception of a refusal, which is that of one edit where there is a line."""
+    if line:
+        return KINDS.get(number, Fault)(number, place, f"line {line}: {text}", line)
+    return KINDS.get(number, Fault)(number, place, text, place if number == SCRIPT else 0)

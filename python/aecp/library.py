@@ -29,6 +29,15 @@ class Reply(ctypes.Structure):
     _fields_ = [("fault", ctypes.c_uint32), ("place", ctypes.c_uint64), ("len", ctypes.c_uint64)]
 
 
+class EditReply(ctypes.Structure):
+    """aecp_edit_reply."""
+
+    reply: Reply
+    line: int
+    samples: int
+    _fields_ = [("reply", Reply), ("line", ctypes.c_uint64), ("samples", ctypes.c_uint64)]
+
+
 class Handle(ctypes.Structure):
     """aecp_handle."""
 
@@ -52,6 +61,7 @@ def call_types() -> dict[str, tuple[Any, list[Any]]]:
     edits: dict[str, list[Any]] = {
         "aecp_append": [handle, at, size, reply],
         "aecp_decode": [options, number, *ends],
+        "aecp_edit": [options, number, at, size, at, size, at, size, ctypes.POINTER(EditReply)],
         "aecp_encode": [options, *ends],
         "aecp_insert": [handle, number, at, size, reply],
         "aecp_load": [options, number, at, size, handle, reply],

@@ -8,3 +8,4 @@ pub mod HandleSteps
 pub mod BoxedWorkspace
 pub mod HandleLemmas
 pub mod HandleLoadLemmas
+pub mod StreamEditLemmas

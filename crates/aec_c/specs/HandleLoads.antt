@@ -26,11 +26,13 @@ pub data CannotRead (s : Settings) (count : Option ℕ) (bytes : List ℕ) (faul
   not_read : RefusesDecoding s count (2 ^ 32) (bits_of_bytes bytes) fault → CannotRead s count bytes fault
   no_memory : fault ≡ Memory → CannotRead s count bytes fault
 
--- a workspace with these samples, whose coder has been called once for each interval of them
+-- a workspace with these samples, whose coder has been called once for each interval of them, and
+-- never to decode
 pub record Holds (s : Settings) (samples : List ℤ) (w : OpenWorkspace) : Type 0 where
   pub samples_are : w.workspace.samples ≡ samples
   pub limit : w.workspace.limit ≡ 2 ^ 32
   pub calls : w.workspace.codec.calls ≡ interval_count (interval_format s) samples
+  pub reads : w.workspace.codec.reads ≡ 0
   pub format : format_of w ≡ interval_format s
 
 -- why samples aren't taken into an empty workspace: the options, what refuses an append of them, or

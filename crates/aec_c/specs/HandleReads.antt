@@ -14,11 +14,12 @@ use Rattle.aec_c.specs.Replies.{done, refused_for, reply_to}
 use Rattle.aec_engine.specs.Buffers.{left_of}
 use Rattle.aec_c.specs.HandleCalls.{format_of, not_open}
 
--- an empty workspace over settings, whose coder hasn't been called
+-- an empty workspace over settings, whose coder has been called neither to code nor to decode
 pub record IsFresh (s : Settings) (w : OpenWorkspace) : Type 0 where
   pub samples : w.workspace.samples ≡ []
   pub limit : w.workspace.limit ≡ 2 ^ 32
   pub calls : w.workspace.codec.calls ≡ 0
+  pub reads : w.workspace.codec.reads ≡ 0
   pub format : format_of w ≡ interval_format s
 
 -- opening: a fresh workspace in the place of what was held, or a refusal that changes nothing

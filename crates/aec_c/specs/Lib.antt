@@ -6,3 +6,4 @@ pub mod Handles
 pub mod HandleCalls
 pub mod HandleReads
 pub mod HandleLoads
+pub mod StreamEdits

@@ -12,14 +12,14 @@ use aec_params::{Fault, Limits, Params};
 use std::alloc::Global;
 
 /// The greatest limits.
-fn limits() -> Limits
+pub(crate) fn limits() -> Limits
     ensures { result ≡ most }
 {
     Limits::new(1 << 32, 1 << 40).unwrap()
 }
 
 /// The parameters that options are.
-fn params_of(options: &Options) -> Result<Params, Fault>
+pub(crate) fn params_of(options: &Options) -> Result<Params, Fault>
     ensures ok { IfOk result (λ params. params ≡ settings_of options.now) }
     ensures allowed { IfOk result (λ params. IsAllowed params) }
     ensures refuses { result_err result ≡ settings_fault (settings_of options.now) }

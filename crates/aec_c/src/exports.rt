@@ -4,6 +4,7 @@ ghost use Rattle.std.specs.Prelude.{◌≡◌};
 ghost use Rattle.aec_c.specs.Calls.{settings_of, count_of, IsCoding, IsDecoding, IsRanging};
 ghost use Rattle.aec_c.specs.Replies.{Replies};
 ghost use Rattle.aec_c.specs.Bounds.{bound_of, Suffices};
+ghost use Rattle.aec_c.specs.StreamEdits.{IsEditing, RepliesEdit};
 ghost use Rattle.aec_c.specs.Texts.{PutsText};
 
 use crate::answers::{coded, decoded, ranged};
@@ -11,11 +12,12 @@ use crate::bound::bound;
 use crate::options::Options;
 use crate::reply::{Reply, told};
 use crate::settling::settle;
+use crate::stream_edits::{EditReply, edited_stream, settle_edited};
 use crate::text::{put_text, text_of};
 use std::alloc::Global;
 
-/// The version of the library: 10,000 for the first of its three numbers, 100 for the second, and 1
-/// for the third.
+/// Returns the version of the library, 0.1.0: 10,000 times its first number, plus 100 times its
+/// second, plus its third.
 #[unsafe(no_mangle)]
 pub extern "C" fn aecp_version() -> u32
     ensures { result ≡ 100 }
@@ -85,6 +87,28 @@ pub extern "C" fn aecp_range(
     let answer = ranged(alloc, options, count, first, len, bytes, out);
     *reply = told(answer, room);
     reply.fault
+}
+
+/// Edits a stream by a script: the code of the samples that the script leaves of the first `count`,
+/// or of all where `count` is the greatest number of 64 bits.
+#[unsafe(no_mangle)]
+pub extern "C" fn aecp_edit(
+    alloc: Global,
+    options: &Options,
+    count: u64,
+    script: &[u8],
+    bytes: &[u8],
+    out: &mut [u8],
+    reply: &mut EditReply,
+) -> u32
+    ensures replies { RepliesEdit (settings_of options.now)
+        (IsEditing (settings_of options.now) (count_of count) script.now bytes.now) out.old out.new
+        reply.new }
+    ensures number { result ≡ reply.new.reply.fault }
+{
+    let answer = edited_stream(alloc, options, count, script, bytes);
+    *reply = settle_edited(answer, out);
+    reply.reply.fault
 }
 
 /// How many bytes always suffice for the code of so many samples; 0 where no samples, these options

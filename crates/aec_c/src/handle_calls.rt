@@ -99,7 +99,8 @@ pub extern "C" fn aecp_insert(
     reply.fault
 }
 
-/// Makes an empty workspace. What the handle held is freed.
+/// Opens an empty workspace. On success the workspace that the handle held is freed; after a
+/// refusal the handle is as it was.
 #[unsafe(no_mangle)]
 pub extern "C" fn aecp_open(
     alloc: Global,
@@ -114,7 +115,8 @@ pub extern "C" fn aecp_open(
     reply.fault
 }
 
-/// Makes a workspace with the samples that a stream is read as. What the handle held is freed.
+/// Opens a workspace with the samples that a stream is read as. On success the workspace that the
+/// handle held is freed; after a refusal the handle is as it was.
 #[unsafe(no_mangle)]
 pub extern "C" fn aecp_load(
     alloc: Global,

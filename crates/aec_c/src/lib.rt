@@ -13,4 +13,5 @@ mod handle_reads;
 mod options;
 mod reply;
 mod settling;
+mod stream_edits;
 mod text;

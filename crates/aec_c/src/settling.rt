@@ -18,7 +18,7 @@ fn put_front(answer: &[u8], out: &mut [u8])
 
 /// Puts an answer at the front of a buffer, where there is room for all of it, and says how that
 /// ended.
-fn settle_bytes(answer: &[u8], out: &mut [u8]) -> Reply
+pub(crate) fn settle_bytes(answer: &[u8], out: &mut [u8]) -> Reply
     ensures left { out.new ≡ left_of (Ok answer.now) out.old }
     ensures reply { result ≡ reply_to (Ok answer.now) (length out.old) }
 {

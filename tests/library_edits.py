@@ -1,0 +1,66 @@
+"""Streams edited by scripts in one call, for library.py: each script by chance beside the model of script_model.py, whose samples the
+library codes afresh. A refused edit is named by its line and its text, and so is a line that is no edit."""
+
+import random
+
+from script_cases import some_count, some_samples, some_script, some_settings
+from script_model import Refused, edited, edits_of
+
+CASES = 600
+
+
+def expected(aecp, settings, samples, script):
+    """The edited stream and its number of samples; or the text of the refusal, and the line."""
+    try:
+        left = edited(settings, samples, edits_of(script))
+    except Refused as refusal:
+        text = str(refusal)
+        words = text.replace(":", "").split()
+        return text, int(words[words.index("line") + 1])
+    return aecp.encode(settings.stored(left), aecp.Options(**settings._asdict())), len(left)
+
+
+def got(aecp, options, coded, count, script):
+    try:
+        return aecp.edit(coded, count, script, options)
+    except aecp.Fault as fault:
+        return str(fault), fault.line
+
+
+def try_script(aecp, seed, number, tally):
+    chance = random.Random(f"script {seed} {number}")
+    settings = some_settings(chance)
+    samples = some_samples(settings, chance)
+    options = aecp.Options(**settings._asdict())
+    coded = aecp.encode(settings.stored(samples), options)
+    count, read = some_count(settings, samples, chance)
+    script = some_script(settings, len(read), chance, number)
+    tally.check(f"script {seed} {number}", got(aecp, options, coded, count, script), expected(aecp, settings, read, script))
+
+
+def try_kinds(aecp, tally):
+    """The kinds of the exceptions, a stream longer than its guess, and a stream that is cut."""
+    options = aecp.Options(8)
+    coded = aecp.encode(bytes(8), options)
+    tally.check("text", aecp.edit(coded, 8, "truncate 3\nappend 1 2\n", options), (aecp.encode(b"\0\0\0\1\2", options), 5))
+    tally.check("nothing", aecp.edit(b"", 0, "", options), (b"", 0))
+    for script, kind, place in (("rename 3", aecp.ScriptRefused, 1), ("append 256", aecp.SampleRefused, 0), ("remove 8 1", aecp.RangeRefused, 8)):
+        try:
+            aecp.edit(coded, 8, script, options)
+            tally.holds(False, f"{script}: not refused")
+        except kind as fault:
+            tally.check(script, (fault.place, fault.line), (place, 1))
+    try:
+        aecp.edit(coded[:-1], 8, "append 1", options)
+        tally.holds(False, "a cut stream: not refused")
+    except aecp.StreamRefused as fault:
+        tally.check("a cut stream", (fault.bit, fault.line), (0, 0))
+    wide, many = aecp.Options(32, interval=1), b"append " + b" 4294967295 0" * 20000
+    stored = b"\xff\xff\xff\xff\0\0\0\0" * 20000
+    tally.check("a long stream", aecp.edit(b"", 0, many, wide), (aecp.encode(stored, wide), 40000))
+
+
+def try_scripts(aecp, seed, tally):
+    try_kinds(aecp, tally)
+    for number in range(CASES):
+        try_script(aecp, seed, number, tally)
