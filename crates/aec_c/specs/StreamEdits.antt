@@ -42,19 +42,22 @@ pub record CodesSoMany (s : Settings) (bytes : List ℕ) (count : ℕ) : Type 0 
   pub code : bytes ≡ bytes_of (code_of (interval_format s) samples)
   pub counted : count ≡ length samples
 
--- a refusal without the line that it names, and that line, or 0
+-- a refusal without the line that it names
 abbrev pub fault_in : EditFault → Fault
 fault_in (Plain fault) = fault
 fault_in (Line line fault) = fault
 
+-- the line that a refusal names, or 0
 abbrev pub line_in : EditFault → ℕ
 line_in (Plain fault) = 0
 line_in (Line line fault) = line
 
+-- an answer whose refusal no longer names its line
 abbrev pub plain_answer : Result (List ℕ) EditFault → Result (List ℕ) Fault
 plain_answer (Ok bytes) = Ok bytes
 plain_answer (Err fault) = Err (fault_in fault)
 
+-- the line that an answer names, or 0
 abbrev pub line_of : Result (List ℕ) EditFault → ℕ
 line_of (Ok bytes) = 0
 line_of (Err fault) = line_in fault
