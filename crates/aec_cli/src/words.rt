@@ -24,7 +24,9 @@ pub fn command<'a>(alloc: Global) -> Result<Command<'a>, Usage>
     ensures refuses { IfErr result (λ u. u ≡ Usage.Memory) }
 {
     let command = Command::new(alloc, "aec")
-        .about("Codes samples without loss, or decodes them.")
+        .about(
+            "Codes integer samples without loss (CCSDS 121.0-B-3), decodes streams, and edits them.",
+        )
         .version(VERSION);
     let command = with_numbers(alloc, command)?;
     let command = with_coding(alloc, command)?;
@@ -85,26 +87,25 @@ fn with_coding<'a>(alloc: Global, command: Command<'a>) -> Result<Command<'a>, A
         alloc,
         "no-preprocessing",
         'N',
-        "no preprocessing: samples are coded as they are",
+        "no preprocessing: slowly changing samples{n}take more bytes",
     );
     let even_blocks = long_flag(
         alloc,
         "even-blocks",
-        "-j may be every even number from 8 to 64; only{n}8, 16, 32 and 64 are the standard's",
+        "-j may be any even number from 8 to 64; the{n}standard has only 8, 16, 32 and 64",
     );
     let pad = flag(
         alloc,
         "pad",
         'p',
-        "each interval is filled up to a byte boundary;{n}\
-         the rule is this project's own and violates the{n}\
-         standard: write such streams only for this program",
+        "fill each interval up to a byte boundary; this{n}\
+         violates the standard: only for this program",
     );
     let restricted = flag(
         alloc,
         "restricted",
         't',
-        "restricted set of code options, for 4 bits per{n}sample or fewer",
+        "restricted set of code options, for at most{n}4 bits per sample",
     );
     command
         .arg(no_preprocessing)?
@@ -117,18 +118,18 @@ fn with_coding<'a>(alloc: Global, command: Command<'a>) -> Result<Command<'a>, A
 fn with_storage<'a>(alloc: Global, command: Command<'a>) -> Result<Command<'a>, AllocError>
     ensures { IfOk result (λ c. app_of c ≡ with_rules (app_of command.entry) storage_rules) }
 {
-    let signed = flag(alloc, "signed", 's', "signed samples");
+    let signed = flag(alloc, "signed", 's', "samples are signed");
     let msb_first = flag(
         alloc,
         "msb-first",
         'm',
-        "samples stored with their most significant byte first",
+        "stored samples begin with their most significant byte",
     );
     let three_byte = flag(
         alloc,
         "three-byte",
         '3',
-        "samples of 17 to 24 bits stored in three bytes",
+        "stored samples of 17 to 24 bits have three bytes",
     );
     command.arg(signed)?.arg(msb_first)?.arg(three_byte)
 }
@@ -137,26 +138,26 @@ fn with_storage<'a>(alloc: Global, command: Command<'a>) -> Result<Command<'a>, 
 fn with_work<'a>(alloc: Global, command: Command<'a>) -> Result<Command<'a>, AllocError>
     ensures { IfOk result (λ c. app_of c ≡ with_rules (app_of command.entry) work_rules) }
 {
-    let decode = flag(alloc, "decode", 'd', "decode SOURCE in place of coding it");
+    let decode = flag(alloc, "decode", 'd', "decode SOURCE instead of coding it");
     let range = long_text(
         alloc,
         "range",
         "FIRST:LEN",
-        "decode LEN samples from FIRST on, counted from 0",
+        "decode LEN samples from place FIRST on,{n}counted from 0",
     );
     let edit = long_text(
         alloc,
         "edit",
         "SCRIPT",
-        "write a coded SOURCE anew, edited by this script",
+        "edit SOURCE, a stream, by the lines of SCRIPT",
     );
     let count = long_number(
         alloc,
         "count",
         "COUNT",
         clap::value_parser!(u64),
-        "sample count of a coded SOURCE; without it the{n}\
-         filler of the last block is decoded too",
+        "number of samples, not bytes, of a coded SOURCE;{n}\
+         without it, filling samples are decoded too",
     );
     let buffer = number(
         alloc,
@@ -164,7 +165,7 @@ fn with_work<'a>(alloc: Global, command: Command<'a>) -> Result<Command<'a>, All
         'b',
         "SIZE",
         clap::value_parser!(u64),
-        "size of a buffer; read, without effect",
+        "no effect (a buffer size in other programs)",
     );
     command
         .arg(decode)?
@@ -178,11 +179,11 @@ fn with_work<'a>(alloc: Global, command: Command<'a>) -> Result<Command<'a>, All
 fn with_files<'a>(alloc: Global, command: Command<'a>) -> Result<Command<'a>, AllocError>
     ensures { IfOk result (λ c. app_of c ≡ with_rules (app_of command.entry) file_rules) }
 {
-    let source = file(alloc, "SOURCE", "the file that is read");
+    let source = file(alloc, "SOURCE", "the file to read");
     let dest = file(
         alloc,
         "DEST",
-        "the file that is written, in place of what it held",
+        "the file to write; an existing file is replaced",
     );
     command.arg(source)?.arg(dest)
 }
