@@ -94,6 +94,10 @@ install-library:
 	install -m 755 bin/libaecp.so $(DESTDIR)$(PREFIX)/lib/libaecp.so.0
 	ln -sf libaecp.so.0 $(DESTDIR)$(PREFIX)/lib/libaecp.so
 	sed 's|@PREFIX@|$(PREFIX)|; s|@VERSION@|0.1.0|' include/aecp.pc.in > $(DESTDIR)$(PREFIX)/lib/pkgconfig/aecp.pc
+	install -d $(DESTDIR)$(PREFIX)/lib/cmake/aecp $(DESTDIR)$(PREFIX)/share/man/man3
+	for file in aecpConfig aecpConfigVersion; do \
+	    sed 's|@PREFIX@|$(PREFIX)|; s|@VERSION@|0.1.0|' include/$$file.cmake.in > $(DESTDIR)$(PREFIX)/lib/cmake/aecp/$$file.cmake || exit 1; done
+	install -m 644 man/aecp.3 $(DESTDIR)$(PREFIX)/share/man/man3/aecp.3
 	install -m 644 python/aecp/*.py python/aecp/py.typed $(DESTDIR)$(PYTHON_DIR)/aecp
 	install -m 755 bin/libaecp.so $(DESTDIR)$(PYTHON_DIR)/aecp/libaecp.so
 	install -d $(DESTDIR)$(PREFIX)/bin $(DESTDIR)$(PYTHON_DIR)/aecp-0.1.0.dist-info
