@@ -13,10 +13,11 @@ use Rattle.aec_c.specs.declared.reply.Reply.{Reply}
 use Rattle.aec_c.specs.Replies.{done, refused_for, reply_to}
 use Rattle.aec_c.specs.HandleCalls.{not_open}
 
--- the whole bytes that bits fill, and the bits behind them
+-- the whole bytes that bits fill
 abbrev pub ready_bytes : List Bool → List ℕ
 ready_bytes bits = take (length bits / 8) (bytes_of bits)
 
+-- the bits behind these bytes
 abbrev pub left_bits : List Bool → List Bool
 left_bits bits = drop (8 * (length bits / 8)) bits
 
@@ -59,6 +60,7 @@ pub data TakesBytes (before after : OpenCoder) (old new : List ℕ) (reply : Rep
       → TakesBytes before after old new reply
   no_memory : after ≡ before → new ≡ old → reply ≡ refused_for Memory → TakesBytes before after old new reply
 
+-- the same for what a handle holds: nothing is taken where it holds no coder
 pub data TakesOut (old new : Option OpenCoder) (before after : List ℕ) (reply : Reply) : Type 0 where
   taken_out : (w w' : OpenCoder) → old ≡ Some w → new ≡ Some w' → TakesBytes w w' before after reply → TakesOut old new before after reply
   none_taken : old ≡ None → new ≡ None → after ≡ before → reply ≡ not_open → TakesOut old new before after reply
