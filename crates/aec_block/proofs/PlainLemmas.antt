@@ -68,8 +68,9 @@ numbers_set s kind width n start behind rest values is_kind width_is count kind_
 -- ---- with a reference sample
 
 -- what was read behind its identifier and its reference sample is the coded data set
-first_set : (s : Settings) (kind : Kind) (pattern : ℕ) (start behind after rest : List Bool) (answer : Option Cds) → kind_at (id_len s) start ≡ taken kind behind
-    → binary_at s.bits behind ≡ taken pattern after → map_taken (checked_body s (Some pattern)) (body_at s true kind after) ≡ taken answer rest
+first_set : (s : Settings) (kind : Kind) (pattern : ℕ) (start behind after rest : List Bool) (answer : Option Cds)
+    → kind_at (id_len s) start ≡ taken kind behind → binary_at s.bits behind ≡ taken pattern after
+    → map_taken (checked_body s (Some pattern)) (body_at s true kind after) ≡ taken answer rest
     → map_taken (checked s) (cds_at s true start) ≡ taken answer rest
 first_set s kind pattern start behind after rest answer kind_read pattern_read body_read =
     ap (λ t. map_taken (checked s) (then_at t (set_after_kind s true))) kind_read

@@ -110,9 +110,9 @@ pub record IsReadPlain (s : Settings) (old new : Cursor) (values : List ℕ) : T
   pub plain : is_plain_body set.body ≡ true
   pub read : IsReadAs s false old new set (Single (block_of_values None values))
 
--- a coded data set with a reference sample of this pattern is read, which has one block: its
--- values, with 0 in the reference place, are these, none of them above 2^n - 1, and the cursor moves
--- behind it
+-- a coded data set of one block with a reference sample of this pattern is read, and the cursor
+-- moves behind it. These are the values of the block, with 0 in the reference place, none of them
+-- above 2^n - 1
 pub record IsReadFirst (s : Settings) (old new : Cursor) (pattern : ℕ) (values : List ℕ) : Type 0 where
   pub set : CodedDataSet
   pub read : IsReadAs s true old new set (Single (record { reference = Some pattern; values = values }))

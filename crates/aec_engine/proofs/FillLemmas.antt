@@ -9,9 +9,9 @@ use Rattle.aec_params.specs.declared.settings.Settings.{Settings}
 use Rattle.aec_params.specs.Params.{IsAllowed, storage_len}
 use Rattle.aec_params.specs.Stored.{stored_number, stored_bytes}
 use Rattle.aec_params.specs.Reading.{IsReading}
-use Rattle.aec_interval.specs.Pieces.{Place, is_wanted_at, ReadsInterval, HasRead}
+use Rattle.aec_interval.specs.Pieces.{Place, is_wanted_at, ReadsIntervals, HasRead}
 use Rattle.aec_interval.proofs.ReadingLemmas.{bits_are_read_in_one_way}
-use Rattle.aec_interval.proofs.PieceReadingLemmas.{has_read_more, has_read_front}
+use Rattle.aec_interval.proofs.PieceReadingLemmas.{has_read_several, has_read_front}
 use Rattle.aec_engine.specs.Output.{all_stored, samples_from}
 use Rattle.aec_engine.specs.ReadingTwice.{AreSamplesOf, PutsPart}
 use Rattle.aec_engine.proofs.ReadTwiceLemmas.{place_from, settings-same, same_next}
@@ -77,7 +77,7 @@ module _ (start p : Place) (s : Settings) (first len skip left at : ℕ) (now : 
   put_count = omega (arith, ap length put_bytes, length-take at now, length-all_stored s (samples_from first len so_far.samples), within)
 
   -- there is room for a further part
-  pub part_fits : (q : Place) (ys part : List ℤ) → ReadsInterval p ys q → (is_wanted_at q ≡ true → q.block % q.settings.interval ≡ 0)
+  pub part_fits : (q : Place) (ys part : List ℤ) → ReadsIntervals p ys q → (is_wanted_at q ≡ true → q.block % q.settings.interval ≡ 0)
       → part ≡ samples_from skip left ys → at + storage_len s * length part ≤ length now
   part_fits q ys part step begins is =
       omega (arith, put_count, size.2, ap (λ n. storage_len s * n) counted)
@@ -89,7 +89,7 @@ module _ (start p : Place) (s : Settings) (first len skip left at : ℕ) (now : 
       same = same_next start p q so_far.same step.piece.same
 
       read : HasRead q both
-      read = has_read_more p q so_far.samples ys (subst IsAllowed (sym (settings-same start p so_far.same)) a) so_far.read step
+      read = has_read_several p q so_far.samples ys (subst IsAllowed (sym (settings-same start p so_far.same)) a) so_far.read step
 
       rest : (zs : List ℤ) × (size.0 ≡ both ++ zs)
       rest = has_read_front q both size.0 (subst IsAllowed (sym (settings-same start q same)) a) read begins

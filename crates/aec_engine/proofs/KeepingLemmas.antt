@@ -84,12 +84,13 @@ few_then start p room made len interval most same there at_most is asks few =
     (asks (length start.bits) (subst (λ n. AreFewKept room (4 * n) (length start.bits)) (sym is) few)
     (omega (arith, at_most, bit-within start p same there)))
 
--- samples whose bytes there is room for
-pub room_for : (start p : Place) (s : Settings) (len most count more left : ℕ) → p ≡ place_from start p.block p.bit → start.settings ≡ s
-    → len ≡ interval_len s → count ≤ max most (interval_len p.settings) → 4 * most ≤ left → more ≡ 4 * len → more ≤ left → 4 * count ≤ left
-room_for start p s len most count more left same is counted few within more_is fits =
+-- and so are they with the bytes of some samples more, for which there is room
+pub few_more : (start p : Place) (s : Settings) (len most room there count kept bits : ℕ) → p ≡ place_from start p.block p.bit → start.settings ≡ s
+    → len ≡ interval_len s → count ≤ max most (interval_len p.settings) → 4 * most ≤ room - there → there + 4 * len ≤ room → kept ≤ there + 4 * count
+    → AreFewKept room (4 * interval_len s) bits → AreFewKept kept (4 * interval_len s) bits
+few_more start p s len most room there count kept bits same is counted few within fits adds spare =
     let settings : interval_len p.settings ≡ interval_len s = ap interval_len (settings-same start p same ∙ is) in
-    omega (arith, settings, counted, few, within, more_is, fits)
+    few_within kept room (4 * interval_len s) bits (omega (arith, settings, counted, few, within, fits, adds)) spare
 
 -- ---- kept bytes and those of the rest
 

@@ -212,7 +212,8 @@ puts_front start p q s first len skip left before mid after waiting ys part xs a
     same = same_next start p q so_far.same step.piece.same
 
     rest : (zs : List ℤ) × (xs ≡ both ++ zs)
-    rest = has_read_front q both xs (subst IsAllowed (sym (settings-same start q same)) a) (has_read_several p q so_far.samples ys allowed so_far.read step) begins
+    rest = has_read_front q both xs (subst IsAllowed (sym (settings-same start q same)) a)
+        (has_read_several p q so_far.samples ys allowed so_far.read step) begins
         (subst (λ (p : Place). IsReading p.settings p.count p.limit p.bits xs) (sym same) given.reading)
 
     later : List ℤ

@@ -83,8 +83,8 @@ whole_end s count limit i n allowed is within =
     untested-within s count limit i n 0 n allowed within.low within.counted is (sym (ap (λ b. if b then 1 else 0) within.unpadded)) (omega arith) within.samples
 
 -- its first block, and the others
-pub reads_interval : (s : Settings) (rest : ℕ) (old mid new : Cursor) (first samples : List ℤ) → IsAllowed s → 1 + rest ≡ s.interval → ReadsFirst s old mid first
-    → ReadsPlain s rest mid first new samples → ReadsWhole s 1 old new samples
+pub reads_interval : (s : Settings) (rest : ℕ) (old mid new : Cursor) (first samples : List ℤ) → IsAllowed s → 1 + rest ≡ s.interval
+    → ReadsFirst s old mid first → ReadsPlain s rest mid first new samples → ReadsWhole s 1 old new samples
 reads_interval s rest old mid new first samples allowed all begun plain = record {
   list = plain.list ∙ begun.list;
   leads = λ count limit i aligned within.

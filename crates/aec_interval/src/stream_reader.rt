@@ -154,8 +154,8 @@ impl<'a> StreamReader<'a> {
         }
     }
 
-    /// Reads the next intervals, if they are short and the vector has room for them. Else false, and
-    /// the reader is where it was.
+    /// Reads the next intervals into the vector, if they are short and it has room for them. Else
+    /// false, and the reader is where it was.
     fn next_short(&mut self, most: u64, samples: &mut Vec<i64>) -> bool
         ensures read { result ≡ true → ReadsIntervals self.old samples.new.items self.new }
         ensures at_most { result ≡ true → vec_len samples.new ≤ most }

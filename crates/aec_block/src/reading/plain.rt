@@ -121,7 +121,8 @@ fn fill_first<const M: usize>(
     ensures taken { IfOk result (λ found. IfSome found (λ pattern.
         map_taken (checked params.now) (cds_at params.now true (bits_at reader.old))
         ≡ taken (Some (Single (block_of_values (Some pattern) values.new))) (bits_at reader.new))) }
-    ensures one { IfOk result (λ found. is_some found ≡ true → has_one (bits_at reader.old) ≡ true) }
+    ensures one { IfOk result
+        (λ found. is_some found ≡ true → has_one (bits_at reader.old) ≡ true) }
     ensures below { IfOk result (λ found. IfSome found (λ pattern. pattern < 2 ^ params.now.bits)) }
     ensures allowed { IsAllowed params.now }
     ensures len { length values.new ≡ length values.old }

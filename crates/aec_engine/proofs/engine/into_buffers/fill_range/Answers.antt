@@ -37,14 +37,14 @@ put_behind-at-requires-clause-room c =
     part_fits c.args.reader.now c.loop-left.reader c.args.params.now c.args.first c.args.len c.loop-left.skip c.loop-left.left c.loop-left.at c.loop-left.out
     (subst IsAllowed (sym c.requires.settings) c.interval_len-len.ensures.allowed) c.loop-left.invariant.puts c.loop-left.invariant.within
     (c.requires.read.0, c.requires.read.1, c.loop-left.invariant.whole ∙ c.requires.read.2) c.next.new.self c.next.new.samples.items
-    c.part_of-part.result.now (c.in_ok-next.ensures.read c.if-branch.true) c.next.ensures.ends
-    (c.part_of-part.ensures ∙ ap (samples_from _ _) c.deref.ensures.value)
+    c.part_of-part.result.now (several-of_one c.loop-left.reader c.next.new.self c.next.new.samples.items (c.in_ok-next.ensures.read c.if-branch.true))
+    c.next.ensures.ends (c.part_of-part.ensures ∙ ap (samples_from _ _) c.deref.ensures.value)
 
 pub loop-left-preserved : goal.loop-left-preserved
 loop-left-preserved c =
     let is = c.part_of-part.ensures ∙ ap (samples_from _ _) c.deref.ensures.value in
     let a = subst IsAllowed (sym c.requires.settings) c.interval_len-len.ensures.allowed in
-    let step = c.in_ok-next.ensures.read c.if-branch.true in
+    let step = several-of_one c.loop-left.reader c.next.new.self c.next.new.samples.items (c.in_ok-next.ensures.read c.if-branch.true) in
     let room = part_fits c.args.reader.now c.loop-left.reader c.args.params.now c.args.first c.args.len c.loop-left.skip c.loop-left.left c.loop-left.at
     c.loop-left.out a c.loop-left.invariant.puts c.loop-left.invariant.within
     (c.requires.read.0, c.requires.read.1, c.loop-left.invariant.whole ∙ c.requires.read.2) c.next.new.self c.next.new.samples.items
@@ -53,8 +53,7 @@ loop-left-preserved c =
     c.put_behind-at.ensures.bytes in
     record {
       puts = puts_more c.args.reader.now c.loop-left.reader c.next.new.self c.args.params.now c.args.first c.args.len c.loop-left.skip c.loop-left.left _ _
-          _ _ _ [] [] c.next.new.samples.items c.part_of-part.result.now a c.loop-left.invariant.puts
-          (several-of_one c.loop-left.reader c.next.new.self c.next.new.samples.items step) c.next.ensures.few c.next.ensures.ends is
+          _ _ _ [] [] c.next.new.samples.items c.part_of-part.result.now a c.loop-left.invariant.puts step c.next.ensures.few c.next.ensures.ends is
           (puts_behind c.args.params.now c.loop-left.at c.put_behind-at.result c.loop-left.out c.put_behind-at.new.out c.part_of-part.result.now
           c.loop-left.invariant.within c.put_behind-at.ensures.bytes c.put_behind-at.ensures.end) (omega arith) refl;
       within = omega (arith, c.put_behind-at.ensures.end, room, long);

@@ -1,9 +1,9 @@
-use Rattle.std.proofs.Common.{◌-◌, vec_len, length, ap, arith, refl, sym, subst}
+use Rattle.std.proofs.Common.{vec_len, length, ap, arith, refl, sym, subst}
 use Rattle.std.proofs.lemmas.List.{nil_from_length}
 use Rattle.std.proofs.lemmas.Result.{err_from_is_err_and}
 use Rattle.aec_params.specs.Params.{IsAllowed}
 use Rattle.aec_engine.proofs.ReadTwiceLemmas.{same_next, counts_more, counts_few, counts_refused}
-use Rattle.aec_engine.proofs.KeepingLemmas.{counts_kept, few_none, few_then, room_for, few_within, keeps_none, keeps_more}
+use Rattle.aec_engine.proofs.KeepingLemmas.{counts_kept, few_none, few_then, few_more, keeps_none, keeps_more}
 use Rattle.aec_engine.proofs.engine.keeping.keep_front.Goals as goal
 
 pub loop-reader-init : goal.loop-reader-init
@@ -37,28 +37,20 @@ overflow_add-before c =
 pub loop-reader-preserved : goal.loop-reader-preserved
 loop-reader-preserved c =
     let step = c.in_ok-next_few.ensures.read c.if-branch.true in
-    let most = room_for c.args.reader.now c.loop-reader.reader c.args.params.now c.interval_len.result c.samples_within.result
-    (vec_len c.next_few.new.samples) _ (c.has_room.new.room - vec_len c.has_room.new.bytes) c.loop-reader.invariant.same c.requires.settings
-    c.interval_len.ensures.value (c.in_ok-next_few.ensures.at_most) (omega (arith, c.samples_within.ensures, c.len.ensures)) refl
-    (omega (arith, c.has_room.ensures.room c.loop-reader-test.true)) in
     let spare = few_then c.args.reader.now c.loop-reader.reader c.loop-reader.room c.has_room.new.room _ _ _ c.loop-reader.invariant.same
     c.most_kept.ensures.reached c.most_kept.ensures.bits c.interval_len.ensures.value c.has_room.ensures.few c.loop-reader.invariant.spare in
     record {
-      keeps = keeps_more c.args.reader.now c.loop-reader.reader c.next_few.new.self c.args.params.now c.loop-reader.before c.len-in-loop-reader.result _ c.loop-reader.bytes.items
-          _ _ _ _ (subst IsAllowed (sym c.requires.settings) c.interval_len.ensures.allowed) c.loop-reader.invariant.same c.loop-reader.invariant.keeps step
-          c.next_few.ensures.few c.next_few.ensures.ends c.has_room.ensures.items c.append_stored.ensures.items c.deref.ensures.value
-          (omega (arith, c.len-in-loop-reader.ensures, c.next_few.new.samples.ok)) refl;
+      keeps = keeps_more c.args.reader.now c.loop-reader.reader c.next_few.new.self c.args.params.now c.loop-reader.before c.len-in-loop-reader.result _
+          c.loop-reader.bytes.items _ _ _ _ (subst IsAllowed (sym c.requires.settings) c.interval_len.ensures.allowed) c.loop-reader.invariant.same
+          c.loop-reader.invariant.keeps step c.next_few.ensures.few c.next_few.ensures.ends c.has_room.ensures.items c.append_stored.ensures.items
+          c.deref.ensures.value (omega (arith, c.len-in-loop-reader.ensures, c.next_few.new.samples.ok)) refl;
       same = same_next c.args.reader.now c.loop-reader.reader c.next_few.new.self c.loop-reader.invariant.same step.piece.same;
       there = omega (arith, c.has_room.ensures.there c.loop-reader.invariant.there, c.append_stored.ensures.capacity);
       spare = spare;
-      few = few_within _ c.has_room.new.room _ _ (omega (
-        arith,
-        c.has_room.ensures.room c.loop-reader-test.true,
-        c.append_stored.ensures.len,
-        ap length c.deref.ensures.value,
-        c.next_few.new.samples.ok,
-        most,
-      )) spare;
+      few = few_more c.args.reader.now c.loop-reader.reader c.args.params.now c.interval_len.result c.samples_within.result c.has_room.new.room
+          (vec_len c.has_room.new.bytes) _ _ (length c.args.reader.now.bits) c.loop-reader.invariant.same c.requires.settings c.interval_len.ensures.value
+          c.in_ok-next_few.ensures.at_most (omega (arith, c.samples_within.ensures, c.len.ensures)) (c.has_room.ensures.room c.loop-reader-test.true)
+          (omega (arith, c.append_stored.ensures.len, ap length c.deref.ensures.value, c.next_few.new.samples.ok)) spare;
       room = omega (arith, c.loop-reader.invariant.room, c.next_few.ensures.capacity);
       buffer = omega (arith, c.loop-reader.invariant.buffer, c.has_room.ensures.capacity, c.append_stored.ensures.capacity);
     }

@@ -47,20 +47,17 @@ returns-then-not-fill_interval-clause-reads g c =
 pub loop-count-preserved : goal.loop-count-preserved
 loop-count-preserved g c =
     let inv = c.loop-count.invariant in
-    let s = c.args.params.now in
     let at = c.loop-count.at in
     let len = c.interval_len-len.result in
     let k = at + len - at in
-    let part = c.fill_interval.new.samples in
     let fits : at + len ≤ length c.loop-count.samples =
-    part_fits c.loop-count.at c.loop-count.count c.args.most c.interval_len-len.result (interval_len c.args.params.now) (length c.loop-count.samples)
-    inv.place (omega (arith, c.loop-count-test.true)) c.interval_len-len.ensures.value (omega (arith, c.requires.room, inv.len)) in
-    let size : length part ≡ len =
+    part_fits at c.loop-count.count c.args.most len (interval_len c.args.params.now) (length c.loop-count.samples) inv.place
+    (omega (arith, c.loop-count-test.true)) c.interval_len-len.ensures.value (omega (arith, c.requires.room, inv.len)) in
+    let size : at + len ≡ at + length c.fill_interval.new.samples =
     omega (arith, c.fill_interval.ensures.len, length-take k (drop at c.loop-count.samples), length-drop at c.loop-count.samples, fits) in
     record {
-      reads = reads_one_more s _ _ _ _ (take at c.loop-count.samples) part _ c.interval_len-len.ensures.allowed inv.reads
-          (c.if-not-fill_interval.ensures.ok refl)
-          (take-put_mid at k c.loop-count.samples part (at + len) (omega (arith, size)) (omega (arith, fits)));
+      reads = reads_one_more _ _ _ _ _ (take at c.loop-count.samples) c.fill_interval.new.samples _ c.interval_len-len.ensures.allowed inv.reads
+          (c.if-not-fill_interval.ensures.ok refl) (take-put_mid at k c.loop-count.samples c.fill_interval.new.samples (at + len) size (omega (arith, fits)));
       stays = λ none. absurd (omega (arith, none));
       within = search rules;
       place = omega (arith, inv.place, add-mul c.loop-count.count 1 len);
