@@ -116,6 +116,10 @@ install-c:
 	ln -sf libaecp.so.0 $(DESTDIR)$(LIBDIR)/libaecp.so
 	sed 's|@PREFIX@|$(PC_PREFIX)|; s|@LIBDIR@|$(patsubst $(PREFIX)/%,$${prefix}/%,$(LIBDIR))|; s|@VERSION@|$(VERSION)|' include/aecp.pc.in \
 	    > $(DESTDIR)$(LIBDIR)/pkgconfig/aecp.pc
+	install -d $(DESTDIR)$(LIBDIR)/cmake/aecp $(DESTDIR)$(PREFIX)/share/man/man3
+	for file in aecpConfig aecpConfigVersion; do \
+	    sed 's|@VERSION@|$(VERSION)|' include/$$file.cmake.in > $(DESTDIR)$(LIBDIR)/cmake/aecp/$$file.cmake || exit 1; done
+	install -m 644 man/aecp.3 $(DESTDIR)$(PREFIX)/share/man/man3/aecp.3
 
 install-python:
 	@test -e bin/libaecp.so || { echo "there is no bin/libaecp.so: run make library first" >&2; exit 1; }
@@ -131,7 +135,9 @@ install-python:
 uninstall-library:
 	rm -f $(DESTDIR)$(PREFIX)/include/aecp.h $(DESTDIR)$(PREFIX)/bin/aecp $(DESTDIR)$(LIBDIR)/pkgconfig/aecp.pc
 	rm -f $(DESTDIR)$(LIBDIR)/libaecp.a $(DESTDIR)$(LIBDIR)/libaecp.so.0 $(DESTDIR)$(LIBDIR)/libaecp.so
-	rm -rf $(DESTDIR)$(PYTHON_DIR)/aecp $(info)
+	rm -f $(DESTDIR)$(PREFIX)/share/man/man3/aecp.3
+	rm -rf $(DESTDIR)$(LIBDIR)/cmake/aecp $(DESTDIR)$(PYTHON_DIR)/aecp $(info)
+	-rmdir $(DESTDIR)$(LIBDIR)/cmake 2> /dev/null
 
 # Packages of what `make` and `make library` have built, in dist/: a tarball, Debian packages and a wheel. UNPROVED=1 packs files that
 # these two haven't built, for a try; the packages then say that nothing is proved.

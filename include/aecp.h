@@ -72,7 +72,7 @@ enum {
     AECP_STREAM_TOO_LONG = 16, /* place: the greatest length in bytes, 2^40 */
     AECP_EVEN_BLOCK_SIZE = 17,
     AECP_NO_ROOM = 18,         /* len: the bytes, or samples, that the answer takes */
-    AECP_NOT_OPEN = 19         /* the handle holds no workspace */
+    AECP_NOT_OPEN = 19         /* the handle holds no workspace, the coder isn't open */
 };
 
 /* In place of a sample count: all samples that the stream is read as, with the filler of its last block. */
@@ -178,6 +178,36 @@ uint32_t aecp_write(aecp_handle *handle, uint8_t *out, size_t out_len, aecp_repl
  * no memory. Trap: both are 0 where the handle holds no workspace. */
 uint64_t aecp_size(aecp_handle *handle);
 uint64_t aecp_calls(aecp_handle *handle);
+
+/* A coder that takes samples in pieces. All of it is the library's, and it begins as AECP_CODER or as zeros. It is open from
+ * aecp_coder_open to aecp_coder_close. Copy no coder that is open. One thread at a time calls with a coder. However the samples are cut
+ * into pieces, the bytes that are taken are, one after the other, those of one aecp_encode of all samples. */
+typedef struct {
+    void *at;
+    bool full;
+} aecp_coder;
+
+#define AECP_CODER {0, false}
+
+/* Opens a coder of at most 2^32 samples. On success the coder that `coder` held is freed; after a fault it is as it was. Faults: options,
+ * MEMORY. Trap: a coder that isn't zeros at first is memory that is freed. */
+uint32_t aecp_coder_open(const aecp_options *options, aecp_coder *coder, aecp_reply *reply);
+
+/* Takes stored samples; a sample may be cut in two. `reply->len` is the number of bytes that can be taken now. Faults: SAMPLE_RANGE, whose
+ * place counts from the first of all samples, TOO_MANY_SAMPLES, MEMORY, NOT_OPEN. Each later call returns the first fault again. Keeps
+ * the code until it is taken, and less than an interval of samples. Trap: bytes come interval by interval, so a call may yield none. */
+uint32_t aecp_coder_feed(aecp_coder *coder, const void *samples, size_t samples_len, aecp_reply *reply);
+
+/* Ends the stream; a sample that is not complete is dropped. `reply->len` is the number of bytes that can be taken then, the last ones.
+ * Faults: that of an earlier feed, MEMORY, NOT_OPEN. Trap: after it, with a fault too, the coder takes no more samples: NOT_OPEN. */
+uint32_t aecp_coder_finish(aecp_coder *coder, aecp_reply *reply);
+
+/* Puts all bytes that can be taken into `out`, which is filled as by the calls above, and removes them from the coder. Faults: MEMORY,
+ * NO_ROOM, NOT_OPEN. Allocates as much as it puts. Trap: after a fault of feed, take nothing: the stream is no whole one. */
+uint32_t aecp_coder_take(aecp_coder *coder, uint8_t *out, size_t out_len, aecp_reply *reply);
+
+/* Frees the coder. Allowed where none is open, and twice. */
+void aecp_coder_close(aecp_coder *coder);
 
 #ifdef __cplusplus
 }

@@ -158,6 +158,9 @@ def split_library(top, work):
     moved = os.path.join(dev, "usr", LIB, "libaecp.so.0")
     stage.write(os.path.join(shared, "usr", LIB, "libaecp.so.0"), stage.read(moved))
     os.remove(moved)
+    page = os.path.join(dev, "usr/share/man/man3/aecp.3")
+    stage.write(page + ".gz", packed(stage.read(page)))
+    os.remove(page)
     return shared, dev
 
 

@@ -67,7 +67,7 @@ remove_folders() {
         done
     done | sort -ru | while IFS= read -r folder; do
         case $folder in
-            bin | lib | include | share | share/man | share/man/man1 | share/doc) ;;
+            bin | lib | include | share | share/man | share/man/man1 | share/man/man3 | share/doc) ;;
             *) [ ! -d "$prefix/$folder" ] || rmdir "$prefix/$folder" 2> /dev/null || true ;;
         esac
     done

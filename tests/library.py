@@ -41,7 +41,8 @@ TOP = os.path.join(os.path.dirname(os.path.abspath(__file__)), "..")
 THEIRS = os.environ.get("LIBAEC", "/usr/bin/aec")
 ALL, NO_ROOM, MEMORY = 2**64 - 1, 18, 12
 CALLS = {"bound", "decode", "encode", "range", "text", "open", "load", "close", "read", "write", "size", "calls",
-         "version", "append", "insert", "overwrite", "remove", "truncate", "edit"}
+         "version", "append", "insert", "overwrite", "remove", "truncate", "edit",
+         "coder_open", "coder_feed", "coder_finish", "coder_take", "coder_close"}
 EIGHT, CODED = bytes(range(8)), bytes.fromhex("20092492")
 FLAGS = {"signed": "s", "msb_first": "m", "three_byte": "3", "pad": "p", "restricted": "t", "even_blocks": "e"}
 

@@ -1,5 +1,6 @@
 """Streams edited by scripts in one call, for library.py: each script by chance beside the model of script_model.py, whose samples the
-library codes afresh. A refused edit is named by its line and its text, and so is a line that is no edit."""
+library codes afresh. A refused edit is named by its line and its text, and so is a line that is no edit. And streams coded in pieces,
+which are cut anywhere, beside those of one call."""
 
 import random
 
@@ -60,7 +61,40 @@ def try_kinds(aecp, tally):
     tally.check("a long stream", aecp.edit(b"", 0, many, wide), (aecp.encode(stored, wide), 40000))
 
 
+def try_pieces(aecp, seed, number, tally):
+    """Samples fed in pieces of chance lengths; and one that is out of range, named by its index among all, each time again."""
+    chance = random.Random(f"pieces {seed} {number}")
+    settings = some_settings(chance)
+    stored = settings.stored(some_samples(settings, chance))
+    options = aecp.Options(**settings._asdict())
+    coder, pieces, at = aecp.Encoder(options), [], 0
+    while at < len(stored):
+        length = chance.choice([0, 1, 2, 3, 7, 64, 1000, len(stored)])
+        pieces.append(coder.feed(stored[at : at + length]))
+        at += length
+    whole = (aecp.encode(stored, options), len(stored) // settings.storage())
+    tally.check(f"pieces {seed} {number}", (b"".join([*pieces, coder.finish()]), coder.count), whole)
+
+
+def try_refused_pieces(aecp, tally):
+    coder = aecp.Encoder(aecp.Options(7))
+    coder.feed(bytes(3000))
+    for call in (lambda: coder.feed(b"\1\x80"), lambda: coder.feed(b"\1"), coder.finish):
+        try:
+            call()
+            tally.holds(False, "a sample of 8 bits is fed")
+        except aecp.SampleRefused as fault:
+            tally.check("refused piece", fault.index, 3001)
+    try:
+        aecp.Encoder(aecp.Options(33))
+        tally.holds(False, "33 bits")
+    except aecp.OptionsRefused:
+        tally.check("nothing in pieces", aecp.Encoder(aecp.Options(8)).finish(), b"")
+
+
 def try_scripts(aecp, seed, tally):
     try_kinds(aecp, tally)
+    try_refused_pieces(aecp, tally)
     for number in range(CASES):
         try_script(aecp, seed, number, tally)
+        try_pieces(aecp, seed, number, tally)

@@ -159,6 +159,54 @@ static void *work(void *given) {
     return 0;
 }
 
+enum { PIECES = 1000, LONG = 2 * PIECES };
+
+/* The stream of samples of 16 bits that are fed byte by byte, taken as they come. How long it is. */
+static size_t in_pieces(aecp_coder *coder, const uint8_t *samples, uint8_t *out) {
+    aecp_reply reply;
+    size_t len = 0;
+    for (int i = 0; i < LONG; i++) {
+        check(aecp_coder_feed(coder, samples + i, 1, &reply) == AECP_OK, "feed");
+        uint64_t ready = reply.len;
+        if (ready == 0) continue;
+        check(aecp_coder_take(coder, out + len, ready - 1, &reply) == AECP_NO_ROOM && reply.len == ready, "take without room");
+        check(aecp_coder_take(coder, out + len, ready, &reply) == AECP_OK && reply.len == ready, "take");
+        len += ready;
+    }
+    check(aecp_coder_feed(coder, samples, 1, &reply) == AECP_OK, "feed half of a sample");
+    check(aecp_coder_finish(coder, &reply) == AECP_OK, "finish");
+    check(aecp_coder_take(coder, out + len, LONG - len, &reply) == AECP_OK, "take the last");
+    return len + reply.len;
+}
+
+/* A coder opened twice, its stream beside that of one call, and its refusals. */
+static void try_coder(void) {
+    aecp_options options = AECP_OPTIONS(16), narrow = AECP_OPTIONS(1), none = AECP_OPTIONS(0);
+    aecp_coder coder = AECP_CODER;
+    uint8_t samples[LONG], pieces[LONG], whole[LONG];
+    aecp_reply reply;
+    options.interval = 3;
+    for (int i = 0; i < LONG; i++) samples[i] = (uint8_t)(i % 2 ? 3 : i * i % 200);
+    check(aecp_coder_feed(&coder, samples, LONG, &reply) == AECP_NOT_OPEN, "feed of none");
+    check(aecp_coder_finish(&coder, &reply) == AECP_NOT_OPEN && aecp_coder_take(&coder, pieces, LONG, &reply) == AECP_NOT_OPEN, "none");
+    check(aecp_coder_open(&options, &coder, &reply) == AECP_OK && aecp_coder_feed(&coder, samples, 99, &reply) == AECP_OK, "open");
+    check(aecp_coder_open(&none, &coder, &reply) == AECP_BITS_PER_SAMPLE, "open without bits");
+    check(aecp_coder_open(&options, &coder, &reply) == AECP_OK && reply.len == 0, "open again");
+    size_t len = in_pieces(&coder, samples, pieces);
+    check(aecp_encode(&options, samples, LONG, whole, LONG, &reply) == AECP_OK, "encode");
+    check(reply.len == len && memcmp(pieces, whole, len) == 0, "pieces and whole");
+    check(aecp_coder_feed(&coder, samples, 2, &reply) == AECP_NOT_OPEN, "feed of a finished one");
+    check(aecp_coder_finish(&coder, &reply) == AECP_NOT_OPEN, "finish of a finished one");
+    check(aecp_coder_take(&coder, 0, 0, &reply) == AECP_OK && reply.len == 0, "take nothing");
+    check(aecp_coder_open(&narrow, &coder, &reply) == AECP_OK, "open for one bit");
+    check(aecp_coder_feed(&coder, (const uint8_t[]){1, 0}, 2, &reply) == AECP_OK, "feed bits");
+    for (int turn = 0; turn < 2; turn++)
+        check(aecp_coder_feed(&coder, (const uint8_t[]){1, 2, 3}, 3, &reply) == AECP_SAMPLE_RANGE && reply.place == 3, "feed of 2");
+    check(aecp_coder_finish(&coder, &reply) == AECP_SAMPLE_RANGE && reply.place == 3, "finish after 2");
+    aecp_coder_close(&coder);
+    aecp_coder_close(&coder);
+}
+
 static void try_threads(void) {
     pthread_t all[THREADS];
     int64_t numbers[THREADS];
@@ -175,7 +223,7 @@ int main(int count, char **words) {
     if (loses)
         lose();
     else
-        try_calls();
+        try_calls(), try_coder();
     if (write(2, "grant\n", 6) != 6) return 2;
     if (!loses) try_threads();
     printf("%u passed, %u failed\n", passed, failed);

@@ -15,6 +15,7 @@ static uint8_t samples[4 * SAMPLES], coded[ROOM], back[ROOM];
 static int64_t values[SAMPLES], numbers[SAMPLES];
 static aecp_options options;
 static aecp_handle handle;
+static aecp_coder coder;
 static size_t samples_len, coded_len;
 
 /* Zeros, and then values of all widths. */
@@ -67,6 +68,11 @@ static int ends(void) {
     if (is("size")) return aecp_size(&handle) == SAMPLES;
     if (is("calls")) return aecp_calls(&handle) > 0;
     if (is("close")) return aecp_close(&handle), aecp_size(&handle) == 0;
+    if (is("coder_open")) return !aecp_coder_open(&options, &coder, &reply);
+    if (is("coder_feed")) return !aecp_coder_feed(&coder, samples, samples_len, &reply);
+    if (is("coder_finish")) return !aecp_coder_finish(&coder, &reply);
+    if (is("coder_take")) return !aecp_coder_take(&coder, back, ROOM, &reply);
+    if (is("coder_close")) return aecp_coder_close(&coder), 1;
     if (is("text")) {
         char text[80];
         int longest = 0;
@@ -105,8 +111,10 @@ static int try_settings(size_t size, size_t *most) {
     if (aecp_encode(&options, samples, samples_len, coded, ROOM, &reply)) return reply.fault <= AECP_RESTRICTED_WIDTH;
     coded_len = reply.len;
     if (aecp_load(&options, SAMPLES, coded, coded_len, &handle, &reply)) return 0;
+    if (aecp_coder_open(&options, &coder, &reply) || aecp_coder_feed(&coder, samples, samples_len / 2, &reply)) return 0;
     size_t bytes = taken(size);
     aecp_close(&handle);
+    aecp_coder_close(&coder);
     if (bytes > *most) *most = bytes;
     return bytes > 0;
 }

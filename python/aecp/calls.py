@@ -22,14 +22,18 @@ def encode(samples: Any, options: Options) -> bytes:
     dropped); or a numpy array of any shape, in C order, whose dtype is that of the options but for its byte order.
     Raises OptionsRefused, SampleRefused, LimitPassed, NoMemory; TypeError for an array of another dtype, or with a mask.
     """
-    given = c_options(options)
-    if numpy is not None and isinstance(samples, numpy.ndarray):
-        if isinstance(samples, numpy.ma.MaskedArray):
-            raise TypeError("an array with a mask can't be coded: use its filled()")
-        samples = numpy.ascontiguousarray(samples.astype(options.dtype, order="C", casting="equiv", copy=False))
-    source = Source(samples)
+    given, source = c_options(options), Source(native(samples, options))
     most = LIBRARY.aecp_bound(given, source.size // options.storage)
     return bytes(filled("aecp_encode", [given], source, most))
+
+
+def native(samples: Any, options: Options) -> Any:
+    """Samples as encode takes them, in memory as the options store them."""
+    if numpy is None or not isinstance(samples, numpy.ndarray):
+        return samples
+    if isinstance(samples, numpy.ma.MaskedArray):
+        raise TypeError("an array with a mask can't be coded: use its filled()")
+    return numpy.ascontiguousarray(samples.astype(options.dtype, order="C", casting="equiv", copy=False))
 
 
 def decode(coded: Any, count: Optional[int], options: Options, out: Any = None) -> Any:

@@ -44,6 +44,12 @@ class Handle(ctypes.Structure):
     _fields_ = [("at", ctypes.c_void_p), ("full", ctypes.c_bool)]
 
 
+class Coder(ctypes.Structure):
+    """aecp_coder."""
+
+    _fields_ = [("at", ctypes.c_void_p), ("full", ctypes.c_bool)]
+
+
 def place_of_library() -> str:
     """The path of the library: AECP_LIBRARY, else beside this module, else a checkout's bin, else where the loader looks."""
     named = os.environ.get("AECP_LIBRARY")
@@ -57,9 +63,14 @@ def call_types() -> dict[str, tuple[Any, list[Any]]]:
     """The type of the result and of the arguments of each call."""
     number, size, at = ctypes.c_uint64, ctypes.c_size_t, ctypes.c_void_p
     options, reply, handle = ctypes.POINTER(COptions), ctypes.POINTER(Reply), ctypes.POINTER(Handle)
+    coder = ctypes.POINTER(Coder)
     ends = [at, size, at, size, reply]
     edits: dict[str, list[Any]] = {
         "aecp_append": [handle, at, size, reply],
+        "aecp_coder_feed": [coder, at, size, reply],
+        "aecp_coder_finish": [coder, reply],
+        "aecp_coder_open": [options, coder, reply],
+        "aecp_coder_take": [coder, at, size, reply],
         "aecp_decode": [options, number, *ends],
         "aecp_edit": [options, number, at, size, at, size, at, size, ctypes.POINTER(EditReply)],
         "aecp_encode": [options, *ends],
@@ -77,6 +88,7 @@ def call_types() -> dict[str, tuple[Any, list[Any]]]:
         "aecp_bound": (number, [options, number]),
         "aecp_calls": (number, [handle]),
         "aecp_close": (None, [handle]),
+        "aecp_coder_close": (None, [coder]),
         "aecp_size": (number, [handle]),
         "aecp_text": (size, [reply, at, size]),
         **{name: (ctypes.c_uint32, takes) for name, takes in edits.items()},

@@ -1,13 +1,14 @@
-"""Coded streams that are edited by a script."""
+"""Coded streams: edited by a script, and coded in pieces."""
 
 from __future__ import annotations
 
+import threading
 from typing import Any, Optional, Union
 
 from aecp.buffers import Source, Target, room_for
-from aecp.calls import number_of
+from aecp.calls import native, number_of
 from aecp.faults import NO_ROOM, fault_of
-from aecp.library import LIBRARY, EditReply, c_options, text_of
+from aecp.library import LIBRARY, Coder, EditReply, Reply, c_options, text_of
 from aecp.options import Options
 
 SPARE = 4096  # bytes that an edited stream may take beside those of the stream and of the script
@@ -33,3 +34,61 @@ def edit(coded: Any, count: Optional[int], script: Union[str, Any], options: Opt
         if fault != NO_ROOM:
             raise fault_of(fault, edited.reply.place, text_of(edited.reply), edited.line)
         room = edited.reply.len
+
+
+class Encoder:
+    """Codes samples that come in pieces. However they are cut, the bytes are together those of one `encode` of all samples.
+
+        coder = aecp.Encoder(options)
+        for piece in pieces:
+            file.write(coder.feed(piece))
+        file.write(coder.finish())
+
+    `count` is the number of samples so far: keep it with the stream. Any number of threads may call.
+    """
+
+    def __init__(self, options: Options) -> None:
+        self.options = options
+        self._lock = threading.Lock()
+        self._coder = Coder()
+        self._bytes = 0
+        reply = Reply()
+        judge(LIBRARY.aecp_coder_open(c_options(options), self._coder, reply), reply)
+
+    @property
+    def count(self) -> int:
+        """How many whole samples were fed."""
+        return self._bytes // self.options.storage
+
+    def feed(self, samples: Any) -> bytes:
+        """Takes samples, as encode does, and returns the bytes that are complete: those of whole intervals. In bytes a sample may be cut
+        in two. Raises what encode does, and after that the same each time."""
+        source, reply = Source(native(samples, self.options)), Reply()
+        with self._lock:
+            judge(LIBRARY.aecp_coder_feed(self._coder, source.at, source.size, reply), reply)
+            self._bytes += source.size
+            return self._take(reply.len)
+
+    def finish(self) -> bytes:
+        """Ends the stream and returns its last bytes. The encoder takes no more then."""
+        reply = Reply()
+        with self._lock:
+            judge(LIBRARY.aecp_coder_finish(self._coder, reply), reply)
+            return self._take(reply.len)
+
+    def _take(self, size: int) -> bytes:
+        if size == 0:
+            return b""
+        target, reply = Target(room_for(size)), Reply()
+        judge(LIBRARY.aecp_coder_take(self._coder, target.at, target.size, reply), reply)
+        return bytes(target.view)
+
+    def __del__(self) -> None:
+        if hasattr(self, "_coder"):
+            LIBRARY.aecp_coder_close(self._coder)
+
+
+def judge(number: int, reply: Reply) -> None:
+    """Raises the fault of a reply, if it is one."""
+    if number:
+        raise fault_of(number, reply.place, text_of(reply))

@@ -6,6 +6,10 @@ pub mod CodeLengthLemmas
 pub mod SufficesLemmas
 pub mod HandleSteps
 pub mod BoxedWorkspace
+pub mod CoderHandleSteps
+pub mod BoxedCoder
 pub mod HandleLemmas
 pub mod HandleLoadLemmas
 pub mod StreamEditLemmas
+pub mod CoderLemmas
+pub mod CoderLaws

@@ -24,7 +24,7 @@ use Rattle.aec_engine.proofs.EditFrontLemmas.{editing-whole, scripts-whole}
 use Rattle.aec_c.specs.declared.stream_edits.EditReply.{EditReply}
 use Rattle.aec_c.specs.Calls.{most}
 use Rattle.aec_c.specs.Replies.{reply_to}
-use Rattle.aec_c.specs.StreamEdits.{IsEditing, edited, not_edited, lacks_memory, lacks_memory_on, CodesSoMany, plain_answer, line_of, IsCounted, RepliesEdit}
+use Rattle.aec_c.specs.StreamEdits.{IsEditing, edited, not_edited, lacks_memory, lacks_memory_on, CodesSoMany, plain_answer, line_of, RepliesEdit}
 
 -- ---- what a source in memory gave
 

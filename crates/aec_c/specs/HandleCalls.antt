@@ -18,9 +18,10 @@ format_of w = interval_format w.workspace.codec.params
 abbrev pub not_open : Reply
 not_open = record { fault = 19; place = 0; len = 0 }
 
--- a call on a handle, by what it does to a workspace: one that holds none holds none after it
-pub data OnHandle (Does : OpenWorkspace → OpenWorkspace → Reply → Type 0) (old new : Option OpenWorkspace) (reply : Reply) : Type 0 where
-  held : (before after : OpenWorkspace) → old ≡ Some before → new ≡ Some after → Does before after reply → OnHandle Does old new reply
+-- a call on a handle, by what it does to what is held: one that holds nothing holds nothing after
+-- it
+pub data OnHandle {X : Type 0} (Does : X → X → Reply → Type 0) (old new : Option X) (reply : Reply) : Type 0 where
+  held : (before after : X) → old ≡ Some before → new ≡ Some after → Does before after reply → OnHandle Does old new reply
   empty : old ≡ None → new ≡ None → reply ≡ not_open → OnHandle Does old new reply
 
 -- how many intervals an edit has coded, or why it is refused

@@ -6,6 +6,7 @@ use Rattle.std.specs.contracts.impls.GlobalAllocator.TheImpl.{ghosts}
 use Rattle.std.specs.Global.{Global}
 use Rattle.std.specs.Box.Ownership.{box_owns}
 use Rattle.aec_c.specs.contracts.handle.OpenWorkspace.{the_row}
+use Rattle.aec_c.specs.contracts.coder_handle.OpenCoder as coder
 
 -- the allocator of all programs, which has no data
 abbrev pub heap : Global
@@ -17,3 +18,10 @@ handle_owns true p (Some work) = box_owns (ghosts.dealloc_token heap) the_row p 
 handle_owns true p None = ffalse
 handle_owns false p (Some work) = ffalse
 handle_owns false p None = ftrue
+
+-- the same with a coder
+abbrev pub coder_owns : Bool → Ptr → Option coder.the_row.Denot → Fml
+coder_owns true p (Some made) = box_owns (ghosts.dealloc_token heap) coder.the_row p made
+coder_owns true p None = ffalse
+coder_owns false p (Some made) = ffalse
+coder_owns false p None = ftrue

@@ -7,3 +7,4 @@ pub mod HandleCalls
 pub mod HandleReads
 pub mod HandleLoads
 pub mod StreamEdits
+pub mod Coders

@@ -1,6 +1,6 @@
 //! What C holds: a workspace in a block of memory, or none.
 
-mod loose;
+pub(crate) mod loose;
 
 ghost use Rattle.std.specs.Prelude.{◌≡◌, Option, None, Some};
 ghost use Rattle.std.specs.Option.{option_map};

@@ -4,12 +4,16 @@
 
 mod answers;
 mod bound;
+mod coder_calls;
+mod coder_handle;
+mod coders;
 mod exports;
 mod handle;
 mod handle_calls;
 mod handle_edits;
 mod handle_loads;
 mod handle_reads;
+pub mod laws;
 mod options;
 mod reply;
 mod settling;

@@ -25,7 +25,7 @@ pub fn command<'a>(alloc: Global) -> Result<Command<'a>, Usage>
 {
     let command = Command::new(alloc, "aec")
         .about(
-            "Codes integer samples without loss (CCSDS 121.0-B-3), decodes streams, and edits them.",
+            "Codes integer samples without loss (CCSDS 121.0-B-3), decodes and edits streams.",
         )
         .version(VERSION);
     let command = with_numbers(alloc, command)?;

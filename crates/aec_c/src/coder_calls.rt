@@ -1,0 +1,82 @@
+//! The calls from C on a coder that takes samples in pieces.
+
+ghost use Rattle.std.specs.Prelude.{◌≡◌, None};
+ghost use Rattle.aec_c.specs.Calls.{settings_of};
+ghost use Rattle.aec_c.specs.HandleCalls.{OnHandle};
+ghost use Rattle.aec_c.specs.Coders.{OpensCoder, FeedsPiece, FinishesStream, TakesOut};
+
+use crate::coder_handle::CoderHandle;
+use crate::coders::{coder_closed, coder_opened, fed, finished, taken};
+use crate::options::Options;
+use crate::reply::Reply;
+use std::alloc::Global;
+
+/// Opens a coder that was fed nothing. On success the coder that the handle held is freed; after a
+/// refusal the handle is as it was.
+#[unsafe(no_mangle)]
+pub extern "C" fn aecp_coder_open(
+    alloc: Global,
+    options: &Options,
+    coder: &mut CoderHandle,
+    reply: &mut Reply,
+) -> u32
+    ensures opens { OpensCoder (settings_of options.now) coder.old.value coder.new.value reply.new }
+    ensures number { result ≡ reply.new.fault }
+{
+    *reply = coder_opened(alloc, options, coder);
+    reply.fault
+}
+
+/// Takes a piece of stored samples, cut anywhere. Replies how many whole bytes of the code can be
+/// taken.
+#[unsafe(no_mangle)]
+pub extern "C" fn aecp_coder_feed(
+    alloc: Global,
+    coder: &mut CoderHandle,
+    samples: &[u8],
+    reply: &mut Reply,
+) -> u32
+    ensures feeds { OnHandle (FeedsPiece samples.now) coder.old.value coder.new.value reply.new }
+    ensures number { result ≡ reply.new.fault }
+{
+    *reply = fed(alloc, coder, samples);
+    reply.fault
+}
+
+/// Ends the stream: no more samples are taken. Replies how many bytes can be taken, which are then
+/// the last.
+#[unsafe(no_mangle)]
+pub extern "C" fn aecp_coder_finish(
+    alloc: Global,
+    coder: &mut CoderHandle,
+    reply: &mut Reply,
+) -> u32
+    ensures finishes { OnHandle FinishesStream coder.old.value coder.new.value reply.new }
+    ensures number { result ≡ reply.new.fault }
+{
+    *reply = finished(alloc, coder);
+    reply.fault
+}
+
+/// Puts all whole bytes of the code that weren't taken yet into a buffer.
+#[unsafe(no_mangle)]
+pub extern "C" fn aecp_coder_take(
+    alloc: Global,
+    coder: &mut CoderHandle,
+    out: &mut [u8],
+    reply: &mut Reply,
+) -> u32
+    ensures takes { TakesOut coder.old.value coder.new.value out.old out.new reply.new }
+    ensures number { result ≡ reply.new.fault }
+{
+    *reply = taken(alloc, coder, out);
+    reply.fault
+}
+
+/// Frees the coder that a handle holds.
+#[unsafe(no_mangle)]
+pub extern "C" fn aecp_coder_close(alloc: Global, coder: &mut CoderHandle)
+    ensures { coder.new.value ≡ None }
+{
+    coder_closed(alloc, coder);
+}

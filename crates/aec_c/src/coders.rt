@@ -1,0 +1,187 @@
+//! Samples coded in pieces by a coder that a handle holds.
+
+ghost use Rattle.std.specs.Prelude.{◌≡◌, ◌≤◌, ◌^◌, ◌⊎◌, [], None, Some, Option, ◌/◌, length, drop, IfOk, IfErr};
+ghost use Rattle.aec_params.specs.declared.fault.Fault.TheVariants.{Memory};
+ghost use Rattle.aec_params.specs.Params.{IsAllowed, settings_fault};
+ghost use Rattle.aec_params.specs.Codewords.{bytes_of, padded_to_byte};
+ghost use Rattle.aec_interval.specs.Feeding.{fresh_coder};
+ghost use Rattle.aec_c.specs.Calls.{settings_of};
+ghost use Rattle.aec_c.specs.HandleCalls.{OnHandle};
+ghost use Rattle.aec_c.specs.Coders.{OpensCoder, FeedsPiece, FinishesStream, TakesBytes, TakesOut};
+
+use crate::answers::params_of;
+use crate::coder_handle::{CoderHandle, OpenCoder};
+use crate::handle_edits::not_open;
+use crate::options::Options;
+use crate::reply::{Reply, answered, refused};
+use crate::settling::settle_bytes;
+use aec_bits::{BitBuf, WriteSink};
+use aec_interval::StreamCoder;
+use aec_params::Fault;
+use std::alloc::Global;
+use std::mem;
+
+/// A coder that was fed nothing.
+fn fresh_coder(alloc: Global, options: &Options) -> Result<Box<OpenCoder>, Fault>
+    ensures ok { IfOk result (λ made. (IsAllowed (settings_of options.now))
+        × (made.value.coder ≡ Some (fresh_coder (settings_of options.now) (2 ^ 32)))
+        × (made.value.bits.list ≡ [])) }
+    ensures refuses { IfErr result
+        (λ fault. (fault ≡ Memory) ⊎ (settings_fault (settings_of options.now) ≡ Some fault)) }
+{
+    let params = params_of(options)?;
+    let coder = Some(StreamCoder::new(alloc, params, 1 << 32));
+    let bits = BitBuf::new(alloc);
+    match Box::new(alloc, OpenCoder { coder, bits }) {
+        Ok(made) => Ok(made),
+        Err(_) => Err(Fault::Memory),
+    }
+}
+
+/// Frees the coder that a handle holds.
+pub(crate) fn coder_closed(alloc: Global, handle: &mut CoderHandle)
+    ensures { handle.new.value ≡ None }
+{
+    let _held = mem::replace(handle, CoderHandle::empty()).into_box(alloc);
+}
+
+/// Puts a coder that was fed nothing in the place of what a handle holds.
+pub(crate) fn coder_opened(alloc: Global, options: &Options, handle: &mut CoderHandle) -> Reply
+    ensures { OpensCoder (settings_of options.now) handle.old.value handle.new.value result }
+{
+    match fresh_coder(alloc, options) {
+        Ok(made) => {
+            coder_closed(alloc, handle);
+            *handle = CoderHandle::of(made);
+            answered(0)
+        }
+        Err(fault) => refused(fault),
+    }
+}
+
+/// How many whole bytes bits fill.
+fn whole_bytes(bits: &BitBuf) -> u64
+    ensures { result ≡ length bits.now.list / 8 }
+{
+    bits.len() / 8
+}
+
+/// Fills the last byte with zeros. Takes no memory.
+fn fill_byte(bits: &mut BitBuf)
+    ensures { bits.new.list ≡ padded_to_byte bits.old.list }
+{
+    let _always = bits.pad_to_byte();
+}
+
+/// Takes a piece of stored samples.
+fn feed_open(made: &mut OpenCoder, piece: &[u8]) -> Reply
+    ensures { FeedsPiece piece.now made.old made.new result }
+{
+    let Some(mut coder) = mem::replace(&mut made.coder, None) else {
+        return not_open();
+    };
+    let answer = coder.feed(piece, &mut made.bits);
+    made.coder = Some(coder);
+    match answer {
+        Ok(()) => answered(whole_bytes(&made.bits)),
+        Err(fault) => refused(fault),
+    }
+}
+
+/// Ends the stream.
+fn finish_open(made: &mut OpenCoder) -> Reply
+    ensures { FinishesStream made.old made.new result }
+{
+    let Some(coder) = mem::replace(&mut made.coder, None) else {
+        return not_open();
+    };
+    match coder.finish(&mut made.bits) {
+        Ok(()) => {
+            fill_byte(&mut made.bits);
+            answered(whole_bytes(&made.bits))
+        }
+        Err(fault) => refused(fault),
+    }
+}
+
+/// The bytes that bits fill.
+fn bytes_in(alloc: Global, bits: &BitBuf) -> Result<Vec<u8>, Fault>
+    ensures ok { IfOk result (λ bytes. bytes.items ≡ bytes_of bits.now.list) }
+    ensures fault { IfErr result (λ fault. fault ≡ Memory) }
+{
+    let mut sink = WriteSink::new(Vec::new(alloc));
+    match bits.write_to(&mut sink) {
+        Ok(()) => Ok(sink.into_inner()),
+        Err(_) => Err(Fault::Memory),
+    }
+}
+
+/// Takes out bits at the front. Takes no memory.
+fn remove_front(alloc: Global, bits: &mut BitBuf, len: u64)
+    requires { len ≤ length bits.old.list }
+    ensures { bits.new.list ≡ drop len bits.old.list }
+{
+    let none = BitBuf::new(alloc);
+    match bits.splice(0, len, &none) {
+        Ok(()) => (),
+        Err(_) => (),
+    }
+}
+
+/// Puts the whole bytes of the code into a buffer with room for all of them, and takes them out.
+fn take_open(alloc: Global, made: &mut OpenCoder, out: &mut [u8]) -> Reply
+    ensures { TakesBytes made.old made.new out.old out.new result }
+{
+    let Ok(bytes) = bytes_in(alloc, &made.bits) else {
+        return refused(Fault::Memory);
+    };
+    let ready = made.bits.len() / 8;
+    let room = out.len() as u64;
+    let reply = settle_bytes(&bytes[..ready as usize], out);
+    if ready <= room {
+        remove_front(alloc, &mut made.bits, 8 * ready);
+    }
+    reply
+}
+
+/// Takes a piece of stored samples into the coder that a handle holds.
+pub(crate) fn fed(alloc: Global, handle: &mut CoderHandle, piece: &[u8]) -> Reply
+    ensures { OnHandle (FeedsPiece piece.now) handle.old.value handle.new.value result }
+{
+    match mem::replace(handle, CoderHandle::empty()).into_box(alloc) {
+        Some(mut made) => {
+            let reply = feed_open(&mut made, piece);
+            *handle = CoderHandle::of(made);
+            reply
+        }
+        None => not_open(),
+    }
+}
+
+/// Ends the stream of the coder that a handle holds.
+pub(crate) fn finished(alloc: Global, handle: &mut CoderHandle) -> Reply
+    ensures { OnHandle FinishesStream handle.old.value handle.new.value result }
+{
+    match mem::replace(handle, CoderHandle::empty()).into_box(alloc) {
+        Some(mut made) => {
+            let reply = finish_open(&mut made);
+            *handle = CoderHandle::of(made);
+            reply
+        }
+        None => not_open(),
+    }
+}
+
+/// Puts whole bytes of the code into a buffer, and takes them out.
+pub(crate) fn taken(alloc: Global, handle: &mut CoderHandle, out: &mut [u8]) -> Reply
+    ensures { TakesOut handle.old.value handle.new.value out.old out.new result }
+{
+    match mem::replace(handle, CoderHandle::empty()).into_box(alloc) {
+        Some(mut made) => {
+            let reply = take_open(alloc, &mut made, out);
+            *handle = CoderHandle::of(made);
+            reply
+        }
+        None => not_open(),
+    }
+}
