@@ -24,7 +24,7 @@ NOTE = "<!-- Written by `make theorem`. -->\n\n"
 PAGES = {
     "write_edited": ("aec_edit", "write_edited", [], "The headline, over any lawful codec"),
     "decode_edited": ("aec_engine", "decode_edited", [], "The headline, over our own coder"),
-    "shortest": ("aec_interval", "encode_all", ["ok", "shortest"], "No coded data sets are shorter"),
+    "shortest": ("aec_interval", "encode_all", ["ok", "shortest"], "No coded data sets for the same blocks are shorter"),
     "decode_all": ("aec_interval", "decode_all", [], "What coded bits are decoded to"),
 }
 USE = re.compile(r"^\s*(?:pub )?(?:ghost )?use ([\w.]+)\.\{([^}]*)\}", re.M)
