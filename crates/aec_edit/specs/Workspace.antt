@@ -18,9 +18,9 @@ pub record Contents (C : Type 0) : Type 0 where
   pub codec : C
   pub room : Room
 
--- the room of the lists that an edit leaves to the next one, in intervals of n samples: for the
--- samples of two of them in front and of one behind, for 128 bits a sample of two, and for no more
--- starts than these have samples
+-- The most room that the lists of an edit keep for the next one, where an interval has n samples:
+-- for 2n samples in front and n behind, for 256n bits of code (128 for each of 2n samples), and for
+-- 2n starts.
 pub record IsScratchRoom (n front back bits starts : ℕ) : Type 0 where
   pub front_fits : front ≤ 2 * n
   pub back_fits : back ≤ n

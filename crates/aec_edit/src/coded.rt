@@ -39,8 +39,8 @@ impl Coded {
     }
 
     /// Reserves room for `bits` more bits and for the starts of `intervals` more intervals. Fails
-    /// with `Memory` only if one of the two is missing and an allocation fails. Room that was there
-    /// is kept.
+    /// with `Memory` only if there is less room than asked for: then an allocation fails, or there
+    /// would be more than 2^62 bits. Room that was there is kept.
     pub fn reserve(&mut self, bits: u64, intervals: u64) -> Result<(), Fault>
         ensures bits { self.new.bits.list ≡ self.old.bits.list }
         ensures starts { self.new.starts.items ≡ self.old.starts.items }

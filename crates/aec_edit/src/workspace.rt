@@ -16,7 +16,8 @@ use std::marker::Model;
 
 /// Samples, kept as their code and the places where its intervals begin. The samples themselves
 /// aren't kept: between edits the scratch lists are empty. These lists keep room for the samples of
-/// at most three intervals, and for the code of two with at most 128 bits a sample.
+/// at most three intervals, for at most 256 bits of code for each sample of an interval, and for at
+/// most as many starts as two intervals have samples.
 #[derive(Debug, Drop)]
 pub struct Workspace<C: Codec> {
     coded: Coded,
@@ -79,8 +80,8 @@ impl<C: Codec> Workspace<C> {
     }
 
     /// Reserves room for `bits` more bits of code and for the starts of `intervals` more intervals.
-    /// Fails with `Memory` only if one of the two is missing and an allocation fails. The samples
-    /// and the room that was there stay.
+    /// Fails with `Memory` only if there is less room than asked for: then an allocation fails, or
+    /// there would be more than 2^62 bits. The samples and the room that was there stay.
     pub fn reserve(&mut self, bits: u64, intervals: u64) -> Result<(), Fault>
         ensures room { OnOk result
             ((bits ≤ self.new.room.bits) × (intervals ≤ self.new.room.intervals)) }

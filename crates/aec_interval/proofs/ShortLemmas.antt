@@ -1,5 +1,5 @@
 -- Whole intervals of plain blocks, of which none needs a test of its place.
-use Rattle.std.proofs.Common.{◌≡◌, ℕ, ◌+◌, ◌-◌, ◌*◌, ◌/◌, ◌%◌, ◌<◌, ◌≤◌, ◌^◌, ◌==◌, ◌&&◌, Bool, true, false, if◌then◌else◌, Option, Some, None, IfSome, unwrap_or, Ok, ℤ, List, [], ◌∷◌, ◌++◌, length, take, drop, ⊎_elim, refl, sym, ap, ◌∙◌, subst, arith}
+use Rattle.std.proofs.Common.{◌≡◌, ℕ, ◌+◌, ◌-◌, ◌*◌, ◌/◌, ◌%◌, ◌<◌, ◌≤◌, ◌^◌, ◌==◌, ◌&&◌, Bool, true, false, if◌then◌else◌, Option, Some, None, Ok, ℤ, pos, List, [], ◌∷◌, ◌++◌, length, take, drop, ⊎_elim, refl, sym, ap, ◌∙◌, subst, arith}
 use Rattle.std.proofs.Math.Nat.{mul-le-mul_right, add-mul-mod_self_right, add-mul, div-mul-le_self, le-mul_of_pos_right}
 use Rattle.std.proofs.lemmas.Bool.{cases_lt}
 use Rattle.std.proofs.lemmas.List.{take_at, length-take-le}
@@ -8,7 +8,7 @@ use Rattle.std.specs.List.{AllByRecursion}
 use Rattle.aec_params.specs.declared.settings.Settings.{Settings}
 use Rattle.aec_params.specs.Params.{IsAllowed, IsHeld, interval_len, sample_pattern}
 use Rattle.aec_params.specs.Blocks.{Block}
-use Rattle.aec_params.specs.Places.{is_reference_block}
+use Rattle.aec_params.specs.Places.{is_reference_block, block_of_values}
 use Rattle.aec_params.specs.CodedDataSets.{CodedDataSet}
 use Rattle.aec_params.specs.Reading.{is_wanted, LeadsTo, stream_blocks, kept_blocks, FillBlocks}
 use Rattle.aec_params.proofs.SettingLaws.{block_size-positive, interval-positive}
@@ -16,7 +16,7 @@ use Rattle.aec_bits.specs.BitReader.{Cursor, has_one}
 use Rattle.aec_block.specs.declared.cds.RunLen.TheVariants.{Blocks}
 use Rattle.aec_block.specs.declared.cds.Cds.TheVariants.{Single}
 use Rattle.aec_block.specs.Gathering.{bits_at}
-use Rattle.aec_block.specs.ReadCds.{IsReadFirst}
+use Rattle.aec_block.specs.ReadCds.{IsReadAs, IsReadPlain, IsReadFirst}
 use Rattle.aec_block.specs.Unmapping.{Unmaps}
 use Rattle.aec_interval.specs.NextBlock.{IsNextBlock, FillsNext}
 use Rattle.aec_interval.specs.NextSet.{kept_count, block_behind}
@@ -25,7 +25,7 @@ use Rattle.aec_interval.specs.Pieces.{Place, place_at, counted_from, ReadsInterv
 use Rattle.aec_interval.specs.Steps.{IsUntestedEnd}
 use Rattle.aec_interval.specs.PlainBlocks.{IsUntestedAt, ReadsPlain}
 use Rattle.aec_interval.specs.ShortIntervals.{AreWithin, begun_at, ReadsFirst, ReadsWhole}
-use Rattle.aec_interval.proofs.NextFillLemmas.{fills_block_reference}
+use Rattle.aec_interval.proofs.NextFillLemmas.{fills_block_plain, fills_block_reference}
 use Rattle.aec_interval.proofs.ReadNextLemmas.{reached-start, next-cds, reached-next}
 use Rattle.aec_interval.proofs.PlaceLemmas.{LeadsTo-append, stream_blocks-append}
 use Rattle.aec_interval.proofs.ReachedLemmas.{length-stream_blocks, kept_blocks-append, kept_blocks-wanted}
@@ -34,12 +34,10 @@ use Rattle.aec_interval.proofs.PlainLemmas.{untested-within, few_samples, wanted
 
 -- ---- the first block of an interval
 
-module _ (s : Settings) (old new : Cursor) (pattern : ℕ) (values : List ℕ) (x : ℤ) (more : List ℤ) (allowed : IsAllowed s) (on : s.preprocess ≡ true)
-    (read : IsReadFirst s old new pattern values) (one : has_one (bits_at old) ≡ true) (held : IsHeld s x) (pattern_is : sample_pattern s x ≡ pattern)
-    (unmaps : Unmaps s x values [] more) where
-  abbrev block : Block
-  block = record { reference = Some pattern; values = values }
-
+-- with a reference sample, or without one
+module _ (s : Settings) (old new : Cursor) (due : Bool) (block : Block) (more : List ℤ) (allowed : IsAllowed s) (is_due : s.preprocess ≡ due)
+    (all : due ≡ (due && true)) (read : (c : CodedDataSet) × IsReadAs s due old new c (Single block)) (one : has_one (bits_at old) ≡ true)
+    (fills : IsNextBlock s [] block → FillsNext s [] more (block ∷ [])) where
   module _ (count : Option ℕ) (limit i : ℕ) (aligned : i % s.interval ≡ 0) (ends : IsUntestedEnd s count limit i (i + s.interval)) where
     before : i < i + s.interval
     before = omega (arith, interval-positive s allowed)
@@ -47,8 +45,8 @@ module _ (s : Settings) (old new : Cursor) (pattern : ℕ) (values : List ℕ) (
     wanted : is_wanted s count old.list i old.pos ≡ true
     wanted = wanted_here s count limit i (i + s.interval) i old allowed aligned (omega arith) ends before one
 
-    due : true ≡ is_reference_block s (i % s.interval)
-    due = sym (ap (λ b. b && (i % s.interval == 0)) on ∙ ap (λ n. n == 0) aligned)
+    due-there : due ≡ is_reference_block s (i % s.interval)
+    due-there = all ∙ sym (ap (λ b. b && (i % s.interval == 0)) is_due ∙ ap (λ n. due && (n == 0)) aligned)
 
     placed : Ok (i + 1) ≡ block_behind s count limit i 1 0
     placed = untested-placed s count limit i (i + s.interval) i old allowed aligned (omega arith) ends before one
@@ -57,24 +55,42 @@ module _ (s : Settings) (old new : Cursor) (pattern : ℕ) (values : List ℕ) (
     begun = reached-start s count limit old.list i old.pos old.pos [] refl refl
 
     next : IsNextBlock s [] block
-    next = next-cds s count limit i old.pos old new i [] allowed begun wanted true (Single block) (Blocks 1) due refl (read.set, read.read) 0 (i + 1) placed
+    next = next-cds s count limit i old.pos old new i [] allowed begun wanted due (Single block) (Blocks 1) due-there refl read 0 (i + 1) placed
         (kept_count s count i (i + 1 - i)) (i - i) aligned refl refl
 
-    fills : FillsNext s [] more (block ∷ [])
-    fills = fills_block_reference s [] more block pattern x values allowed next refl held pattern_is refl unmaps
-
-    pub first-leads : IsUntestedAt s (begun_at count limit i old.pos) (i + s.interval) (i + 1) new more
+    first-leads : IsUntestedAt s (begun_at count limit i old.pos) (i + s.interval) (i + 1) new more
     first-leads = record {
-      reached = reached-next s count limit i old.pos old new i [] allowed begun wanted true (Single block) (Blocks 1) due refl (read.set, read.read)
-          0 (i + 1) placed (kept_count s count i (i + 1 - i)) more new.list new.pos refl fills refl
+      reached = reached-next s count limit i old.pos old new i [] allowed begun wanted due (Single block) (Blocks 1) due-there refl read
+          0 (i + 1) placed (kept_count s count i (i + 1 - i)) more new.list new.pos refl (fills next) refl
           (untested-begins s count limit i (i + s.interval) i old allowed aligned (omega arith) ends before one new.list new.pos);
       aligned = aligned;
       behind = omega arith;
       untested = ends;
     }
 
-  pub reads_first : new.list ≡ old.list → ReadsFirst s old new more
-  reads_first same = record { list = same; held = subst (AllByRecursion (IsHeld s)) (sym unmaps.appended) unmaps.held; leads = first-leads }
+  reads_block : new.list ≡ old.list → AllByRecursion (IsHeld s) more → ReadsFirst s old new more
+  reads_block same held = record { list = same; held = held; leads = first-leads }
+
+held-unmapped : (s : Settings) (x : ℤ) (values : List ℕ) (more : List ℤ) → Unmaps s x values [] more → AllByRecursion (IsHeld s) more
+held-unmapped s x values more unmaps = subst (AllByRecursion (IsHeld s)) (sym unmaps.appended) unmaps.held
+
+pub reads_first : (s : Settings) (old new : Cursor) (pattern : ℕ) (values : List ℕ) (x : ℤ) (more : List ℤ) → IsAllowed s → s.preprocess ≡ true
+    → IsReadFirst s old new pattern values → has_one (bits_at old) ≡ true → IsHeld s x → sample_pattern s x ≡ pattern → Unmaps s x values [] more
+    → new.list ≡ old.list → ReadsFirst s old new more
+reads_first s old new pattern values x more allowed on read one held pattern_is unmaps same =
+    reads_block s old new true block more allowed on refl (read.set, read.read) one
+    (λ next. fills_block_reference s [] more block pattern x values allowed next refl held pattern_is refl unmaps) same
+    (held-unmapped s x values more unmaps)
+  where
+    block : Block
+    block = record { reference = Some pattern; values = values }
+
+pub reads_unpredicted : (s : Settings) (old new : Cursor) (values : List ℕ) (x : ℤ) (more : List ℤ) → IsAllowed s → s.preprocess ≡ false
+    → IsReadPlain s old new values → has_one (bits_at old) ≡ true → x ≡ pos 0 → Unmaps s x values [] more → new.list ≡ old.list → ReadsFirst s old new more
+reads_unpredicted s old new values x more allowed off read one zero unmaps same =
+    reads_block s old new false (block_of_values None values) more allowed off refl (read.set, read.read) one
+    (λ next. fills_block_plain s [] more (block_of_values None values) x values allowed next refl zero refl unmaps) same
+    (held-unmapped s x values more unmaps)
 
 -- ---- one interval
 

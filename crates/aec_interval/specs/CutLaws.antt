@@ -23,7 +23,8 @@ pub record IsStreamSoFar (s : Settings) (limit : ℕ) (bytes : List ℕ) (before
   pub counted : d.count ≡ length samples
   pub within : length samples ≤ limit
 
--- a new coder under any cut of its input
+-- however bytes are cut into pieces, a new coder's stream or refusal is that of the same bytes in
+-- one piece
 pub record CutsMakeNoDifference (s : Settings) (limit : ℕ) : Type 0 where
   -- where all pieces are taken, what was appended and what `finish` appends is the stream of the
   -- samples of all bytes

@@ -30,7 +30,7 @@ abbrev pub StreamsAreReadBack : Type 0
 StreamsAreReadBack = (s : Settings) (limit : ℕ) (samples : List ℤ) (rest : List Bool) → IsAllowed s → AllByRecursion (IsHeld s) samples
     → IsReading s (Some (length samples)) limit (stream_of s samples ++ rest) samples
 
--- what bits are read as
+-- bits have either one reading or one fault: never both, never two of one kind
 pub record BitsAreReadInOneWay (s : Settings) (count : Option ℕ) (limit : ℕ) (bits : List Bool) : Type 0 where
   -- a reading, or a fault
   pub either : ((samples : List ℤ) × IsReading s count limit bits samples) ⊎ ((fault : Fault) × IsFault s count limit bits 0 0 fault)

@@ -9,7 +9,8 @@ use Rattle.aec_params.specs.Reading.{IsReading}
 use Rattle.aec_interval.specs.Reached.{RefusesReading}
 use Rattle.aec_interval.specs.Pieces.{Place, place_at, is_wanted_at, ReadsInterval, HasRead, RefusesAt}
 
--- a place, and the samples that were read up to it
+-- steps from a place continue the reading of all bits, where xs are the samples up to that place;
+-- the refusal of a step is the refusal of that reading
 pub record StepsAreTheReading (p : Place) (xs : List ℤ) : Type 0 where
   -- the samples of a step come behind them
   pub more : (ys : List ℤ) (q : Place) → ReadsInterval p ys q → HasRead q (xs ++ ys)

@@ -1,6 +1,6 @@
 -- Whole intervals read one behind the other: what the private functions of `reading::short` do for
 -- every reading in which none of their blocks needs a test of its place.
-use Rattle.std.specs.Prelude.{◌≡◌, ◌≤◌, ◌^◌, ℕ, ◌+◌, ◌*◌, ◌%◌, true, false, Option, IfSome, ℤ, List, unwrap_or}
+use Rattle.std.specs.Prelude.{◌≡◌, ◌≤◌, ◌^◌, ℕ, ◌+◌, ◌*◌, ◌%◌, false, Option, IfSome, ℤ, List, unwrap_or}
 use Rattle.std.specs.List.{AllByRecursion}
 use Rattle.aec_params.specs.declared.settings.Settings.{Settings}
 use Rattle.aec_params.specs.Params.{IsHeld}

@@ -27,10 +27,10 @@ cut_calls n old count = if count == old then 0 else (if count % n == 0 then 0 el
 abbrev pub inside_calls : ℕ → ℕ → ℕ
 inside_calls n first = if first % n == 0 then 0 else 1
 
--- how many intervals an insertion or a removal of len samples at place first codes, where new
--- samples are there then: none for no samples; for samples that fill whole intervals as many as
--- come, and one more where the place lies inside of an interval; for any other number all from that
--- of the place on (by lengths alone, where the code counts the samples that it codes)
+-- how many intervals an insertion or a removal of len samples at place first codes, with new
+-- samples after it. None if len is 0. If len fills whole intervals: the intervals that come, and
+-- one more if the place lies inside of an interval. Otherwise: all from that of the place on (by
+-- lengths alone, where the code counts the samples that it codes)
 abbrev pub move_calls : ℕ → ℕ → ℕ → ℕ → ℕ → ℕ
 move_calls n first len come new =
     if len == 0 then 0 else (if len % n == 0 then come + inside_calls n first else div_ceil new n - first / n)
@@ -52,10 +52,10 @@ keeps_a_sample n old first len k = nat_lt (k * n) first || nat_lt (first + len) 
 abbrev pub intervals_from : ℕ → ℕ → ℕ → List ℕ
 intervals_from n old first = range_with_len (first / n) (div_ceil old n - first / n)
 
--- how many intervals an insertion or a removal of len samples at place first opens, of old samples,
--- of which it takes gone: none for no samples; for samples that fill whole intervals none where one
--- begins at the place, else as many as are cut; for any other number all from that of the place on
--- that keep a sample
+-- how many intervals an insertion or a removal of len samples at place first opens, of old
+-- samples, of which it takes gone. None if len is 0. If len fills whole intervals: none if an
+-- interval begins at the place, else the number cut. Otherwise: all from that of the place on that
+-- keep a sample
 abbrev pub move_openings : ℕ → ℕ → ℕ → ℕ → ℕ → ℕ → ℕ
 move_openings n old first len gone cut =
     let kept : List ℕ = filter (keeps_a_sample n old first gone) (intervals_from n old first) in

@@ -13,7 +13,7 @@ ghost use Rattle.aec_interval.specs.ShortIntervals.{AreWithin, ReadsFirst, Reads
 use crate::reading::Wanted;
 use crate::reading::plain::fill_plain_blocks;
 use aec_bits::BitReader;
-use aec_block::{read_plain_first, unmap_into};
+use aec_block::{read_plain, read_plain_first, unmap_into};
 use aec_params::Params;
 
 /// At most so many samples are read at a time.
@@ -22,10 +22,10 @@ const AT_ONCE: u64 = 2048;
 /// Intervals of more blocks are read one at a time: what is paid for each is little then.
 const MOST_BLOCKS: u32 = 8;
 
-/// Reads the block that comes next as the first of its interval, if it is a plain one, and puts its
-/// samples into the front of `samples`. Else false.
+/// Reads the block that comes next as the first of its interval, with a reference sample, if it is
+/// a plain one, and puts its samples into the front of `samples`. Else false.
 #[inline(always)]
-fn fill_first_block<const M: usize>(
+fn fill_reference_block<const M: usize>(
     params: &Params,
     reader: &mut BitReader,
     values: &mut [u32],
@@ -50,6 +50,57 @@ fn fill_first_block<const M: usize>(
             unmap_into(params, first, values, &mut samples[..len]);
             true
         }
+    }
+}
+
+/// The same without a reference sample, where no sample is predicted.
+#[inline(always)]
+fn fill_unpredicted_block<const N: usize>(
+    params: &Params,
+    reader: &mut BitReader,
+    values: &mut [u32],
+    samples: &mut [i64],
+) -> bool
+    requires off { params.now.preprocess ≡ false }
+    requires count { length values.old ≡ params.now.block_size }
+    requires room { params.now.block_size ≤ length samples.old }
+    ensures ok { result ≡ true → ReadsFirst params.now reader.old reader.new
+        (take params.now.block_size samples.new) }
+    ensures list { reader.new.list ≡ reader.old.list }
+    ensures count { length values.new ≡ length values.old }
+    ensures len { length samples.new ≡ length samples.old }
+{
+    // Called for its clause alone: the parameters are allowed.
+    let _len = params.interval_len();
+    if !read_plain::<N>(params, reader, values) {
+        return false;
+    }
+    let len = values.len();
+    unmap_into(params, 0, values, &mut samples[..len]);
+    true
+}
+
+/// Reads the block that comes next as the first of its interval, if it is a plain one, and puts its
+/// samples into the front of `samples`. Else false.
+#[inline(always)]
+fn fill_first_block<const N: usize, const M: usize>(
+    params: &Params,
+    reader: &mut BitReader,
+    values: &mut [u32],
+    samples: &mut [i64],
+) -> bool
+    requires count { length values.old ≡ params.now.block_size }
+    requires room { params.now.block_size ≤ length samples.old }
+    ensures ok { result ≡ true → ReadsFirst params.now reader.old reader.new
+        (take params.now.block_size samples.new) }
+    ensures list { reader.new.list ≡ reader.old.list }
+    ensures count { length values.new ≡ length values.old }
+    ensures len { length samples.new ≡ length samples.old }
+{
+    if params.preprocess() {
+        fill_reference_block::<M>(params, reader, values, samples)
+    } else {
+        fill_unpredicted_block::<N>(params, reader, values, samples)
     }
 }
 
@@ -82,7 +133,6 @@ fn fill_interval<const N: usize, const M: usize>(
     values: &mut [u32],
     samples: &mut [i64],
 ) -> bool
-    requires on { params.now.preprocess ≡ true }
     requires size { N ≡ params.now.block_size }
     requires small { N ≤ most_values }
     requires count { length values.old ≡ params.now.block_size }
@@ -95,7 +145,7 @@ fn fill_interval<const N: usize, const M: usize>(
     // What the parameters promise is told by their calls.
     let _len = params.interval_len();
     let start = reader.pos();
-    if fill_first_block::<M>(params, reader, values, samples)
+    if fill_first_block::<N, M>(params, reader, values, samples)
         && fill_rest::<N>(params, reader, samples)
     {
         return true;
@@ -113,7 +163,6 @@ fn fill_intervals<const N: usize, const M: usize>(
     most: usize,
     samples: &mut [i64],
 ) -> usize
-    requires on { params.now.preprocess ≡ true }
     requires size { N ≡ params.now.block_size }
     requires small { N ≤ most_values }
     requires room { most * interval_len params.now ≤ length samples.old }
@@ -148,7 +197,6 @@ fn fill_usual_intervals(
     most: usize,
     samples: &mut [i64],
 ) -> usize
-    requires on { params.now.preprocess ≡ true }
     requires room { most * interval_len params.now ≤ length samples.old }
     ensures reads { 0 < result → ReadsWhole params.now result reader.old reader.new
         (take (result * interval_len params.now) samples.new) }
@@ -182,18 +230,17 @@ fn untested_intervals(params: &Params, wanted: Wanted) -> u64
 }
 
 /// How many intervals are read at a time, for which there is room: at most `most` samples. None
-/// where an interval has many blocks, or padding, or no reference sample.
+/// where an interval has many blocks, or padding.
 fn intervals_at_once(params: &Params, wanted: Wanted, most: u64, capacity: usize) -> u64
     requires few { wanted.first < 2 ^ 34 }
     requires limit { wanted.limit ≤ 2 ^ 32 }
     requires counted { IfSome wanted.count (λ count. count ≤ 2 ^ 32) }
-    ensures on { 0 < result → params.now.preprocess ≡ true }
     ensures within { (n : ℕ) → 0 < n → n ≤ result → AreWithin params.now wanted.count wanted.limit
         (wanted.first + n * params.now.interval) }
     ensures most { result * interval_len params.now ≤ most }
     ensures room { result * interval_len params.now ≤ 2048 }
 {
-    if params.pad() || !params.preprocess() || params.interval() > MOST_BLOCKS {
+    if params.pad() || params.interval() > MOST_BLOCKS {
         return 0;
     }
     let room = most.min(AT_ONCE).min(capacity as u64) / params.interval_len();

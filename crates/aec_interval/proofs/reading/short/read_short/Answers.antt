@@ -1,4 +1,4 @@
-use Rattle.std.proofs.Common.{rules, ◌≡◌, ◌+◌, ◌*◌, ◌%◌, ◌∙◌, ap, sym, subst, arith}
+use Rattle.std.proofs.Common.{rules, ◌≡◌, ◌+◌, ◌*◌, ◌%◌, ◌∙◌, ap, arith}
 use Rattle.std.proofs.Math.Nat.{add-mul-mod_self_right}
 use Rattle.aec_interval.proofs.ShortLemmas.{within_few}
 use Rattle.aec_interval.proofs.reading.short.read_short.Goals as goal

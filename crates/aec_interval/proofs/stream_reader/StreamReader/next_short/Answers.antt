@@ -1,5 +1,4 @@
-use Rattle.std.proofs.Common.{◌≡◌, ◌<◌, ◌∙◌, true, sym, arith}
-use Rattle.aec_interval.specs.Pieces.{is_wanted_at}
+use Rattle.std.proofs.Common.{◌<◌, ◌∙◌, sym, arith}
 use Rattle.aec_interval.proofs.ReachedPlaceLemmas.{place-further}
 use Rattle.aec_interval.proofs.ShortLemmas.{place-several}
 use Rattle.aec_interval.proofs.stream_reader.StreamReader.next_short.Goals as goal

@@ -4,7 +4,7 @@ use Rattle.std.proofs.lemmas.List.{length-take, take_at}
 use Rattle.aec_params.specs.Params.{IsHeld, sample_pattern}
 use Rattle.aec_interval.specs.ShortIntervals.{ReadsFirst}
 use Rattle.aec_interval.proofs.ShortLemmas.{reads_first}
-use Rattle.aec_interval.proofs.reading.short.fill_first_block.Goals as goal
+use Rattle.aec_interval.proofs.reading.short.fill_reference_block.Goals as goal
 
 pub returns-in-Some-clause-ok : goal.returns-in-Some-clause-ok
 returns-in-Some-clause-ok g c =
