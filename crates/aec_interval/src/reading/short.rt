@@ -274,7 +274,9 @@ pub(crate) fn read_short(
     ensures capacity { vec_capacity samples.old ≤ vec_capacity samples.new }
 {
     let len = params.interval_len();
-    let asked = intervals_at_once(params, wanted, most, samples.capacity());
+    // Places are cleared before they are filled: no more than twice as many as were filled before.
+    let room = samples.capacity().min(samples.len().saturating_mul(2));
+    let asked = intervals_at_once(params, wanted, most, room);
     if asked == 0 || samples.resize((asked * len) as usize, 0).is_err() {
         return wanted.first;
     }
