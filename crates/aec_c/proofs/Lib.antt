@@ -13,3 +13,4 @@ pub mod HandleLoadLemmas
 pub mod StreamEditLemmas
 pub mod CoderLemmas
 pub mod CoderLaws
+pub mod FrontReadingLemmas

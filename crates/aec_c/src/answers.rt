@@ -1,11 +1,14 @@
 //! What the calls answer, before it is put into a buffer.
 
-ghost use Rattle.std.specs.Prelude.{◌≡◌, Ok, Err, IfOk, IfErr};
+ghost use Rattle.std.specs.Prelude.{◌≡◌, ◌≤◌, ◌^◌, false, Some, None, Ok, Err, IfSome, IfOk, IfErr, length};
 ghost use Rattle.aec_params.specs.Params.{IsAllowed, settings_fault};
 ghost use Rattle.std.specs.Result.{result_err};
-ghost use Rattle.aec_engine.specs.Buffers.{FillsOne};
+ghost use Rattle.aec_engine.specs.Transfers.{input_of};
+ghost use Rattle.aec_engine.specs.Output.{IsDecoded};
+ghost use Rattle.aec_engine.specs.Buffers.{FillsOne, OrMemory};
 ghost use Rattle.aec_c.specs.Calls.{settings_of, count_of, most, IsCoding, IsDecoding, IsRanging};
 
+use crate::bound::bound;
 use crate::options::{Options, asked, counted};
 use aec_engine::{decode_into, encode_bytes, range_into};
 use aec_params::{Fault, Limits, Params};
@@ -40,6 +43,53 @@ pub(crate) fn coded(alloc: Global, options: &Options, samples: &[u8]) -> Result<
     }
 }
 
+/// Puts the stored samples of the front of coded bytes into a buffer, where it is read as so many;
+/// else none, and the buffer is as it was.
+fn decoded_front(
+    alloc: Global,
+    params: &Params,
+    count: u64,
+    front: usize,
+    bytes: &[u8],
+    out: &mut [u8],
+) -> Option<u64>
+    requires within { front ≤ length bytes.now }
+    requires short { length bytes.now ≤ 2 ^ 40 }
+    ensures some { IfSome result (λ len. FillsOne (OrMemory (IsDecoded params.now most (Some count)
+        (input_of bytes.now false))) out.old out.new (Ok len)) }
+    ensures none { result ≡ None → out.new ≡ out.old }
+{
+    match decode_into(alloc, params, limits(), Some(count), &bytes[..front], out) {
+        Ok(len) => Some(len),
+        Err(_) => None,
+    }
+}
+
+/// Puts the stored samples of coded bytes into a buffer, where there is room for all of them. With
+/// a count only as many bytes are read at first as always suffice for a code of so many samples.
+fn decoded_shortly(
+    alloc: Global,
+    params: &Params,
+    count: Option<u64>,
+    suffice: u64,
+    bytes: &[u8],
+    out: &mut [u8],
+) -> Result<u64, Fault>
+    ensures { FillsOne (OrMemory (IsDecoded params.now most count (input_of bytes.now false)))
+        out.old out.new result }
+{
+    let whole = bytes.len() as u64;
+    if suffice < whole
+        && whole <= 1 << 40
+        && let Some(count) = count
+    {
+        if let Some(len) = decoded_front(alloc, params, count, suffice as usize, bytes, out) {
+            return Ok(len);
+        }
+    }
+    decode_into(alloc, params, limits(), count, bytes, out)
+}
+
 /// Puts the stored samples of coded bytes into a buffer, where there is room for all of them. How
 /// many bytes they are.
 pub(crate) fn decoded(
@@ -53,7 +103,10 @@ pub(crate) fn decoded(
         out.new result }
 {
     match params_of(options) {
-        Ok(params) => decode_into(alloc, &params, limits(), counted(count), bytes, out),
+        Ok(params) => {
+            let suffice = bound(options, count);
+            decoded_shortly(alloc, &params, counted(count), suffice, bytes, out)
+        }
         Err(fault) => Err(fault),
     }
 }

@@ -1,13 +1,13 @@
 use Rattle.std.proofs.Common.{sym, refl}
 use Rattle.aec_engine.proofs.BufferLemmas.{fills_refusal}
-use Rattle.aec_c.specs.Calls.{bad_settings}
+use Rattle.aec_c.specs.Calls.{most, bad_settings}
 use Rattle.aec_c.proofs.AnswerLemmas.{decoding_into}
 use Rattle.aec_c.proofs.answers.decoded.Goals as goal
 
 pub returns-in-Ok : goal.returns-in-Ok
 returns-in-Ok c =
-    decoding_into _ c.in-Ok.params c.limits.result _ c.counted.result c.args.bytes.now c.args.out.now _ c.decode_into.result c.in-Ok.ensures.ok
-    c.limits.ensures c.counted.ensures c.in-Ok.ensures.allowed c.decode_into.ensures
+    decoding_into _ c.in-Ok.params most _ c.counted.result c.args.bytes.now c.args.out.now _ c.decoded_shortly.result c.in-Ok.ensures.ok
+    refl c.counted.ensures c.in-Ok.ensures.allowed c.decoded_shortly.ensures
 
 pub returns-in-Err : goal.returns-in-Err
 returns-in-Err c =

@@ -1,0 +1,127 @@
+-- With a count, what the front of coded bytes is read as all of them are read as.
+use Rattle.std.proofs.Common.{◌≡◌, ℕ, ◌+◌, ◌%◌, ◌≤◌, ◌==◌, min, Bool, true, false, ◌&&◌, if◌then◌else◌, Some, Result, Ok, Err, List, [], ◌∷◌, ◌++◌, length, take, drop, ◌^◌, inl, inr, ℤ, refl, sym, ap, subst, ◌∙◌, arith}
+use Rattle.std.specs.Int.{next_multiple_of}
+use Rattle.std.proofs.lemmas.List.{take-append-drop, drop-append-le, length-drop, length-append, append_assoc}
+use Rattle.aec_params.specs.declared.settings.Settings.{Settings}
+use Rattle.aec_params.specs.declared.fault.Fault.{Fault}
+use Rattle.aec_params.specs.Limits.{Caps}
+use Rattle.aec_params.specs.Codewords.{bits_of_bytes}
+use Rattle.aec_params.specs.CodedDataSets.{CodedDataSet, cds_bits}
+use Rattle.aec_params.specs.Reading.{StandsAt, next_block, next_begin, LeadsTo, IsReading}
+use Rattle.aec_params.proofs.ByteLaws.{length-bits_of_bytes}
+use Rattle.aec_bits.proofs.CodewordLemmas.{bits_of_bytes-append}
+use Rattle.aec_engine.specs.Transfers.{input_of}
+use Rattle.aec_engine.specs.Output.{IsRead, IsDecoded, not_taken, not_counted, decoded, faulty}
+use Rattle.aec_engine.specs.Buffers.{FillsOne, OrMemory}
+use Rattle.aec_engine.proofs.OutputLemmas.{none_refused}
+use Rattle.aec_c.specs.Calls.{most}
+
+module _ (s : Settings) (bits more : List Bool) (whole : length bits % 8 ≡ 0) where
+  set_within : (b : ℕ) (c : CodedDataSet) → b ≤ length bits → StandsAt s bits b c → b + length (cds_bits s c) ≤ length bits
+  set_within b c within stands =
+      let n = length (cds_bits s c) in
+      let both : length (drop b bits) ≡ n + length (drop (b + n) bits) = ap length stands ∙ length-append (cds_bits s c) (drop (b + n) bits) in
+      omega (arith, within, both, length-drop b bits, length-drop (b + n) bits)
+
+  stands_on : (b : ℕ) (c : CodedDataSet) → b ≤ length bits → StandsAt s bits b c → StandsAt s (bits ++ more) b c
+  stands_on b c within stands =
+      let n = length (cds_bits s c) in
+      let rest : List Bool = drop (b + n) bits in
+      drop-append-le b bits more within
+      ∙ (ap (λ l. l ++ more) stands
+      ∙ (append_assoc (cds_bits s c) rest more ∙ ap (λ l. cds_bits s c ++ l) (sym (drop-append-le (b + n) bits more (set_within b c within stands)))))
+
+  byte_end : (b : ℕ) → b ≤ length bits → next_multiple_of b 8 ≤ length bits
+  byte_end b within = omega (arith, within, whole)
+
+  begins : (t : Bool) (b : ℕ) → b ≤ length bits
+      → (if t then min (next_multiple_of b 8) (length bits) else b) ≡ (if t then min (next_multiple_of b 8) (length (bits ++ more)) else b)
+  begins true b within = omega (arith, byte_end b within, length-append bits more)
+  begins false b within = refl
+
+  begin_within : (t : Bool) (b : ℕ) → b ≤ length bits → (if t then min (next_multiple_of b 8) (length bits) else b) ≤ length bits
+  begin_within true b within = omega (arith, byte_end b within)
+  begin_within false b within = within
+
+  leads_on : (n limit i b : ℕ) (sets : List CodedDataSet) (j e : ℕ) → b ≤ length bits → LeadsTo s (Some n) limit bits i b sets j e
+      → LeadsTo s (Some n) limit (bits ++ more) i b sets j e
+  leads_on n limit i b [] j e within leads = leads
+  leads_on n limit i b (c ∷ sets) j e within (wanted, stands, lawful, keeps, rest) =
+      let next : ℕ = next_block s i c in
+      let t : Bool = s.pad && (next % s.interval == 0) in
+      let end : ℕ = b + length (cds_bits s c) in
+      let inside : end ≤ length bits = set_within b c within stands in
+      let further = leads_on n limit next (next_begin s bits i b c) sets j e (begin_within t end inside) rest in (
+        wanted,
+        stands_on b c within stands,
+        lawful,
+        keeps,
+        subst (λ b. LeadsTo s (Some n) limit (bits ++ more) next b sets j e) (begins t end inside) further,
+      )
+
+  pub reads_on : (n limit : ℕ) (samples : List ℤ) → IsReading s (Some n) limit bits samples → IsReading s (Some n) limit (bits ++ more) samples
+  reads_on n limit samples r = record {
+    blocks = r.blocks;
+    read = record {
+      sets = r.read.sets;
+      end_block = r.read.end_block;
+      end_bit = r.read.end_bit;
+      leads = leads_on n limit 0 0 r.read.sets r.read.end_block r.read.end_bit (omega arith) r.read.leads;
+      done = r.read.done;
+      kept = r.read.kept;
+    };
+    all_samples = r.all_samples;
+    filled = r.filled;
+    counted = r.counted;
+  }
+
+-- ---- bytes
+
+module _ (s : Settings) (caps : Caps) (n : ℕ) (front rest : List ℕ) (short : length (front ++ rest) ≤ caps.bytes) where
+  pub read_on : (samples : List ℤ) → IsRead s caps (Some n) (input_of front false) samples → IsRead s caps (Some n) (input_of (front ++ rest) false) samples
+  read_on samples r = record {
+    taken = none_refused caps.bytes (front ++ rest) short;
+    within = r.within;
+    reading = subst (λ bits. IsReading s (Some n) caps.samples bits samples) (sym (bits_of_bytes-append front rest))
+        (reads_on s (bits_of_bytes front) (bits_of_bytes rest) (omega (arith, length-bits_of_bytes front)) n caps.samples samples r.reading);
+  }
+
+  decoded_on : (answer : Result (List ℕ) Fault) (bytes : List ℕ) → answer ≡ Ok bytes → IsDecoded s caps (Some n) (input_of front false) answer
+      → IsDecoded s caps (Some n) (input_of (front ++ rest) false) (Ok bytes)
+  decoded_on answer bytes is (not_taken fault why) = absurd (cc)
+  decoded_on answer bytes is (not_counted fault taken above) = absurd (cc)
+  decoded_on answer bytes is (decoded samples read) =
+      let same : _ ≡ bytes = cc in
+      subst (λ bytes. IsDecoded s caps (Some n) (input_of (front ++ rest) false) (Ok bytes)) same (decoded samples (read_on samples read))
+  decoded_on answer bytes is (faulty fault taken within wrong) = absurd (cc)
+
+  -- what was put into a buffer from the front
+  pub fills_on : (before after : List ℕ) (len : ℕ) → FillsOne (OrMemory (IsDecoded s caps (Some n) (input_of front false))) before after (Ok len)
+      → FillsOne (OrMemory (IsDecoded s caps (Some n) (input_of (front ++ rest) false))) before after (Ok len)
+  fills_on before after len one = by_answer one.answer refl
+    where
+      by_answer : (answer : Result (List ℕ) Fault) → one.answer ≡ answer
+          → FillsOne (OrMemory (IsDecoded s caps (Some n) (input_of (front ++ rest) false))) before after (Ok len)
+      by_answer (Err fault) is = let told = one.told in absurd (cc)
+      by_answer (Ok bytes) is = record {
+        answer = one.answer;
+        answered = by_one one.answered;
+        told = one.told;
+        left = one.left;
+      }
+        where
+          by_one : OrMemory (IsDecoded s caps (Some n) (input_of front false)) one.answer
+              → OrMemory (IsDecoded s caps (Some n) (input_of (front ++ rest) false)) one.answer
+          by_one (inl lacks) = absurd (cc)
+          by_one (inr answered) =
+              inr (subst (λ answer. IsDecoded s caps (Some n) (input_of (front ++ rest) false) answer) (sym is) (decoded_on one.answer bytes is answered))
+
+-- the same of bytes that are cut
+pub fills_whole : (s : Settings) (caps : Caps) (n front : ℕ) (bytes before after : List ℕ) (len : ℕ) → caps ≡ most → length bytes ≤ 2 ^ 40
+    → FillsOne (OrMemory (IsDecoded s caps (Some n) (input_of (take front bytes) false))) before after (Ok len)
+    → FillsOne (OrMemory (IsDecoded s most (Some n) (input_of bytes false))) before after (Ok len)
+fills_whole s caps n front bytes before after len greatest short one =
+    let whole : take front bytes ++ drop front bytes ≡ bytes = take-append-drop front bytes in
+    subst (λ b. FillsOne (OrMemory (IsDecoded s most (Some n) (input_of b false))) before after (Ok len)) whole
+    (fills_on s most n (take front bytes) (drop front bytes) (subst (λ b. length b ≤ 2 ^ 40) (sym whole) short) before after len
+    (subst (λ caps. FillsOne (OrMemory (IsDecoded s caps (Some n) (input_of (take front bytes) false))) before after (Ok len)) greatest one))
