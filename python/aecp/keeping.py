@@ -8,7 +8,9 @@ import functools
 import os
 import re
 import stat
+import sys
 from collections.abc import Iterable, Iterator
+from concurrent.futures import ThreadPoolExecutor
 from dataclasses import dataclass, replace
 from typing import Any, Callable, NamedTuple, Optional, TypeVar, Union
 
@@ -17,12 +19,13 @@ from aecp.faults import Fault, OptionsRefused, SampleRefused
 from aecp.notes import WRITER, Note, Sum, now, sha256_of, words_of
 from aecp.options import Options
 from aecp.pairs import NOTE, OLD_NOTE, STREAM, Damaged, Pair, Refused, read_if_there, shown
-from aecp.writing import New, Syncing, sync_folder
+from aecp.writing import sync_folder
 
 OURS = (STREAM, NOTE, OLD_NOTE)
 HIDDEN = re.compile(r"\.(.*\.aec)\.([0-9a-f]{12}\.new|json\.new|lock)", re.S)
 TEXTS = ["README*", *(f"*.{end}" for end in ("txt", "md", "csv", "tsv", "json", "xml", "html", "log", "py", "sh", "toml", "yaml", "yml"))]
 FRONT = 1 << 18  # bytes that a hint looks at
+AT_ONCE = 3  # files of a process that wait for the disk, or are coded
 T = TypeVar("T")
 
 
@@ -105,29 +108,24 @@ def leftovers_in(folder: str) -> dict[str, list[str]]:
 
 
 class Held(NamedTuple):
-    """What lasts as long as its stack: new files, and locks, of which the first in each folder has a file of its own."""
+    """Locks: in each folder the first has a file of its own, which lasts as long as the stack, and is that of the others too."""
 
     stack: contextlib.ExitStack
-    syncing: Syncing
     first: dict[str, Pair]
 
-    def lock(self, pair: Pair, wait: bool) -> bool:
-        """Locks a pair. False where another run has the lock, and there is no waiting."""
+    @contextlib.contextmanager
+    def locked(self, pair: Pair, wait: bool) -> Iterator[bool]:
+        """Locks a pair. It yields False where another run has the lock, and there is no waiting."""
         if pair.folder in self.first and pair.lock_beside(self.first[pair.folder]):
-            self.stack.callback(pair.remove_lock)
-            return True
+            try:
+                yield True
+            finally:
+                pair.remove_lock()
+            return
         is_locked = self.stack.enter_context(pair.locked(wait))
         if is_locked:
             self.first.setdefault(pair.folder, pair)
-        return is_locked
-
-
-class Begun(NamedTuple):
-    """A file whose stream and note are written, and have no names yet."""
-
-    pair: Pair
-    new: list[New]
-    outcome: Outcome
+        yield is_locked
 
 
 def keep_all(keeping: Keeping, files: list[Found]) -> list[Outcome]:
@@ -146,13 +144,13 @@ def keep(keeping: Keeping, file: Found) -> Outcome:
 
 
 def keep_together(keeping: Keeping, files: list[Found], wait: bool) -> list[Optional[Outcome]]:
-    """Keeps each file: all streams and notes are written and synced, then they get their names. None for a file whose lock another run
-    has, if it doesn't wait."""
+    """Keeps each file, while earlier ones wait for the disk. None for a file whose lock another run has, if it doesn't wait: two runs
+    that hold locks must not wait for each other."""
+    sys.setswitchinterval(0.0001)  # a thread that has waited for the disk waits no longer for the one that codes
     with contextlib.ExitStack() as stack:
-        held = Held(stack, Syncing(stack), {})
-        begun = [refusing(it.path, functools.partial(begin, keeping, it, held, wait)) for it in files]
-        failed = held.syncing.failures()
-        outcomes = [refusing(it.outcome.path, functools.partial(end, it, failed)) if isinstance(it, Begun) else it for it in begun]
+        held = Held(stack, {})
+        pool = stack.enter_context(ThreadPoolExecutor(AT_ONCE))
+        outcomes = list(pool.map(lambda it: refusing(it.path, lambda: keep_or_refuse(keeping, it, held, wait)), files))
     return outcomes
 
 
@@ -177,13 +175,17 @@ def said_of(error: OSError, path: str) -> str:
     return text if name is None or name == path else f"{text}: {shown(name if isinstance(name, str) else os.fsdecode(name))}"
 
 
-def begin(keeping: Keeping, file: Found, held: Held, wait: bool) -> Union[Begun, Outcome, None]:
-    """Codes a file and writes its stream and its note, under a lock that lasts as `held` does. None where another run has the lock."""
+def keep_or_refuse(keeping: Keeping, file: Found, held: Held, wait: bool) -> Optional[Outcome]:
+    """Keeps a file under its lock. None where another run has the lock."""
     pair = Pair(file.path + STREAM)
     if pair.is_kept() and pair.name not in leftovers_in(pair.folder):
         return judge_kept(keeping, file.path, pair)
-    if not held.lock(pair, wait):
-        return None
+    with held.locked(pair, wait) as is_locked:
+        return keep_locked(keeping, file, pair) if is_locked else None
+
+
+def keep_locked(keeping: Keeping, file: Found, pair: Pair) -> Outcome:
+    """Keeps a file, once its pair is locked."""
     left = [path for path in leftovers_in(pair.folder).get(pair.name, []) if path != pair.lock_path]
     mended = pair.mend(left) if left else None
     if pair.is_kept():
@@ -196,24 +198,11 @@ def begin(keeping: Keeping, file: Found, held: Held, wait: bool) -> Union[Begun,
     if not file.is_named and len(data) % keeping.options.storage:
         return Outcome(file.path, "passed", f"passed over: {len(data)} bytes are no whole samples of {keeping.options.storage}")
     note, stream = coded(keeping, data, before)
-    new = pair.write_new(note, stream)
-    for it in new:
-        held.stack.callback(it.drop)
-    held.syncing.begin(new)
-    return Begun(pair, new, Outcome(file.path, "kept", mended or "", len(data), len(stream)))
-
-
-def end(begun: Begun, failed: dict[str, OSError]) -> Outcome:
-    """Gives a stream and its note their names, if they could be synced."""
-    pair, outcome = begun.pair, begun.outcome
-    for it in begun.new:
-        if it.path in failed:
-            raise failed[it.path]
     if os.path.lexists(pair.note_path):
         os.unlink(pair.note_path)
-        outcome = outcome._replace(said="its note had no stream, and is written anew")
-    pair.create(begun.new)
-    return outcome
+        mended = "its note had no stream, and is written anew"
+    pair.create(note, stream)
+    return Outcome(file.path, "kept", mended or "", len(data), len(stream))
 
 
 def coded(keeping: Keeping, data: bytes, status: os.stat_result) -> tuple[Note, bytes]:

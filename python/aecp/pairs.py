@@ -17,7 +17,7 @@ from collections.abc import Iterator
 from typing import Callable, NamedTuple, Optional
 
 from aecp.notes import BadNote, Note, note_of, old_note_of, sha256_of
-from aecp.writing import New, Syncing, remove_all, sync_folder
+from aecp.writing import remove_all, sync_folder, write_synced
 
 STREAM, NOTE, OLD_NOTE = ".aec", ".aec.json", ".aec.note"
 TRIES = 20
@@ -194,46 +194,44 @@ class Pair:
         os.rename(path, self.path)
         return "a stopped run is finished: the stream has its name"
 
-    def write_new(self, note: Note, stream: bytes) -> list[New]:
-        """Writes a stream and its note under the names for new ones."""
-        first = New(self.new_stream_path(note.stream.sha256), stream)
+    def write_new(self, note: Note, stream: bytes) -> list[str]:
+        """Writes a stream and its note under the names for new ones. Their paths."""
+        paths = [self.new_stream_path(note.stream.sha256), self.new_note_path]
         try:
-            return [first, New(self.new_note_path, note.text())]
+            for path, data in zip(paths, (stream, note.text())):
+                write_synced(path, data)
         except BaseException:
-            first.drop()
+            remove_all(paths)
             raise
+        return paths
 
-    def create(self, new: list[New]) -> None:
-        """Gives a stream and its note, which are synced, their names, where nothing has them: both, or none."""
+    def create(self, note: Note, stream: bytes) -> None:
+        """Writes a new pair, where nothing has its names: both, or none."""
+        paths = self.write_new(note, stream)
         try:
-            os.link(new[0].path, self.path)
-            os.link(new[1].path, self.note_path)
+            os.link(paths[0], self.path)
+            os.link(paths[1], self.note_path)
         except BaseException:
             with contextlib.suppress(OSError):
-                if is_same(self.path, new[0].path) and not is_same(self.note_path, new[1].path):
+                if is_same(self.path, paths[0]) and not is_same(self.note_path, paths[1]):
                     os.unlink(self.path)
             raise
+        finally:
+            remove_all(paths)
 
     def replace(self, note: Note, stream: bytes, judge: Callable[[], None] = lambda: None) -> None:
         """Puts a stream and its note in the place of those that are there, once `judge` has raised nothing."""
-        new = self.write_new(note, stream)
+        paths = self.write_new(note, stream)
         try:
-            with contextlib.ExitStack() as stack:
-                for it in new:
-                    stack.callback(it.close)
-                syncing = Syncing(stack)
-                syncing.begin(new)
-                for error in syncing.failures().values():
-                    raise error
-                judge()
-                mode = stat.S_IMODE(os.stat(self.path).st_mode)
-                for it in new:
-                    os.chmod(it.path, mode)
+            judge()
+            mode = stat.S_IMODE(os.stat(self.path).st_mode)
+            for path in paths:
+                os.chmod(path, mode)
         except BaseException:
-            remove_all(it.path for it in new)
+            remove_all(paths)
             raise
-        os.rename(new[1].path, self.note_path)  # from here on the next run finishes what is left to do
-        os.rename(new[0].path, self.path)
+        os.rename(paths[1], self.note_path)  # from here on the next run finishes what is left to do
+        os.rename(paths[0], self.path)
         sync_folder(self.folder)
         with contextlib.suppress(FileNotFoundError):
             os.unlink(self.old_note_path)

@@ -1,8 +1,10 @@
 -- Intervals that are read one after the other.
-use Rattle.std.proofs.Common.{◌≡◌, Result, Err, IfErr, ℤ, List, [], ◌∷◌, ◌++◌, sym, ap, ◌∙◌, subst, arith, append_assoc}
+use Rattle.std.proofs.Common.{◌≡◌, ℕ, ◌-◌, ◌≤◌, max, length, Result, Err, IfErr, ℤ, List, [], ◌∷◌, ◌++◌, sym, ap, ◌∙◌, subst, arith, append_assoc}
+use Rattle.std.proofs.lemmas.List.{length-append}
 use Rattle.std.specs.List.{AllByRecursion}
 use Rattle.aec_params.specs.declared.fault.Fault.{Fault}
-use Rattle.aec_params.specs.Params.{IsAllowed, IsHeld}
+use Rattle.aec_params.specs.declared.settings.Settings.{Settings}
+use Rattle.aec_params.specs.Params.{IsAllowed, IsHeld, interval_len}
 use Rattle.aec_params.specs.Reading.{IsReading}
 use Rattle.aec_interval.specs.Pieces.{Place, ReadsInterval, HasRead, RefusesAt}
 use Rattle.aec_interval.proofs.PieceReadingLemmas.{has_read_more, lacks_memory_only, piece_is_held}
@@ -43,6 +45,18 @@ reads_more p q r xs ys all a on step is = subst (λ all. ReadsOn p all r) (sym i
   behind = λ front read. subst (HasRead r) (append_assoc front xs ys)
       (has_read_more q r (front ++ xs) ys (allowed_on p q xs a on) (on.behind front read) step);
 })
+
+-- ---- how many are gathered
+
+-- those of one interval
+pub one_at_once : (p q : Place) (s : Settings) (ys : List ℤ) → p.settings ≡ s → ReadsInterval p ys q → length ys ≤ max 2048 (interval_len s)
+one_at_once p q s ys is step = omega (arith, step.few, ap interval_len is)
+
+-- and of one more behind so few that it fits
+pub more_at_once : (p q r : Place) (s : Settings) (last : ℕ) (xs ys all : List ℤ) → p.settings ≡ s → ReadsOn p xs q → ReadsInterval q ys r → all ≡ xs ++ ys
+    → last ≡ 2048 - interval_len s → length xs ≤ last → length all ≤ max 2048 (interval_len s)
+more_at_once p q r s last xs ys all is on step both gives few =
+    omega (arith, step.few, ap interval_len (settings-same p q on.same ∙ is), ap length both, length-append xs ys, gives, few)
 
 -- ---- refusals
 

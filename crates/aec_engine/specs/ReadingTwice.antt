@@ -1,5 +1,5 @@
 -- What the parts of decoding give: the bits of a source, and what their two readings answer.
-use Rattle.std.specs.Prelude.{◌≡◌, ℕ, ◌+◌, ◌*◌, ◌%◌, ◌^◌, ◌<◌, ◌≤◌, ◌⊎◌, Bool, true, false, Option, None, Result, Ok, Err, MatchResult, ℤ, List, ◌++◌, length}
+use Rattle.std.specs.Prelude.{◌≡◌, ℕ, ◌+◌, ◌-◌, ◌*◌, ◌/◌, ◌%◌, ◌^◌, ◌<◌, ◌≤◌, ◌⊎◌, min, Bool, true, false, Option, None, Result, Ok, Err, MatchResult, ℤ, List, ◌++◌, length}
 use Rattle.std.specs.Int.{div_ceil}
 use Rattle.std.specs.List.{AllByRecursion}
 use Rattle.std.specs.Io.KnownBytes.{Appends}
@@ -70,10 +70,10 @@ pub record KeepsFront (p : Place) (s : Settings) (before : ℕ) (bytes : List �
 abbrev pub AreFewKept : ℕ → ℕ → ℕ → Type 0
 AreFewKept kept interval bits = 65536 + interval < kept → (kept ≤ 2 ^ 24) × (kept ≤ 2 * bits + interval)
 
--- The capacity for kept bytes stays as it was before, or it is at most 2^24 bytes, and at most
--- those of an interval and two for each bit.
+-- The capacity for kept bytes is as before, or it is at most 2^24 bytes, and at most the bytes of
+-- an interval and twice the bytes that may be kept.
 abbrev pub GrowsForFew : ℕ → ℕ → ℕ → ℕ → Type 0
-GrowsForFew before after interval bits = (after ≡ before) ⊎ ((after ≤ 2 ^ 24) × (after ≤ 2 * bits + interval))
+GrowsForFew before after interval most = (after ≡ before) ⊎ ((after ≤ 2 ^ 24) × (after ≤ 2 * most + interval))
 
 -- all samples are read up to this bit, where no more is wanted
 pub record EndsAt (p : Place) (bit : ℕ) : Type 0 where
@@ -88,15 +88,26 @@ pub record HaveSamples (p : Place) (total : ℕ) : Type 0 where
   pub reading : IsReading p.settings p.count p.limit p.bits samples
   pub counted : length samples ≡ total
 
--- Room for so many bits and intervals is enough for the code of the samples that are read: for the
--- bits that they are read from, and for their intervals.
-pub record IsEnoughRoom (p : Place) (bits intervals : ℕ) : Type 0 where
+-- There is room for as many bits as the samples are read from, and for the starts of their
+-- intervals. Their own code can be longer: it may have another filler, or be padded.
+pub record HasRoomOfRead (p : Place) (bits intervals : ℕ) : Type 0 where
   pub end : ℕ
   pub total : ℕ
   pub ends : EndsAt p end
   pub have : HaveSamples p total
   pub bits_fit : end ≤ bits
   pub intervals_fit : div_ceil total (interval_len p.settings) ≤ intervals
+
+-- The room that an edit asks for: for the bits that the samples are read from and a sixteenth more,
+-- but for at most 2^64 - 1 bits, and for the starts of their intervals.
+pub record AsksForRead (p : Place) (bits intervals : ℕ) : Type 0 where
+  pub end : ℕ
+  pub total : ℕ
+  pub ends : EndsAt p end
+  pub have : HaveSamples p total
+  pub bits_fit : end ≤ bits
+  pub bits_asked : bits ≡ min (end + end / 16) (2 ^ 64 - 1)
+  pub intervals_asked : intervals ≡ div_ceil total (interval_len p.settings)
 
 -- the bytes of a part of samples, or want of memory
 pub data StoresPart (s : Settings) (first len : ℕ) (samples : List ℤ) : Result (List ℕ) Fault → Type 0 where

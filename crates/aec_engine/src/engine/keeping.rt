@@ -49,6 +49,7 @@ fn make_room(bytes: &mut Vec<u8>, more: usize, most: u64) -> usize
     ensures few { AreFewKept result more most }
     ensures asked { (vec_capacity bytes.new ≡ vec_capacity bytes.old) ⊎ (vec_len bytes.old ≤ most) }
     ensures grown { GrowsForFew (vec_capacity bytes.old) (vec_capacity bytes.new) more most }
+    ensures stays { vec_len bytes.old ≤ 65536 → vec_capacity bytes.new ≡ vec_capacity bytes.old }
     ensures items { bytes.new.items ≡ bytes.old.items }
     ensures len { vec_len bytes.new ≡ vec_len bytes.old }
     ensures capacity { vec_capacity bytes.old ≤ vec_capacity bytes.new }
@@ -78,6 +79,7 @@ fn has_room(bytes: &mut Vec<u8>, room: &mut usize, more: usize, most: u64) -> bo
     ensures few { (bits : ℕ) → AreFewKept room.old more bits → most ≤ bits
         → AreFewKept room.new more bits }
     ensures grown { GrowsForFew (vec_capacity bytes.old) (vec_capacity bytes.new) more most }
+    ensures stays { vec_len bytes.old ≤ 65536 → vec_capacity bytes.new ≡ vec_capacity bytes.old }
     ensures items { bytes.new.items ≡ bytes.old.items }
     ensures len { vec_len bytes.new ≡ vec_len bytes.old }
     ensures capacity { vec_capacity bytes.old ≤ vec_capacity bytes.new }

@@ -2,7 +2,7 @@
 //! script made on them: those that only overwrite samples which are there already are made
 //! meanwhile, while little of the stream stands behind them.
 
-ghost use Rattle.std.specs.Prelude.{◌≡◌, ◌+◌, ◌-◌, ◌<◌, ◌≤◌, ◌*◌, ◌/◌, ◌%◌, ◌^◌, ◌++◌, min, max, vec_capacity, true, false, [], None, List, ℤ, IfOk, IfErr, OnOk, Ok};
+ghost use Rattle.std.specs.Prelude.{◌≡◌, ◌+◌, ◌-◌, ◌<◌, ◌≤◌, ◌*◌, ◌/◌, ◌%◌, ◌^◌, ◌++◌, min, max, length, true, false, [], None, List, ℤ, IfOk, IfErr, OnOk, Ok};
 ghost use Rattle.std.specs.Int.{div_ceil};
 ghost use Rattle.aec_params.specs.declared.fault.Fault.TheVariants.{Memory};
 ghost use Rattle.aec_params.specs.Params.{interval_len};
@@ -12,13 +12,13 @@ ghost use Rattle.aec_interval.specs.Reached.{count_refusal, RefusesDecoding};
 ghost use Rattle.aec_engine.specs.Transfers.{answer_by};
 ghost use Rattle.aec_engine.specs.EditingSteps.{recoded_of};
 ghost use Rattle.aec_interval.specs.Pieces.{is_wanted_at};
-ghost use Rattle.aec_engine.specs.ReadingTwice.{AreSamplesOf, EndsAt, HaveSamples, IsEnoughRoom, ReadsOn, LacksMemoryAlone};
+ghost use Rattle.aec_engine.specs.ReadingTwice.{AreSamplesOf, EndsAt, HaveSamples, HasRoomOfRead, AsksForRead, ReadsOn, LacksMemoryAlone};
 ghost use Rattle.aec_engine.specs.Scripts.{listing_of};
 ghost use Rattle.aec_engine.specs.EditsAhead.{AreKnown, IsReady, left_in};
 ghost use Rattle.aec_engine.specs.EarlyEdits.{LoadsAll, StopsLoading, EditsBits, EditsSamples};
 
 use crate::engine::carrying::{carry_early, carry_rest};
-use crate::engine::two_readings::{Judged, judge_all};
+use crate::engine::two_readings::{AT_ONCE, Judged, judge_all, room_at_once};
 use crate::script_edits::EditsAhead;
 use crate::scripts::EditFault;
 use aec_bits::{BitBuf, Codec};
@@ -26,9 +26,6 @@ use aec_edit::Workspace;
 use aec_interval::StreamReader;
 use aec_params::{Fault, Limits, Params};
 use std::alloc::Global;
-
-/// Of short intervals so many samples are appended at once: each append is an edit.
-const AT_ONCE: usize = 2048;
 
 /// Puts the samples of the next interval in the place of those that were handed in, and behind them
 /// those of more intervals, as long as they are `AT_ONCE` at most; false where none are left. An
@@ -48,6 +45,8 @@ fn next_intervals(
     ensures done { IfOk result (λ more. more ≡ false → reader.new ≡ reader.old) }
     ensures refuses { IfErr result (λ fault. LacksMemoryAlone reader.old fault) }
     ensures few { OnOk result (reader.new.block < 2 ^ 34) }
+    ensures at_once { OnOk result
+        (length samples.new.items ≤ max 2048 (interval_len params.now)) }
     ensures ends { OnOk result (is_wanted_at reader.new ≡ true
         → reader.new.block % reader.new.settings.interval ≡ 0) }
 {
@@ -71,8 +70,9 @@ fn append_behind(samples: &mut Vec<i64>, more: &[i64]) -> Result<(), Fault>
 }
 
 /// Appends the samples that coded bits stand for to an empty workspace over a codec that has coded
-/// nothing, and makes edits of a script meanwhile. Those that are left are ahead then. Before that
-/// the workspace has room for the bits that the samples are read from, and for their intervals.
+/// nothing, and makes edits of a script meanwhile. Those that are left are ahead then.
+///
+/// No clause uses the premise `room`. It proves that room is there before the first append.
 fn append_all<C: Codec>(
     alloc: Global,
     params: &Params,
@@ -93,7 +93,7 @@ fn append_all<C: Codec>(
     requires fresh { C.called workspace.old.codec ≡ 0 }
     requires known { AreKnown ahead.old }
     requires ready { IsReady ahead.old }
-    requires room { IsEnoughRoom reader.old workspace.old.room.bits workspace.old.room.intervals }
+    requires room { HasRoomOfRead reader.old workspace.old.room.bits workspace.old.room.intervals }
     ensures ok { IfOk result (λ _. LoadsAll (C.format workspace.old.codec) workspace.old.limit
         (left_in ahead.old) reader.old (left_in ahead.new) workspace.new.samples
         (C.called workspace.new.codec)) }
@@ -144,18 +144,7 @@ fn judged_reader<'a>(
     Ok((reader, judged))
 }
 
-/// Returns room for the samples that are appended at once: `AT_ONCE` or an interval, whichever is
-/// more.
-fn room_at_once(alloc: Global, params: &Params) -> Result<Vec<i64>, Fault>
-    ensures room { IfOk result
-        (λ samples. vec_capacity samples ≡ max 2048 (interval_len params.now)) }
-    ensures fault { IfErr result (λ e. e ≡ Memory) }
-{
-    let samples = Vec::with_capacity(alloc, AT_ONCE.max(params.interval_len() as usize))?;
-    Ok(samples)
-}
-
-/// Room for the code of samples: for its bits, and for the starts of its intervals.
+/// A number of bits and a number of intervals for which a workspace is to have room.
 #[derive(Clone, Copy)]
 struct Room {
     bits: u64,
@@ -164,7 +153,7 @@ struct Room {
 
 impl Room {
     /// Returns the room that an edit asks for: for the bits that the samples were read from and a
-    /// sixteenth more, and for the intervals of the samples.
+    /// sixteenth more, but for at most 2^64 - 1 bits, and for the starts of their intervals.
     fn of(params: &Params, judged: Judged) -> Room
         ensures bits { result.bits ≡ min (judged.bits + judged.bits / 16) (2 ^ 64 - 1) }
         ensures enough { judged.bits ≤ result.bits }
@@ -178,7 +167,7 @@ impl Room {
 }
 
 /// Returns an empty workspace with at least this room. Fails with `Memory` only if there is room to
-/// reserve and an allocation fails.
+/// reserve: then an allocation fails, or there would be more than 2^62 bits.
 fn roomy_workspace<C: Codec + Drop>(
     alloc: Global,
     codec: C,
@@ -217,7 +206,7 @@ fn edit_samples<C: Codec + Drop>(
     requires format { C.format codec ≡ interval_format params.now }
     requires fresh { C.called codec ≡ 0 }
     requires known { (listing_of script.now).bad ≡ None }
-    requires room { IsEnoughRoom reader.old room.bits room.intervals }
+    requires room { AsksForRead reader.old room.bits room.intervals }
     ensures edits { EditsSamples params.now limits.samples reader.old (listing_of script.now)
         (answer_by (λ w. recoded_of (C.format w.codec) w.samples (C.called w.codec)) result) }
     ensures format { IfOk result (λ w. C.format w.codec ≡ interval_format params.now) }

@@ -199,8 +199,8 @@ fn append_part(params: &Params, samples: &[i64], bytes: &mut Vec<u8>)
     put_samples(params, samples, &mut bytes[start..]);
 }
 
-/// For the samples of several short intervals there is as much room as a reader uses at once.
-const AT_ONCE: usize = 2048;
+/// The samples of short intervals are read together, up to this number.
+pub(crate) const AT_ONCE: usize = 2048;
 
 /// So many bytes wait at most before they are put.
 pub(crate) const WAITING: usize = 65536;
@@ -337,8 +337,18 @@ pub(crate) fn deliver_range<W: Sink>(
     put_range(params, reader, before, first, len, samples, bytes, sink)
 }
 
-/// Returns room for `AT_ONCE` samples or an interval, whichever is more, and room for the bytes of
-/// an interval behind a piece of `WAITING` bytes, no more.
+/// Returns room for `AT_ONCE` samples, or for those of an interval if they are more.
+pub(crate) fn room_at_once(alloc: Global, params: &Params) -> Result<Vec<i64>, Fault>
+    ensures room { IfOk result
+        (λ samples. vec_capacity samples ≡ max 2048 (interval_len params.now)) }
+    ensures fault { IfErr result (λ e. e ≡ Memory) }
+{
+    let samples = Vec::with_capacity(alloc, AT_ONCE.max(params.interval_len() as usize))?;
+    Ok(samples)
+}
+
+/// Returns room for the samples that are read at once, and room for the bytes of an interval behind
+/// a piece of `WAITING` bytes, no more.
 pub(crate) fn buffers(alloc: Global, params: &Params) -> Result<(Vec<i64>, Vec<u8>), Fault>
     ensures room { IfOk result (λ made. interval_len params.now ≤ vec_capacity made.0) }
     ensures empty { IfOk result (λ made. vec_len made.1 ≡ 0) }
@@ -348,9 +358,8 @@ pub(crate) fn buffers(alloc: Global, params: &Params) -> Result<(Vec<i64>, Vec<u
         × (vec_capacity made.1 ≤ 65536 + 4 * interval_len params.now)) }
     ensures fault { IfErr result (λ e. e ≡ Memory) }
 {
-    let len = params.interval_len() as usize;
-    let samples = Vec::with_capacity(alloc, len.max(AT_ONCE))?;
-    let bytes = Vec::with_capacity(alloc, WAITING + 4 * len)?;
+    let samples = room_at_once(alloc, params)?;
+    let bytes = Vec::with_capacity(alloc, WAITING + 4 * params.interval_len() as usize)?;
     Ok((samples, bytes))
 }
 

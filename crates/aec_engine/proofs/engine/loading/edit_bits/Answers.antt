@@ -6,7 +6,7 @@ use Rattle.aec_engine.proofs.engine.loading.edit_bits.Goals as goal
 pub edit_samples-requires-clause-room : goal.edit_samples-requires-clause-room
 edit_samples-requires-clause-room g c =
     room_judged _ c.args.params.now _ _ _ _ c.in_ok-reader.ensures.bits c.in_ok-reader.ensures.total c.in_ok-reader.ensures.settings
-    c.of-room.ensures.enough c.of-room.ensures.intervals
+    c.of-room.ensures.enough c.of-room.ensures.bits c.of-room.ensures.intervals
 
 pub returns-in_err-reader-clause-edits : goal.returns-in_err-reader-clause-edits
 returns-in_err-reader-clause-edits g c =

@@ -2,7 +2,7 @@ use Rattle.std.proofs.Common.{◌++◌, sym, subst, ap, ◌∙◌, arith}
 use Rattle.std.proofs.lemmas.Result.{err_from_is_err_and}
 use Rattle.aec_params.specs.Params.{IsAllowed}
 use Rattle.aec_engine.specs.ReadingTwice.{ReadsOn}
-use Rattle.aec_engine.proofs.ReadingOnLemmas.{reads_one, reads_more, lacks_first, lacks_later, lacks_err}
+use Rattle.aec_engine.proofs.ReadingOnLemmas.{reads_one, reads_more, lacks_first, lacks_later, lacks_err, one_at_once, more_at_once}
 use Rattle.aec_engine.proofs.engine.loading.next_intervals.Goals as goal
 
 pub returns-in_err-next-clause-refuses : goal.returns-in_err-next-clause-refuses
@@ -16,6 +16,8 @@ loop-reader-init c = record {
   reads = reads_one c.args.reader.now c.next.new.self c.next.new.samples.items (subst IsAllowed (sym c.requires) c.interval_len.ensures.allowed)
       (c.in_ok-next.ensures.read c.if-not-branch.false);
   few = c.next.ensures.few;
+  at_once = one_at_once c.args.reader.now c.next.new.self c.args.params.now c.next.new.samples.items c.requires
+      (c.in_ok-next.ensures.read c.if-not-branch.false);
   ends = c.next.ensures.ends;
 }
 
@@ -37,6 +39,10 @@ loop-reader-preserved c = record {
       c.next-in-loop-reader.new.samples.items _ (subst IsAllowed (sym c.requires) c.interval_len.ensures.allowed) c.loop-reader.invariant.reads
       (c.in_ok-next-2.ensures.read c.if-branch.true) (c.in_ok-append_behind.ensures.ok ∙ ap (λ l. c.loop-reader.samples.items ++ l) c.deref.ensures.value);
   few = c.next-in-loop-reader.ensures.few;
+  at_once = more_at_once c.args.reader.now c.loop-reader.reader c.next-in-loop-reader.new.self c.args.params.now c.saturating_sub-last.result
+      c.loop-reader.samples.items c.next-in-loop-reader.new.samples.items _ c.requires c.loop-reader.invariant.reads
+      (c.in_ok-next-2.ensures.read c.if-branch.true) (c.in_ok-append_behind.ensures.ok ∙ ap (λ l. c.loop-reader.samples.items ++ l) c.deref.ensures.value)
+      (omega (arith, c.saturating_sub-last.ensures, c.interval_len.ensures.value)) (omega (arith, c.len.ensures, c.loop-reader-test.true));
   ends = c.next-in-loop-reader.ensures.ends;
 }
 
