@@ -1,4 +1,8 @@
-# What a user and a developer run. The toolchain's command `rt` has to be on the path.
+# What a user, a packager and a developer run. Building needs the kit's command `rt` and python3; the library also cc, ld, objcopy and
+# ar. Installing needs python3. `make dist` needs objdump, dpkg-deb, and git or the variable SOURCE_DATE_EPOCH.
+#
+# Variables: PREFIX; DESTDIR, a folder to install into in place of the root; PROGRAM, the program's installed name; BUILT, a program to
+# install in place of bin/aec; LIBDIR and PYTHON_DIR, where the library and the Python module go; PC_PREFIX, the prefix in aecp.pc.
 PREFIX ?= /usr/local
 
 VERSION := $(shell cat VERSION)
@@ -66,7 +70,7 @@ bench: bin/aec
 pictures:
 	python3 bench/pictures.py
 
-# Installs what `make` has built, and needs no rt. PROGRAM is another name for the program, where libaec's client is to stay `aec`.
+# Installs what `make` has built. It needs python3, but no rt. If libaec's client is to stay `aec`, give another name as PROGRAM.
 PROGRAM ?= aec
 BUILT ?= bin/aec
 share = $(DESTDIR)$(PREFIX)/share

@@ -24,6 +24,7 @@ PACKAGES = {
  ranges, and edits of a stream that is already coded.
  .
  A checker has proved that every function of the program keeps its contract.
+ It needs a processor with SSE4.2 (x86-64-v2).
  .
  The program is aec-proved, and aec by the alternatives system. It can be
  installed beside libaec-tools, whose program is then aec.""",
@@ -36,6 +37,7 @@ PACKAGES = {
  CCSDS 121.0-B-3 of GRIB2 (template 5.42), HDF5 (szip) and space packets.
  .
  A checker has proved that every function of the library keeps its contract.
+ It needs a processor with SSE4.2 (x86-64-v2).
  Its names begin with aecp_, so a program can also use libaec.""",
     },
     "libaecp-dev": {
@@ -120,7 +122,7 @@ def finish(top, root, folder, name, version, depends, moment):
         path = os.path.join(own, f"{name}.{script}")
         if os.path.exists(path):
             mode = 0o755 if script in ("postinst", "prerm") else 0o644
-            text = stage.read(path).replace(b"@VERSION@", version.encode())
+            text = stage.read(path).replace(b"@VERSION@", version.encode()).replace(b"@NEXT@", next_of(version).encode())
             stage.write(os.path.join(root, "DEBIAN", script), text, mode)
     stage.write(os.path.join(root, "DEBIAN/md5sums"), sums(root).encode())
     stage.write(os.path.join(root, "DEBIAN/control"), control(name, version, depends, root).encode())
@@ -128,6 +130,12 @@ def finish(top, root, folder, name, version, depends, moment):
     path = os.path.join(folder, f"{name}_{version}_{ARCH}.deb")
     subprocess.run(["dpkg-deb", "--root-owner-group", "-Zxz", "--build", root, path], check=True, stdout=subprocess.DEVNULL)
     return path
+
+
+def next_of(version):
+    """The first version whose library may have other structs: before 1.0 the one with the next second number, else with the next first."""
+    first, second = map(int, version.split(".")[:2])
+    return f"0.{second + 1}~" if first == 0 else f"{first + 1}~"
 
 
 def libc_of(path):

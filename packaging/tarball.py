@@ -37,7 +37,7 @@ def fill(top, folder, version, proved):
     stage.write(os.path.join(folder, "PROVED"), proved.encode())
 
 
-README = """aec {version} for Linux on x86-64, glibc 2.34 or newer.
+README = """aec {version} for Linux on x86-64-v2 (SSE4.2), glibc 2.34 or newer.
 
     sh install.sh PREFIX              installs, for example below /usr/local or $HOME/.local
     sh install.sh uninstall PREFIX    removes what was installed
