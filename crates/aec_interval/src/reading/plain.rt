@@ -81,7 +81,7 @@ fn fill_plain_block<const N: usize>(
 /// Reads the blocks that come next, `most` of them, as long as they are plain ones, and puts their
 /// samples, `size` each, behind the first `from`. How many blocks were read.
 #[inline(always)]
-pub(crate) fn fill_plain_blocks<const N: usize>(
+fn fill_plain_blocks<const N: usize>(
     params: &Params,
     reader: &mut BitReader,
     most: usize,
@@ -115,7 +115,7 @@ pub(crate) fn fill_plain_blocks<const N: usize>(
 
 /// The same of blocks of `N` samples, compiled for that size.
 #[inline(never)]
-fn fill_known_blocks<const N: usize>(
+pub(crate) fn fill_known_blocks<const N: usize>(
     params: &Params,
     reader: &mut BitReader,
     most: usize,

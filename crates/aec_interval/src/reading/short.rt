@@ -11,7 +11,7 @@ ghost use Rattle.aec_interval.specs.PlainBlocks.{ReadsPlain};
 ghost use Rattle.aec_interval.specs.ShortIntervals.{AreWithin, ReadsFirst, ReadsWhole};
 
 use crate::reading::Wanted;
-use crate::reading::plain::fill_plain_blocks;
+use crate::reading::plain::fill_known_blocks;
 use aec_bits::BitReader;
 use aec_block::{read_plain, read_plain_first, unmap_into};
 use aec_params::Params;
@@ -72,7 +72,7 @@ fn fill_unpredicted_block<const N: usize>(
 {
     // Called for its clause alone: the parameters are allowed.
     let _len = params.interval_len();
-    if !read_plain::<N>(params, reader, values) {
+    if !read_plain::<0>(params, reader, values) {
         return false;
     }
     let len = values.len();
@@ -121,7 +121,7 @@ fn fill_rest<const N: usize>(params: &Params, reader: &mut BitReader, samples: &
     if rest == 0 {
         return true;
     }
-    fill_plain_blocks::<N>(params, reader, rest, samples, N, N) == rest
+    fill_known_blocks::<N>(params, reader, rest, samples, N) == rest
 }
 
 /// Reads the interval that comes next, if all its blocks are plain ones, and puts its samples into
