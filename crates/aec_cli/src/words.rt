@@ -24,9 +24,7 @@ pub fn command<'a>(alloc: Global) -> Result<Command<'a>, Usage>
     ensures refuses { IfErr result (λ u. u ≡ Usage.Memory) }
 {
     let command = Command::new(alloc, "aec")
-        .about(
-            "Codes integer samples without loss (CCSDS 121.0-B-3), decodes and edits streams.",
-        )
+        .about("Codes integer samples without loss (CCSDS 121.0-B-3), decodes and edits streams.")
         .version(VERSION);
     let command = with_numbers(alloc, command)?;
     let command = with_coding(alloc, command)?;
