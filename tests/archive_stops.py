@@ -226,6 +226,38 @@ def try_two(tally, folder):
     status, printed, _ = command(folder, "check", "many")
     tally.check("two that keep: checked", (status, printed), (0, "60 checked, 60 sound, 0 damaged\n"))
     tally.check("two that keep: no other files", len(os.listdir(many)), 180)
+    for name in os.listdir(many):
+        if ".aec" in name:
+            os.unlink(os.path.join(many, name))
+    names = sorted(os.listdir(many))
+    words = [sys.executable, "-m", "aecp", "keep", "-n", "16", "--jobs", "1", *names]
+    turned = [*words[:-60], *reversed(names)]
+    running = [subprocess.Popen(it, cwd=many, stdout=subprocess.PIPE, stderr=subprocess.STDOUT, text=True) for it in (words, turned)]
+    said = [it.communicate(timeout=60)[0] for it in running]
+    tally.check(f"two in opposite order: {said}", [it.returncode for it in running], [0, 0])
+    tally.check("two in opposite order: no other files", len(os.listdir(many)), 180)
+    tally.check("two in opposite order: checked", command(many, "check", ".")[1], "60 checked, 60 sound, 0 damaged\n")
+
+
+def try_second_name(tally, folder):
+    """A note that can't get its name: the stream gets none either, so that the file can be kept later."""
+    trial, links, link = Trial(folder, "second"), [], os.link
+
+    def failing(source, target):
+        links.append(target)
+        if target == trial.pair.note_path:
+            raise OSError(28, "No space left on device", target)
+        link(source, target)
+
+    work, _, new = trial.begin("keep")
+    os.link = failing
+    try:
+        outcome = work()
+    finally:
+        os.link = link
+    tally.check("no second name: refused", (outcome.kind, "no space left" in outcome.said, len(links)), ("refused", True, 2))
+    tally.check("no second name: the files", os.listdir(trial.folder), ["file"])
+    tally.check("no second name: kept later", (work().kind, state(trial.pair)), ("kept", new))
 
 
 def try_interrupt(tally, folder):
@@ -256,4 +288,4 @@ def try_interrupt(tally, folder):
 
 def parts(seed):
     """The tests, and what each is given beside the tally."""
-    return [(try_each,), (try_moments, seed), (try_full,), (try_full_disk,), (try_two,), (try_interrupt,)]
+    return [(try_each,), (try_moments, seed), (try_full,), (try_full_disk,), (try_two,), (try_second_name,), (try_interrupt,)]

@@ -25,7 +25,7 @@ OURS = (STREAM, NOTE, OLD_NOTE)
 HIDDEN = re.compile(r"\.(.*\.aec)\.([0-9a-f]{12}\.new|json\.new|lock)", re.S)
 TEXTS = ["README*", *(f"*.{end}" for end in ("txt", "md", "csv", "tsv", "json", "xml", "html", "log", "py", "sh", "toml", "yaml", "yml"))]
 FRONT = 1 << 18  # bytes that a hint looks at
-AT_ONCE = 3  # files of a process that wait for the disk, or are coded
+AT_ONCE = 5  # files of a process that wait for the disk, or are coded
 T = TypeVar("T")
 
 
