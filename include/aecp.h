@@ -89,7 +89,7 @@ uint32_t aecp_encode(const aecp_options *options, const void *samples, size_t sa
 /* Decodes the first `count` samples of a stream, or all with AECP_ALL; bytes behind them are left unread. Faults: options, TRUNCATED,
  * VALUE_TOO_LARGE, RUN_TOO_LONG, TOO_MANY_SAMPLES, STREAM_TOO_LONG, MEMORY, NO_ROOM. Takes memory for an interval of samples and for
  * the stream; of a sound stream only for its first aecp_bound(options, count) bytes, unless another coder wrote more. Trap: AECP_ALL
- * gives filler too, and a cut stream may pass; a few bytes can stand for 2^32 samples. */
+ * gives filler too, and a cut stream may pass; 1.5 MB can stand for 2^32 samples. */
 uint32_t aecp_decode(const aecp_options *options, uint64_t count, const uint8_t *coded, size_t coded_len, void *out,
                      size_t out_len, aecp_reply *reply);
 

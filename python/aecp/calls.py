@@ -57,7 +57,7 @@ def decode_bytes(coded: Any, count: Optional[int], options: Options, out: Any = 
     coded: bytes, or what has a buffer of bytes that lie one after the other, also one that can't be written.
     out: memory that can be written, such as a bytearray, to be filled from its front. A refused call leaves it as it was.
     Raises OptionsRefused, StreamRefused, LimitPassed, NoMemory; a Fault with the number 18 where `out` is too short; TypeError for
-    what has no such buffer. A few bytes can stand for 2^32 samples: give a count.
+    what has no such buffer. 1.5 MB can stand for 2^32 samples: give a count.
     """
     source, before = Source(coded), [c_options(options), number_of(count)]
     if out is not None:

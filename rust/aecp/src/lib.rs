@@ -60,7 +60,7 @@ pub fn encode<T: Sample>(samples: &[T], options: &Options) -> Result<Vec<u8>, Er
 }
 
 /// Decodes the first `count` samples of a stream. Bytes after these are not read. With `None` all
-/// samples are decoded, and also the filling samples of the last block.
+/// samples are decoded, and also the filler of the last block.
 ///
 /// # Errors
 /// [`Error::Options`], [`Error::Stream`] with the bit where the refused coded data set begins,
