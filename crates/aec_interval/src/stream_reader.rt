@@ -6,7 +6,7 @@ use crate::reading::skipping::{count_asked, skip_interval};
 use crate::reading::whole::judge_count;
 use crate::reading::{Wanted, cut_to_count, read_interval, wants_more};
 use aec_bits::{BitBuf, BitReader};
-use aec_block::Block;
+use aec_block::{Block, comes_plain};
 use aec_params::{Fault, Params};
 use std::alloc::Global;
 use std::marker::Model;
@@ -154,6 +154,13 @@ impl<'a> StreamReader<'a> {
         }
     }
 
+    /// Whether a plain coded data set seems to come next. The reader stays.
+    fn comes_plain(&mut self) -> bool
+        ensures { self.new ≡ self.old }
+    {
+        comes_plain(&self.params, &mut self.reader)
+    }
+
     /// Reads the next intervals into the vector, if they are short and it has room for them. Else
     /// false, and the reader is where it was.
     fn next_short(&mut self, most: u64, samples: &mut Vec<i64>) -> bool
@@ -204,7 +211,7 @@ impl<'a> StreamReader<'a> {
         ensures ends { is_wanted_at self.new ≡ true
             → self.new.block % self.new.settings.interval ≡ 0 }
     {
-        if self.next_short(most, samples) {
+        if self.comes_plain() && self.next_short(most, samples) {
             return Ok(true);
         }
         self.next(samples)
