@@ -292,7 +292,7 @@ fn help_goes_to_standard_output(rt: HostRuntime) -> Result<(), Fail> {
     holds(&rt, text.contains("Usage: aec [OPTIONS] <SOURCE> <DEST>\n"));
     holds(
         &rt,
-        text.contains("the rule is this project's own and violates the\n"),
+        text.contains("violates the standard: only for this program\n"),
     );
     for option in [
         "--range <FIRST:LEN>",
