@@ -138,8 +138,8 @@ def try_edits(tally, folder):
     tally.check("pixels: a frame", command(place, "pixels", "--shape", "10x20", "--frame", "2", "table.csv")[1], "overwrite 403 5\noverwrite 422 7\n")
     tally.check("pixels: outside", command(place, "pixels", "--shape", "1x20", "table.csv")[0], 1)
     tally.check("pixels: a shape", command(place, "pixels", "--shape", "1", "table.csv")[0], 2)
-    status, _, said = command(place, "pixels", "--shape", "10x20", "-", given=b"1,2,7\n1,2,8\n1,x,2\n")
-    wanted = "aecp: -: the table is refused:\n  line 2: row 1, column 2 has two values, 7 and 8\n  line 3: '1 x 2' is no row, column and value\n"
+    status, _, said = command(place, "pixels", "--shape", "10x20", "-", given=b"0,2,7\n0,2,8\n1,x,2\n")
+    wanted = "aecp: -: the table is refused:\n  line 2: row 0, column 2 has two values, 7 and 8\n  line 3: '1 x 2' is no row, column and value\n"
     tally.check("pixels: two values", (status, said), (1, wanted))
     script = command(place, "pixels", "--shape", "10x20", "table.csv")[1]
     write(place, "script", script.encode())
