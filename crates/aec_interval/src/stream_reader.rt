@@ -191,8 +191,8 @@ impl<'a> StreamReader<'a> {
     }
 
     /// Puts the samples of the next interval in the place of those that were handed in, as `next`
-    /// does, or those of several short intervals: as many as the vector has room for, and `most`
-    /// samples allow. All else is as with `next`.
+    /// does, or those of the next few intervals: then at most `most` samples. How many intervals it
+    /// reads isn't promised. All else is as with `next`.
     pub fn next_few(&mut self, most: u64, samples: &mut Vec<i64>) -> Result<bool, Fault>
         ensures more { IfOk result (λ more. more ≡ is_wanted_at self.old) }
         ensures read { IfOk result
