@@ -70,7 +70,7 @@ enum {
     AECP_SPENT = 11,           /* the coder of a workspace has been called 2^64 - 1 times */
     AECP_MEMORY = 12,
     AECP_SCRIPT = 15,          /* place: the first line that isn't an edit, counted from 1 */
-    AECP_STREAM_TOO_LONG = 16, /* place: the greatest length in bytes, 2^40 */
+    AECP_STREAM_TOO_LONG = 16, /* place: the greatest length in bytes, 2^40; the command aec allows 2^35 */
     AECP_EVEN_BLOCK_SIZE = 17,
     AECP_NO_ROOM = 18,         /* len: the bytes, or samples, that the answer takes */
     AECP_NOT_OPEN = 19         /* the handle holds no workspace, the coder isn't open */
