@@ -1,7 +1,7 @@
 #!/usr/bin/env python3
 """The coded stream of a GRIB2 message (data representation template 5.42):
 
-    grib_ccsds.py options FILE                  prints the words for aec, with --count
+    grib_ccsds.py options FILE                  prints the options for aec, with --count
     grib_ccsds.py values AEC FILE FIRST:LEN     prints LEN values from place FIRST on, a line each
     grib_ccsds.py set AEC FILE PLACE VALUE OUT  writes the file with another value at a place; all
                                                 others stay as they are
