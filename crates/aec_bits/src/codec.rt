@@ -14,13 +14,14 @@ pub trait Codec {
     /// samples.
     ghost format: { Self → Format };
 
-    /// How many intervals it has coded.
+    /// The count of coded intervals, from where the codec began to count.
     ghost called: { Self → ℕ };
 
-    /// How often it has been asked to decode, up to the greatest number of 64 bits.
+    /// The count of calls of `decode`, up to the greatest number of 64 bits.
     ghost read: { Self → ℕ };
 
-    /// Intervals of one length are told apart by their bits.
+    /// The format is lawful, as `IsLawful` says: intervals of one length are told apart by their
+    /// bits.
     ghost lawful: { (c : Self) → IsLawful (format c) };
 
     /// The greatest number of samples in an interval, 1 to 262,144.
@@ -31,11 +32,11 @@ pub trait Codec {
     fn holds(&self, x: i64) -> bool
         ensures { result ≡ (format self.now).holds x };
 
-    /// How many intervals it has coded.
+    /// The count of coded intervals, from where the codec began to count.
     fn calls(&self) -> u64
         ensures { result ≡ called self.now };
 
-    /// How often it has been asked to decode.
+    /// The count of calls of `decode`, up to the greatest number of 64 bits.
     fn reads(&self) -> u64
         ensures { result ≡ read self.now };
 

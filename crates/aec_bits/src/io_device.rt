@@ -4,8 +4,8 @@ use crate::device::{Sink, Source};
 use aec_params::Fault;
 use std::io::{Read, Write};
 
-/// The bytes of a reader. Any error of a read is a failure, also an interrupted one; after it the
-/// reader isn't called again.
+/// The bytes of a reader. Any error of a read is a failure, also an interrupted one; after it each
+/// further call of `take` fails.
 #[derive(Drop)]
 pub struct ReadSource<R> {
     inner: R,
@@ -61,7 +61,8 @@ impl<R: Read> Source for ReadSource<R> {
 }
 
 /// Takes bytes into a writer. Any error of a write is a failure, also an interrupted one, and so is
-/// a write that takes nothing of a piece that isn't empty; after it the writer isn't called again.
+/// a write that takes nothing of a piece that isn't empty; after it each further call of `put` or
+/// `begin` fails.
 #[derive(Drop)]
 pub struct WriteSink<W> {
     inner: W,

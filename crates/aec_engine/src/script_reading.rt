@@ -68,11 +68,11 @@ fn take_line(alloc: Global, number: u64, text: &[u8], read: &mut Script) -> Resu
 
 /// The edits of a script. A line ends with a line feed, the last one may lack it; one carriage
 /// return before it is no part of the line. Spaces and tabs part words. A line is `overwrite FIRST
-/// V..`, `append V..` or `truncate COUNT`; one without a word, and one whose first word begins with
-/// `#`, says nothing.
+/// V..`, `append V..`, `insert FIRST V..`, `remove FIRST LEN` or `truncate COUNT`. A line without a
+/// word says nothing, nor does one whose first word begins with `#`.
 ///
-/// `Script` names the first line that is none of these, counted from 1 among all lines. `Memory`
-/// where a growth was refused for an edit before it. Takes a time linear in the length.
+/// Fails with `Script` at the first line that is none of these, counted from 1 among all lines; or
+/// with `Memory`, only if an edit stands before that line. Takes a time linear in the length.
 pub fn script(alloc: Global, bytes: &[u8]) -> Result<Script, Fault>
     ensures ok { let read : Listing = listing_of bytes.now in
         IfOk result (λ s. (read.bad ≡ None) × (s.edits.items ≡ read.edits)

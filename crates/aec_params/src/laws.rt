@@ -34,8 +34,8 @@ pub fn each_number_is_one_pair()
     ensures { EachNumberIsOnePair }
 {}
 
-/// At each prediction, and without preprocessing, samples and values below 2^n stand for one
-/// another.
+/// With allowed settings samples stand one to one for the values below 2^n, at each prediction that
+/// is a sample; and for their patterns of n bits.
 pub fn samples_are_values()
     ensures { SamplesAreValues }
 {}
