@@ -138,7 +138,7 @@ impl BitBuf {
         padded_word_at(&self.words, start)
     }
 
-    /// How many zeros stand from place `start` on before a one; `None` where no one follows.
+    /// How many zeros come from place `start` on before a 1 bit; `None` if no 1 bit follows.
     pub(crate) fn zeros_before_one(&self, start: u64) -> Option<u64>
         requires { start ≤ length self.now.list }
         ensures cases { MatchOption result

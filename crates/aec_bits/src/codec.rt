@@ -40,8 +40,8 @@ pub trait Codec {
     fn reads(&self) -> u64
         ensures { result ≡ read self.now };
 
-    /// Appends the bits of an interval. `Spent` exactly where `calls` is the greatest number of 64
-    /// bits, then `Memory` where a growth was refused; the bits and `calls` are then as before.
+    /// Appends the bits of an interval. Fails with `Spent` exactly if `calls` is `u64::MAX`, then
+    /// with `Memory` if a growth is refused; the bits and `calls` are then as before.
     fn code(&mut self, samples: &[i64], out: &mut BitBuf) -> Result<(), Fault>
         requires { IsInterval (format self.old) samples.now }
         ensures ok { OnOk result (out.new.list
@@ -54,8 +54,8 @@ pub trait Codec {
         ensures same_reads { read self.new ≡ read self.old }
         ensures same_format { format self.new ≡ format self.old };
 
-    /// Appends the `count` samples of the interval whose bits begin at place `pos`. `Memory` where
-    /// a growth was refused; the samples in `out` are then as before.
+    /// Appends the `count` samples of the interval whose bits begin at place `pos`. Fails with
+    /// `Memory` if a growth is refused; the samples in `out` are then as before.
     fn decode(
         &mut self,
         stream: &BitBuf,

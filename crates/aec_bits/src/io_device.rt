@@ -15,7 +15,7 @@ pub struct ReadSource<R> {
 impl<R: Read> ReadSource<R> {
     ghost use Rattle.std.specs.Prelude.{◌≡◌};
 
-    /// A source of what the reader gives from here on. Takes no memory.
+    /// A source of the bytes that the reader has left. Takes no memory.
     pub fn new(inner: R) -> ReadSource<R>
         ensures left { ⟦<ReadSource<R> as Source>⟧.left result ≡ R.remaining inner }
         ensures failed { ⟦<ReadSource<R> as Source>⟧.failed result ≡ 0 }
@@ -26,7 +26,7 @@ impl<R: Read> ReadSource<R> {
         }
     }
 
-    /// The reader.
+    /// Returns the reader.
     pub fn into_inner(self) -> R
         ensures { ⟦<ReadSource<R> as Source>⟧.left self ≡ R.remaining result }
     {
@@ -73,7 +73,7 @@ pub struct WriteSink<W> {
 impl<W: Write> WriteSink<W> {
     ghost use Rattle.std.specs.Prelude.{◌≡◌};
 
-    /// A sink into the writer, behind what it holds. Takes no memory.
+    /// A sink that appends to what the writer holds. Takes no memory.
     pub fn new(inner: W) -> WriteSink<W>
         ensures taken { ⟦<WriteSink<W> as Sink>⟧.taken result ≡ W.contents inner }
         ensures failed { ⟦<WriteSink<W> as Sink>⟧.failed result ≡ 0 }
@@ -86,7 +86,7 @@ impl<W: Write> WriteSink<W> {
         }
     }
 
-    /// The writer.
+    /// Returns the writer.
     pub fn into_inner(self) -> W
         ensures { ⟦<WriteSink<W> as Sink>⟧.taken self ≡ W.contents result }
     {

@@ -34,7 +34,7 @@ pub record BinaryNumbersAreReadBack : Type 0 where
   pub below : (bits : List Bool) → bits_number bits < 2 ^ length bits
   pub bits : (bits : List Bool) → binary (length bits) (bits_number bits) ≡ bits
 
--- whatever follows its words, a code tells the keys of what it codes, of what passes the test
+-- the code of what passes the test tells its key, whatever bits follow
 abbrev pub TellsKeys : {X K : Type 0} → (X → Bool) → (X → List Bool) → (X → K) → Type 0
 TellsKeys {X} test code key =
     (a b : X) (u v : List Bool) → test a ≡ true → test b ≡ true → code a ++ u ≡ code b ++ v → (key a ≡ key b) × (u ≡ v)

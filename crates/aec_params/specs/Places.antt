@@ -7,8 +7,8 @@ use Rattle.aec_params.specs.Runs.{segment_len}
 use Rattle.aec_params.specs.Spellings.{after_reference}
 use Rattle.aec_params.specs.CodedDataSets.{Body, uncompressed_values, value_pairs, split_values, zero_blocks, CodedDataSet, HasShape, has_small_values}
 
--- how many blocks the segment of block p of an interval has left; the last one is what is left of r
--- (§8, §12)
+-- how many blocks the segment of block p of an interval has left; the last segment ends with the
+-- interval (§8, §12)
 abbrev pub segment_left : Settings → ℕ → ℕ
 segment_left s p = min (segment_len - p % segment_len) (s.interval - p)
 

@@ -14,7 +14,7 @@ pub fn binary_numbers_differ()
     ensures { BinaryNumbersDiffer }
 {}
 
-/// How long codewords are.
+/// A fundamental sequence of v has v + 1 bits, a binary number of width w has w.
 pub fn codewords_have_their_lengths()
     ensures { CodewordLengths }
 {}
@@ -40,7 +40,7 @@ pub fn samples_are_values()
     ensures { SamplesAreValues }
 {}
 
-/// The pieces of a list join to it, are cut as they are meant to be, and are the only ones.
+/// The pieces of a list join to it, are cut as their definition says, and no other lists are.
 pub fn pieces_are_the_cut<X>()
     ensures { PiecesAreTheCut X }
 {}

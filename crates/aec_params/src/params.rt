@@ -110,8 +110,7 @@ impl Params {
         u64::from(self.settings.block_size) * u64::from(self.settings.interval)
     }
 
-    /// Bits of an identifier, 1 to 5: the table of identifiers, by the number of bits per sample
-    /// and the code set.
+    /// Bits of an identifier, 1 to 5, by the bits per sample and the code set (FORMAT.md §6).
     pub fn id_len(&self) -> u32
         ensures value { result ≡ identifier_len self.now }
         ensures allowed { IsAllowed self.now }
