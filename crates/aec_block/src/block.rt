@@ -7,9 +7,9 @@ use std::marker::Model;
 /// The most values of a block.
 pub const MOST_VALUES: usize = 64;
 
-/// A block of at most 64 mapped values, and the reference sample's pattern where it has one; then 0
-/// stands in the reference place, which is the first. The values lie in the block itself, so no
-/// call takes memory.
+/// A block of at most 64 mapped values, and the reference sample's pattern if it has one: then the
+/// first value is 0 (the reference place). The values lie in the block itself, so no call takes
+/// memory.
 #[derive(Debug, Drop)]
 pub struct Block {
     reference: Option<u32>,
@@ -176,7 +176,7 @@ impl<'a> BlockRef<'a> {
         self.reference
     }
 
-    /// The values that are written one by one: those behind the reference place, where there is
+    /// The values that are written one by one: those after the reference place, where there is
     /// one.
     #[inline(always)]
     #[tactic(auto, using(crate::proofs::BlockLemmas::some_values))]

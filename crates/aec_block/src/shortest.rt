@@ -12,7 +12,7 @@ use crate::writing::known_counts::write_values;
 use aec_bits::BitBuf;
 use aec_params::{Fault, Params};
 
-/// Appends the shortest coded data set of a block whose values behind the reference place are given
+/// Appends the shortest coded data set of a block whose values after the reference place are given
 /// too, compiled for their number where that is known. `Memory` where a growth was refused.
 #[inline(always)]
 fn write_chosen(
@@ -68,8 +68,8 @@ fn write_first<const N: usize>(
 
 /// Appends the shortest coded data set of the block of a reference, where there is one, and of `N`
 /// values with the one in the reference place, compiled for that number: what `write_block` appends
-/// by the option of `choose`. `Memory` where a growth was refused, and nothing has changed then; it
-/// is not where there is room for the coded data set.
+/// by the option of `choose`. `Memory` where a growth was refused, never if there is room for the
+/// coded data set; nothing has changed then.
 #[inline(always)]
 pub fn write_shortest_of<const N: usize>(
     params: &Params,

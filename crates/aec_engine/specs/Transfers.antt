@@ -13,7 +13,7 @@ pub record IsTakenWhole (before after : Option (List ℕ)) (failures limit : ℕ
   pub sound : failures ≡ 0
   pub within : length bytes ≤ limit
 
--- the bytes of a source that failed behind them, within the limit
+-- the bytes of a source that failed after them, within the limit
 pub record FailsWithin (before after : Option (List ℕ)) (failures limit : ℕ) (bytes : List ℕ) : Type 0 where
   pub taken : Consumes before after bytes
   pub failed : failures ≡ 1
@@ -31,12 +31,12 @@ pub data RefusesIntake (before after : Option (List ℕ)) (failures limit : ℕ)
   source_failed : (bytes : List ℕ) → FailsWithin before after failures limit bytes → RefusesIntake before after failures limit Read
   too_many_bytes : (bytes : List ℕ) → PassesLimit before after failures limit bytes → RefusesIntake before after failures limit (StreamTooLong limit)
 
--- what a source gave: its bytes in order, and whether it failed behind them
+-- what a source gave: its bytes in order, and whether it failed after them
 pub record Input : Type 0 where
   pub bytes : List ℕ
   pub failed : Bool
 
--- these bytes, and whether the source failed behind them
+-- these bytes, and whether the source failed after them
 abbrev pub input_of : List ℕ → Bool → Input
 input_of bytes failed = record { bytes = bytes; failed = failed }
 
@@ -82,8 +82,8 @@ pub record WroteNothing (sink : Putting) : Type 0 where
   pub kept : Keeps sink.before sink.after
   pub begun : sink.begun_after ≡ sink.begun_before
 
--- begin was called once, before anything was taken: what the sink tells to have held then is what
--- it held before
+-- begin was called once, before anything was taken: what it held at `begin`, if known, is what it
+-- held before
 pub record IsBegunFirst (sink : Putting) : Type 0 where
   pub once : sink.begun_after ≡ counted sink.begun_before
   pub first : Keeps sink.mark sink.before

@@ -36,7 +36,7 @@ pub(crate) fn edit_on_line(alloc: Global, number: u64, text: &[u8]) -> Result<Op
     edit_of(alloc, line)
 }
 
-/// Puts the edit of a line, if there is one, and the number of the line behind those before it.
+/// Puts the edit of a line, if there is one, and the number of the line after those before it.
 fn put_edit(read: &mut Script, edit: Option<Edit>, number: u64) -> Result<(), Fault>
     ensures ok { IfOk result (λ _. (rest : Listing) →
         after_listed read.old.edits.items read.old.lines.items (listed number (kept edit) rest)
@@ -51,7 +51,7 @@ fn put_edit(read: &mut Script, edit: Option<Edit>, number: u64) -> Result<(), Fa
 }
 
 #[tactic(auto, using(crate::proofs::ScriptLineLemmas::refused_line))]
-/// Puts what a line asks for, whose number is given, behind what the lines before it do.
+/// Puts what a line asks for, whose number is given, after what the lines before it do.
 fn take_line(alloc: Global, number: u64, text: &[u8], read: &mut Script) -> Result<(), Fault>
     ensures ok { IfOk result (λ _. (rest : Listing) →
         after_listed read.old.edits.items read.old.lines.items

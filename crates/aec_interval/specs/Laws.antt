@@ -61,7 +61,7 @@ ReadsEach s [] [] = ⊤
 ReadsEach s (code ∷ codes) (v ∷ intervals) = ReadsBlocks s code (blocks_of s v) × ReadsEach s codes intervals
 ReadsEach s codes intervals = ⊥
 
--- such codes for the intervals of samples, one behind the other, are read with the count of the
+-- such codes for the intervals of samples, one after the other, are read with the count of the
 -- samples as the samples, whatever bits follow, where nothing is padded
 abbrev pub EachCodeIsRead : Type 0
 EachCodeIsRead = (s : Settings) (limit : ℕ) (samples : List ℤ) (codes : List (List Bool)) (rest : List Bool) → IsAllowed s → s.pad ≡ false

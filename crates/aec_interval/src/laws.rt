@@ -45,7 +45,7 @@ pub fn codes_are_shortest()
     ensures { AllCodesAreShortest }
 {}
 
-/// Coded data sets for the blocks of each interval, one behind the other, are read with the count
+/// Coded data sets for the blocks of each interval, one after the other, are read with the count
 /// of the samples as the samples, whatever bits follow, where nothing is padded. So all that
 /// `codes_are_shortest` compares with the code of the samples is read as these samples.
 pub fn each_code_is_read()

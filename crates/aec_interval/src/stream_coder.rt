@@ -77,8 +77,8 @@ impl StreamCoder {
     ///
     /// The refusals, sample by sample: `TooManySamples` past the limit, `SampleRange` with the
     /// sample's index counted from the first of all pieces, `Memory` at a sample that is neither.
-    /// What was appended is the code of the intervals that were complete before it, for `Memory` of
-    /// the first ones of them. From then on each call answers that refusal and appends nothing.
+    /// What was appended is the code of the intervals complete before it; for `Memory`, of the
+    /// first of these intervals. From then on each call returns that refusal and appends nothing.
     pub fn feed(&mut self, piece: &[u8], out: &mut BitBuf) -> Result<(), Fault>
         ensures ok { OnOk result (Feeds self.old piece.now out.old.list out.new.list self.new) }
         ensures refuses { MatchOption self.old.refusal
@@ -99,8 +99,8 @@ impl StreamCoder {
     }
 
     /// Appends the code of the samples that are held; the bytes of a sample that is not complete
-    /// are ignored. The refusal that there was, or `Memory` where samples are held; nothing is
-    /// appended then.
+    /// are ignored. Fails with the refusal that there was, or with `Memory`, only if samples are
+    /// held; nothing is appended then.
     pub fn finish(self, out: &mut BitBuf) -> Result<(), Fault>
         ensures ok { OnOk result (out.new.list
             ≡ out.old.list ++ stream_of self.settings self.held) }

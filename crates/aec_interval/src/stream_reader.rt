@@ -46,7 +46,7 @@ impl<'a> StreamReader<'a> {
     ghost use Rattle.aec_interval.specs.Skipping.{HasInterval, IsFaultAt};
 
     /// A reader at the first bit, which asks for the first `count` samples, or without a count for
-    /// all of them. `TooManySamples` where a given count is above `limit`. Takes no memory.
+    /// all of them. `TooManySamples` where a given count is above `limit`. Never `Memory`.
     pub fn new(
         alloc: Global,
         params: Params,
@@ -191,7 +191,7 @@ impl<'a> StreamReader<'a> {
     }
 
     /// Puts the samples of the next interval in the place of those that were handed in, as `next`
-    /// does, or those of the next few intervals: then at most `most` samples. How many intervals it
+    /// does, or of several next intervals: then at most `most` samples. How many intervals it
     /// reads isn't promised. All else is as with `next`.
     pub fn next_few(&mut self, most: u64, samples: &mut Vec<i64>) -> Result<bool, Fault>
         ensures more { IfOk result (λ more. more ≡ is_wanted_at self.old) }
@@ -217,11 +217,11 @@ impl<'a> StreamReader<'a> {
         self.next(samples)
     }
 
-    /// Goes over the next interval as `next` does, without its samples. How many of them are asked
-    /// for; `None` where no more is wanted.
+    /// Goes over the next interval as `next` does, without its samples. Returns how many of them
+    /// are asked for; `None` where no more is wanted.
     ///
     /// The refusals are those of `next`, but for want of memory, and the reader is then where it
-    /// was. Takes no memory.
+    /// was. Never fails with `Memory`.
     pub fn skip(&mut self) -> Result<Option<u64>, Fault>
         ensures more { IfOk result (λ len. is_some len ≡ is_wanted_at self.old) }
         ensures skipped { IfOk result (λ len. IfSome len (λ n. HasInterval self.old n self.new)) }

@@ -166,7 +166,7 @@ pub fn put_samples(params: &Params, samples: &[i64], out: &mut [u8])
     }
 }
 
-/// Writes the low bytes of samples, `width` of each, one behind the other.
+/// Writes the low bytes of samples, `width` of each, one after the other.
 fn put_numbers<T: ByteOrder>(samples: &[i64], width: usize, out: &mut [u8])
     requires few { width ≤ 4 }
     requires some { 1 ≤ width }
