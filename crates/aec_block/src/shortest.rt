@@ -12,7 +12,7 @@ use crate::writing::known_counts::write_values;
 use aec_bits::BitBuf;
 use aec_params::{Fault, Params};
 
-/// Appends the shortest coded data set of a block whose values after the reference place are given
+/// Appends the shortest coded data set of a block whose values behind the reference place are given
 /// too, compiled for their number where that is known. `Memory` where a growth was refused.
 #[inline(always)]
 fn write_chosen(

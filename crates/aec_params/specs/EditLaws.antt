@@ -25,7 +25,7 @@ pub record EditsTouchFew : Type 0 where
   pub opened : (n old : ℕ) (edit : Edit) → 0 < n → MovesNone edit
       → (opened_intervals n old edit ≤ 2) × (opened_intervals n old edit ≤ needed_calls n old edit)
 
--- an insertion after the last sample codes as many as the append, and a removal up to the end as
+-- an insertion behind the last sample codes as many as the append, and a removal up to the end as
 -- many as the truncate
 pub record EndsMeet : Type 0 where
   pub inserted : (n old : ℕ) (values : Samples) → 0 < n → needed_calls n old (Insert old values) ≡ needed_calls n old (Append values)

@@ -25,7 +25,7 @@ fn with_known_len<const N: usize>(values: &[u32]) -> &[u32]
     if N == NOT_KNOWN { values } else { &values[..N] }
 }
 
-/// Appends the coded data set of a block whose values after the reference place are given too, by
+/// Appends the coded data set of a block whose values behind the reference place are given too, by
 /// the option of `choose`, compiled for their number where `N` is it. `Memory` where a growth was
 /// refused. Out of line, since so much is inlined here that it would be inlined nowhere.
 #[inline(never)]
