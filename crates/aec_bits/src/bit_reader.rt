@@ -36,7 +36,7 @@ impl<'a> BitReader<'a> {
     ghost use Rattle.std.specs.List.{flat_map};
     ghost use Rattle.aec_bits.specs.BitReader.{has_one, behind_ones, AreBelow, StopsBefore};
 
-    /// A reader at the first bit.
+    /// Returns a reader at the first bit.
     pub fn new(buf: &'a BitBuf) -> BitReader<'a>
         ensures list { result.list ≡ buf.now.list }
         ensures pos { result.pos ≡ 0 }
@@ -44,7 +44,7 @@ impl<'a> BitReader<'a> {
         BitReader { buf, pos: 0 }
     }
 
-    /// The place of the next bit.
+    /// Returns the place of the next bit.
     pub fn pos(&self) -> u64
         ensures value { result ≡ self.now.pos }
         ensures within { self.now.pos ≤ length self.now.list }
@@ -224,7 +224,7 @@ impl<'a> BitReader<'a> {
         self.pos = (self.pos + missing).min(len);
     }
 
-    /// Whether no bit that is left is a one. True at the end.
+    /// Returns whether no bit that is left is a 1. True at the end.
     pub fn rest_is_zero(&self) -> bool
         ensures { result ≡ not (has_one (drop self.now.pos self.now.list)) }
     {

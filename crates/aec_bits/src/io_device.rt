@@ -15,7 +15,7 @@ pub struct ReadSource<R> {
 impl<R: Read> ReadSource<R> {
     ghost use Rattle.std.specs.Prelude.{◌≡◌};
 
-    /// A source of the bytes that the reader has left. Takes no memory.
+    /// Returns a source of the bytes that the reader has left. Takes no memory.
     pub fn new(inner: R) -> ReadSource<R>
         ensures left { ⟦<ReadSource<R> as Source>⟧.left result ≡ R.remaining inner }
         ensures failed { ⟦<ReadSource<R> as Source>⟧.failed result ≡ 0 }
@@ -73,7 +73,7 @@ pub struct WriteSink<W> {
 impl<W: Write> WriteSink<W> {
     ghost use Rattle.std.specs.Prelude.{◌≡◌};
 
-    /// A sink that appends to what the writer holds. Takes no memory.
+    /// Returns a sink that appends to what the writer holds. Takes no memory.
     pub fn new(inner: W) -> WriteSink<W>
         ensures taken { ⟦<WriteSink<W> as Sink>⟧.taken result ≡ W.contents inner }
         ensures failed { ⟦<WriteSink<W> as Sink>⟧.failed result ≡ 0 }

@@ -66,10 +66,10 @@ fn take_line(alloc: Global, number: u64, text: &[u8], read: &mut Script) -> Resu
     put_edit(read, edit, number)
 }
 
-/// The edits of a script. A line ends with a line feed, the last one may lack it; one carriage
-/// return before it is no part of the line. Spaces and tabs part words. A line is `overwrite FIRST
-/// V..`, `append V..`, `insert FIRST V..`, `remove FIRST LEN` or `truncate COUNT`. A line without a
-/// word says nothing, nor does one whose first word begins with `#`.
+/// Returns the edits of a script. A line ends with a line feed, the last one may lack it; one
+/// carriage return before it is no part of the line. Spaces and tabs part words. A line is
+/// `overwrite FIRST V..`, `append V..`, `insert FIRST V..`, `remove FIRST LEN` or `truncate COUNT`.
+/// A line without a word says nothing, nor does one whose first word begins with `#`.
 ///
 /// Fails with `Script` at the first line that is none of these, counted from 1 among all lines; or
 /// with `Memory`, only if an edit stands before that line. Takes a time linear in the length.

@@ -30,7 +30,7 @@ pub struct AecCodec {
 }
 
 impl AecCodec {
-    /// A codec whose count begins at 0. Takes no memory.
+    /// Returns a codec whose count begins at 0. Takes no memory.
     pub fn new(alloc: Global, params: Params) -> AecCodec
         ensures params { result.params ≡ params }
         ensures format { ⟦<AecCodec as Codec>⟧.format result ≡ interval_format params }
@@ -40,7 +40,7 @@ impl AecCodec {
         AecCodec::with_calls(alloc, params, 0)
     }
 
-    /// A codec whose count begins at `calls`. Takes no memory.
+    /// Returns a codec whose count begins at `calls`. Takes no memory.
     pub fn with_calls(alloc: Global, params: Params, calls: u64) -> AecCodec
         ensures params { result.params ≡ params }
         ensures format { ⟦<AecCodec as Codec>⟧.format result ≡ interval_format params }
@@ -57,7 +57,7 @@ impl AecCodec {
         }
     }
 
-    /// The parameters that it was made with.
+    /// Returns the parameters that it was made with.
     pub fn params(&self) -> Params
         ensures { result ≡ self.now.params }
     {

@@ -46,7 +46,7 @@ impl StreamCoder {
     ghost use Rattle.aec_params.specs.Streams.{stream_of};
     ghost use Rattle.aec_interval.specs.Feeding.{fresh_coder, Feeds, StopsFeeding};
 
-    /// A coder that was fed nothing. It takes at most `limit` samples. Takes no memory.
+    /// Returns a coder that was fed nothing. It takes at most `limit` samples. Takes no memory.
     pub fn new(alloc: Global, params: Params, limit: u64) -> StreamCoder
         ensures { result ≡ fresh_coder params limit }
     {
@@ -63,8 +63,8 @@ impl StreamCoder {
         }
     }
 
-    /// The number of whole samples that are not coded yet, fewer than an interval has. Takes no
-    /// memory.
+    /// Returns the number of whole samples that are not coded yet, fewer than an interval has.
+    /// Takes no memory.
     pub fn held(&self) -> u64
         ensures value { result ≡ length self.now.held }
         ensures few { result < interval_len self.now.settings }

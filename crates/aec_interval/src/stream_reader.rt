@@ -45,7 +45,7 @@ impl<'a> StreamReader<'a> {
     ghost use Rattle.aec_interval.specs.Pieces.{place_at, is_wanted_at, IsPlace, ReadsInterval, ReadsIntervals, RefusesAt};
     ghost use Rattle.aec_interval.specs.Skipping.{HasInterval, IsFaultAt};
 
-    /// A reader at the first bit, which asks for the first `count` samples, or without a count for
+    /// Returns a reader at the first bit, which asks for the first `count` samples, or if `None` for
     /// all of them. `TooManySamples` where a given count is above `limit`. Never `Memory`.
     pub fn new(
         alloc: Global,
@@ -81,7 +81,7 @@ impl<'a> StreamReader<'a> {
         self.block = 0;
     }
 
-    /// Where the reader is, to come back to by `go_back`.
+    /// Returns where the reader is, to come back to by `go_back`.
     pub fn place(&self) -> ReachedPlace
         ensures block { result.block ≡ self.now.block }
         ensures bit { result.bit ≡ self.now.bit }

@@ -18,8 +18,8 @@ use crate::stored::low_value;
 use byteorder::{BigEndian, ByteOrder, LittleEndian};
 use std::alloc::Global;
 
-/// The samples that bytes hold, `storage` bytes each; bytes at the end that form no whole sample
-/// are ignored.
+/// Returns the samples that bytes hold, `storage` bytes each; bytes at the end that form no whole
+/// sample are ignored.
 ///
 /// Fails with `SampleRange` and the index of the first sample whose unused bits are not what its
 /// width allows. The whole input is judged first; then the call may fail with `Memory`, but not for

@@ -163,8 +163,8 @@ fn range_bits_into(
     put_range_front(alloc, params, &mut reader, judged.before, first, len, out)
 }
 
-/// The same as `decode_into` with `len` of these samples from place `first` on. The refusals are
-/// those of `range_bytes`.
+/// Does the same as `decode_into` with `len` of these samples from place `first` on. The refusals
+/// are those of `range_bytes`.
 pub fn range_into(
     alloc: Global,
     params: &Params,

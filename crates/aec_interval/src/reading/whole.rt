@@ -20,7 +20,7 @@ pub(crate) fn judge_count(count: Option<u64>, limit: u64) -> Result<(), Fault>
     }
 }
 
-/// The samples that coded bits stand for.
+/// Returns the samples that coded bits stand for.
 ///
 /// With a count the first `count` samples: as many blocks are read as hold them, and bits after
 /// the last coded data set that is needed are ignored. Without one all samples of all blocks, up to
