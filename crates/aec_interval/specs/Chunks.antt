@@ -1,4 +1,4 @@
--- What the private functions of `interval::filled_blocks` compute: the blocks of samples after
+-- What the private functions of `interval::filled_blocks` compute: the blocks of samples behind
 -- others of their interval, or at its start. The contract of `write_interval` cites `interval_bits`
 -- instead.
 use Rattle.std.specs.Prelude.{◌≡◌, ℕ, ◌*◌, ◌≤◌, ⊤, Option, Some, None, ℤ, List, length}

@@ -45,8 +45,8 @@ impl<'a> StreamReader<'a> {
     ghost use Rattle.aec_interval.specs.Pieces.{place_at, is_wanted_at, IsPlace, ReadsInterval, ReadsIntervals, RefusesAt};
     ghost use Rattle.aec_interval.specs.Skipping.{HasInterval, IsFaultAt};
 
-    /// Returns a reader at the first bit, which asks for the first `count` samples, or if `None` for
-    /// all of them. `TooManySamples` where a given count is above `limit`. Never `Memory`.
+    /// Returns a reader at the first bit, which asks for the first `count` samples, or if `None`
+    /// for all of them. `TooManySamples` where a given count is above `limit`. Never `Memory`.
     pub fn new(
         alloc: Global,
         params: Params,
