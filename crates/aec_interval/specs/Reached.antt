@@ -39,7 +39,7 @@ pub record LeadsBehindOne (s : Settings) (count : Option ℕ) (limit : ℕ) (bit
   pub bit : ℕ
   pub leads : LeadsTo s count limit bits first start (sets ++ (last ∷ [])) block bit
 
--- why a reading from block `first` at position `start` on answers no samples: its fault, or want of
+-- why a reading from block `first` at position `start` on returns no samples: its fault, or want of
 -- memory for those of a coded data set that was read
 pub data RefusesReading (s : Settings) (count : Option ℕ) (limit : ℕ) (bits : List Bool) (first start : ℕ) : Fault → Type 0 where
   no_memory : LeadsBehindOne s count limit bits first start → RefusesReading s count limit bits first start Memory

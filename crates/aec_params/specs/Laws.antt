@@ -15,11 +15,13 @@ use Rattle.aec_params.specs.BlockShapes.{AreBlocksFrom}
 
 -- ---- codewords
 
--- fundamental sequences tell their numbers, whatever bits follow
+-- two fundamental sequences begin the same bits only if their numbers are equal, and then the bits
+-- after them are
 abbrev pub FundamentalSequencesDiffer : Type 0
 FundamentalSequencesDiffer = (a b : ℕ) (u v : List Bool) → fs a ++ u ≡ fs b ++ v → (a ≡ b) × (u ≡ v)
 
--- numbers in w bits are told apart, whatever bits follow
+-- two numbers below 2^w, in w bits, begin the same bits only if they are equal, and then the bits
+-- after them are
 abbrev pub BinaryNumbersDiffer : Type 0
 BinaryNumbersDiffer = (w a b : ℕ) (u v : List Bool) → a < 2 ^ w → b < 2 ^ w → binary w a ++ u ≡ binary w b ++ v → (a ≡ b) × (u ≡ v)
 
@@ -39,7 +41,7 @@ abbrev pub TellsKeys : {X K : Type 0} → (X → Bool) → (X → List Bool) →
 TellsKeys {X} test code key =
     (a b : X) (u v : List Bool) → test a ≡ true → test b ≡ true → code a ++ u ≡ code b ++ v → (key a ≡ key b) × (u ≡ v)
 
--- a code that tells keys tells the keys of lists of one length
+-- a code that tells its keys also tells those of lists of equal length
 abbrev pub ListsAreTold : Type 0 → Type 0 → Type 0
 ListsAreTold X K = (test : X → Bool) (code : X → List Bool) (key : X → K) → TellsKeys test code key
     → (xs ys : List X) (u v : List Bool) → length xs ≡ length ys → list_all test xs ≡ true → list_all test ys ≡ true

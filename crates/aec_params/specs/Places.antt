@@ -12,8 +12,8 @@ use Rattle.aec_params.specs.CodedDataSets.{Body, uncompressed_values, value_pair
 abbrev pub segment_left : Settings → ℕ → ℕ
 segment_left s p = min (segment_len - p % segment_len) (s.interval - p)
 
--- how many blocks the number of a run's code says by itself: none for 4, which means all that the
--- segment has left (§8; the code keeps the remainder apart until it knows the place)
+-- how many blocks the number of a run's code gives by itself: `None` for 4, which means all that
+-- the segment has left (§8; the code keeps the remainder apart until it knows the place)
 abbrev pub told_blocks : ℕ → Option ℕ
 told_blocks m = if nat_lt m 4 then Some (m + 1) else (if m == 4 then None else Some m)
 
@@ -53,8 +53,8 @@ abbrev pub placed_values : Option ℕ → List ℕ → List ℕ
 placed_values None values = values
 placed_values (Some r) values = 0 ∷ values
 
--- the members of pairs, of which the one in the reference place gives way to 0, where there is one
--- (§7; a reader ignores that member)
+-- the members of pairs, with 0 instead of the one in the reference place, if there is one (§7; a
+-- reader ignores that member)
 abbrev pub placed_members : Option ℕ → List ℕ → List ℕ
 placed_members reference members = placed_values reference (after_reference reference members)
 
