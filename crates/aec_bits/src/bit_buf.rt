@@ -286,7 +286,7 @@ impl BitBuf {
     }
 
     /// Returns the bits of bytes, the most significant bit of each first. `Memory` where a growth
-    /// was refused; for no bytes none is asked for.
+    /// was refused, never for no bytes.
     pub fn from_bytes(alloc: Global, bytes: &[u8]) -> Result<BitBuf, Fault>
         ensures ok { IfOk result (λ b. b.list ≡ bits_of_bytes bytes.now) }
         ensures fault { IfErr result (λ e. (e ≡ Memory) × (0 < length bytes.now)) }

@@ -19,7 +19,7 @@ pub fn intervals_are_read()
     ensures { IntervalsAreRead }
 {}
 
-/// Intervals of equal length are told by their codes, whatever follows them.
+/// Two intervals of equal length whose codes begin the same bits are equal, whatever bits follow.
 pub fn intervals_are_told()
     ensures { IntervalsAreTold }
 {}
@@ -58,8 +58,8 @@ pub fn cuts_make_no_difference()
     ensures { AllCutsMakeNoDifference }
 {}
 
-/// What a `StreamReader` hands out step by step is what the bits are read as, and its refusal is
-/// that of all bits.
+/// What a `StreamReader` returns step by step is what the bits are read as, and its refusal is that
+/// of all bits.
 pub fn steps_are_the_reading()
     ensures { AllStepsAreTheReading }
 {}

@@ -15,7 +15,8 @@ use std::marker::Model;
 
 /// Codes stored samples that come in pieces, cut anywhere: each interval as soon as it is complete.
 /// Of the input it keeps, beside the number of samples so far and its refusal, fewer samples than
-/// an interval has and fewer bytes than a sample has. It answers its first refusal for good.
+/// an interval has and fewer bytes than a sample has. After a refusal each call returns the same
+/// refusal.
 #[derive(Debug, Drop)]
 pub struct StreamCoder {
     terms: Terms,

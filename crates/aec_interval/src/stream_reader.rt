@@ -106,8 +106,8 @@ impl<'a> StreamReader<'a> {
         self.block = place.block;
     }
 
-    /// Puts the samples of the next interval in the place of those that were handed in, at most as
-    /// many as an interval has; false where none are left.
+    /// Replaces the vector's items by the samples of the next interval, at most as many as an
+    /// interval has; returns false if none are left.
     ///
     /// The refusals are those of `decode_all`, each where its interval is met. `Memory` comes only
     /// where the vector had no room for the samples of a whole interval. After a refusal, and where
@@ -190,7 +190,7 @@ impl<'a> StreamReader<'a> {
         true
     }
 
-    /// Puts the samples of the next interval in the place of those that were handed in, as `next`
+    /// Replaces the vector's items by the samples of the next interval, as `next`
     /// does, or of several next intervals: then at most `most` samples. How many intervals it
     /// reads isn't promised. All else is as with `next`.
     pub fn next_few(&mut self, most: u64, samples: &mut Vec<i64>) -> Result<bool, Fault>

@@ -45,7 +45,7 @@ pub fn pieces_are_the_cut<X>()
     ensures { PiecesAreTheCut X }
 {}
 
-/// Whole pieces in front of a list are its first pieces.
+/// If a list begins with whole pieces, they are the first of its pieces.
 pub fn whole_pieces_come_first<X>()
     ensures { WholePiecesComeFirst X }
 {}

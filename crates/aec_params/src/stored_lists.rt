@@ -47,8 +47,8 @@ pub fn collect_samples(alloc: Global, params: &Params, bytes: &[u8]) -> Result<V
     Ok(samples)
 }
 
-/// Appends the samples of bytes that hold no bad one, as `first_bad` tells. `Memory` where a growth
-/// is refused; nothing is appended then.
+/// Appends the samples of bytes without a bad one, as `first_bad` finds it. Fails with `Memory` if
+/// a growth is refused; nothing is appended then.
 pub fn append_samples(params: &Params, bytes: &[u8], samples: &mut Vec<i64>) -> Result<(), Fault>
     requires { result_err (samples_of_bytes params.now bytes.now) ≡ None }
     ensures ok { OnOk result (samples_behind samples.old.items

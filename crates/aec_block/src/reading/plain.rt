@@ -20,7 +20,7 @@ use crate::reading::{Kind, read_kind, read_pattern};
 use aec_bits::BitReader;
 use aec_params::{Fault, Params};
 
-/// Returns whether a plain coded data set comes next, as far as its first bits tell: one by sample
+/// Returns whether the next bits are the identifier of a plain coded data set: one by sample
 /// splitting or no compression, which has its values written one by one.
 #[inline(always)]
 pub fn comes_plain(params: &Params, reader: &mut BitReader) -> bool
