@@ -115,7 +115,7 @@ fn sum_from(values: &[u32], total: u64, k: u32) -> u64
     shifted_sum(values, k)
 }
 
-/// The best k, where it is `first`, the next or the one after that: each before is longer than the
+/// The best k, where it is `first`, the next or the one behind that: each before is longer than the
 /// next, and the values add up to three times their number or less without `first` low bits.
 #[inline(always)]
 fn best_of_three(values: &[u32], first: u32) -> Splitting

@@ -57,7 +57,7 @@ pub(crate) fn sum_by_eights(values: &[u32], k: u32) -> u64
     sum_of_lanes(sums)
 }
 
-/// Returns the values after the last whole eight, fewer than eight.
+/// Returns the values behind the last whole eight, fewer than eight.
 #[inline(always)]
 #[tactic(auto, using(crate::proofs::LanesLemmas::rests))]
 pub(crate) fn rest_of_lanes(values: &[u32]) -> &[u32]
@@ -81,7 +81,7 @@ pub(crate) fn sum_one_by_one(values: &[u32], k: u32) -> u64
     sum
 }
 
-/// Seven values after a 0, which have the same sums and fill lanes.
+/// Seven values behind a 0, which have the same sums and fill lanes.
 #[inline(always)]
 #[tactic(auto, using(crate::proofs::LanesLemmas::behind_zero))]
 pub(crate) fn seven_in_lanes(values: &[u32]) -> [u32; 8]
