@@ -36,6 +36,10 @@ CLAUSE = re.compile(r" *(ensures|requires) ?(\w*)")
 # A name or a sign; what stands behind a point is the field of something.
 TOKEN = re.compile(r"(?<![.\w])[^\W\d]\w*|[^\s\w(){},;.\[\]]+ℤ?")
 FENCE = "\n```"
+LIBRARY = "`rt lemma WORD` prints what each is."
+# The words of a device's bytes, and what they leave open.
+KNOWN_BYTES = "std.specs.Io.KnownBytes"
+UNKNOWN = "Of bytes that aren't known `Appends` and `Keeps` say nothing. Those of a device over memory are known."
 
 
 class Item(NamedTuple):
@@ -159,12 +163,28 @@ class Library:
 
     def cited(self, file, lines):
         """What lines of a file cite, in their order."""
-        text = "\n".join(line for line in lines if not line.strip().startswith(("--", "///")))
         signs = {part: name for name in file.scope for part in name.split("◌") if "◌" in name}
-        for token in TOKEN.findall(text):
+        for token in tokens_of(lines):
             meaning = self.meaning(file, signs.get(token, token))
             if meaning:
                 yield meaning
+
+    def renamed(self, items):
+        """The names in items that stand for another one, by the `use` lines of their files."""
+        pairs = {}
+        for item in items:
+            scope = self.file(item.path).scope
+            for token in tokens_of(item.lines):
+                _, true = scope.get(token, ("", token))
+                if true != token:
+                    pairs[token] = true
+        return sorted(pairs.items())
+
+
+def tokens_of(lines):
+    """The names and signs in lines, comments aside."""
+    text = "\n".join(line for line in lines if not line.strip().startswith(("--", "///")))
+    return TOKEN.findall(text)
 
 
 def contract_of(crate, name, clauses):
@@ -249,20 +269,23 @@ def counts_of(contract, cited):
 
 def page_of(crate, name, clauses, title):
     """The page of a theorem, how many lines it has, and which definitions have no sentence."""
-    found, words = {}, {}
+    found, words, library = {}, {}, Library()
     contract = contract_of(crate, name, clauses)
-    gather(Library(), contract, found, words)
+    gather(library, contract, found, words)
     cited = in_order(found)[:-1]
     counts = counts_of(contract, cited)
     what = listed([f"{crate}::{name}", *clauses])
+    names = [f"`{new}` stands for `{true}`" for new, true in library.renamed([contract, *cited])]
     page = [
         f"# {title}",
-        f"{what}. This is all that a reader has to believe: {counts}.",
+        f"{what}. A reader has to believe what stands here: {counts}, and {sum(map(len, words.values()))} words of "
+        "the standard library, which stand at the end.",
         "## The contract",
         *sections_of([contract]),
-        "## What it cites\n\nWhat is cited stands before what cites it.",
+        "## What it cites\n\nWhat is cited stands before what cites it."
+        + (f" Other names: {', '.join(names)}." if names else ""),
         *sections_of(cited),
-        "## Words of the standard library\n\n`rt lemma WORD` prints what each is.",
+        "## Words of the standard library\n\n" + LIBRARY + (f" {UNKNOWN}" if KNOWN_BYTES in words else ""),
         "\n".join(f"- `{it}`: {listed(words[it])}" for it in sorted(words)),
     ]
     silent = [item.name for item in [contract, *cited] if not item.words]

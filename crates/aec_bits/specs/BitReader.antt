@@ -17,8 +17,8 @@ abbrev pub further : ℕ → Option ℕ → Option ℕ
 further k None = None
 further k (Some place) = Some (k + place)
 
--- the place behind so many ones of the bits; none where there are fewer (bit by bit, where the code
--- counts the ones of words, and then of halves)
+-- the place after so many 1 bits; none where there are fewer (bit by bit, where the code counts the
+-- 1 bits of words, and then of halves)
 abbrev pub behind_ones : ℕ → List Bool → Option ℕ
 behind_ones zero bits = Some 0
 behind_ones (suc n) [] = None
@@ -29,8 +29,8 @@ behind_ones (suc n) (false ∷ bits) = further 1 (behind_ones (suc n) bits)
 abbrev pub AreBelow : ℕ → List ℕ → Type 0
 AreBelow limit numbers = AllByRecursion (λ v. v < limit) numbers
 
--- fewer fundamental sequences than a count begin the bits, and no one stands in the 64 bits behind
--- them (that such numbers exist, where the code shifts a word)
+-- fewer fundamental sequences than a count begin the bits, and the 64 bits after them have no 1
+-- (that such numbers exist, where the code shifts a word)
 pub record StopsBefore (count : ℕ) (bits : List Bool) : Type 0 where
   pub numbers : List ℕ
   pub rest : List Bool

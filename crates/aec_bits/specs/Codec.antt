@@ -22,7 +22,8 @@ pub record IsInterval (f : Format) (s : List ℤ) : Type 0 where
   pub few : length s ≤ f.most
   pub held : AreHeld f s
 
--- A lawful way: intervals of one length are told apart by their bits, whatever bits follow. Each
+-- A lawful way: the greatest number of samples in an interval is 1 to 262,144, samples fit signed
+-- 64 bits, and intervals of one length are told apart by their bits, whatever bits follow. Each
 -- codec must prove it.
 pub record IsLawful (f : Format) : Type 0 where
   pub some : 1 ≤ f.most
@@ -31,7 +32,7 @@ pub record IsLawful (f : Format) : Type 0 where
   pub equal_lengths : (a b : List ℤ) (x y : List Bool) → IsInterval f a → IsInterval f b → length a ≡ length b
       → f.bits_of a ++ x ≡ f.bits_of b ++ y → (a ≡ b) × (x ≡ y)
 
--- the bits of the interval s, of that many samples, begin at a place of a list of bits
+-- the bits of the interval s, of `count` samples, begin at `place` in a list of bits
 pub record BeginsAt (f : Format) (bits : List Bool) (place count : ℕ) (s : List ℤ) : Type 0 where
   pub within : place ≤ length bits
   pub interval : IsInterval f s

@@ -13,7 +13,8 @@ CutsAtIntervals = (f : Format) (k : ℕ) (a b : List ℤ) → 1 ≤ f.most → l
 abbrev pub CodesIntervals : Type 0
 CodesIntervals = (f : Format) (s : List ℤ) → 1 ≤ length s → length s ≤ f.most → code_of f s ≡ f.bits_of s
 
--- interval k stands behind the code of the samples before it, and before the code of those after it
+-- the bits of interval k come after the code of the samples before it, and before the code of those
+-- after it
 abbrev pub StandsBetween : Type 0
 StandsBetween = (f : Format) (k : ℕ) (s : List ℤ) → 1 ≤ f.most → k * f.most < length s
     → code_of f s ≡ code_of f (take (k * f.most) s) ++ (f.bits_of (take f.most (drop (k * f.most) s)) ++ code_of f (drop ((k + 1) * f.most) s))
@@ -31,8 +32,8 @@ JudgesPlacesFirst = (f : Format) (limit first len : ℕ) (s values : List ℤ)
     × (length s < first → refusal_of f limit s (Insert first values) ≡ Some (OutOfRange (length s)))
     × (length s < first + len → refusal_of f limit s (Remove first len) ≡ Some (OutOfRange (length s)))
 
--- a number of samples past the limit is refused whatever the values are, for an insertion at a
--- place of the samples
+-- an append past the limit is refused for it whatever the values are; so is an insertion at a place
+-- up to the end of the samples
 abbrev pub JudgesTheLimitFirst : Type 0
 JudgesTheLimitFirst = (f : Format) (limit first : ℕ) (s values : List ℤ) → limit < length s + length values
     → (refusal_of f limit s (Append values) ≡ Some (TooManySamples limit))

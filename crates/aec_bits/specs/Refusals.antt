@@ -12,11 +12,11 @@ abbrev pub first_unheld : (ℤ → Bool) → ℕ → List ℤ → Option ℕ
 first_unheld holds i [] = None
 first_unheld holds i (x ∷ xs) = if holds x then first_unheld holds (i + 1) xs else Some i
 
--- values that are no samples
+-- why values are refused: the first that is no sample
 abbrev pub values_refusal : Format → List ℤ → Option Fault
 values_refusal f values = option_map (λ i. SampleRange i) (first_unheld f.holds 0 values)
 
--- values that come to the samples s: too many under a limit, or no samples
+-- why values can't join the samples s: too many for the limit, or one is no sample
 abbrev pub growth_refusal : Format → ℕ → List ℤ → List ℤ → Option Fault
 growth_refusal f limit s values = if nat_lt limit (length s + length values) then Some (TooManySamples limit) else values_refusal f values
 

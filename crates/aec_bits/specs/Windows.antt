@@ -28,7 +28,7 @@ pub record StandsBehind (list : List Bool) (place : ℕ) (numbers : List ℕ) (w
   pub fits : word < 2 ^ left
   pub read : StandsBefore fs 64 numbers (drop (end - left) list) (drop place list)
 
--- The lowest `left` bits of a word hold n numbers of w bits each, one behind the other from the top
+-- The lowest `left` bits of a word hold n numbers of w bits each, one after the other from the top
 -- bit down. These are the numbers in that order.
 abbrev pub numbers_of_word : ℕ → ℕ → ℕ → ℕ → List ℕ
 numbers_of_word w zero left word = []

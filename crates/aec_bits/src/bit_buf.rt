@@ -51,7 +51,7 @@ impl BitBuf {
     ghost use Rattle.aec_bits.specs.WordBits.{word_bits};
     ghost use Rattle.aec_bits.specs.Windows.{bits_from};
 
-    /// No bits. Takes no memory.
+    /// Returns an empty list. Takes no memory.
     pub fn new(alloc: Global) -> BitBuf
         ensures list { result.list ≡ [] }
         ensures room { result.room ≡ 0 }
@@ -62,7 +62,7 @@ impl BitBuf {
         }
     }
 
-    /// The number of bits.
+    /// Returns the number of bits.
     pub fn len(&self) -> u64
         ensures value { result ≡ length self.now.list }
         ensures bound { length self.now.list ≤ 2 ^ 62 }
@@ -70,7 +70,7 @@ impl BitBuf {
         self.len
     }
 
-    /// The number of bits by which the list can grow with no further memory.
+    /// Returns the number of bits by which the list can grow with no further memory.
     pub fn room(&self) -> u64
         ensures { result ≡ self.now.room }
     {
@@ -78,7 +78,7 @@ impl BitBuf {
         words.saturating_mul(64).min(MOST_BITS) - self.len
     }
 
-    /// The bit at place `i`.
+    /// Returns the bit at place `i`.
     pub fn get(&self, i: u64) -> bool
         requires { i < length self.now.list }
         ensures { result ≡ slice_index_or self.now.list i false }
@@ -86,7 +86,7 @@ impl BitBuf {
         number_at(&self.words, i, 1) == 1
     }
 
-    /// The number of bytes that the bits fill.
+    /// Returns the number of bytes that the bits fill.
     #[tactic(auto, using(crate::proofs::CodewordLemmas::byte_counts, crate::proofs::PackedLemmas::packed_lengths))]
     pub fn byte_len(&self) -> u64
         ensures value { result ≡ length (bytes_of self.now.list) }
@@ -138,7 +138,7 @@ impl BitBuf {
         padded_word_at(&self.words, start)
     }
 
-    /// How many zeros stand from place `start` on before a one; `None` where no one follows.
+    /// How many zeros come from place `start` on before a 1 bit; `None` if no 1 bit follows.
     pub(crate) fn zeros_before_one(&self, start: u64) -> Option<u64>
         requires { start ≤ length self.now.list }
         ensures cases { MatchOption result
@@ -285,8 +285,8 @@ impl BitBuf {
         Ok(())
     }
 
-    /// The bits of bytes, the most significant bit of each first. `Memory` where a growth was
-    /// refused; for no bytes none is asked for.
+    /// Returns the bits of bytes, the most significant bit of each first. `Memory` where a growth
+    /// was refused, never for no bytes.
     pub fn from_bytes(alloc: Global, bytes: &[u8]) -> Result<BitBuf, Fault>
         ensures ok { IfOk result (λ b. b.list ≡ bits_of_bytes bytes.now) }
         ensures fault { IfErr result (λ e. (e ≡ Memory) × (0 < length bytes.now)) }

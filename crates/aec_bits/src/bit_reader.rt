@@ -36,7 +36,7 @@ impl<'a> BitReader<'a> {
     ghost use Rattle.std.specs.List.{flat_map};
     ghost use Rattle.aec_bits.specs.BitReader.{has_one, behind_ones, AreBelow, StopsBefore};
 
-    /// A reader at the first bit.
+    /// Returns a reader at the first bit.
     pub fn new(buf: &'a BitBuf) -> BitReader<'a>
         ensures list { result.list ≡ buf.now.list }
         ensures pos { result.pos ≡ 0 }
@@ -44,7 +44,7 @@ impl<'a> BitReader<'a> {
         BitReader { buf, pos: 0 }
     }
 
-    /// The place of the next bit.
+    /// Returns the place of the next bit.
     pub fn pos(&self) -> u64
         ensures value { result ≡ self.now.pos }
         ensures within { self.now.pos ≤ length self.now.list }
@@ -63,8 +63,8 @@ impl<'a> BitReader<'a> {
         self.pos = pos;
     }
 
-    /// The number that the next `width` bits spell, the most significant first. `Truncated` with
-    /// the present place where fewer bits are left.
+    /// Reads the number that the next `width` bits spell, the most significant first. Fails with
+    /// `Truncated` and the present place if fewer bits are left.
     #[inline(always)]
     pub fn read(&mut self, width: u32) -> Result<u64, Fault>
         requires { width ≤ 64 }
@@ -89,8 +89,8 @@ impl<'a> BitReader<'a> {
         Ok(value)
     }
 
-    /// The number of zeros before the next one, which is read too. `Truncated` with the present
-    /// place where no one is left.
+    /// Reads zeros and the 1 that ends them; returns how many zeros. Fails with `Truncated` and the
+    /// present place if no 1 is left.
     pub fn read_fs(&mut self) -> Result<u64, Fault>
         ensures bits { IfOk result (λ v.
             drop self.old.pos self.old.list ≡ fs v ++ drop (self.old.pos + v + 1) self.old.list) }
@@ -112,9 +112,9 @@ impl<'a> BitReader<'a> {
     }
 
     /// Puts the numbers of the next fundamental sequences into `numbers`, if each is below 64, and
-    /// goes behind them. Else false: at one of them no one stands in the next 64 bits, or in those
-    /// that are left, and `read_fs` may still read it. The reader is then where it was, and what
-    /// stands in `numbers` isn't said.
+    /// moves past them. Returns false if at one of them the next 64 bits, or those that are left,
+    /// have no 1; `read_fs` may still read it. The reader then hasn't moved, and what `numbers`
+    /// holds isn't said.
     #[inline(always)]
     pub fn read_sequences(&mut self, numbers: &mut [u32]) -> bool
         ensures bits { result ≡ true →
@@ -168,7 +168,7 @@ impl<'a> BitReader<'a> {
         }
     }
 
-    /// Goes over the next `count` bits. `Truncated` with the present place where fewer are left.
+    /// Skips the next `count` bits. Fails with `Truncated` and the present place if fewer are left.
     pub fn skip_bits(&mut self, count: u64) -> Result<(), Fault>
         ensures moves { OnOk result (self.new.pos ≡ self.old.pos + count) }
         ensures refuses { MatchResult result
@@ -187,8 +187,8 @@ impl<'a> BitReader<'a> {
         }
     }
 
-    /// Goes behind the `count`-th of the next ones. How many bits that takes. `Truncated` with the
-    /// present place where fewer ones are left.
+    /// Moves past the `count`-th next 1 bit. Returns how many bits that took. Fails with
+    /// `Truncated` and the present place if fewer are left.
     pub fn skip_ones(&mut self, count: u64) -> Result<u64, Fault>
         ensures place { MatchResult result
             (λ gone. behind_ones count (drop self.old.pos self.old.list) ≡ Some gone)
@@ -224,7 +224,7 @@ impl<'a> BitReader<'a> {
         self.pos = (self.pos + missing).min(len);
     }
 
-    /// Whether no bit that is left is a one. True at the end.
+    /// Returns whether no bit that is left is a 1. True at the end.
     pub fn rest_is_zero(&self) -> bool
         ensures { result ≡ not (has_one (drop self.now.pos self.now.list)) }
     {

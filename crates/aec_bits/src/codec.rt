@@ -14,13 +14,14 @@ pub trait Codec {
     /// samples.
     ghost format: { Self → Format };
 
-    /// How many intervals it has coded.
+    /// The count of coded intervals, from where the codec began to count.
     ghost called: { Self → ℕ };
 
-    /// How often it has been asked to decode, up to the greatest number of 64 bits.
+    /// The count of calls of `decode`, up to the greatest number of 64 bits.
     ghost read: { Self → ℕ };
 
-    /// Intervals of one length are told apart by their bits.
+    /// The format is lawful, as `IsLawful` says: intervals of one length are told apart by their
+    /// bits.
     ghost lawful: { (c : Self) → IsLawful (format c) };
 
     /// The greatest number of samples in an interval, 1 to 262,144.
@@ -31,16 +32,16 @@ pub trait Codec {
     fn holds(&self, x: i64) -> bool
         ensures { result ≡ (format self.now).holds x };
 
-    /// How many intervals it has coded.
+    /// The count of coded intervals, from where the codec began to count.
     fn calls(&self) -> u64
         ensures { result ≡ called self.now };
 
-    /// How often it has been asked to decode.
+    /// The count of calls of `decode`, up to the greatest number of 64 bits.
     fn reads(&self) -> u64
         ensures { result ≡ read self.now };
 
-    /// Appends the bits of an interval. `Spent` exactly where `calls` is the greatest number of 64
-    /// bits, then `Memory` where a growth was refused; the bits and `calls` are then as before.
+    /// Appends the bits of an interval. Fails with `Spent` exactly if `calls` is `u64::MAX`, then
+    /// with `Memory` if a growth is refused; the bits and `calls` are then as before.
     fn code(&mut self, samples: &[i64], out: &mut BitBuf) -> Result<(), Fault>
         requires { IsInterval (format self.old) samples.now }
         ensures ok { OnOk result (out.new.list
@@ -53,8 +54,8 @@ pub trait Codec {
         ensures same_reads { read self.new ≡ read self.old }
         ensures same_format { format self.new ≡ format self.old };
 
-    /// Appends the `count` samples of the interval whose bits begin at place `pos`. `Memory` where
-    /// a growth was refused; the samples in `out` are then as before.
+    /// Appends the `count` samples of the interval whose bits begin at place `pos`. Fails with
+    /// `Memory` if a growth is refused; the samples in `out` are then as before.
     fn decode(
         &mut self,
         stream: &BitBuf,

@@ -4,8 +4,8 @@ use crate::device::{Sink, Source};
 use aec_params::Fault;
 use std::io::{Read, Write};
 
-/// The bytes of a reader. Any error of a read is a failure, also an interrupted one; after it the
-/// reader isn't called again.
+/// The bytes of a reader. Any error of a read is a failure, also an interrupted one; after it each
+/// further call of `take` fails.
 #[derive(Drop)]
 pub struct ReadSource<R> {
     inner: R,
@@ -15,7 +15,7 @@ pub struct ReadSource<R> {
 impl<R: Read> ReadSource<R> {
     ghost use Rattle.std.specs.Prelude.{◌≡◌};
 
-    /// A source of what the reader gives from here on. Takes no memory.
+    /// Returns a source of the bytes that the reader has left. Takes no memory.
     pub fn new(inner: R) -> ReadSource<R>
         ensures left { ⟦<ReadSource<R> as Source>⟧.left result ≡ R.remaining inner }
         ensures failed { ⟦<ReadSource<R> as Source>⟧.failed result ≡ 0 }
@@ -26,7 +26,7 @@ impl<R: Read> ReadSource<R> {
         }
     }
 
-    /// The reader.
+    /// Returns the reader.
     pub fn into_inner(self) -> R
         ensures { ⟦<ReadSource<R> as Source>⟧.left self ≡ R.remaining result }
     {
@@ -61,7 +61,8 @@ impl<R: Read> Source for ReadSource<R> {
 }
 
 /// Takes bytes into a writer. Any error of a write is a failure, also an interrupted one, and so is
-/// a write that takes nothing of a piece that isn't empty; after it the writer isn't called again.
+/// a write that takes nothing of a piece that isn't empty; after it each further call of `put` or
+/// `begin` fails.
 #[derive(Drop)]
 pub struct WriteSink<W> {
     inner: W,
@@ -72,7 +73,7 @@ pub struct WriteSink<W> {
 impl<W: Write> WriteSink<W> {
     ghost use Rattle.std.specs.Prelude.{◌≡◌};
 
-    /// A sink into the writer, behind what it holds. Takes no memory.
+    /// Returns a sink that appends to what the writer holds. Takes no memory.
     pub fn new(inner: W) -> WriteSink<W>
         ensures taken { ⟦<WriteSink<W> as Sink>⟧.taken result ≡ W.contents inner }
         ensures failed { ⟦<WriteSink<W> as Sink>⟧.failed result ≡ 0 }
@@ -85,7 +86,7 @@ impl<W: Write> WriteSink<W> {
         }
     }
 
-    /// The writer.
+    /// Returns the writer.
     pub fn into_inner(self) -> W
         ensures { ⟦<WriteSink<W> as Sink>⟧.taken self ≡ W.contents result }
     {

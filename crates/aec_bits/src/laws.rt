@@ -97,8 +97,8 @@ pub fn codes_intervals()
     ensures { CodesIntervals }
 {}
 
-/// An interval stands behind the code of the samples before it, and before the code of those after
-/// it.
+/// The bits of an interval come after the code of the samples before it, and before the code of
+/// those after it.
 pub fn stands_between()
     ensures { StandsBetween }
 {}

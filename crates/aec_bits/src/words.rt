@@ -135,8 +135,7 @@ pub(crate) fn put_number(words: &mut [u64], start: u64, width: u32, value: u64)
     words[place + 1] = second;
 }
 
-/// How many zeros stand in a word from place `at` on before a one; `None` where no one follows in
-/// it.
+/// How many zeros a word has from place `at` on before a 1 bit; `None` if no 1 bit follows in it.
 #[inline(always)]
 fn zeros_in_word(word: u64, at: u32) -> Option<u32>
     requires { at < 64 }
@@ -152,7 +151,7 @@ fn zeros_in_word(word: u64, at: u32) -> Option<u32>
     Some(rest.leading_zeros() - at)
 }
 
-/// How many zeros stand from place `start` on before a one; `None` where no one follows.
+/// How many zeros come from place `start` on before a 1 bit; `None` if no 1 bit follows.
 pub(crate) fn zeros_at(words: &[u64], start: u64) -> Option<u64>
     requires within { start ≤ 64 * length words.now }
     requires bound { 64 * length words.now ≤ 2 ^ 63 }

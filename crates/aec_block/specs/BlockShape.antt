@@ -12,7 +12,7 @@ most_values = 64
 abbrev pub block_with : Option ℕ → List ℕ → Block
 block_with reference values = record { reference = reference; values = values }
 
--- at most so many values, of which the first is 0 where there is a reference
+-- at most `most_values` values, of which the first is 0 if there is a reference
 pub record IsSound (b : Block) : Type 0 where
   pub len : length b.values ≤ most_values
   pub placed : HasReferencePlace b.reference b.values

@@ -13,7 +13,7 @@ use Rattle.aec_block.specs.declared.choice.Choice.{Choice}
 abbrev pub FitsReference : Settings → Option ℕ → Type 0
 FitsReference s reference = HasReference s (is_some reference) reference
 
--- a block that these settings have: J values and a reference, all of n bits
+-- a block that these settings have: J values, and a reference if it has one, all of n bits
 pub record IsFull (s : Settings) (b : Block) : Type 0 where
   pub len : length b.values ≡ s.block_size
   pub values : AllByRecursion (λ v. v < 2 ^ s.bits) b.values

@@ -9,7 +9,7 @@ use Rattle.aec_params.specs.Spellings.{shortest_spelling}
 use Rattle.aec_params.specs.Faults.{IsSetAt}
 use Rattle.aec_block.specs.ReadAt.{nothing, taken, cds_at}
 
--- a coded data set is read back from its bits, whatever stands behind them
+-- a coded data set is read back from its bits, whatever follows them
 abbrev pub WhatIsSpelledIsRead : Type 0
 WhatIsSpelledIsRead = (s : Settings) → IsAllowed s → (is_reference : Bool) (c : CodedDataSet) (rest : List Bool) → HasShape s is_reference c
     → cds_at s is_reference (cds_bits s c ++ rest) ≡ taken c rest

@@ -8,7 +8,7 @@ use Rattle.aec_params.specs.CodedDataSets.{Body, uncompressed_values, value_pair
 use Rattle.aec_block.specs.declared.reading.Kind.{Kind}
 use Rattle.aec_block.specs.declared.reading.Kind.TheVariants.{ZeroBlocks, SecondExtension, Split, NoCompression}
 
--- what begins the bits, with the bits behind it; nothing where none of its kind does
+-- what begins the bits, with the bits after it; nothing where none of its kind does
 pub data Taken (X : Type 0) : Type 0 where
   nothing : Taken X
   taken : X → List Bool → Taken X
@@ -18,7 +18,7 @@ abbrev pub then_at : {X Y : Type 0} → Taken X → (X → List Bool → Taken Y
 then_at nothing next = nothing
 then_at (taken x rest) next = next x rest
 
--- f of what was taken, with the same bits behind it
+-- f of what was taken, with the same bits after it
 abbrev pub map_taken : {X Y : Type 0} → (X → Y) → Taken X → Taken Y
 map_taken f nothing = nothing
 map_taken f (taken x rest) = taken (f x) rest

@@ -19,8 +19,7 @@ use Rattle.aec_block.specs.declared.reading.Kind.TheVariants.{ZeroBlocks, Second
 use Rattle.aec_block.specs.ReadAt.{Taken, nothing, taken, set_of, kind_at, cds_at}
 use Rattle.aec_block.specs.Gathering.{when}
 
--- how many zero blocks the number of a run's code tells; without a place the rest of the segment is
--- no number (as `told_blocks` has it)
+-- a run's number of blocks, or `Rest` if only the place would give it (as `told_blocks` has it)
 abbrev pub as_run_len : Option ℕ → RunLen
 as_run_len None = Rest
 as_run_len (Some z) = Blocks z
@@ -40,7 +39,8 @@ answer_of reference (zero_blocks m) = Zeros reference (run_len_of m)
 abbrev pub cds_of : CodedDataSet → Cds
 cds_of c = answer_of c.reference c.body
 
--- what it stands for, where its values are at most 2^n - 1 (the clauses of `read_cds` tie it)
+-- what it stands for, where its values are at most 2^n - 1 (as the code judges it; the clauses of
+-- `read_cds` prove that this is the format's reading)
 abbrev pub checked : Settings → CodedDataSet → Option Cds
 checked s c = when (has_small_values s c) (cds_of c)
 
@@ -85,7 +85,7 @@ is_plain_taken nothing = false
 is_plain_taken (taken kind rest) = is_plain kind
 
 -- whether the first bits are the identifier of a plain body (as the code judges it; the clause
--- `seen` of `read_plain` ties it, which cites `IsReadPlain`)
+-- `seen` of `read_plain` says that it holds of each set that is read)
 abbrev pub begins_plain : Settings → List Bool → Bool
 begins_plain s bits = is_plain_taken (kind_at (id_len s) bits)
 
@@ -95,7 +95,7 @@ abbrev pub HasNoPlain : Settings → List Bool → Type 0
 HasNoPlain s bits = (c : CodedDataSet) (rest : List Bool) → cds_at s false bits ≡ taken c rest → is_plain_body c.body ≡ true → has_small_values s c ≡ false
 
 -- the coded data set c, whose values are at most 2^n - 1, is read as what it stands for, and the
--- cursor moves behind it (says that such a set stands there; the code takes many codewords from a
+-- cursor moves past it (says that such a set stands there; the code takes many codewords from a
 -- word of 64 bits)
 pub record IsReadAs (s : Settings) (is_reference : Bool) (old new : Cursor) (c : CodedDataSet) (cds : Cds) : Type 0 where
   pub set : IsSetAt s is_reference old.list old.pos c
@@ -104,14 +104,14 @@ pub record IsReadAs (s : Settings) (is_reference : Bool) (old new : Cursor) (c :
   pub answer : cds ≡ cds_of c
 
 -- a plain coded data set without a reference sample, whose values are these, none of them above
--- 2^n - 1, is read, and the cursor moves behind it
+-- 2^n - 1, is read, and the cursor moves past it
 pub record IsReadPlain (s : Settings) (old new : Cursor) (values : List ℕ) : Type 0 where
   pub set : CodedDataSet
   pub plain : is_plain_body set.body ≡ true
   pub read : IsReadAs s false old new set (Single (block_of_values None values))
 
 -- a coded data set of one block with a reference sample of this pattern is read, and the cursor
--- moves behind it. These are the values of the block, with 0 in the reference place, none of them
+-- moves past it. These are the values of the block, with 0 in the reference place, none of them
 -- above 2^n - 1
 pub record IsReadFirst (s : Settings) (old new : Cursor) (pattern : ℕ) (values : List ℕ) : Type 0 where
   pub set : CodedDataSet

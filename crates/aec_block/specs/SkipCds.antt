@@ -28,8 +28,8 @@ abbrev pub read_len : Cds → RunLen
 read_len (Single block) = Blocks 1
 read_len (Zeros reference len) = len
 
--- for how many blocks it stands, where its values are at most 2^n - 1 (the clauses of `skip_cds`
--- tie it)
+-- for how many blocks it stands, where its values are at most 2^n - 1 (as the code judges it; the
+-- clauses of `skip_cds` prove that this is the format's reading)
 abbrev pub judged_len : Settings → CodedDataSet → Option RunLen
 judged_len s c = when (has_small_values s c) (set_len c)
 

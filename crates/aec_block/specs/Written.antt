@@ -19,8 +19,8 @@ high_parts k values = flat_map (λ v. fs (v / 2 ^ k)) values
 abbrev pub low_parts : ℕ → List ℕ → List Bool
 low_parts k values = flat_map (λ v. binary k (v % 2 ^ k)) values
 
--- a number that n bits spell, which are those of values of k bits each (the clauses of
--- `write_block` tie it)
+-- a number whose n bits are those of values of k bits each (a step of the code; the clauses of
+-- `write_block` state the bits of the whole)
 pub record Spells (k n : ℕ) (values : List ℕ) (number : ℕ) : Type 0 where
   pub below : number < 2 ^ n
   pub bits : binary n number ≡ flat_map (binary k) values
@@ -38,8 +38,8 @@ shortest_bits s b = cds_bits s (shortest_spelling s b)
 abbrev pub run_bits : Settings → Option ℕ → ℕ → Bool → List Bool
 run_bits s reference z is_last = cds_bits s (record { reference = reference; body = zero_blocks (run_code z is_last) })
 
--- bits are appended whole or not at all. Where they are, no more of the room is used than they
--- take. Else memory was refused: nothing has changed, and there was no room for them
+-- bits are appended whole or not at all. If they are, they use no more of the room than they take.
+-- Else memory was refused, there was no room for them, and nothing has changed
 pub record Appends (bits : List Bool) (old : Bits) (result : Result (Unit {0}) Fault) (new : Bits) : Type 0 where
   pub ok : OnOk result (new.list ≡ old.list ++ bits)
   pub room : OnOk result (old.room ≤ new.room + length bits)

@@ -7,9 +7,9 @@ use std::marker::Model;
 /// The most values of a block.
 pub const MOST_VALUES: usize = 64;
 
-/// A block of at most 64 mapped values, and the reference sample's pattern where it has one; then 0
-/// stands in the reference place, which is the first. The values lie in the block itself, so no
-/// call takes memory.
+/// A block of at most 64 mapped values, and the reference sample's pattern if it has one: then the
+/// first value is 0 (the reference place). The values lie in the block itself, so no call takes
+/// memory.
 #[derive(Debug, Drop)]
 pub struct Block {
     reference: Option<u32>,
@@ -47,7 +47,7 @@ impl Block {
     ghost use Rattle.aec_params.specs.Spellings.{written_values};
     ghost use Rattle.aec_block.specs.BlockShape.{most_values, IsSound};
 
-    /// A block with no values but the 0 in the reference place, where there is a reference.
+    /// Returns a block with no values but the 0 in the reference place, where there is a reference.
     pub fn new(alloc: Global, reference: Option<u32>) -> Block
         ensures reference { result.reference ≡ reference }
         ensures values { result.values ≡ placed_values reference [] }
@@ -85,7 +85,7 @@ impl Block {
         self.values.push_reserved(m);
     }
 
-    /// The number of values, with the one in the reference place.
+    /// Returns the number of values, with the one in the reference place.
     pub fn len(&self) -> usize
         ensures value { result ≡ length self.now.values }
         ensures sound { IsSound self.now }
@@ -93,7 +93,7 @@ impl Block {
         self.values.len()
     }
 
-    /// The values, with the one in the reference place.
+    /// Returns the values, with the one in the reference place.
     pub fn values(&self) -> &[u32]
         ensures value { result.now ≡ self.now.values }
         ensures sound { IsSound self.now }
@@ -101,7 +101,7 @@ impl Block {
         self.values.as_slice()
     }
 
-    /// The pattern of the reference sample, where the block has one.
+    /// Returns the pattern of the reference sample, where the block has one.
     pub fn reference(&self) -> Option<u32>
         ensures value { result ≡ self.now.reference }
         ensures sound { IsSound self.now }
@@ -117,7 +117,7 @@ impl Block {
         BlockRef::new(self.reference(), self.values())
     }
 
-    /// Whether all values are 0.
+    /// Returns whether all values are 0.
     pub fn is_zero(&self) -> bool
         ensures { result ≡ is_zero_block self.now }
     {
@@ -176,7 +176,7 @@ impl<'a> BlockRef<'a> {
         self.reference
     }
 
-    /// The values that are written one by one: those behind the reference place, where there is
+    /// The values that are written one by one: those after the reference place, where there is
     /// one.
     #[inline(always)]
     #[tactic(auto, using(crate::proofs::BlockLemmas::some_values))]

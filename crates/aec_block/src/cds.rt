@@ -20,7 +20,7 @@ pub enum Cds {
     Zeros { reference: Option<u32>, len: RunLen },
 }
 
-/// What a coded data set is that was read into a block.
+/// A coded data set that was read into a block.
 #[derive(Clone, Copy, Debug, PartialEq, Eq)]
 pub enum Found {
     /// One block, by any option: the block that it was read into.

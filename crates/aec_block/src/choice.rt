@@ -26,7 +26,7 @@ pub enum Coding {
     NoCompression,
     /// One codeword for each pair of values.
     SecondExtension,
-    /// The values without their k low bits, and then these.
+    /// The values without their k low bits, then those bits.
     Split(u32),
 }
 
@@ -104,7 +104,7 @@ fn shorter_of_split(
     shorter_of(best, Coding::Split(split.k), u64::from(head) + split.bits)
 }
 
-/// The shortest option for a block whose values behind the reference place are given too, so that
+/// The shortest option for a block whose values after the reference place are given too, so that
 /// their number can be known where this is inlined.
 #[inline(always)]
 pub(crate) fn choose_among(params: &Params, id_len: u32, block: &BlockRef, values: &[u32]) -> Choice

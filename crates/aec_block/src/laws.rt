@@ -2,7 +2,7 @@
 
 ghost use Rattle.aec_block.specs.Laws.{WhatIsSpelledIsRead, WhatIsReadIsSpelled, NothingIsReadWhereNoneBegins, NoSetIsAPrefix, OneSetStands, NoOptionIsShorter};
 
-/// A coded data set is read back from its bits, whatever stands behind them.
+/// A coded data set is read back from its bits, whatever follows them.
 pub fn what_is_spelled_is_read()
     ensures { WhatIsSpelledIsRead }
 {}

@@ -84,8 +84,8 @@ fn sample_at(params: &Params, offset: u32) -> i64
     params.x_min() + i64::from(offset)
 }
 
-/// What is coded for the sample `x` at the prediction `p`; without preprocessing the sample's
-/// pattern. Below `2^n`.
+/// Returns what is coded for the sample `x` at the prediction `p`; without preprocessing the
+/// sample's pattern. Below `2^n`.
 #[tactic(auto, using(crate::proofs::MappingLemmas::mapping))]
 pub fn map(params: &Params, p: i64, x: i64) -> u32
     requires prediction { IsHeld params.now p }
@@ -101,7 +101,7 @@ pub fn map(params: &Params, p: i64, x: i64) -> u32
     }
 }
 
-/// The one sample for which `m` is coded at the prediction `p`.
+/// Returns the one sample for which `m` is coded at the prediction `p`.
 #[tactic(auto, using(crate::proofs::MappingLemmas::mapping))]
 pub fn unmap(params: &Params, p: i64, m: u32) -> i64
     requires prediction { IsHeld params.now p }

@@ -115,7 +115,7 @@ fn single(fit: bool) -> Option<Found>
     if fit { Some(Found::Single) } else { None }
 }
 
-/// What stands behind the identifier and the reference sample, read into the block; none where a
+/// What follows the identifier and the reference sample, read into the block; none where a
 /// value is above the greatest that the width has.
 #[inline(always)]
 pub(crate) fn read_body(
@@ -169,11 +169,11 @@ fn read_set(
 }
 
 /// Reads the one coded data set that begins at the reader's place, of a block with a reference
-/// sample or of another, and goes behind it. Where it is of one block, that stands in `block` then,
-/// whatever stood there before. `Truncated` where none begins there, and `ValueTooLarge` where the
-/// one that does has a value above the greatest that the width has; the reader is then where it
-/// was, and the place of the refusal is that one. What stands in `block` after a run or a refusal
-/// isn't said. Takes no memory.
+/// sample or of another, and moves past it. If it stands for one block, `block` then contains it,
+/// whatever it contained before. Fails with `Truncated` if none begins there, with `ValueTooLarge`
+/// if one does with a value above the greatest of the width; both name the reader's place, and the
+/// reader hasn't moved. What `block` contains after a run or a refusal isn't said. Never fails with
+/// `Memory`.
 pub fn read_into(
     params: &Params,
     reader: &mut BitReader,
@@ -207,9 +207,9 @@ fn cds_found(found: Found, block: Block) -> Cds
 }
 
 /// Reads the one coded data set that begins at the reader's place, of a block with a reference
-/// sample or of another, and goes behind it. `Truncated` where none begins there, and
-/// `ValueTooLarge` where the one that does has a value above the greatest that the width has; the
-/// reader is then where it was, and the place of the refusal is that one. Takes no memory.
+/// sample or of another, and moves past it. Fails with `Truncated` if none begins there, with
+/// `ValueTooLarge` if one does with a value above the greatest of the width; both name the reader's
+/// place, and the reader hasn't moved. Never fails with `Memory`.
 pub fn read_cds(
     alloc: Global,
     params: &Params,

@@ -68,8 +68,8 @@ fn write_first<const N: usize>(
 
 /// Appends the shortest coded data set of the block of a reference, where there is one, and of `N`
 /// values with the one in the reference place, compiled for that number: what `write_block` appends
-/// by the option of `choose`. `Memory` where a growth was refused, and nothing has changed then; it
-/// is not where there is room for the coded data set.
+/// by the option of `choose`. `Memory` where a growth was refused, never if there is room for the
+/// coded data set; nothing has changed then.
 #[inline(always)]
 pub fn write_shortest_of<const N: usize>(
     params: &Params,

@@ -38,7 +38,7 @@ fn one_block(fit: bool) -> Option<RunLen>
     if fit { Some(RunLen::Blocks(1)) } else { None }
 }
 
-/// Goes over what stands behind the identifier and the reference sample. For how many blocks it
+/// Goes over what follows the identifier and the reference sample. For how many blocks it
 /// stands; none where a value is above the greatest that the width has. Pairs, and values that are
 /// split at a bit above the width, are read into the block `values`.
 fn skip_body(
@@ -89,10 +89,10 @@ fn skip_set(
     skip_body(params, reader, kind, reference, values)
 }
 
-/// Goes behind the one coded data set that begins at the reader's place. `values` is a block that
-/// it may be read into; what is left in it isn't said. For how many blocks the coded data set
+/// Moves past the one coded data set that begins at the reader's place. `values` is a block that it
+/// may be read into; what is left in it isn't said. Returns for how many blocks the coded data set
 /// stands: one, those of its run, or all that the segment has left. The refusals are those of
-/// `read_into`; the reader is then where it was. Takes no memory.
+/// `read_into`; the reader then hasn't moved. Never fails with `Memory`.
 pub fn skip_cds(
     params: &Params,
     reader: &mut BitReader,

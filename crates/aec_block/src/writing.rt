@@ -121,7 +121,7 @@ fn put_low_groups<const N: usize>(
 }
 
 /// Gathers the lowest `width` bits of each value, as many values at a time as fit a word with those
-/// of two, four or eight, or of all seven behind a reference.
+/// of two, four or eight, or of all seven after a reference.
 #[inline(always)]
 fn put_low_parts(values: &[u32], width: u32, gathered: Gathered, out: &mut BitBuf) -> Gathered
     requires width { width ≤ 32 }
@@ -274,8 +274,8 @@ fn put_split(
 }
 
 /// Appends the coded data set of a block that is in no run, by the option of `choose`. `Memory`
-/// where a growth was refused, and nothing has changed then; it is not where there is room for the
-/// coded data set.
+/// where a growth was refused, never if there is room for the coded data set; nothing has changed
+/// then.
 pub fn write_block(
     params: &Params,
     block: &Block,
@@ -306,8 +306,8 @@ fn code_of_run(z: u32, to_end: bool) -> u32
 }
 
 /// Appends the coded data set of a run of `z` zero blocks, of which the first has the reference
-/// where there is one, and which ends its segment or not. `Memory` where a growth was refused, and
-/// nothing has changed then; it is not where there is room for the coded data set.
+/// where there is one, and which ends its segment or not. `Memory` where a growth was refused,
+/// never if there is room for the coded data set; nothing has changed then.
 #[tactic(auto, using(crate::proofs::WritingLemmas::parts))]
 pub fn write_run(
     params: &Params,

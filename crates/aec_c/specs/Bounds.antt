@@ -13,7 +13,7 @@ blocks_of s samples = div_ceil samples s.block_size
 abbrev pub most_bytes : Settings → ℕ → ℕ
 most_bytes s samples = div_ceil (blocks_of s samples * (5 + s.block_size * s.bits)) 8 + div_ceil (blocks_of s samples) s.interval
 
--- so many bytes that no code of so many samples has more; 0 where there is no code, since the
+-- a number of bytes that no code of `samples` samples passes; 0 where there is no code, since the
 -- settings break a rule or the samples are more than 2^32 (`aecp_bound`)
 abbrev pub bound_of : Settings → ℕ → ℕ
 bound_of s samples = if is_none (settings_fault s) && nat_le samples (2 ^ 32) then most_bytes s samples else 0

@@ -33,7 +33,7 @@ settings_of o = record {
 abbrev pub count_of : ℕ → Option ℕ
 count_of n = if n == 2 ^ 64 - 1 then None else Some n
 
--- what coding answers to stored samples (the refusal of the options, else what `encode_bytes`
+-- the answer of coding stored samples (the refusal of the options, else what `encode_bytes`
 -- promises, or want of memory)
 pub data IsCoding (s : Settings) (samples : List ℕ) : Result (List ℕ) Fault → Type 0 where
   coded : (bytes : List ℕ) → IsAllowed s → IsCodeOf s most.samples samples bytes → IsCoding s samples (Ok bytes)
@@ -42,15 +42,15 @@ pub data IsCoding (s : Settings) (samples : List ℕ) : Result (List ℕ) Fault 
   not_coded : (fault : Fault) → IsAllowed s → bytes_refusal s most.samples samples ≡ Some fault → IsCoding s samples (Err fault)
   lacks_memory : IsAllowed s → IsCoding s samples (Err Memory)
 
--- what decoding answers to coded bytes (the refusal of the options, else what `decode_into`
--- promises, or want of memory)
+-- the answer of decoding coded bytes (the refusal of the options, else what `decode_into` promises,
+-- or want of memory)
 pub data IsDecoding (s : Settings) (count : Option ℕ) (coded : List ℕ) : Result (List ℕ) Fault → Type 0 where
   decoded : (samples : List ℕ) → IsAllowed s → IsStoredReadingOf s most count coded samples → IsDecoding s count coded (Ok samples)
   bad_settings : (fault : Fault) → settings_fault s ≡ Some fault → IsDecoding s count coded (Err fault)
   not_decoded : (fault : Fault) → IsAllowed s → RefusesCoded s most count coded fault → IsDecoding s count coded (Err fault)
   no_memory : IsAllowed s → IsDecoding s count coded (Err Memory)
 
--- what cutting out a range answers to coded bytes (the refusal of the options, else what
+-- the answer of cutting out a range of coded bytes (the refusal of the options, else what
 -- `range_into` promises, or want of memory)
 pub data IsRanging (s : Settings) (count : Option ℕ) (first len : ℕ) (coded : List ℕ) : Result (List ℕ) Fault → Type 0 where
   ranged : (answer : Result (List ℕ) Fault) → IsAllowed s → IsRanged s most count first len (input_of coded false) answer

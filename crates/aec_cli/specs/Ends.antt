@@ -12,16 +12,16 @@ use Rattle.aec_cli.specs.Statuses.{status_of}
 abbrev pub IsWrittenOut : SyncAnswer → Type 0
 IsWrittenOut answer = MatchOption answer.error ⊤ (λ kind. (kind ≡ InvalidInput) ⊎ (kind ≡ Unsupported))
 
--- a file was made, and by the answer of its sync it is written out
+-- a file was made, and the result of its sync says that it is written out
 abbrev pub HasSynced : Done → Type 0
 HasSynced done = MatchOption done.synced ⊥ (λ synced. IsWrittenOut synced.answer)
 
--- how the program ends by what a run returned
+-- how the program ends, by what a run returned
 abbrev pub end_of_run : Result Done Failure → End
 end_of_run (Ok done) = end.Done done
 end_of_run (Err failure) = end.Failed failure
 
--- the status of the process: 0 where the job is done, and else that of its failure
+-- the status of the process: 0 if the job is done, and else that of its failure
 abbrev pub end_status : End → ℕ
 end_status (end.Unstarted status) = status
 end_status (end.Done done) = 0

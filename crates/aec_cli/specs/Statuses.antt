@@ -35,14 +35,14 @@ start_status start.Stream = 1
 start_status start.Words = 2
 start_status start.Memory = 1
 
--- faults that have to do with the words: one is no text, or memory for them is wanting
+-- faults of the words: one is no text, or there is no memory for them
 abbrev pub ConcernsWords : StartFault → Type 0
 ConcernsWords start.Stream = ⊥
 ConcernsWords start.Words = Unit {0}
 ConcernsWords start.Memory = Unit {0}
 
--- where a parse gives no matches: 0 for what was asked for, 1 for want of memory, and else 2
--- (COMMAND: Exit status)
+-- the status if a parse returns no matches: 0 for what was asked for, 1 for want of memory, and
+-- else 2 (COMMAND: Exit status)
 abbrev pub parse_status : ErrorKind → ℕ
 parse_status kind.DisplayHelp = 0
 parse_status kind.DisplayVersion = 0
@@ -54,7 +54,7 @@ abbrev pub IsStatusAmong : ℕ → Kinds → Type 0
 IsStatusAmong status [] = ⊥
 IsStatusAmong status (k ∷ ks) = (status ≡ parse_status k) ⊎ IsStatusAmong status ks
 
--- where the words have mistakes of these kinds, the status is that of one of them, or 1 for want of
+-- if the words have mistakes of these kinds, the status is that of one of them, or 1 for want of
 -- memory (COMMAND: Exit status; nothing is said of words without mistakes)
 abbrev pub EndsByMistake : Kinds → ℕ → Type 0
 EndsByMistake [] status = Unit {0}
@@ -72,7 +72,7 @@ abbrev pub EndsByRefusal : Result Task Usage → ℕ → Type 0
 EndsByRefusal (Ok task) status = status ≤ 1
 EndsByRefusal (Err usage) status = status ≡ usage_status usage
 
--- Words without a mistake end with the status of the first refusal of their job, where it has one;
--- where it has none with 0 or 1; or with 1 for want of memory. (COMMAND: Exit status)
+-- Words without a mistake end with the status of the first refusal of their job, if it has one; if
+-- it has none with 0 or 1; or with 1 for want of memory. (COMMAND: Exit status)
 abbrev pub EndsByWords : List Text → ℕ → Type 0
 EndsByWords words status = (status ≡ 1) ⊎ ((found : Found) × IsFoundIn words found × EndsByRefusal (job_of found) status)

@@ -18,7 +18,7 @@ pub enum End {
 }
 
 impl End {
-    /// The status of the process.
+    /// Returns the status of the process.
     pub fn status(&self) -> u8
         ensures { result ≡ end_status self.now }
     {

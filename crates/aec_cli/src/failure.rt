@@ -22,8 +22,8 @@ pub enum Failure {
     Edit(EditFault),
 }
 
-/// The status that the program ends with: 2 for words that make no job, and else 1. Want of memory
-/// is no fault of the words.
+/// Returns the status that the program ends with: 2 for words that make no job, and else 1. Want of
+/// memory is no fault of the words.
 pub fn status(failure: &Failure) -> u8
     ensures { result ≡ status_of failure.now }
 {

@@ -64,7 +64,7 @@ pub struct FileSource<'a, F: Files> {
 }
 
 impl<'a, F: Files> FileSource<'a, F> {
-    /// The file at `path`, which is not opened yet. The source keeps `rt`.
+    /// Returns a source of the file at `path`, which is not opened yet. The source keeps `rt`.
     pub fn new(rt: &'a F, path: String) -> FileSource<'a, F>
         ensures { ⟦<FileSource<'a, F> as Source>⟧.failed result ≡ 0 }
     {
@@ -135,7 +135,7 @@ pub struct DestSink<'a, F: Files> {
 }
 
 impl<'a, F: Files> DestSink<'a, F> {
-    /// The file at `path`, which is not created yet. The sink keeps `rt`.
+    /// Returns a sink of the file at `path`, which is not created yet. The sink keeps `rt`.
     pub fn new(rt: &'a F, path: String) -> DestSink<'a, F>
         ensures failed { ⟦<DestSink<'a, F> as Sink>⟧.failed result ≡ 0 }
         ensures begun { ⟦<DestSink<'a, F> as Sink>⟧.begun result ≡ 0 }

@@ -64,8 +64,9 @@ pub struct Job {
     pub dest: String,
 }
 
-/// The job that the matches of a parse ask for. The refusals in their order: `Jobs`, `Count` and
-/// `Range`, which concern the action; `Setting`; and `Memory` only where no other comes.
+/// Returns the job that the matches of a parse ask for. The refusals in their order: `Jobs`,
+/// `Count` and `Range`, which concern the action; `Setting`; and `Memory` only where no other
+/// comes.
 pub fn settings(alloc: Global, matches: &ArgMatches<'_>) -> Result<Job, Usage>
     ensures ok { IfOk result (λ job. job_of (found_of matches.now) ≡ Ok (task_of job)) }
     ensures refuses { IfErr (job_of (found_of matches.now)) (λ usage. result ≡ Err usage) }

@@ -28,7 +28,7 @@ pub enum StartFault {
 }
 
 impl StartFault {
-    /// The status that the program ends with: 2 for words that are no text, and else 1.
+    /// Returns the status that the program ends with: 2 for words that are no text, and else 1.
     pub fn status(&self) -> u8
         ensures { result ≡ start_status self.now }
     {
@@ -69,8 +69,8 @@ where
     Ok(())
 }
 
-/// The words of the process, the program's name first. `Words` where one is no UTF-8 text, a name
-/// of a file too.
+/// Returns the words of the process, the program's name first. `Words` where one is no UTF-8 text,
+/// a name of a file too.
 pub fn process_words<R: Env + Alloc<A = Global>>(rt: &R) -> Result<Vec<String>, StartFault>
     ensures { IfErr result (λ fault. ConcernsWords fault) }
 {

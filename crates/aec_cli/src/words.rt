@@ -18,7 +18,8 @@ use std::alloc::{AllocError, Global};
 /// What `--version` prints after the name.
 const VERSION: &str = "0.1.0";
 
-/// The command `aec`, which has no rules between its arguments. `Memory` is the only refusal.
+/// Returns the command `aec`, which has no rules between its arguments. `Memory` is the only
+/// refusal.
 pub fn command<'a>(alloc: Global) -> Result<Command<'a>, Usage>
     ensures app { IfOk result (λ c. app_of c ≡ aec_app) }
     ensures refuses { IfErr result (λ u. u ≡ Usage.Memory) }
@@ -33,8 +34,8 @@ pub fn command<'a>(alloc: Global) -> Result<Command<'a>, Usage>
     Ok(with_files(alloc, command)?)
 }
 
-/// What the words say to the command, the first of them the program's name. The entries are those
-/// that the words state; an error has the kind of the first mistake, or is want of memory.
+/// Returns what the words say to the command, the first of them the program's name. The entries are
+/// those that the words state; an error has the kind of the first mistake, or is want of memory.
 pub fn parse<'a>(alloc: Global, words: &'a [String]) -> Result<ArgMatches<'a>, Error>
     ensures entries { IfOk result (λ m.
         rows_of (found_of m) ≡ matches_of aec_app (map string_bytes words.entry.now)) }

@@ -4,17 +4,16 @@ use Rattle.aec_params.specs.declared.fault.Fault.{Fault}
 use Rattle.aec_params.specs.declared.fault.Fault.TheVariants.{Memory}
 use Rattle.aec_engine.specs.Transfers.{answer_by}
 
--- items in the place of as many at the front, where there is room for all of them; else all as it
--- was
+-- a list whose front is replaced by items, if it has room for all of them; else the list as it was
 abbrev pub front_put : {X : Type 0} → List X → List X → List X
 front_put items before = if nat_le (length items) (length before) then items ++ drop (length items) before else before
 
--- what an answer leaves of a buffer
+-- what a buffer contains after an answer
 abbrev pub left_of : {X : Type 0} → Result (List X) Fault → List X → List X
 left_of (Ok items) before = front_put items before
 left_of (Err fault) before = before
 
--- a call gave one of these answers, put it into a buffer, and tells how long it is
+-- a call has one of these answers, has put it into a buffer, and returns its length
 pub record FillsOne (answers : Result (List ℕ) Fault → Type 0) (before after : List ℕ) (result : Result ℕ Fault) : Type 0 where
   pub answer : Result (List ℕ) Fault
   pub answered : answers answer

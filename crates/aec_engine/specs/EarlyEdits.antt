@@ -24,7 +24,7 @@ pub record LeadsToEdits (f : Format) (limit : ℕ) (from : Left) (script : Listi
       → LacksMemoryOn f limit from.calls from.samples script.edits script.lines line
 
 -- Of samples that are there, the edits of a script were made up to those ahead. Whatever samples
--- stand behind them, and however often the coder has been called before (far from the most that it
+-- stand after them, and however often the coder has been called before (far from the most that it
 -- can be), the edits of the script lead to those ahead.
 pub record CarriesEarly (f : Format) (limit : ℕ) (script : Listing) (s : List ℤ) (calls : ℕ) (ahead : Listing) (left : List ℤ)
     (calls_after : ℕ) : Type 0 where
@@ -35,7 +35,7 @@ pub record CarriesEarly (f : Format) (limit : ℕ) (script : Listing) (s : List 
   pub leads : (rest : List ℤ) (due : ℕ) → due ≤ 2 ^ 63
       → LeadsToEdits f limit (left_of (s ++ rest) due) script (left_of (left ++ rest) (due + made)) ahead
 
--- one of the edits was refused, whatever samples stand behind those that are there
+-- one of the edits was refused, whatever samples stand after those that are there
 abbrev pub StopsEarly : Format → ℕ → Listing → List ℤ → EditFault → Type 0
 StopsEarly f limit script s fault =
     (rest : List ℤ) (due : ℕ) → due ≤ 2 ^ 63 → StopsEditing f limit due (s ++ rest) script.edits script.lines fault

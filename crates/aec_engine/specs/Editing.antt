@@ -57,16 +57,16 @@ script_left s caps script samples =
     let read : Listing = listing_of script.bytes in
     edits_left f caps.samples (first_calls f samples) samples read.edits read.lines
 
--- what carrying out a script gives: the bytes of a stream, and how often the coder has been called
+-- what carrying out a script makes: the bytes of a stream, and how often the coder has been called
 pub record Recoded : Type 0 where
   pub bytes : List ℕ
   pub calls : ℕ
 
--- what carrying out a script answers (COMMAND: Edits)
+-- the answer of carrying out a script (COMMAND: Edits)
 pub data IsEdited (s : Settings) (caps : Caps) (count : Option ℕ) (script input : Input) : Result Recoded EditFault → Type 0 where
   -- the script is refused before the input is looked at
   no_script : (fault : Fault) → script_refusal caps.bytes script ≡ Some fault → IsEdited s caps count script input (Err (Plain fault))
-  -- the refusals of decoding: the whole input has to be sound
+  -- the refusals of decoding: the whole input has to be valid
   not_decoded : (fault : Fault) → script_refusal caps.bytes script ≡ None → IsDecoded s caps count input (Err fault)
       → IsEdited s caps count script input (Err (Plain fault))
   -- an edit that doesn't fit the samples that the edits before it leave, or for which too few calls
@@ -81,8 +81,8 @@ pub data IsEdited (s : Settings) (caps : Caps) (count : Option ℕ) (script inpu
 
 -- ---- runs
 
--- On this line stands an edit that codes some interval, and neither it nor one before it is refused
--- where there is memory: of the samples s, after so many calls of the coder.
+-- The edit on this line codes some interval, and neither it nor one before it is refused for a
+-- reason other than memory: from the samples s, after `calls` calls of the coder.
 abbrev pub LacksMemoryOn : Format → ℕ → ℕ → List ℤ → List Edit → List ℕ → ℕ → Type 0
 LacksMemoryOn f limit calls s (e ∷ edits) (n ∷ lines) line =
     let needed : ℕ = needed_calls f.most (length s) e in
@@ -90,15 +90,15 @@ LacksMemoryOn f limit calls s (e ∷ edits) (n ∷ lines) line =
     × (((line ≡ n) × (0 < needed)) ⊎ LacksMemoryOn f limit (calls + needed) (samples_after s e) edits lines line)
 LacksMemoryOn f limit calls s edits lines line = ⊥
 
--- both sources gave what they had, and the script is one
+-- both sources gave what they had, and the script has no refusal
 pub record GaveBoth (caps : Caps) (from source : Taking) (script input : Input) : Type 0 where
   pub gave_script : Gave from (are_past caps.bytes) script
   pub sound : script_refusal caps.bytes script ≡ None
   pub gave_input : Gave source (are_past caps.bytes) input
 
--- What a run over the source of a script and that of an input answers before anything is written:
+-- The result of a run over the source of a script and that of an input, before anything is written:
 -- the refusal of the script, and then nothing was taken of the input; the answer to both; or want
--- of memory, for no edit or for one.
+-- of memory, named by the line of an edit or by none.
 pub data GivesEdited (s : Settings) (caps : Caps) (count : Option ℕ) (from source : Taking) : Result Recoded EditFault → Type 0 where
   script_refused : (script : Input) (fault : Fault) → Gave from (are_past caps.bytes) script → script_refusal caps.bytes script ≡ Some fault
       → Keeps source.before source.after → GivesEdited s caps count from source (Err (Plain fault))
@@ -110,8 +110,8 @@ pub data GivesEdited (s : Settings) (caps : Caps) (count : Option ℕ) (from sou
       LacksMemoryOn f caps.samples (first_calls f samples) samples read.edits read.lines line)
       → GivesEdited s caps count from source (Err (Line line Memory))
 
--- What the engine leaves: the bytes of its answer written and begun once, and then it answers with
--- the calls; its refusal and nothing written; or a front of the bytes where the sink failed.
+-- What the engine leaves: the bytes of its answer, written after one `begin`, and then it returns
+-- the calls; or its refusal and nothing written; or a front of the bytes if the sink failed.
 pub data LeavesRecoded (s : Settings) (caps : Caps) (count : Option ℕ) (from source : Taking) (sink : Putting) : Result ℕ EditFault → Type 0 where
   written : (made : Recoded) → GivesEdited s caps count from source (Ok made) → Appends sink.before sink.after made.bytes
       → IsBegunFirst sink → sink.failures ≡ 0 → LeavesRecoded s caps count from source sink (Ok made.calls)
@@ -120,7 +120,7 @@ pub data LeavesRecoded (s : Settings) (caps : Caps) (count : Option ℕ) (from s
   not_written : (made : Recoded) → GivesEdited s caps count from source (Ok made) → AppendsFront sink.before sink.after made.bytes
       → IsBegunFirst sink → sink.failures ≡ 1 → LeavesRecoded s caps count from source sink (Err (Plain Write))
 
--- the same where the number of calls isn't answered: there is one, and it is as before
+-- the same of a call that doesn't return the number of calls: there is such a number
 pub record LeavesEdited (s : Settings) (caps : Caps) (count : Option ℕ) (from source : Taking) (sink : Putting)
     (result : Result (Unit {0}) EditFault) : Type 0 where
   pub counted : Result ℕ EditFault

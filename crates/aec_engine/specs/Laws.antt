@@ -32,7 +32,7 @@ EachScriptHasOneAnswer = (s : Settings) (caps : Caps) (count : Option ℕ) (scri
     → HasOneAnswer (IsEdited s caps count script) input
 
 -- a script that asks for nothing leaves all samples: each input has the code of what it is read as,
--- with one call an interval
+-- with one call for each interval
 abbrev pub NoEditsKeepTheSamples : Type 0
 NoEditsKeepTheSamples = (s : Settings) (caps : Caps) (count : Option ℕ) (script input : Input) (samples : List ℤ)
     → script_refusal caps.bytes script ≡ None → (listing_of script.bytes).edits ≡ [] → IsRead s caps count input samples

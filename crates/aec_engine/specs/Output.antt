@@ -27,7 +27,7 @@ are_refused s limit bytes = is_some (judged_samples limit (samples_of_bytes s by
 abbrev pub coding_refusal : Settings → ℕ → Input → Option Fault
 coding_refusal s limit input = option_or (judged_samples limit (samples_of_bytes s input.bytes)) (if input.failed then Some Read else None)
 
--- what coding answers (COMMAND: Limits, time and memory; nothing is said of how its bytes are read)
+-- the answer of coding (COMMAND: Limits, time and memory; how its bytes are read isn't said)
 pub data IsEncoded (s : Settings) (caps : Caps) (input : Input) : Result (List ℕ) Fault → Type 0 where
   not_coded : (fault : Fault) → coding_refusal s caps.samples input ≡ Some fault → IsEncoded s caps input (Err fault)
   -- the bytes of the samples' code
@@ -57,7 +57,7 @@ pub record GaveSamples (s : Settings) (caps : Caps) (count : Option ℕ) (source
   pub gave : Gave source (are_past caps.bytes) input
   pub read : IsRead s caps count input samples
 
--- what decoding answers (COMMAND: Order of a run)
+-- the answer of decoding (COMMAND: Order of a run)
 pub data IsDecoded (s : Settings) (caps : Caps) (count : Option ℕ) (input : Input) : Result (List ℕ) Fault → Type 0 where
   -- the input is refused before it is read as coded data
   not_taken : (fault : Fault) → intake_refusal caps.bytes input ≡ Some fault → IsDecoded s caps count input (Err fault)
@@ -74,8 +74,8 @@ pub data IsDecoded (s : Settings) (caps : Caps) (count : Option ℕ) (input : In
 abbrev pub samples_from : ℕ → ℕ → List ℤ → List ℤ
 samples_from first len samples = take len (drop first samples)
 
--- what cutting out a range answers (COMMAND: Ranges; a refusal of decoding, then of its place, else
--- the stored bytes of the part)
+-- the answer of cutting out a range (COMMAND: Ranges; a refusal of decoding, then of its place,
+-- else the stored bytes of the part)
 pub data IsRanged (s : Settings) (caps : Caps) (count : Option ℕ) (first len : ℕ) (input : Input) : Result (List ℕ) Fault → Type 0 where
   -- the refusals of decoding: the whole input has to be sound
   not_decoded : (fault : Fault) → IsDecoded s caps count input (Err fault) → IsRanged s caps count first len input (Err fault)

@@ -15,7 +15,7 @@ use Rattle.aec_interval.specs.Pieces.{Place, place_at, is_wanted_at, HasRead}
 use Rattle.aec_engine.specs.Transfers.{input_of, Taking, are_past, Gave, IsTakenWhole, Putting, Settles}
 use Rattle.aec_engine.specs.Output.{all_stored, samples_from}
 
--- a source gave bytes with these bits, and failed behind them or not
+-- a source gave bytes with these bits, and failed after them or not
 pub record GaveBits (source : Taking) (limit : ℕ) (bits : List Bool) (failed : Bool) : Type 0 where
   pub bytes : List ℕ
   pub gave : Gave source (are_past limit) (input_of bytes failed)

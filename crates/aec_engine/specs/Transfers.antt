@@ -13,7 +13,7 @@ pub record IsTakenWhole (before after : Option (List ℕ)) (failures limit : ℕ
   pub sound : failures ≡ 0
   pub within : length bytes ≤ limit
 
--- the bytes of a source that failed behind them, within the limit
+-- the bytes of a source that failed after them, within the limit
 pub record FailsWithin (before after : Option (List ℕ)) (failures limit : ℕ) (bytes : List ℕ) : Type 0 where
   pub taken : Consumes before after bytes
   pub failed : failures ≡ 1
@@ -31,12 +31,12 @@ pub data RefusesIntake (before after : Option (List ℕ)) (failures limit : ℕ)
   source_failed : (bytes : List ℕ) → FailsWithin before after failures limit bytes → RefusesIntake before after failures limit Read
   too_many_bytes : (bytes : List ℕ) → PassesLimit before after failures limit bytes → RefusesIntake before after failures limit (StreamTooLong limit)
 
--- what a source gave: its bytes in order, and whether it failed behind them
+-- what a source gave: its bytes in order, and whether it failed after them
 pub record Input : Type 0 where
   pub bytes : List ℕ
   pub failed : Bool
 
--- these bytes, and whether the source failed behind them
+-- these bytes, and whether the source failed after them
 abbrev pub input_of : List ℕ → Bool → Input
 input_of bytes failed = record { bytes = bytes; failed = failed }
 
@@ -46,7 +46,8 @@ pub record Taking : Type 0 where
   pub after : Option (List ℕ)
   pub failures : ℕ
 
--- by what a kind of source tells: the bytes that are left, and how often it has failed
+-- a source before and after a run, by what its kind states: the bytes that are left, and how often
+-- it has failed
 abbrev pub taking_of : {R : Type 0} → (R → Option (List ℕ)) → (R → ℕ) → R → R → Taking
 taking_of left failed old new = record { before = left old; after = left new; failures = failed new }
 
@@ -59,8 +60,8 @@ pub record Putting : Type 0 where
   pub mark : Option (List ℕ)
   pub failures : ℕ
 
--- by what a kind of sink tells: the bytes that it has taken, how often it was begun, what it had
--- taken before it was begun last, and how often it has failed
+-- a sink before and after a run, by what its kind states: the bytes that it has taken, how often it
+-- was begun, what it had taken before it was begun last, and how often it has failed
 abbrev pub putting_of : {W : Type 0} → (W → Option (List ℕ)) → (W → ℕ) → (W → Option (List ℕ)) → (W → ℕ) → W → W → Putting
 putting_of taken begun mark failed old new =
     record { before = taken old; after = taken new; begun_before = begun old; begun_after = begun new; mark = mark new; failures = failed new }
@@ -82,15 +83,15 @@ pub record WroteNothing (sink : Putting) : Type 0 where
   pub kept : Keeps sink.before sink.after
   pub begun : sink.begun_after ≡ sink.begun_before
 
--- begin was called once, before anything was taken: what the sink tells to have held then is what
--- it held before
+-- begin was called once, before anything was taken: what it held at `begin`, if known, is what it
+-- held before
 pub record IsBegunFirst (sink : Putting) : Type 0 where
   pub once : sink.begun_after ≡ counted sink.begun_before
   pub first : Keeps sink.mark sink.before
 
--- What an engine leaves whose answers are a function of its input: its answer written and begun
--- once; or its refusal and nothing written; want of memory and nothing written; or a front of its
--- answer where the sink failed. (COMMAND: Coding and DEST)
+-- What an engine leaves whose answers are a function of its input: its answer, written after one
+-- `begin`; or its refusal, or want of memory, and nothing written; or a front of its answer if the
+-- sink failed. (COMMAND: Coding and DEST)
 pub data Leaves (answers : Input → Result (List ℕ) Fault → Type 0) (source : Taking) (enough : List ℕ → Bool) (sink : Putting)
     : Result (Unit {0}) Fault → Type 0 where
   written : (input : Input) (bytes : List ℕ) → Gave source enough input → answers input (Ok bytes) → Appends sink.before sink.after bytes
@@ -101,7 +102,7 @@ pub data Leaves (answers : Input → Result (List ℕ) Fault → Type 0) (source
   not_written : (input : Input) (bytes : List ℕ) → Gave source enough input → answers input (Ok bytes) → AppendsFront sink.before sink.after bytes
       → IsBegunFirst sink → sink.failures ≡ 1 → Leaves answers source enough sink (Err Write)
 
--- what a run over a source answers before anything is written: the answer to its input, or want of
+-- the result of a run over a source before anything is written: the answer to its input, or want of
 -- memory
 pub data GivesAnswer (answers : Input → Result (List ℕ) Fault → Type 0) (source : Taking) (enough : List ℕ → Bool) : Result (List ℕ) Fault → Type 0 where
   given : (input : Input) (answer : Result (List ℕ) Fault) → Gave source enough input → answers input answer → GivesAnswer answers source enough answer

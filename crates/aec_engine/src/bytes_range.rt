@@ -11,8 +11,8 @@ use aec_bits::WriteSink;
 use aec_params::{Fault, Limits, Params};
 use std::alloc::Global;
 
-/// The stored bytes of `len` of the samples that coded bytes are read as, from place `first` on.
-/// The refusals are those of `decode_bytes`, and then `OutOfRange`.
+/// Returns the stored bytes of `len` of the samples that coded bytes are read as, from place
+/// `first` on. The refusals are those of `decode_bytes`, and then `OutOfRange`.
 pub fn range_bytes(
     alloc: Global,
     params: &Params,

@@ -79,10 +79,9 @@ fn write_stream(
 /// Makes edits, from no samples on, and decodes the bytes of the stream that they leave with the
 /// number of samples.
 ///
-/// Each edit is answered as the definition says for the samples and the calls that those before it
-/// have left. The bytes are those of the stream of the samples that the accepted edits leave, and
-/// these samples are what they are decoded to: the reading of these bytes with the number of
-/// samples. Only want of memory comes in their place.
+/// Each edit has the outcome that the definition says for the samples and the calls that the edits
+/// before it have left. The bytes are those of the stream of the samples that the accepted edits
+/// leave, and with their number the bytes are read as these samples. Fails only with `Memory`.
 pub fn decode_edited(
     alloc: Global,
     params: &Params,

@@ -49,7 +49,7 @@ pub(crate) fn refusal(fault: Fault) -> Fault
     }
 }
 
-/// The bytes of the code of stored samples. The refusals in their order: at each sample
+/// Returns the bytes of the code of stored samples. The refusals in their order: at each sample
 /// `TooManySamples`, then `SampleRange`. `Memory` can come at any time. `limits.bytes` is not used.
 #[tactic(auto, using(crate::proofs::InMemoryLemmas::coded))]
 pub fn encode_bytes(
@@ -73,8 +73,8 @@ pub fn encode_bytes(
     }
 }
 
-/// The stored bytes of the samples that coded bytes are read as: with a count the first `count`,
-/// without one all.
+/// Returns the stored bytes of the samples that coded bytes are read as: with a count the first
+/// `count`, without one all.
 pub fn decode_bytes(
     alloc: Global,
     params: &Params,

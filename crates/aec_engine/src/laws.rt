@@ -18,15 +18,15 @@ pub fn no_edits_keep_the_samples()
     ensures { NoEditsKeepTheSamples }
 {}
 
-/// An input is refused by its front alone, whatever follows: to be coded, where the front holds a
-/// sample that is too many or out of range; to be decoded, where it is past the limit; and so is a
-/// script.
+/// An input is refused for its front alone, whatever follows: in coding, if the front contains a
+/// sample that is too many or out of range; in decoding, if the front is longer than the limit; and
+/// so is a script.
 pub fn refused_fronts_are_enough()
     ensures { RefusedFrontsAreEnough }
 {}
 
-/// What is answered to the bytes that were taken of a source that did not fail is the answer to all
-/// that it had.
+/// The answer to the bytes that were taken of a source that did not fail is the answer to all that
+/// it had.
 pub fn what_is_taken_is_enough()
     ensures { WhatIsTakenIsEnough }
 {}

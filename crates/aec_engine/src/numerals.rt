@@ -27,7 +27,7 @@ pub(crate) fn signed_decimal_in(text: &str) -> Option<i64>
     text.parse().ok()
 }
 
-/// The two numbers of `FIRST:LEN`, in digits alone with one colon between them.
+/// Returns the two numbers of `FIRST:LEN`, written only in digits, with one colon between them.
 pub fn range_in(text: &str) -> Option<(u64, u64)>
     ensures { result ≡ range_in text.now }
 {

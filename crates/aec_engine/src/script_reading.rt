@@ -36,7 +36,7 @@ pub(crate) fn edit_on_line(alloc: Global, number: u64, text: &[u8]) -> Result<Op
     edit_of(alloc, line)
 }
 
-/// Puts the edit of a line, if there is one, and the number of the line behind those before it.
+/// Puts the edit of a line, if there is one, and the number of the line after those before it.
 fn put_edit(read: &mut Script, edit: Option<Edit>, number: u64) -> Result<(), Fault>
     ensures ok { IfOk result (λ _. (rest : Listing) →
         after_listed read.old.edits.items read.old.lines.items (listed number (kept edit) rest)
@@ -51,7 +51,7 @@ fn put_edit(read: &mut Script, edit: Option<Edit>, number: u64) -> Result<(), Fa
 }
 
 #[tactic(auto, using(crate::proofs::ScriptLineLemmas::refused_line))]
-/// Puts what a line asks for, whose number is given, behind what the lines before it do.
+/// Puts what a line asks for, whose number is given, after what the lines before it do.
 fn take_line(alloc: Global, number: u64, text: &[u8], read: &mut Script) -> Result<(), Fault>
     ensures ok { IfOk result (λ _. (rest : Listing) →
         after_listed read.old.edits.items read.old.lines.items
@@ -66,13 +66,13 @@ fn take_line(alloc: Global, number: u64, text: &[u8], read: &mut Script) -> Resu
     put_edit(read, edit, number)
 }
 
-/// The edits of a script. A line ends with a line feed, the last one may lack it; one carriage
-/// return before it is no part of the line. Spaces and tabs part words. A line is `overwrite FIRST
-/// V..`, `append V..` or `truncate COUNT`; one without a word, and one whose first word begins with
-/// `#`, says nothing.
+/// Returns the edits of a script. A line ends with a line feed, the last one may lack it; one
+/// carriage return before it is no part of the line. Spaces and tabs part words. A line is
+/// `overwrite FIRST V..`, `append V..`, `insert FIRST V..`, `remove FIRST LEN` or `truncate COUNT`.
+/// A line without a word says nothing, nor does one whose first word begins with `#`.
 ///
-/// `Script` names the first line that is none of these, counted from 1 among all lines. `Memory`
-/// where a growth was refused for an edit before it. Takes a time linear in the length.
+/// Fails with `Script` at the first line that is none of these, counted from 1 among all lines; or
+/// with `Memory`, only if an edit stands before that line. Takes a time linear in the length.
 pub fn script(alloc: Global, bytes: &[u8]) -> Result<Script, Fault>
     ensures ok { let read : Listing = listing_of bytes.now in
         IfOk result (λ s. (read.bad ≡ None) × (s.edits.items ≡ read.edits)

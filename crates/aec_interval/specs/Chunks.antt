@@ -11,12 +11,12 @@ use Rattle.aec_params.specs.Blocks.{Block, filled_samples, reference_of, with_re
 use Rattle.aec_block.specs.BlockShape.{IsSound}
 use Rattle.aec_block.specs.Choices.{IsFull}
 
--- the values of samples behind the sample before them; behind none an interval starts
+-- the values of samples after the sample before them; after none an interval starts
 abbrev pub values_after : Settings → Option ℤ → List ℤ → List ℕ
 values_after s None v = mapped_values s v
 values_after s (Some previous) v = mapped_after s previous v
 
--- the reference sample of a block behind them, where there is one
+-- the reference sample of a block after them, where there is one
 abbrev pub reference_after : Settings → Option ℤ → List ℤ → Option ℕ
 reference_after s None v = reference_of s v
 reference_after s (Some previous) v = None
@@ -42,7 +42,7 @@ abbrev pub HoldsPrevious : Settings → Option ℤ → Type 0
 HoldsPrevious s None = ⊤
 HoldsPrevious s (Some previous) = IsHeld s previous
 
--- samples behind the one before them, at most so many blocks
+-- samples after the one before them, at most so many blocks
 pub record AreSamplesAfter (s : Settings) (previous : Option ℤ) (most : ℕ) (v : List ℤ) : Type 0 where
   pub previous_held : HoldsPrevious s previous
   pub held : AllByRecursion (IsHeld s) v

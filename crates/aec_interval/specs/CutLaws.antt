@@ -10,7 +10,7 @@ use Rattle.aec_params.specs.Streams.{stream_of}
 use Rattle.aec_interval.specs.Taking.{judged_samples}
 use Rattle.aec_interval.specs.Feeding.{Coder, fresh_coder, taken_of, Feeds, StopsFeeding, FeedsAll}
 
--- the pieces behind one another
+-- the pieces one after the other
 abbrev pub all_bytes : List (List ℕ) → List ℕ
 all_bytes pieces = flat_map (λ piece. piece) pieces
 
@@ -33,14 +33,14 @@ pub record CutsMakeNoDifference (s : Settings) (limit : ℕ) : Type 0 where
   -- the pieces are as one piece of all their bytes
   pub taken : (pieces : List (List ℕ)) (before after : List Bool) (d : Coder) → FeedsAll (fresh_coder s limit) pieces before after d
       → Feeds (fresh_coder s limit) (all_bytes pieces) before after d
-  -- a refusal of the next one is the refusal of all bytes, whatever comes behind them
+  -- a refusal of the next one is the refusal of all bytes, whatever comes after them
   pub refused : (pieces : List (List ℕ)) (piece rest : List ℕ) (before between after : List Bool) (d : Coder) (fault : Fault)
       → FeedsAll (fresh_coder s limit) pieces before between d → StopsFeeding d piece between after fault
       → StopsFeeding (fresh_coder s limit) (all_bytes pieces ++ (piece ++ rest)) before after fault
   -- which is the one of all samples: the first that is out of range before the limit, or too many
   -- of them
   pub judged : (bytes : List ℕ) → (taken_of (fresh_coder s limit) bytes).refusal ≡ judged_samples limit (samples_of_bytes s bytes)
-  -- step by step: nothing is taken at first, and a piece more behind what was taken
+  -- step by step: nothing is taken at first, and a piece more after what was taken
   pub begun : (bits : List Bool) → Feeds (fresh_coder s limit) [] bits bits (fresh_coder s limit)
   pub more : (bytes piece : List ℕ) (before between after : List Bool) (d e : Coder) → Feeds (fresh_coder s limit) bytes before between d
       → Feeds d piece between after e → Feeds (fresh_coder s limit) (bytes ++ piece) before after e

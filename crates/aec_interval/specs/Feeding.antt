@@ -28,7 +28,7 @@ fresh_coder s limit = record { settings = s; limit = limit; held = []; rest = []
 abbrev pub whole_front : {X : Type 0} → ℕ → List X → List X
 whole_front n xs = take (length xs / n * n) xs
 
--- what is left behind that front
+-- what is left after that front
 abbrev pub left_behind : {X : Type 0} → ℕ → List X → List X
 left_behind n xs = drop (length xs / n * n) xs
 
@@ -36,11 +36,11 @@ left_behind n xs = drop (length xs / n * n) xs
 abbrev pub taken_of : Coder → List ℕ → TakenSamples
 taken_of c piece = taken_groups c.settings c.limit c.count (byte_groups c.settings (c.rest ++ piece))
 
--- the samples that are held, and those behind them
+-- the samples that are held, and those after them
 abbrev pub samples_with : Coder → List ℕ → List ℤ
 samples_with c piece = c.held ++ (taken_of c piece).samples
 
--- the coder behind a piece: it holds what is left of the samples and of the bytes (of the whole
+-- the coder after a piece: it holds what is left of the samples and of the bytes (of the whole
 -- piece, where the code takes up to an interval at once, and goes sample by sample where one is
 -- refused)
 abbrev pub fed : Coder → List ℕ → Coder
@@ -58,7 +58,7 @@ fed c piece = record {
 abbrev pub fed_bits : Coder → List ℕ → List Bool
 fed_bits c piece = stream_of c.settings (whole_front (interval_len c.settings) (samples_with c piece))
 
--- a piece is taken: behind it bits are `after`, and the coder is d
+-- a piece is taken: after it bits are `after`, and the coder is d
 pub record Feeds (c : Coder) (piece : List ℕ) (before after : List Bool) (d : Coder) : Type 0 where
   pub taken : (taken_of c piece).refusal ≡ None
   pub bits : after ≡ before ++ fed_bits c piece

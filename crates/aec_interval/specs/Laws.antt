@@ -16,11 +16,12 @@ pub record AreOfInterval (s : Settings) (samples : List ℤ) : Type 0 where
   pub some : 0 < length samples
   pub fits : length samples ≤ interval_len s
 
--- the code of an interval is lawful coded data sets for its blocks
+-- the code of an interval consists of lawful coded data sets for its blocks
 abbrev pub IntervalsAreRead : Type 0
 IntervalsAreRead = (s : Settings) (samples : List ℤ) → IsAllowed s → AreOfInterval s samples → ReadsBlocks s (unpadded_bits s samples) (blocks_of s samples)
 
--- intervals of equal length are told by their codes, whatever follows them
+-- two intervals of equal length whose codes begin the same bits are equal, and the bits after them
+-- too
 abbrev pub IntervalsAreTold : Type 0
 IntervalsAreTold = (s : Settings) (a b : List ℤ) (x y : List Bool) → IsAllowed s → AreOfInterval s a → AreOfInterval s b → length a ≡ length b
     → interval_bits s a ++ x ≡ interval_bits s b ++ y → (a ≡ b) × (x ≡ y)
@@ -44,7 +45,7 @@ pub record BitsAreReadInOneWay (s : Settings) (count : Option ℕ) (limit : ℕ)
 abbrev pub AllBitsAreReadInOneWay : Type 0
 AllBitsAreReadInOneWay = (s : Settings) (count : Option ℕ) (limit : ℕ) (bits : List Bool) → IsAllowed s → BitsAreReadInOneWay s count limit bits
 
--- the samples of a reading are held, and with a count they are so many
+-- the samples of a reading are held, and with a count their number is the count
 pub record ReadingsAreSamples (s : Settings) (limit : ℕ) (bits : List Bool) : Type 0 where
   pub held : (count : Option ℕ) (samples : List ℤ) → IsReading s count limit bits samples → AllByRecursion (IsHeld s) samples
   pub counted : (count : ℕ) (samples : List ℤ) → IsReading s (Some count) limit bits samples → length samples ≡ count
@@ -61,7 +62,7 @@ ReadsEach s [] [] = ⊤
 ReadsEach s (code ∷ codes) (v ∷ intervals) = ReadsBlocks s code (blocks_of s v) × ReadsEach s codes intervals
 ReadsEach s codes intervals = ⊥
 
--- such codes for the intervals of samples, one behind the other, are read with the count of the
+-- such codes for the intervals of samples, one after the other, are read with the count of the
 -- samples as the samples, whatever bits follow, where nothing is padded
 abbrev pub EachCodeIsRead : Type 0
 EachCodeIsRead = (s : Settings) (limit : ℕ) (samples : List ℤ) (codes : List (List Bool)) (rest : List Bool) → IsAllowed s → s.pad ≡ false

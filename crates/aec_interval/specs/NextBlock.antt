@@ -20,11 +20,11 @@ abbrev pub next_block_at : Settings → Bool → ℤ → List ℤ → Block
 next_block_at s true p more = record { reference = reference_of s more; values = mapped_values s more }
 next_block_at s false p more = record { reference = None; values = mapped_after s p more }
 
--- the block of J samples that come behind others
+-- the block of J samples that come after others
 abbrev pub next_block_of : Settings → List ℤ → List ℤ → Block
 next_block_of s samples more = next_block_at s (length samples % interval_len s == 0) (last_sample samples) more
 
--- a block that can come behind these samples
+-- a block that can come after these samples
 abbrev pub IsNextBlock : Settings → List ℤ → Block → Type 0
 IsNextBlock s samples b = IsBlockOf s (s.preprocess && (length samples % interval_len s == 0)) b
 
@@ -37,7 +37,7 @@ abbrev pub run_blocks : Settings → Option ℕ → ℕ → List Block
 run_blocks s reference zero = []
 run_blocks s reference (suc z) = zero_block s reference ∷ replicate z (zero_block s None)
 
--- the sample that a zero block with this reference repeats behind these: that of its reference, or
+-- the sample that a zero block with this reference repeats after these: that of its reference, or
 -- else the prediction, and 0 where nothing is predicted
 abbrev pub sample_of_zeros : Settings → Option ℕ → List ℤ → ℤ
 sample_of_zeros s (Some r) samples = pattern_value s r

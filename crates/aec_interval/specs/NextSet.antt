@@ -20,7 +20,7 @@ abbrev pub run_count : Settings → ℕ → RunLen → ℕ
 run_count s p (Blocks z) = z
 run_count s p Rest = segment_left s p
 
--- the block behind a coded data set that begins at block i and at this bit and stands for z blocks,
+-- the block after a coded data set that begins at block i and at this bit and stands for z blocks,
 -- or why it may not stand there: its segment has fewer left; else the samples with it pass the
 -- limit
 abbrev pub block_behind : Settings → Option ℕ → ℕ → ℕ → ℕ → ℕ → Result ℕ Fault
@@ -38,7 +38,7 @@ kept_count s (Some count) i z = min z (div_ceil count s.block_size - i)
 abbrev pub blocks_before_end : Settings → ℕ → ℕ
 blocks_before_end s i = s.interval - i % s.interval
 
--- it can come behind samples of i blocks, and so many of its blocks are in their interval
+-- it can come after samples of i blocks, and so many of its blocks are in their interval
 abbrev pub IsNextCds : Settings → ℕ → List ℤ → ℕ → Cds → Type 0
 IsNextCds s i samples kept (Single b) = IsNextBlock s samples b
 IsNextCds s i samples kept (Zeros reference len) =

@@ -23,7 +23,7 @@ with_run reference zero groups = groups
 with_run reference (suc z) (zero_run later m ∷ groups) = zero_run reference (suc z + m) ∷ groups
 with_run reference (suc z) groups = zero_run reference (suc z) ∷ groups
 
--- the bits of a segment that has these blocks behind a run
+-- the bits of a segment that has these blocks after a run
 abbrev pub pending_bits : Settings → Run → List Block → List Bool
 pending_bits s run blocks = flat_map (cds_bits s) (group_sets s (with_run run.reference run.blocks (groups_of blocks)))
 
@@ -50,14 +50,14 @@ pub record IsRun (s : Settings) (most : ℕ) (run : Run) : Type 0 where
 abbrev pub IsKept : List Bool → List Bool → Type 0
 IsKept old new = take (length old) new ≡ old
 
--- the samples of one block more of a segment stand behind a run
+-- the samples of one block more of a segment stand after a run
 pub record AreNext (s : Settings) (previous : Option ℤ) (samples : List ℤ) (before : Run) : Type 0 where
   pub allowed : IsAllowed s
   pub run : IsRun s (segment_len - 1) before
   pub some : 0 < length samples
   pub after : AreSamplesAfter s previous 1 samples
 
--- a block is taken behind a run: whatever blocks come next, what is written with what is then still
+-- a block is taken after a run: whatever blocks come next, what is written with what is then still
 -- to be written are the bits of all. The bits from before stay, and memory alone is refused
 pub record TakesBlock (s : Settings) (block : Block) (before : Run) (old : Bits) (result : Result Run Fault) (new : Bits) : Type 0 where
   pub ok : (rest : List Block) → IfOk result (λ next. new.list ++ pending_bits s next rest ≡ old.list ++ pending_bits s before (block ∷ rest))

@@ -12,7 +12,7 @@ use Rattle.aec_interval.specs.Pieces.{Place, place_at, is_wanted_at, ReadsInterv
 -- steps from a place continue the reading of all bits, where xs are the samples up to that place;
 -- the refusal of a step is the refusal of that reading
 pub record StepsAreTheReading (p : Place) (xs : List ℤ) : Type 0 where
-  -- the samples of a step come behind them
+  -- the samples of a step come after them
   pub more : (ys : List ℤ) (q : Place) → ReadsInterval p ys q → HasRead q (xs ++ ys)
   -- where no more is wanted they are what the bits are read as
   pub all : is_wanted_at p ≡ false → IsReading p.settings p.count p.limit p.bits xs

@@ -42,7 +42,7 @@ pub record ReadsPiece (p : Place) (samples : List ℤ) (q : Place) : Type 0 wher
   pub same : q ≡ place_at p.settings p.count p.limit p.bits q.block q.bit
 
 -- one step: more is wanted where an interval begins, and its samples are read, to its end where
--- more is wanted behind them
+-- more is wanted after them
 pub record ReadsInterval (p : Place) (samples : List ℤ) (q : Place) : Type 0 where
   pub wanted : is_wanted_at p ≡ true
   pub begins : p.block % p.settings.interval ≡ 0
@@ -71,7 +71,7 @@ RefusesAt p fault = RefusesUpTo p.settings p.count p.limit p.bits p.block p.bit 
 
 -- a place between two steps, or where all is read: coded data sets lead there from the first bit
 -- on, and where more is wanted an interval begins. Fewer than `2^34` blocks were read: `2^32`
--- samples have far fewer (the clauses of `next`, `skip`, `place` and `go_back` tie it)
+-- samples have far fewer (`place` proves it of each place of a reader, `go_back` requires it)
 pub record IsPlace (p : Place) : Type 0 where
   pub few : p.block < 2 ^ 34
   pub limit : p.limit ≤ 2 ^ 32

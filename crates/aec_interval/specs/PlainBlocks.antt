@@ -11,7 +11,7 @@ use Rattle.aec_interval.specs.Reached.{IsReached}
 use Rattle.aec_interval.specs.Steps.{IsUntestedEnd}
 
 -- a reading has come to block i at a cursor, with these samples. It began where an interval begins
--- and is behind its first block, and before block `end` none needs a test of its place
+-- and is after its first block, and before block `end` none needs a test of its place
 pub record IsUntestedAt (s : Settings) (wanted : Wanted) (end i : ℕ) (cursor : Cursor) (samples : List ℤ) : Type 0 where
   pub reached : IsReached s wanted.count wanted.limit cursor.list wanted.first wanted.start i cursor.pos samples
   pub aligned : wanted.first % s.interval ≡ 0
@@ -19,7 +19,7 @@ pub record IsUntestedAt (s : Settings) (wanted : Wanted) (end i : ℕ) (cursor :
   pub untested : IsUntestedEnd s wanted.count wanted.limit wanted.first end
 
 -- n blocks further: the list is the same, the samples are held, and where none of the blocks needs
--- a test, each reading that has come to the first with the old samples has come behind the last
+-- a test, each reading that has come to the first with the old samples has come past the last
 -- with the new ones
 pub record ReadsPlain (s : Settings) (n : ℕ) (old : Cursor) (samples : List ℤ) (new : Cursor) (more : List ℤ) : Type 0 where
   pub list : new.list ≡ old.list

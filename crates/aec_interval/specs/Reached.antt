@@ -31,7 +31,7 @@ pub record IsReadFrom (s : Settings) (count : Option ℕ) (limit : ℕ) (bits : 
   pub counted : samples ≡ counted_samples count all_samples
 
 -- at least one coded data set was read that no fault refuses: from block `first` at position
--- `start` on, wanted and lawful coded data sets within the limit lead behind a last one
+-- `start` on, wanted and lawful coded data sets within the limit lead past a last one
 pub record LeadsBehindOne (s : Settings) (count : Option ℕ) (limit : ℕ) (bits : List Bool) (first start : ℕ) : Type 0 where
   pub sets : List CodedDataSet
   pub last : CodedDataSet
@@ -39,14 +39,14 @@ pub record LeadsBehindOne (s : Settings) (count : Option ℕ) (limit : ℕ) (bit
   pub bit : ℕ
   pub leads : LeadsTo s count limit bits first start (sets ++ (last ∷ [])) block bit
 
--- why a reading from block `first` at position `start` on answers no samples: its fault, or want of
+-- why a reading from block `first` at position `start` on returns no samples: its fault, or want of
 -- memory for those of a coded data set that was read
 pub data RefusesReading (s : Settings) (count : Option ℕ) (limit : ℕ) (bits : List Bool) (first start : ℕ) : Fault → Type 0 where
   no_memory : LeadsBehindOne s count limit bits first start → RefusesReading s count limit bits first start Memory
   faulty : (fault : Fault) → IsFault s count limit bits first start fault → RefusesReading s count limit bits first start fault
 
--- the same, met no later than block `end`: the fault of a coded data set that would begin before
--- it, or want of memory for the samples of those that lead there at most
+-- the same, met up to block `end`: the fault of a coded data set that would begin before `end`, or
+-- want of memory for the samples of sets that lead to `end` at most
 pub data RefusesUpTo (s : Settings) (count : Option ℕ) (limit : ℕ) (bits : List Bool) (first start end : ℕ) : Fault → Type 0 where
   no_room : (h : LeadsBehindOne s count limit bits first start) → h.block ≤ end → RefusesUpTo s count limit bits first start end Memory
   wrong_before : (fault : Fault) (h : IsFault s count limit bits first start fault) → h.block < end → RefusesUpTo s count limit bits first start end fault

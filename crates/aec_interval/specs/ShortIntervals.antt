@@ -23,7 +23,7 @@ abbrev pub begun_at : Option ℕ → ℕ → ℕ → ℕ → Wanted
 begun_at count limit first start = record { first = first; start = start; count = count; limit = limit }
 
 -- the first block of an interval was read, with its reference sample if there is one: the list is
--- the same, the samples are held, and each reading that begins there is behind that block with
+-- the same, the samples are held, and each reading that begins there is after that block with
 -- these samples, where its interval needs no test
 pub record ReadsFirst (s : Settings) (old new : Cursor) (samples : List ℤ) : Type 0 where
   pub list : new.list ≡ old.list
@@ -32,7 +32,7 @@ pub record ReadsFirst (s : Settings) (old new : Cursor) (samples : List ℤ) : T
       → IsUntestedAt s (begun_at count limit i old.pos) (i + s.interval) (i + 1) new samples
 
 -- n intervals were read: the list is the same, and each reading that begins there, and in which
--- their samples are within, is behind them with these samples
+-- their samples are within, is after them with these samples
 pub record ReadsWhole (s : Settings) (n : ℕ) (old new : Cursor) (samples : List ℤ) : Type 0 where
   pub list : new.list ≡ old.list
   pub leads : (count : Option ℕ) (limit i : ℕ) → i % s.interval ≡ 0 → AreWithin s count limit (i + n * s.interval)

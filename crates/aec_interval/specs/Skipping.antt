@@ -26,7 +26,7 @@ abbrev pub asked_len : Settings → Option ℕ → ℕ → ℕ → ℕ
 asked_len s None i j = (j - i) * s.block_size
 asked_len s (Some count) i j = min ((j - i) * s.block_size) (count - i * s.block_size)
 
--- the next interval is read as so many samples (`ReadsInterval` with the samples left open)
+-- the next interval is read as `len` samples (`ReadsInterval` of some list of samples)
 pub record HasInterval (p : Place) (len : ℕ) (q : Place) : Type 0 where
   pub samples : List ℤ
   pub read : ReadsInterval p samples q

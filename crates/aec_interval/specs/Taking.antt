@@ -25,7 +25,7 @@ in_range i (Some x) = Ok x
 abbrev pub judged_sample : Settings → ℕ → ℕ → List ℕ → Result ℤ Fault
 judged_sample s limit i g = if nat_lt i limit then in_range i (sample_of_number s (number_in s g)) else Err (TooManySamples limit)
 
--- a sample before those that are taken behind it, or its refusal
+-- a sample before those that are taken after it, or its refusal
 abbrev pub taken_before : Result ℤ Fault → TakenSamples → TakenSamples
 taken_before (Ok x) later = record { samples = x ∷ later.samples; refusal = later.refusal }
 taken_before (Err fault) later = none_taken (Some fault)
@@ -37,7 +37,7 @@ taken_groups s limit i (g ∷ gs) = taken_before (judged_sample s limit i g) (ta
 
 -- the same refusal by what bytes are as a whole: samples past the limit are too many, whatever they
 -- hold; before it the first that is none of the settings is out of range (by cases of
--- `samples_of_bytes`; the claim `judged` of `CutsMakeNoDifference` ties both)
+-- `samples_of_bytes`; the claim `judged` of `CutsMakeNoDifference` says that both are equal)
 abbrev pub judged_samples : ℕ → Result (List ℤ) ℕ → Option Fault
 judged_samples limit (Ok samples) = if nat_lt limit (length samples) then Some (TooManySamples limit) else None
 judged_samples limit (Err bad) = Some (if nat_lt bad limit then SampleRange bad else TooManySamples limit)

@@ -16,9 +16,9 @@ use aec_block::Block;
 use aec_params::{Fault, Params};
 use std::alloc::Global;
 
-/// A codec of reference sample intervals, each padded by its own length where the parameters pad.
-/// It counts how many it has coded, and how often it was asked to decode. Only `code` and `decode`
-/// take memory.
+/// A codec of reference sample intervals, each padded by its own length if the parameters pad. It
+/// counts the intervals that it has coded, and the calls of `decode`. Only `code` and `decode` take
+/// memory.
 #[derive(Debug, Drop)]
 pub struct AecCodec {
     params: Params,
@@ -30,7 +30,7 @@ pub struct AecCodec {
 }
 
 impl AecCodec {
-    /// A codec that begins to count at 0. Takes no memory.
+    /// Returns a codec whose count begins at 0. Takes no memory.
     pub fn new(alloc: Global, params: Params) -> AecCodec
         ensures params { result.params ≡ params }
         ensures format { ⟦<AecCodec as Codec>⟧.format result ≡ interval_format params }
@@ -40,7 +40,7 @@ impl AecCodec {
         AecCodec::with_calls(alloc, params, 0)
     }
 
-    /// A codec that counts its calls on from so many. Takes no memory.
+    /// Returns a codec whose count begins at `calls`. Takes no memory.
     pub fn with_calls(alloc: Global, params: Params, calls: u64) -> AecCodec
         ensures params { result.params ≡ params }
         ensures format { ⟦<AecCodec as Codec>⟧.format result ≡ interval_format params }
@@ -57,7 +57,7 @@ impl AecCodec {
         }
     }
 
-    /// The parameters that it was made with.
+    /// Returns the parameters that it was made with.
     pub fn params(&self) -> Params
         ensures { result ≡ self.now.params }
     {
@@ -95,8 +95,8 @@ impl Codec for AecCodec {
         self.reads
     }
 
-    /// Appends the code of an interval. `Spent` exactly where `calls` is the greatest number of 64
-    /// bits, then `Memory` where a growth was refused; the bits and `calls` are then as before.
+    /// Appends the code of an interval. Fails with `Spent` exactly if `calls` is `u64::MAX`, then
+    /// with `Memory` if a growth is refused; the bits and `calls` are then as before.
     fn code(&mut self, samples: &[i64], out: &mut BitBuf) -> Result<(), Fault>
         requires { IsInterval (interval_format self.old.params) samples.now }
         ensures ok { OnOk result (out.new.list
@@ -117,8 +117,8 @@ impl Codec for AecCodec {
         Ok(())
     }
 
-    /// Appends the `count` samples of the interval whose code begins at bit `pos`. `Memory` where a
-    /// growth was refused; the samples in `out` are then as before.
+    /// Appends the `count` samples of the interval whose code begins at bit `pos`. Fails with
+    /// `Memory` if a growth is refused; the samples in `out` are then as before.
     fn decode(
         &mut self,
         stream: &BitBuf,
@@ -157,8 +157,8 @@ fn one_read_more(reads: u64) -> u64
     reads.saturating_add(1)
 }
 
-/// Appends the `count` samples of the interval whose code begins at bit `pos`. `Memory` where a
-/// growth was refused; the samples in `out` are then as before.
+/// Appends the `count` samples of the interval whose code begins at bit `pos`. Fails with `Memory`
+/// if a growth is refused; the samples in `out` are then as before.
 fn append_decoded(
     alloc: Global,
     params: &Params,

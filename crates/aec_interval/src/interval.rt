@@ -69,7 +69,7 @@ fn write_chunk<const N: usize>(
     write_next::<N>(params, previous, &samples[..N], &mut values, run, out)
 }
 
-/// Appends the code of a segment, whose samples stand behind `previous` or at an interval's start.
+/// Appends the code of a segment, whose samples stand after `previous` or at an interval's start.
 /// `Memory` where a growth was refused; the bits from before are then still in front.
 #[inline(always)]
 fn write_segment<const N: usize>(

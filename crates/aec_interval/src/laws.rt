@@ -19,7 +19,7 @@ pub fn intervals_are_read()
     ensures { IntervalsAreRead }
 {}
 
-/// Intervals of equal length are told by their codes, whatever follows them.
+/// Two intervals of equal length whose codes begin the same bits are equal, whatever bits follow.
 pub fn intervals_are_told()
     ensures { IntervalsAreTold }
 {}
@@ -45,7 +45,7 @@ pub fn codes_are_shortest()
     ensures { AllCodesAreShortest }
 {}
 
-/// Coded data sets for the blocks of each interval, one behind the other, are read with the count
+/// Coded data sets for the blocks of each interval, one after the other, are read with the count
 /// of the samples as the samples, whatever bits follow, where nothing is padded. So all that
 /// `codes_are_shortest` compares with the code of the samples is read as these samples.
 pub fn each_code_is_read()
@@ -58,8 +58,8 @@ pub fn cuts_make_no_difference()
     ensures { AllCutsMakeNoDifference }
 {}
 
-/// What a `StreamReader` hands out step by step is what the bits are read as, and its refusal is
-/// that of all bits.
+/// What a `StreamReader` returns step by step is what the bits are read as, and its refusal is that
+/// of all bits.
 pub fn steps_are_the_reading()
     ensures { AllStepsAreTheReading }
 {}

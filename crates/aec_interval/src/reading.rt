@@ -102,7 +102,7 @@ fn within_limit(params: &Params, wanted: Wanted, blocks: u64) -> bool
     wanted.count.is_some() || blocks * u64::from(params.block_size()) <= wanted.limit
 }
 
-/// Behind a full interval, with padding, goes to the next byte: the padding skip. Blocks behind
+/// After a full interval, with padding, goes to the next byte: the padding skip. Blocks after
 /// which it might be due are left to it by `untested_end` of `plain`.
 pub(crate) fn skip_padding(params: &Params, reader: &mut BitReader, block: u64)
     ensures list { reader.new.list ≡ reader.old.list }
@@ -124,7 +124,7 @@ fn block_count(params: &Params, place: u64, len: RunLen) -> u64
     }
 }
 
-/// The number of the block behind a coded data set that begins at this bit, at this place of its
+/// The number of the block after a coded data set that begins at this bit, at this place of its
 /// interval, and stands for so many blocks. `RunTooLong` where its segment has fewer left, then
 /// `TooManySamples`.
 pub(crate) fn place_next(
@@ -174,7 +174,7 @@ fn blocks_kept(params: &Params, wanted: Wanted, block: u64, next: u64) -> u64
     }
 }
 
-/// Appends the samples of the first blocks of a coded data set that come next, behind `block`
+/// Appends the samples of the first blocks of a coded data set that come next, after `block`
 /// others; where it is of one block, that was read into `values`. Takes no memory.
 fn push_cds(
     params: &Params,

@@ -15,7 +15,8 @@ use std::marker::Model;
 
 /// Codes stored samples that come in pieces, cut anywhere: each interval as soon as it is complete.
 /// Of the input it keeps, beside the number of samples so far and its refusal, fewer samples than
-/// an interval has and fewer bytes than a sample has. It answers its first refusal for good.
+/// an interval has and fewer bytes than a sample has. After a refusal each call returns the same
+/// refusal.
 #[derive(Debug, Drop)]
 pub struct StreamCoder {
     terms: Terms,
@@ -46,7 +47,7 @@ impl StreamCoder {
     ghost use Rattle.aec_params.specs.Streams.{stream_of};
     ghost use Rattle.aec_interval.specs.Feeding.{fresh_coder, Feeds, StopsFeeding};
 
-    /// A coder that was fed nothing. It takes at most `limit` samples. Takes no memory.
+    /// Returns a coder that was fed nothing. It takes at most `limit` samples. Takes no memory.
     pub fn new(alloc: Global, params: Params, limit: u64) -> StreamCoder
         ensures { result ≡ fresh_coder params limit }
     {
@@ -63,8 +64,8 @@ impl StreamCoder {
         }
     }
 
-    /// The number of whole samples that are not coded yet, fewer than an interval has. Takes no
-    /// memory.
+    /// Returns the number of whole samples that are not coded yet, fewer than an interval has.
+    /// Takes no memory.
     pub fn held(&self) -> u64
         ensures value { result ≡ length self.now.held }
         ensures few { result < interval_len self.now.settings }
@@ -77,8 +78,8 @@ impl StreamCoder {
     ///
     /// The refusals, sample by sample: `TooManySamples` past the limit, `SampleRange` with the
     /// sample's index counted from the first of all pieces, `Memory` at a sample that is neither.
-    /// What was appended is the code of the intervals that were complete before it, for `Memory` of
-    /// the first ones of them. From then on each call answers that refusal and appends nothing.
+    /// What was appended is the code of the intervals complete before it; for `Memory`, of the
+    /// first of these intervals. From then on each call returns that refusal and appends nothing.
     pub fn feed(&mut self, piece: &[u8], out: &mut BitBuf) -> Result<(), Fault>
         ensures ok { OnOk result (Feeds self.old piece.now out.old.list out.new.list self.new) }
         ensures refuses { MatchOption self.old.refusal
@@ -99,8 +100,8 @@ impl StreamCoder {
     }
 
     /// Appends the code of the samples that are held; the bytes of a sample that is not complete
-    /// are ignored. The refusal that there was, or `Memory` where samples are held; nothing is
-    /// appended then.
+    /// are ignored. Fails with the refusal that there was, or with `Memory`, only if samples are
+    /// held; nothing is appended then.
     pub fn finish(self, out: &mut BitBuf) -> Result<(), Fault>
         ensures ok { OnOk result (out.new.list
             ≡ out.old.list ++ stream_of self.settings self.held) }

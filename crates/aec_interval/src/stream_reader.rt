@@ -45,8 +45,8 @@ impl<'a> StreamReader<'a> {
     ghost use Rattle.aec_interval.specs.Pieces.{place_at, is_wanted_at, IsPlace, ReadsInterval, ReadsIntervals, RefusesAt};
     ghost use Rattle.aec_interval.specs.Skipping.{HasInterval, IsFaultAt};
 
-    /// A reader at the first bit, which asks for the first `count` samples, or without a count for
-    /// all of them. `TooManySamples` where a given count is above `limit`. Takes no memory.
+    /// Returns a reader at the first bit, which asks for the first `count` samples, or if `None`
+    /// for all of them. `TooManySamples` where a given count is above `limit`. Never `Memory`.
     pub fn new(
         alloc: Global,
         params: Params,
@@ -81,7 +81,7 @@ impl<'a> StreamReader<'a> {
         self.block = 0;
     }
 
-    /// Where the reader is, to come back to by `go_back`.
+    /// Returns where the reader is, to come back to by `go_back`.
     pub fn place(&self) -> ReachedPlace
         ensures block { result.block ≡ self.now.block }
         ensures bit { result.bit ≡ self.now.bit }
@@ -106,8 +106,8 @@ impl<'a> StreamReader<'a> {
         self.block = place.block;
     }
 
-    /// Puts the samples of the next interval in the place of those that were handed in, at most as
-    /// many as an interval has; false where none are left.
+    /// Replaces the vector's items by the samples of the next interval, at most as many as an
+    /// interval has; returns false if none are left.
     ///
     /// The refusals are those of `decode_all`, each where its interval is met. `Memory` comes only
     /// where the vector had no room for the samples of a whole interval. After a refusal, and where
@@ -190,8 +190,8 @@ impl<'a> StreamReader<'a> {
         true
     }
 
-    /// Puts the samples of the next interval in the place of those that were handed in, as `next`
-    /// does, or those of the next few intervals: then at most `most` samples. How many intervals it
+    /// Replaces the vector's items by the samples of the next interval, as `next`
+    /// does, or of several next intervals: then at most `most` samples. How many intervals it
     /// reads isn't promised. All else is as with `next`.
     pub fn next_few(&mut self, most: u64, samples: &mut Vec<i64>) -> Result<bool, Fault>
         ensures more { IfOk result (λ more. more ≡ is_wanted_at self.old) }
@@ -217,11 +217,11 @@ impl<'a> StreamReader<'a> {
         self.next(samples)
     }
 
-    /// Goes over the next interval as `next` does, without its samples. How many of them are asked
-    /// for; `None` where no more is wanted.
+    /// Goes over the next interval as `next` does, without its samples. Returns how many of them
+    /// are asked for; `None` where no more is wanted.
     ///
     /// The refusals are those of `next`, but for want of memory, and the reader is then where it
-    /// was. Takes no memory.
+    /// was. Never fails with `Memory`.
     pub fn skip(&mut self) -> Result<Option<u64>, Fault>
         ensures more { IfOk result (λ len. is_some len ≡ is_wanted_at self.old) }
         ensures skipped { IfOk result (λ len. IfSome len (λ n. HasInterval self.old n self.new)) }

@@ -39,9 +39,9 @@ fn code_intervals(alloc: Global, params: &Params, samples: &[i64]) -> Result<Bit
     Ok(out)
 }
 
-/// The code of samples, without the zeros that fill its last byte. `SampleRange` with the index of
-/// the first number that is no sample of the parameters, judged before any memory is taken; then
-/// `Memory` where a growth was refused.
+/// Returns the code of samples, without the zeros that fill its last byte. `SampleRange` with the
+/// index of the first number that is no sample of the parameters, judged before any memory is
+/// taken; then `Memory` where a growth was refused.
 ///
 /// Without padding no coded data sets for the same blocks are shorter: take for each interval any
 /// bits that the standard reads as its blocks, the filler of the last one included, by any options

@@ -47,7 +47,7 @@ abbrev pub reference_bits : Settings → Option ℕ → List Bool
 reference_bits s None = []
 reference_bits s (Some r) = binary s.bits r
 
--- the bits behind them: values in n bits, codewords of pairs, high parts and then low parts, or a
+-- the bits of a body: values in n bits, codewords of pairs, high parts and then low parts, or a
 -- run's number (§7)
 abbrev pub body_bits : Settings → Body → List Bool
 body_bits s (uncompressed_values values) = flat_map (binary s.bits) values
@@ -71,8 +71,8 @@ HasReference s false None = ⊤
 abbrev pub written_count : Settings → Bool → ℕ
 written_count s is_reference = if is_reference then s.block_size - 1 else s.block_size
 
--- One by one a body has as many values as a block writes, and by pairs as many members as a block
--- has values; values without compression fit n bits, and k is that of an option (§7)
+-- a body of single values has `written_count` of them, one of pairs as many members as a block has
+-- values; values without compression fit n bits, and k is that of an option (§7)
 abbrev pub HasBody : Settings → Bool → Body → Type 0
 HasBody s is_reference (uncompressed_values values) = (length values ≡ written_count s is_reference) × AllByRecursion (λ v. v < 2 ^ s.bits) values
 HasBody s is_reference (value_pairs values) = length values ≡ s.block_size

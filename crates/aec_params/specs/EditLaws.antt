@@ -40,8 +40,8 @@ pub record MovesOpenFew : Type 0 where
   pub removed : (n old first len : ℕ) → 0 < n → first + len ≤ old
       → opened_intervals n old (Remove first len) ≤ needed_calls n old (Remove first len) + 2
 
--- what moves nothing codes nothing, nor does a removal of whole intervals, or from the beginning of
--- one to the end
+-- an insertion of no values and a removal of none code nothing, nor does a removal of whole
+-- intervals, or from the beginning of one to the end
 pub record MovesCodeNothing : Type 0 where
   pub inserted : (n old first : ℕ) → needed_calls n old (Insert first []) ≡ 0
   pub removed : (n old first : ℕ) → needed_calls n old (Remove first 0) ≡ 0

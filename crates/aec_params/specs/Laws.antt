@@ -15,11 +15,13 @@ use Rattle.aec_params.specs.BlockShapes.{AreBlocksFrom}
 
 -- ---- codewords
 
--- fundamental sequences tell their numbers, whatever bits follow
+-- two fundamental sequences begin the same bits only if their numbers are equal, and then the bits
+-- after them are
 abbrev pub FundamentalSequencesDiffer : Type 0
 FundamentalSequencesDiffer = (a b : ℕ) (u v : List Bool) → fs a ++ u ≡ fs b ++ v → (a ≡ b) × (u ≡ v)
 
--- numbers in w bits are told apart, whatever bits follow
+-- two numbers below 2^w, in w bits, begin the same bits only if they are equal, and then the bits
+-- after them are
 abbrev pub BinaryNumbersDiffer : Type 0
 BinaryNumbersDiffer = (w a b : ℕ) (u v : List Bool) → a < 2 ^ w → b < 2 ^ w → binary w a ++ u ≡ binary w b ++ v → (a ≡ b) × (u ≡ v)
 
@@ -34,12 +36,12 @@ pub record BinaryNumbersAreReadBack : Type 0 where
   pub below : (bits : List Bool) → bits_number bits < 2 ^ length bits
   pub bits : (bits : List Bool) → binary (length bits) (bits_number bits) ≡ bits
 
--- whatever follows its words, a code tells the keys of what it codes, of what passes the test
+-- the code of what passes the test tells its key, whatever bits follow
 abbrev pub TellsKeys : {X K : Type 0} → (X → Bool) → (X → List Bool) → (X → K) → Type 0
 TellsKeys {X} test code key =
     (a b : X) (u v : List Bool) → test a ≡ true → test b ≡ true → code a ++ u ≡ code b ++ v → (key a ≡ key b) × (u ≡ v)
 
--- a code that tells keys tells the keys of lists of one length
+-- a code that tells its keys also tells those of lists of equal length
 abbrev pub ListsAreTold : Type 0 → Type 0 → Type 0
 ListsAreTold X K = (test : X → Bool) (code : X → List Bool) (key : X → K) → TellsKeys test code key
     → (xs ys : List X) (u v : List Bool) → length xs ≡ length ys → list_all test xs ≡ true → list_all test ys ≡ true

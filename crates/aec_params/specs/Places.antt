@@ -7,13 +7,13 @@ use Rattle.aec_params.specs.Runs.{segment_len}
 use Rattle.aec_params.specs.Spellings.{after_reference}
 use Rattle.aec_params.specs.CodedDataSets.{Body, uncompressed_values, value_pairs, split_values, zero_blocks, CodedDataSet, HasShape, has_small_values}
 
--- how many blocks the segment of block p of an interval has left; the last one is what is left of r
--- (§8, §12)
+-- how many blocks the segment of block p of an interval has left; the last segment ends with the
+-- interval (§8, §12)
 abbrev pub segment_left : Settings → ℕ → ℕ
 segment_left s p = min (segment_len - p % segment_len) (s.interval - p)
 
--- how many blocks the number of a run's code says by itself: none for 4, which means all that the
--- segment has left (§8; the code keeps the remainder apart until it knows the place)
+-- how many blocks the number of a run's code gives by itself: `None` for 4, which means all that
+-- the segment has left (§8; the code keeps the remainder apart until it knows the place)
 abbrev pub told_blocks : ℕ → Option ℕ
 told_blocks m = if nat_lt m 4 then Some (m + 1) else (if m == 4 then None else Some m)
 
@@ -53,8 +53,8 @@ abbrev pub placed_values : Option ℕ → List ℕ → List ℕ
 placed_values None values = values
 placed_values (Some r) values = 0 ∷ values
 
--- the members of pairs, of which the one in the reference place gives way to 0, where there is one
--- (§7; a reader ignores that member)
+-- the members of pairs, with 0 instead of the one in the reference place, if there is one (§7; a
+-- reader ignores that member)
 abbrev pub placed_members : Option ℕ → List ℕ → List ℕ
 placed_members reference members = placed_values reference (after_reference reference members)
 

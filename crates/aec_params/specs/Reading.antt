@@ -14,8 +14,8 @@ use Rattle.aec_params.specs.Places.{block_count, IsLawfulAt, cds_blocks}
 -- lawful coded data sets from block p of an interval on that reach block n; the last may go past it
 -- in its segment (§12; by any option for any block, cut into any runs. No function reads by this or
 -- by `ReadsBlocks`: they serve the clause `shortest` of `encode_all` and the laws
--- `intervals_are_read` and `codes_are_shortest` of aec_interval; `each_code_is_read` ties them to
--- `IsReading`)
+-- `intervals_are_read` and `codes_are_shortest` of aec_interval; `each_code_is_read` relates them
+-- to `IsReading`)
 abbrev pub Covers : Settings → ℕ → ℕ → List CodedDataSet → Type 0
 Covers s n p [] = IsTrue (nat_le n p)
 Covers s n p (c ∷ sets) = (p < n) × IsLawfulAt s p c × Covers s n (p + block_count s p c) sets
@@ -40,11 +40,11 @@ abbrev pub StandsAt : Settings → List Bool → ℕ → CodedDataSet → Type 0
 StandsAt s bits b c = drop b bits ≡ cds_bits s c ++ drop (b + length (cds_bits s c)) bits
 
 -- where the coded data set of block i begins, b being the end of the one before: with padding,
--- behind a full interval the bits up to the next byte boundary or the end are skipped (§12)
+-- after a full interval the bits up to the next byte boundary or the end are skipped (§12)
 abbrev pub begin_of : Settings → List Bool → ℕ → ℕ → ℕ
 begin_of s bits i b = if s.pad && (i % s.interval == 0) then min (next_multiple_of b 8) (length bits) else b
 
--- the block behind a coded data set of block i (§12)
+-- the block after a coded data set of block i (§12)
 abbrev pub next_block : Settings → ℕ → CodedDataSet → ℕ
 next_block s i c = i + block_count s (i % s.interval) c
 

@@ -19,7 +19,7 @@ segment_len = 64
 abbrev pub segments_of : List Block → List (List Block)
 segments_of blocks = pieces_of segment_len blocks
 
--- a zero block with the reference it has before groups: it joins a run that comes first (§8)
+-- a zero block, with its reference, before groups: it joins a run that comes first (§8)
 abbrev pub with_zero_block : Option ℕ → List Group → List Group
 with_zero_block reference (zero_run later z ∷ groups) = zero_run reference (z + 1) ∷ groups
 with_zero_block reference groups = zero_run reference 1 ∷ groups

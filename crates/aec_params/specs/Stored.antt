@@ -64,8 +64,8 @@ abbrev pub samples_behind : List ℤ → Result (List ℤ) ℕ → Result (List 
 samples_behind xs (Ok ys) = Ok (xs ++ ys)
 samples_behind xs (Err k) = Err k
 
--- What a reading of stored samples answers, seen by view: the samples, or want of memory in their
--- place; where a sample is none of the settings, its index and nothing else. (§2)
+-- The result of a call that reads stored samples, whose value `view` shows: the samples, or
+-- `Memory` instead of them; if a sample is none of the settings, its index and nothing else. (§2)
 abbrev pub AnswersSamples : {X : Type 0} → (X → List ℤ) → Result (List ℤ) ℕ → Result X Fault → Type 0
 AnswersSamples view (Ok xs) (Ok answer) = view answer ≡ xs
 AnswersSamples view (Ok xs) (Err e) = e ≡ Memory

@@ -3,13 +3,14 @@
 use std::alloc::{AllocError, AllocFailed};
 use thiserror::Error;
 
-/// A refusal. `bit` is the position in the stream where the refused coded data set begins.
+/// A refusal. `bit` is the position in the stream where the refused coded data set begins, or for a
+/// call of `BitReader` the reader's place.
 #[derive(Clone, Copy, Debug, PartialEq, Eq, Error)]
 pub enum Fault {
     /// The number of bits per sample is not 1 to 32.
     #[error("bits per sample must be 1 to 32")]
     BitsPerSample,
-    /// The block size is none of the format's, where even ones aren't asked for.
+    /// Without `even_blocks`: the block size is not 8, 16, 32 or 64.
     #[error("block size must be 8, 16, 32 or 64")]
     BlockSize,
     /// The reference sample interval is not 1 to 4096 blocks.
@@ -36,8 +37,8 @@ pub enum Fault {
     /// A place is outside the samples that are present.
     #[error("position outside the {count} samples")]
     OutOfRange { count: u64 },
-    /// `Spent`: to code an interval, or to make an edit that fits, needs more calls of the interval
-    /// coder than are left, since a codec makes at most `u64::MAX`. None is made then.
+    /// An interval, or an edit that fits, needs more calls of the interval coder than are left of
+    /// `u64::MAX`. No call is made then.
     #[error("coder calls are spent")]
     Spent,
     /// A growth was refused.
@@ -55,7 +56,7 @@ pub enum Fault {
     /// A coded input or a script is longer than the limit.
     #[error("input is longer than {limit} bytes")]
     StreamTooLong { limit: u64 },
-    /// The block size is no even number from 8 to 64, where even ones are asked for.
+    /// With `even_blocks`: the block size is no even number from 8 to 64.
     #[error("block size must be even, 8 to 64")]
     EvenBlockSize,
 }

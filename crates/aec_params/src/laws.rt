@@ -14,7 +14,7 @@ pub fn binary_numbers_differ()
     ensures { BinaryNumbersDiffer }
 {}
 
-/// How long codewords are.
+/// A fundamental sequence of v has v + 1 bits, a binary number of width w has w.
 pub fn codewords_have_their_lengths()
     ensures { CodewordLengths }
 {}
@@ -34,18 +34,18 @@ pub fn each_number_is_one_pair()
     ensures { EachNumberIsOnePair }
 {}
 
-/// At each prediction, and without preprocessing, samples and values below 2^n stand for one
-/// another.
+/// With allowed settings samples stand one to one for the values below 2^n, at each prediction that
+/// is a sample; and for their patterns of n bits.
 pub fn samples_are_values()
     ensures { SamplesAreValues }
 {}
 
-/// The pieces of a list join to it, are cut as they are meant to be, and are the only ones.
+/// The pieces of a list join to it, are cut as their definition says, and no other lists are.
 pub fn pieces_are_the_cut<X>()
     ensures { PiecesAreTheCut X }
 {}
 
-/// Whole pieces in front of a list are its first pieces.
+/// If a list begins with whole pieces, they are the first of its pieces.
 pub fn whole_pieces_come_first<X>()
     ensures { WholePiecesComeFirst X }
 {}

@@ -38,7 +38,7 @@ impl Limits {
         }
     }
 
-    /// The greatest number of samples.
+    /// Returns the greatest number of samples.
     pub fn samples(&self) -> u64
         ensures value { result ≡ self.now.samples }
         ensures limits { AreLimits self.now }
@@ -46,7 +46,7 @@ impl Limits {
         self.samples
     }
 
-    /// The greatest number of bytes.
+    /// Returns the greatest number of bytes.
     pub fn bytes(&self) -> u64
         ensures value { result ≡ self.now.bytes }
         ensures limits { AreLimits self.now }

@@ -110,8 +110,7 @@ impl Params {
         u64::from(self.settings.block_size) * u64::from(self.settings.interval)
     }
 
-    /// Bits of an identifier, 1 to 5: the table of identifiers, by the number of bits per sample
-    /// and the code set.
+    /// Bits of an identifier, 1 to 5, by the bits per sample and the code set (FORMAT.md §6).
     pub fn id_len(&self) -> u32
         ensures value { result ≡ identifier_len self.now }
         ensures allowed { IsAllowed self.now }
@@ -125,8 +124,8 @@ impl Params {
         }
     }
 
-    /// The greatest k of a sample-splitting option; `None` where identifiers have one bit and there
-    /// is none.
+    /// Returns the greatest k of a sample-splitting option; `None` where identifiers have one bit
+    /// and there is none.
     pub fn k_max(&self) -> Option<u32>
         ensures value { result ≡ greatest_k self.now }
         ensures allowed { IsAllowed self.now }
@@ -137,7 +136,7 @@ impl Params {
         }
     }
 
-    /// The least sample.
+    /// Returns the least sample.
     pub fn x_min(&self) -> i64
         ensures value { result ≡ least_sample self.now }
         ensures allowed { IsAllowed self.now }
@@ -149,7 +148,7 @@ impl Params {
         }
     }
 
-    /// The greatest sample.
+    /// Returns the greatest sample.
     pub fn x_max(&self) -> i64
         ensures value { result ≡ greatest_sample self.now }
         ensures allowed { IsAllowed self.now }
@@ -174,35 +173,35 @@ impl Params {
         }
     }
 
-    /// Whether samples are signed.
+    /// Returns whether samples are signed.
     pub fn signed(&self) -> bool
         ensures { result ≡ self.now.signed }
     {
         self.settings.signed
     }
 
-    /// Whether a stored sample has its most significant byte first.
+    /// Returns whether a stored sample has its most significant byte first.
     pub fn msb_first(&self) -> bool
         ensures { result ≡ self.now.msb_first }
     {
         self.settings.msb_first
     }
 
-    /// Whether the preprocessor runs.
+    /// Returns whether the preprocessor runs.
     pub fn preprocess(&self) -> bool
         ensures { result ≡ self.now.preprocess }
     {
         self.settings.preprocess
     }
 
-    /// Whether each interval is filled up to a byte boundary.
+    /// Returns whether each interval is filled up to a byte boundary.
     pub fn pad(&self) -> bool
         ensures { result ≡ self.now.pad }
     {
         self.settings.pad
     }
 
-    /// Whether a number is a sample: from `x_min` to `x_max`.
+    /// Returns whether a number is a sample: from `x_min` to `x_max`.
     pub fn holds(&self, x: i64) -> bool
         ensures { result ≡ is_held self.now x }
     {
@@ -210,7 +209,7 @@ impl Params {
         (self.x_min() <= x) & (x <= self.x_max())
     }
 
-    /// The pattern of a sample: its two's complement in n bits, as an unsigned number.
+    /// Returns the pattern of a sample: its two's complement in n bits, as an unsigned number.
     #[tactic(auto, using(crate::proofs::ParamsLemmas::patterns))]
     pub fn pattern(&self, x: i64) -> u32
         requires { IsHeld self.now x }
@@ -230,7 +229,7 @@ impl Params {
         self.settings.signed && pattern >= 1 << (bits - 1)
     }
 
-    /// The sample of a pattern.
+    /// Returns the sample of a pattern.
     pub fn value(&self, pattern: u32) -> i64
         requires { pattern < 2 ^ self.now.bits }
         ensures value { result ≡ pattern_value self.now pattern }

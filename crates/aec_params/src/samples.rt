@@ -19,21 +19,21 @@ impl Model for Samples {
 impl Samples {
     ghost use Rattle.std.specs.Prelude.{◌≡◌};
 
-    /// The samples of a vector, which is taken over without a copy.
+    /// Returns the samples of a vector, which is taken over without a copy.
     pub fn new(items: Vec<i64>) -> Samples
         ensures { result ≡ items.items }
     {
         Samples { items }
     }
 
-    /// The samples as a slice.
+    /// Returns the samples as a slice.
     pub fn as_slice(&self) -> &[i64]
         ensures { result.now ≡ self.now }
     {
         self.items.as_slice()
     }
 
-    /// The samples as the vector that holds them, without a copy.
+    /// Returns the samples as the vector that holds them, without a copy.
     pub fn into_vec(self) -> Vec<i64>
         ensures { result.items ≡ self }
     {

@@ -22,8 +22,8 @@ pub struct Settings {
     pub pad: bool,
     /// Whether the restricted set of code options is used.
     pub restricted: bool,
-    /// Whether blocks may have every even number of samples from 8 to 64. It says nothing of the
-    /// stream but that.
+    /// Whether the block size may be any even number from 8 to 64. It says nothing else of the
+    /// stream.
     pub even_blocks: bool,
 }
 

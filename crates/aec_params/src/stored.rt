@@ -8,8 +8,8 @@ ghost use Rattle.aec_params.specs.Stored.{stored_bytes, stored_number, has_sign_
 use crate::params::Params;
 use byteorder::{BigEndian, ByteOrder, LittleEndian};
 
-/// The sample that the bytes of one sample are; `None` where its unused bits are not what its width
-/// allows. Takes no memory.
+/// Returns the sample that the bytes of one sample are; `None` where its unused bits are not what
+/// its width allows. Takes no memory.
 pub fn sample_of(params: &Params, group: &[u8]) -> Option<i64>
     requires { length group.now ≡ storage_len params.now }
     ensures value { result ≡ sample_of_number params.now (number_in params.now group.now) }

@@ -18,12 +18,12 @@ use crate::stored::low_value;
 use byteorder::{BigEndian, ByteOrder, LittleEndian};
 use std::alloc::Global;
 
-/// The samples that bytes hold, `storage` bytes each; bytes at the end that form no whole sample
-/// are ignored.
+/// Returns the samples that bytes hold, `storage` bytes each; bytes at the end that form no whole
+/// sample are ignored.
 ///
-/// `SampleRange` with the index of the first sample whose unused bits are not what its width
-/// allows, which is judged for the whole input before any memory is taken; then `Memory`, which
-/// comes only where there is a whole sample.
+/// Fails with `SampleRange` and the index of the first sample whose unused bits are not what its
+/// width allows. The whole input is judged first; then the call may fail with `Memory`, but not for
+/// bytes without a whole sample.
 pub fn read_samples(alloc: Global, params: &Params, bytes: &[u8]) -> Result<Vec<i64>, Fault>
     ensures answer { AnswersSamples (λ v. v.items) (samples_of_bytes params.now bytes.now) result }
     ensures memory { result ≡ Err Memory → 0 < length bytes.now / storage_len params.now }
@@ -34,8 +34,8 @@ pub fn read_samples(alloc: Global, params: &Params, bytes: &[u8]) -> Result<Vec<
     collect_samples(alloc, params, bytes)
 }
 
-/// The samples of bytes that hold no bad one, as `first_bad` tells; `Memory` where a growth is
-/// refused, which no bytes without a whole sample need.
+/// Returns the samples of bytes without a bad one, as `first_bad` finds it. Fails with `Memory`,
+/// but not for bytes without a whole sample.
 pub fn collect_samples(alloc: Global, params: &Params, bytes: &[u8]) -> Result<Vec<i64>, Fault>
     requires { result_err (samples_of_bytes params.now bytes.now) ≡ None }
     ensures ok { IfOk result (λ v. samples_of_bytes params.now bytes.now ≡ Ok v.items) }
@@ -47,8 +47,8 @@ pub fn collect_samples(alloc: Global, params: &Params, bytes: &[u8]) -> Result<V
     Ok(samples)
 }
 
-/// Appends the samples of bytes that hold no bad one, as `first_bad` tells. `Memory` where a growth
-/// is refused; nothing is appended then.
+/// Appends the samples of bytes without a bad one, as `first_bad` finds it. Fails with `Memory` if
+/// a growth is refused; nothing is appended then.
 pub fn append_samples(params: &Params, bytes: &[u8], samples: &mut Vec<i64>) -> Result<(), Fault>
     requires { result_err (samples_of_bytes params.now bytes.now) ≡ None }
     ensures ok { OnOk result (samples_behind samples.old.items
@@ -71,8 +71,8 @@ pub fn append_samples(params: &Params, bytes: &[u8], samples: &mut Vec<i64>) -> 
     Ok(())
 }
 
-/// Puts the samples of bytes that hold no bad one, as `first_bad` tells, in the places of as many.
-/// Takes no memory.
+/// Puts the samples of bytes without a bad one, as `first_bad` finds it, into a slice of their
+/// number. Takes no memory.
 pub fn load_samples(params: &Params, bytes: &[u8], out: &mut [i64])
     requires good { result_err (samples_of_bytes params.now bytes.now) ≡ None }
     requires room { length out.old ≡ length bytes.now / storage_len params.now }
@@ -151,8 +151,8 @@ fn signed_value_of(params: &Params, number: u64) -> i64
     raised.cast_signed() - half.cast_signed()
 }
 
-/// Writes the bytes of samples, which the parameters have, one behind the other; `out` is exactly
-/// as long as these bytes. Takes no memory.
+/// Writes the bytes of samples, which the parameters hold, one after the other; `out` is exactly as
+/// long as these bytes. Takes no memory.
 pub fn put_samples(params: &Params, samples: &[i64], out: &mut [u8])
     requires held { AllByRecursion (IsHeld params.now) samples.now }
     requires room { length out.old ≡ storage_len params.now * length samples.now }
@@ -166,7 +166,7 @@ pub fn put_samples(params: &Params, samples: &[i64], out: &mut [u8])
     }
 }
 
-/// Writes the low bytes of samples, `width` of each, one behind the other.
+/// Writes the low bytes of samples, `width` of each, one after the other.
 fn put_numbers<T: ByteOrder>(samples: &[i64], width: usize, out: &mut [u8])
     requires few { width ≤ 4 }
     requires some { 1 ≤ width }

@@ -47,7 +47,7 @@ fn half_with_one(stretch: Stretch, width: u32) -> Stretch
     }
 }
 
-/// The place behind the `nth` one of a word.
+/// The place after the `nth` 1 bit of a word.
 #[inline(always)]
 fn behind_in_word(word: u64, nth: u32) -> u32
     requires some { 0 < nth }
@@ -68,7 +68,7 @@ fn behind_in_word(word: u64, nth: u32) -> u32
     half_with_one(of_2, 1).before + 1
 }
 
-/// How many bits from place `start` on end with the `count`-th one; `None` where fewer ones follow.
+/// How many bits from place `start` on end with the `count`-th 1; `None` where fewer follow.
 pub(crate) fn bits_to_one(buf: &BitBuf, start: u64, count: u64) -> Option<u64>
     requires within { start ≤ length buf.now.list }
     requires some { 0 < count }

@@ -42,7 +42,7 @@ fn window_from(buf: &BitBuf, start: u64) -> Window
     }
 }
 
-/// A window, or the one of the 64 bits at its place where no one is left in it.
+/// A window, or if it has no 1 bit left the window of the 64 bits at its place.
 #[inline(always)]
 fn with_one(buf: &BitBuf, window: Window) -> Window
     requires window { IsWindow buf.now.list window.word window.left window.end }
@@ -70,7 +70,7 @@ fn top_one(word: u64) -> u32
     word.leading_zeros() ^ 63
 }
 
-/// The number of the fundamental sequence that begins a window, and what is left behind it.
+/// The number of the fundamental sequence that begins a window, and what is left after it.
 #[inline(always)]
 fn next_sequence(window: Window) -> (u32, Window)
     requires size { window.left ≤ 64 }
@@ -92,8 +92,8 @@ fn next_sequence(window: Window) -> (u32, Window)
     (window.left - top - 1, rest)
 }
 
-/// Puts the numbers of the next fundamental sequences into `numbers`, one by one. The window behind
-/// them; `None` where no one stands in the 64 bits at one of them.
+/// Puts the numbers of the next fundamental sequences into `numbers`, one by one. Returns the
+/// window after them; `None` if the 64 bits at one of them have no 1.
 #[inline(never)]
 fn sequences_one_by_one(buf: &BitBuf, window: Window, numbers: &mut [u32]) -> Option<Window>
     requires window { IsWindow buf.now.list window.word window.left window.end }
@@ -117,8 +117,8 @@ fn sequences_one_by_one(buf: &BitBuf, window: Window, numbers: &mut [u32]) -> Op
     Some(rest)
 }
 
-/// Puts the numbers of the fundamental sequences that begin a window into `numbers`, and tells what
-/// is left behind them. The window has as many ones, so none is looked for in vain.
+/// Puts the numbers of the fundamental sequences that begin a window into `numbers`, and returns
+/// what is left after them. The window has a 1 bit for each, so each is found.
 #[inline(always)]
 fn sequences_within(window: Window, numbers: &mut [u32]) -> Window
     requires size { window.left ≤ 64 }
@@ -139,7 +139,7 @@ fn sequences_within(window: Window, numbers: &mut [u32]) -> Window
     rest
 }
 
-/// Whether so many ones are left in a window.
+/// Whether so many 1 bits are left in a window.
 #[inline(always)]
 fn has_ones(window: Window, count: usize) -> bool
     ensures { result ≡ nat_le count (count_ones window.word) }
@@ -147,7 +147,7 @@ fn has_ones(window: Window, count: usize) -> bool
     count <= window.word.count_ones() as usize
 }
 
-/// A window, or the one of the 64 bits at its place where fewer than `count` ones are left in it.
+/// A window, or if it has fewer than `count` 1 bits left the window of the 64 bits at its place.
 #[inline(always)]
 fn with_ones(buf: &BitBuf, window: Window, count: usize) -> Window
     requires window { IsWindow buf.now.list window.word window.left window.end }
@@ -162,9 +162,9 @@ fn with_ones(buf: &BitBuf, window: Window, count: usize) -> Window
     window_from(buf, place_of(window))
 }
 
-/// Puts the numbers of the next fundamental sequences into `numbers`, with one test for all where
-/// 64 bits have as many ones. The window behind them; `None` where no one stands in the 64 bits at
-/// one of them.
+/// Puts the numbers of the next fundamental sequences into `numbers`, with one test for all if 64
+/// bits have a 1 for each. Returns the window after them; `None` if the 64 bits at one of them have
+/// no 1.
 #[inline(always)]
 fn next_sequences(buf: &BitBuf, window: Window, numbers: &mut [u32]) -> Option<Window>
     requires window { IsWindow buf.now.list window.word window.left window.end }
@@ -183,7 +183,7 @@ fn next_sequences(buf: &BitBuf, window: Window, numbers: &mut [u32]) -> Option<W
 }
 
 /// Puts the numbers of the fundamental sequences from place `start` on into `numbers`, eight at a
-/// time. The place behind them; `None` where no one stands in the 64 bits at one of them.
+/// time. Returns the place after them; `None` if the 64 bits at one of them have no 1.
 #[inline(always)]
 pub(crate) fn sequences_from(buf: &BitBuf, start: u64, numbers: &mut [u32]) -> Option<u64>
     requires { start ≤ length buf.now.list }
@@ -207,7 +207,7 @@ pub(crate) fn sequences_from(buf: &BitBuf, start: u64, numbers: &mut [u32]) -> O
     }
 }
 
-/// The number that the first `width` bits of a window spell, and what is left behind them. The mask
+/// The number that the first `width` bits of a window spell, and what is left after them. The mask
 /// leaves nothing at width 0, where the window may be whole.
 #[inline(always)]
 fn next_number(window: Window, width: u32) -> (u32, Window)

@@ -20,7 +20,7 @@ use crate::reading::{Kind, read_kind, read_pattern};
 use aec_bits::BitReader;
 use aec_params::{Fault, Params};
 
-/// Whether a plain coded data set comes next, as far as its first bits tell: one by sample
+/// Returns whether the next bits are the identifier of a plain coded data set: one by sample
 /// splitting or no compression, which has its values written one by one.
 #[inline(always)]
 pub fn comes_plain(params: &Params, reader: &mut BitReader) -> bool
@@ -68,10 +68,10 @@ fn fill_plain<const N: usize>(
 }
 
 /// Reads the coded data set that begins at the reader's place as one without a reference sample and
-/// goes behind it, if it is plain and its values are at most the greatest that the width has: they
-/// stand in `values` then. Else false, and the reader is where it was; what stands in `values`
-/// isn't said. Takes no memory. Compiled into the place of the call for blocks of `N` values;
-/// others are read as well.
+/// moves past it, if it is plain and its values are at most the greatest that the width has:
+/// `values` then contains them. Else returns false, and the reader hasn't moved; what `values`
+/// contains isn't said. Takes no memory. Compiled into the place of the call for blocks of `N`
+/// values; others are read as well.
 #[inline(always)]
 #[tactic(auto, using(crate::proofs::NoPlainLemmas::none_stands))]
 pub fn read_plain<const N: usize>(
@@ -147,10 +147,10 @@ fn fill_first<const M: usize>(
 }
 
 /// Reads the coded data set that begins at the reader's place as one with a reference sample and
-/// goes behind it, if it is plain and its values are at most the greatest that the width has:
-/// they stand in `values` then, with 0 in the reference place. Returns the pattern of the reference
-/// sample. Else `None`, and the reader is where it was; what stands in `values` isn't said. Takes
-/// no memory. Compiled into the place of the call where `M` values are written.
+/// moves past it, if it is plain and its values are at most the greatest that the width has:
+/// `values` then contains them, with 0 in the reference place. Returns the pattern of the reference
+/// sample. Else returns `None`, and the reader hasn't moved; what `values` contains isn't said.
+/// Takes no memory. Compiled into the place of the call where `M` values are written.
 #[inline(always)]
 pub fn read_plain_first<const M: usize>(
     params: &Params,

@@ -172,7 +172,7 @@ fn joined(high: u32, low: u32, k: u32) -> u32
     (high << k) + low
 }
 
-/// Puts the lowest `k` bits behind each high part.
+/// Puts the lowest `k` bits after each high part.
 fn join(values: &mut [u32], lows: &[u32], k: u32)
     requires shift { k < 32 }
     requires len { length values.old ≡ length lows.now }

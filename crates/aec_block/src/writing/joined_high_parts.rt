@@ -33,7 +33,7 @@ fn eight_highs(values: &[u32], k: u32) -> u32x8
     u32x8::from_slice(values) >> u32x8::splat(k)
 }
 
-/// A word of codewords, and behind them those of eight values without their `k` low bits.
+/// A word of codewords, and after them those of eight values without their `k` low bits.
 #[inline(always)]
 fn with_eight(values: &[u32], k: u32, mut word: u64) -> u64
     requires k { k < 32 }
@@ -49,7 +49,7 @@ fn with_eight(values: &[u32], k: u32, mut word: u64) -> u64
     word
 }
 
-/// A word of codewords, and behind them those of a few values without their `k` low bits.
+/// A word of codewords, and after them those of a few values without their `k` low bits.
 #[inline(always)]
 fn with_each(values: &[u32], k: u32, mut word: u64) -> u64
     requires k { k < 32 }
@@ -63,7 +63,7 @@ fn with_each(values: &[u32], k: u32, mut word: u64) -> u64
     word
 }
 
-/// The codewords of values without their `k` low bits, one behind the other, where these are fewer
+/// The codewords of values without their `k` low bits, one after the other, where these are fewer
 /// than 64 bits: of eight values at a time, whose low bits are taken away in lanes, and one by one
 /// of the last few.
 #[inline(always)]

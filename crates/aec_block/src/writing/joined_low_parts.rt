@@ -29,7 +29,7 @@ fn low_parts_of(values: &[u32], width: u32) -> [u32; 8]
     (u32x8::from_slice(values) & u32x8::splat((1 << width) - 1)).to_array()
 }
 
-/// Eight numbers of `width` bits, one behind the other: joined in lanes by twos and fours.
+/// Eight numbers of `width` bits, one after the other: joined in lanes by twos and fours.
 #[inline(always)]
 fn joined_eight(numbers: &[u32; 8], width: u32) -> u64
     requires width { width ≤ 7 }
@@ -46,7 +46,7 @@ fn joined_eight(numbers: &[u32; 8], width: u32) -> u64
     (u64::from(fours[0]) << (4 * width)) + u64::from(fours[1])
 }
 
-/// The lowest `width` bits of values, one behind the other, where these are fewer than 64 bits.
+/// The lowest `width` bits of values, one after the other, where these are fewer than 64 bits.
 #[inline(always)]
 pub(crate) fn low_word(values: &[u32], width: u32) -> u64
     requires width { width ≤ 32 }

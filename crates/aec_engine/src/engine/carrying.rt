@@ -45,7 +45,7 @@ fn is_inside(edit: &Edit, count: u64) -> bool
 /// Makes the edits of a script that overwrite samples which are there, up to the first other one,
 /// and leaves the others ahead.
 ///
-/// Whatever samples come behind those that are there, these edits leave the same of all. The first
+/// Whatever samples come after those that are there, these edits leave the same of all. The first
 /// that is refused is named by its line; want of memory for the values of the next one is plain.
 /// None is made once the coder was called `2^62` times.
 pub(crate) fn carry_early<C: Codec>(

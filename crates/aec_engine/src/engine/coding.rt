@@ -63,7 +63,7 @@ fn encode_source<R: Source>(
 
 /// Codes the stored samples of a source, each piece before the next is taken, to the source's end,
 /// its failure or the first sample that is refused, and writes the bytes of their code. The
-/// refusals are answered as they are met: at each sample `TooManySamples`, then `SampleRange`;
+/// refusals are returned as they are met: at each sample `TooManySamples`, then `SampleRange`;
 /// `Read` where the source fails; `Memory`. Nothing has been written then and `begin` was not
 /// called. After `begin` only `Write` can come, and a front of the answer has been written.
 /// `limits.bytes` is not used.

@@ -49,11 +49,12 @@ fn decode_bits<W: Sink>(
 /// Nothing has been written then and `begin` was not called. After `begin` only `Write` can come,
 /// and a front of the answer has been written.
 ///
-/// The bytes of the samples in front are kept while the bits are judged, where there is room for
-/// them; what lies behind is read twice, so that it is not kept. Any decoding takes memory for the
-/// bytes of the source, for one interval of samples and their bytes, and for a piece of 64 KiB: if
-/// that is refused, it ends with `Memory`, or with the refusal of the bits. Behind that piece more
-/// is taken for kept bytes, 16 MiB at most: if that is refused, decoding goes on and keeps no more.
+/// Not in the contract: while the bits are judged, the bytes of the first samples are kept, as far
+/// as there is room for them; the rest isn't kept but read twice. Any decoding takes memory for the
+/// bytes of the source, for 2,048 samples or those of a longer interval, for the bytes of an
+/// interval, and for a piece of 64 KiB: if that is refused, it ends with `Memory`, or with the
+/// refusal of the bits. Kept bytes that don't fit there take 16 MiB at most: if that is refused,
+/// decoding goes on and keeps no more.
 pub fn decode<R: Source, W: Sink>(
     alloc: Global,
     params: &Params,

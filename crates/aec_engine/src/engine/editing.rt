@@ -95,8 +95,8 @@ fn settle_code<C: Codec + Drop, W: Sink>(
 }
 
 /// Does what `edit` does over a codec of intervals that has coded nothing, and gives the workspace
-/// whose stream was written. So it is seen how often the codec was called: once for each interval
-/// of the samples that the source codes, and for each edit once for each interval that it codes.
+/// whose stream was written. This shows how often the codec was called: once for each interval of
+/// the source's samples, and once for each interval that an edit codes.
 /// The refusals are those of `edit`.
 #[tactic(auto, using(crate::proofs::EditAnswerLemmas::leaves_recoded))]
 pub fn edit_over<C: Codec + Drop, Q: Source, R: Source, W: Sink>(

@@ -19,7 +19,7 @@ use aec_interval::StreamReader;
 use aec_params::{Fault, Limits, Params, put_samples};
 use std::alloc::Global;
 
-/// Puts the bytes of samples behind the first `at` bytes of a buffer. Where they end.
+/// Puts the bytes of samples after the first `at` bytes of a buffer. Returns where they end.
 fn put_behind(params: &Params, samples: &[i64], at: usize, out: &mut [u8]) -> usize
     requires held { AllByRecursion (IsHeld params.now) samples.now }
     requires room { at + storage_len params.now * length samples.now ≤ length out.old }
@@ -32,9 +32,9 @@ fn put_behind(params: &Params, samples: &[i64], at: usize, out: &mut [u8]) -> us
     end
 }
 
-/// Reads the samples from where the reader is, with `before` of them behind it, up to the last that
-/// is asked for, and puts the bytes of `len` of them from place `first` on in the places of as
-/// many. Takes no memory.
+/// Reads the samples from where the reader is, after `before` samples, up to the last that is asked
+/// for, and puts the bytes of `len` of them from place `first` on into `out`, which has this
+/// length. Never fails with `Memory`.
 fn fill_range(
     params: &Params,
     reader: &mut StreamReader,
@@ -68,8 +68,8 @@ fn fill_range(
 }
 
 /// Puts the bytes of `len` samples from place `first` on to the front of a buffer, where there is
-/// room for them; `before` samples are behind the reader. How many bytes they take. `Memory` where
-/// the room for an interval of samples is refused.
+/// room for them; the reader is after `before` samples. Returns how many bytes they take. Fails
+/// with `Memory` if the room for an interval of samples is refused.
 fn put_range_front(
     alloc: Global,
     params: &Params,
@@ -163,8 +163,8 @@ fn range_bits_into(
     put_range_front(alloc, params, &mut reader, judged.before, first, len, out)
 }
 
-/// The same as `decode_into` with `len` of these samples from place `first` on. The refusals are
-/// those of `range_bytes`.
+/// Does the same as `decode_into` with `len` of these samples from place `first` on. The refusals
+/// are those of `range_bytes`.
 pub fn range_into(
     alloc: Global,
     params: &Params,

@@ -37,7 +37,7 @@ fn most_kept(params: &Params, reader: &StreamReader) -> u64
     read
 }
 
-/// Returns the length up to which `bytes` may be filled. If `more` bytes don't fit behind those
+/// Returns the length up to which `bytes` may be filled. If `more` bytes don't fit after those
 /// that `bytes` holds, the length is less than the sum of both.
 ///
 /// As long as `bytes` holds at most `WAITING` bytes, the function takes no memory: they and `more`
@@ -71,7 +71,7 @@ fn make_room(bytes: &mut Vec<u8>, more: usize, most: u64) -> usize
     }
 }
 
-/// Returns whether `more` bytes fit behind those that `bytes` holds: up to the length `room`, or up
+/// Returns whether `more` bytes fit after those that `bytes` holds: up to the length `room`, or up
 /// to a new one that `make_room` returns.
 fn has_room(bytes: &mut Vec<u8>, room: &mut usize, more: usize, most: u64) -> bool
     ensures room { result ≡ true → vec_len bytes.new + more ≤ room.new }
@@ -92,9 +92,9 @@ fn has_room(bytes: &mut Vec<u8>, room: &mut usize, more: usize, most: u64) -> bo
     len <= *room && more <= *room - len
 }
 
-/// Reads the samples of a stream from its first bit on, and keeps the bytes of those in front, as
-/// many as there is room for. How many samples these are: the reader is behind them. The refusals
-/// are those of judging.
+/// Reads the samples of a stream from its first bit on, and keeps the bytes of the first samples,
+/// as many as there is room for. Returns how many samples these are: the reader is after them. The
+/// refusals are those of judging.
 fn keep_front(
     params: &Params,
     reader: &mut StreamReader,
@@ -129,7 +129,7 @@ fn keep_front(
 }
 
 /// Writes the bytes of all samples of a stream, judged from its first bit on: those that were kept
-/// then, and behind them those of the rest, read again. The refusals are those of judging; nothing
+/// then, and after them those of the rest, read again. The refusals are those of judging; nothing
 /// was begun then. After `begin` only `Write` can come. Takes no memory but for what is kept.
 pub(crate) fn write_all<W: Sink>(
     params: &Params,

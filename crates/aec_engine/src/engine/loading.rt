@@ -27,9 +27,9 @@ use aec_interval::StreamReader;
 use aec_params::{Fault, Limits, Params};
 use std::alloc::Global;
 
-/// Puts the samples of the next interval in the place of those that were handed in, and behind them
+/// Puts the samples of the next interval in the place of those that were handed in, and after them
 /// those of more intervals, as long as they are `AT_ONCE` at most; false where none are left. An
-/// interval behind the first comes by way of `spare`.
+/// interval after the first comes by way of `spare`.
 ///
 /// What has been judged is refused for want of memory alone.
 fn next_intervals(

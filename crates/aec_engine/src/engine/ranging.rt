@@ -48,11 +48,11 @@ fn range_bits<W: Sink>(
 
 /// Reads the source whole, and writes the bytes of `len` of the samples that it codes, from place
 /// `first` on. The refusals in their order: those of `decode`, so that coded data after the range
-/// are judged too; then `OutOfRange` where the range passes the samples, which are `count` where a
-/// count is given; then `Memory`, though that it comes last is no part of the contract. Nothing has
+/// are judged too; then `OutOfRange` if the range passes the samples, whose number is `count` if
+/// one is given; then `Memory`. That `Memory` comes last is no part of the contract. Nothing has
 /// been written then and `begin` was not called. After `begin` only `Write` can come, and a front
-/// of the answer has been written. The coded bits are judged whole, and no samples are kept; only
-/// the intervals that the range lies in are read again.
+/// of the answer has been written. Not in the contract: no samples are kept while the bits are
+/// judged, and only the intervals that the range lies in are read again.
 pub fn range<R: Source, W: Sink>(
     alloc: Global,
     params: &Params,

@@ -33,7 +33,7 @@ fn last_begin(noted: Begin, here: Begin, first: u64) -> Begin
     if here.before <= first { here } else { noted }
 }
 
-/// Goes back to a place. The bit where the reader was until then.
+/// Goes back to a place. Returns the bit where the reader was until then.
 fn come_back(reader: &mut StreamReader, place: ReachedPlace) -> u64
     requires reached { let old = reader.old in
         IsPlace (place_at old.settings old.count old.limit old.bits place.block place.bit) }
@@ -55,8 +55,8 @@ pub(crate) struct Judged {
     pub(crate) bits: u64,
 }
 
-/// Goes over all samples from where the reader is, with `before` of them behind it, and back to the
-/// last interval from there on that begins at or before sample `first`. Takes no memory.
+/// Goes over all samples from where the reader is, after `before` samples, and back to the last
+/// interval from there on that begins at or before sample `first`. Never fails with `Memory`.
 pub(crate) fn judge_from(
     params: &Params,
     reader: &mut StreamReader,
@@ -135,7 +135,7 @@ pub(crate) fn judge_all(params: &Params, reader: &mut StreamReader) -> Result<Ju
     Ok(judged)
 }
 
-/// The same. How many samples there are.
+/// The same. Returns how many samples there are.
 pub(crate) fn count_samples(params: &Params, reader: &mut StreamReader) -> Result<u64, Fault>
     requires settings { reader.old.settings ≡ params.now }
     requires block { reader.old.block ≡ 0 }
@@ -149,7 +149,7 @@ pub(crate) fn count_samples(params: &Params, reader: &mut StreamReader) -> Resul
     Ok(judge_all(params, reader)?.total)
 }
 
-/// Of samples those behind the first `skip`, at most `left` of them.
+/// Of samples those after the first `skip`, at most `left` of them.
 pub(crate) fn part_of(samples: &[i64], skip: u64, left: u64) -> &[i64]
     ensures { result.now ≡ samples_from skip left samples.now }
 {
@@ -222,7 +222,7 @@ fn put_waiting<W: Sink>(bytes: &mut Vec<u8>, sink: &mut W) -> Result<(), Fault>
     Ok(())
 }
 
-/// Puts the bytes of samples behind those that wait, as soon as they are a piece; else they wait
+/// Puts the bytes of samples after those that wait, as soon as they are a piece; else they wait
 /// too.
 fn put_part<W: Sink>(
     params: &Params,
@@ -251,8 +251,8 @@ fn put_part<W: Sink>(
     Ok(())
 }
 
-/// Reads the samples from where the reader is, with `before` of them behind it, up to the last that
-/// is asked for, and puts the bytes of `len` of them from place `first` on. Takes no memory.
+/// Reads the samples from where the reader is, after `before` samples, up to the last that is asked
+/// for, and puts the bytes of `len` of them from place `first` on. Never fails with `Memory`.
 fn put_range<W: Sink>(
     params: &Params,
     reader: &mut StreamReader,
@@ -347,7 +347,7 @@ pub(crate) fn room_at_once(alloc: Global, params: &Params) -> Result<Vec<i64>, F
     Ok(samples)
 }
 
-/// Returns room for the samples that are read at once, and room for the bytes of an interval behind
+/// Returns room for the samples that are read at once, and room for the bytes of an interval after
 /// a piece of `WAITING` bytes, no more.
 pub(crate) fn buffers(alloc: Global, params: &Params) -> Result<(Vec<i64>, Vec<u8>), Fault>
     ensures room { IfOk result (λ made. interval_len params.now ≤ vec_capacity made.0) }
@@ -363,8 +363,8 @@ pub(crate) fn buffers(alloc: Global, params: &Params) -> Result<(Vec<i64>, Vec<u
     Ok((samples, bytes))
 }
 
-/// Makes room, begins, and writes the bytes of `len` samples from place `first` on; `before`
-/// samples are behind the reader. `Memory` where the room is refused; nothing was begun then.
+/// Makes room, begins, and writes the bytes of `len` samples from place `first` on; the reader is
+/// after `before` samples. `Memory` where the room is refused; nothing was begun then.
 pub(crate) fn write_range<W: Sink>(
     alloc: Global,
     params: &Params,

@@ -9,7 +9,7 @@ ghost use Rattle.aec_interval.specs.Chunks.{values_after, reference_after, Holds
 use aec_block::{map_first, map_list};
 use aec_params::Params;
 
-/// The reference of the samples of a block behind `previous`, or at an interval's start.
+/// The reference of the samples of a block after `previous`, or at an interval's start.
 #[inline(always)]
 pub(crate) fn reference_of(params: &Params, previous: Option<i64>, samples: &[i64]) -> Option<u32>
     requires some { 0 < length samples.now }
@@ -23,7 +23,7 @@ pub(crate) fn reference_of(params: &Params, previous: Option<i64>, samples: &[i6
     }
 }
 
-/// Puts what is coded for samples behind `previous`, or at an interval's start, into `values`.
+/// Puts what is coded for samples after `previous`, or at an interval's start, into `values`.
 #[inline(always)]
 fn map_samples(params: &Params, previous: Option<i64>, samples: &[i64], values: &mut [u32])
     requires previous { HoldsPrevious params.now previous }
@@ -39,7 +39,7 @@ fn map_samples(params: &Params, previous: Option<i64>, samples: &[i64], values: 
     }
 }
 
-/// Puts the values of the whole block of samples behind `previous`, or at an interval's start, into
+/// Puts the values of the whole block of samples after `previous`, or at an interval's start, into
 /// `values`, and tells the reference, where there is one.
 #[inline(always)]
 pub(crate) fn map_block(

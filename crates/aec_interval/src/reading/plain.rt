@@ -30,7 +30,7 @@ const SAMPLES_AT_ONCE: usize = 120;
 static PLACES: [i64; 256] = [0; 256];
 
 /// A block before which none of the interval that ends at block `end` needs a test of its place:
-/// each keeps the limit and is needed, and no padding stands behind it.
+/// each keeps the limit and is needed, and no padding follows it.
 fn untested_end(params: &Params, wanted: Wanted, end: u64) -> u64
     requires limit { wanted.limit ≤ 2 ^ 32 }
     requires counted { IfSome wanted.count (λ count. count ≤ 2 ^ 32) }
@@ -47,7 +47,7 @@ fn untested_end(params: &Params, wanted: Wanted, end: u64) -> u64
     unpadded.min(samples / size)
 }
 
-/// Reads the block that comes next into `values`, if it is a plain one, and puts its samples behind
+/// Reads the block that comes next into `values`, if it is a plain one, and puts its samples after
 /// the first `at`. Else false, and the reader is where it was.
 #[inline(always)]
 fn fill_plain_block<const N: usize>(
@@ -79,7 +79,7 @@ fn fill_plain_block<const N: usize>(
 }
 
 /// Reads the blocks that come next, `most` of them, as long as they are plain ones, and puts their
-/// samples, `size` each, behind the first `from`. How many blocks were read.
+/// samples, `size` each, after the first `from`. How many blocks were read.
 #[inline(always)]
 fn fill_plain_blocks<const N: usize>(
     params: &Params,

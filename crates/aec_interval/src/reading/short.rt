@@ -105,7 +105,7 @@ fn fill_first_block<const N: usize, const M: usize>(
 }
 
 /// Reads the other blocks of an interval of which the first was read, if they are plain ones, and
-/// puts their samples behind those of the first. Else false.
+/// puts their samples after those of the first. Else false.
 #[inline(always)]
 fn fill_rest<const N: usize>(params: &Params, reader: &mut BitReader, samples: &mut [i64]) -> bool
     requires size { N ≡ params.now.block_size }

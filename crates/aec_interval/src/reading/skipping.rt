@@ -79,7 +79,7 @@ pub(crate) fn skip_interval(
     }
 }
 
-/// How many samples are asked for of the blocks from `wanted.first` up to another.
+/// Returns how many samples are asked for of the blocks from `wanted.first` up to another.
 pub(crate) fn count_asked(params: &Params, wanted: Wanted, next: u64) -> u64
     requires after { wanted.first ≤ next }
     requires few { next < 2 ^ 34 }

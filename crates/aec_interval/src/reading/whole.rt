@@ -20,14 +20,14 @@ pub(crate) fn judge_count(count: Option<u64>, limit: u64) -> Result<(), Fault>
     }
 }
 
-/// The samples that coded bits stand for.
+/// Returns the samples that coded bits stand for.
 ///
-/// With a count the first `count` samples: as many blocks are read as hold them, and bits behind
+/// With a count the first `count` samples: as many blocks are read as hold them, and bits after
 /// the last coded data set that is needed are ignored. Without one all samples of all blocks, up to
 /// a rest of zero bits. `TooManySamples` first where a given count is above `limit`; then at each
 /// coded data set in turn `Truncated`, `ValueTooLarge`, `RunTooLong` with the bit where it begins,
 /// `TooManySamples` without a count where the samples with it pass the limit, and `Memory`. So
-/// memory is refused only behind a coded data set that was read and that no fault refuses.
+/// memory is refused only after a coded data set that was read and that no fault refuses.
 pub fn decode_all(
     alloc: Global,
     params: &Params,

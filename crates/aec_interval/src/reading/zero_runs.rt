@@ -10,7 +10,7 @@ ghost use Rattle.aec_interval.specs.Reached.{AreFilled};
 use crate::reading::samples::previous_of;
 use aec_params::Params;
 
-/// The sample that a zero block repeats behind these: that of its reference, or else the
+/// The sample that a zero block repeats after these: that of its reference, or else the
 /// prediction, and 0 where nothing is predicted.
 #[tactic(auto, using(crate::proofs::ZeroRunLemmas::repeated))]
 fn repeated_sample(params: &Params, reference: Option<u32>, samples: &[i64]) -> i64
@@ -24,7 +24,7 @@ fn repeated_sample(params: &Params, reference: Option<u32>, samples: &[i64]) -> 
     }
 }
 
-/// Appends the samples of so many zero blocks that come next, behind `block` others; the first has
+/// Appends the samples of so many zero blocks that come next, after `block` others; the first has
 /// the reference sample where there is one. They are all equal. Takes no memory.
 pub(crate) fn push_zero_run(
     params: &Params,

@@ -4,7 +4,7 @@ use aec_params::{Fault, Params, load_samples};
 use std::alloc::Global;
 use std::marker::Model;
 
-/// Samples, seen as their list. The places behind them keep samples from before, so that places are
+/// Samples, seen as their list. The places after them keep samples from before, so that places are
 /// made once and then filled again and again.
 #[derive(Debug, Drop)]
 pub(crate) struct HeldSamples {
@@ -66,7 +66,7 @@ impl HeldSamples {
         self.len = 0;
     }
 
-    /// Puts a sample behind these. `Memory` where a growth was refused; they stay then.
+    /// Puts a sample after these. `Memory` where a growth was refused; they stay then.
     pub(crate) fn push(&mut self, x: i64) -> Result<(), Fault>
         ensures ok { OnOk result (self.new ≡ self.old ++ x ∷ []) }
         ensures err { OnErr result (self.new ≡ self.old) }
@@ -81,7 +81,7 @@ impl HeldSamples {
         Ok(())
     }
 
-    /// Puts the samples of bytes that hold no bad one, as `first_bad` tells, behind these. `Memory`
+    /// Puts the samples of bytes that hold no bad one, as `first_bad` tells, after these. `Memory`
     /// where a growth was refused; they stay then.
     pub(crate) fn push_stored(&mut self, params: &Params, bytes: &[u8]) -> Result<(), Fault>
         requires { result_err (samples_of_bytes params.now bytes.now) ≡ None }

@@ -69,7 +69,7 @@ fn push_sample(terms: &Terms, held: &mut HeldSamples, x: i64, out: &mut BitBuf) 
     code_complete(terms, held, out)
 }
 
-/// The sample of the bytes of one, behind `count` others. `TooManySamples` where the limit is
+/// The sample of the bytes of one, after `count` others. `TooManySamples` where the limit is
 /// reached, then `SampleRange`.
 fn judge(terms: &Terms, count: u64, group: &[u8]) -> Result<i64, Fault>
     requires { length group.now ≡ storage_len terms.now.params }
@@ -217,7 +217,7 @@ fn join_all(
 }
 
 /// Completes the sample of which bytes are there, with the front of a piece that is long enough.
-/// The bytes of the piece behind it.
+/// The bytes of the piece after it.
 fn complete_rest<'a>(
     terms: &Terms,
     progress: &mut Progress,

@@ -46,7 +46,7 @@ impl Rest {
         &self.bytes[..self.len]
     }
 
-    /// Puts bytes behind these.
+    /// Puts bytes after these.
     pub(crate) fn extend(&mut self, more: &[u8])
         requires { length self.old + length more.now ≤ 4 }
         ensures { self.new ≡ self.old ++ more.now }
