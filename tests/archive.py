@@ -37,13 +37,13 @@ def try_scripts(tally, seed, numbers):
         stored, left = settings.stored(samples), settings.stored(wanted)
         judged = scripts.judged(script, len(samples), options)
         tally.check(f"{what}: complaints", judged.complaints, [])
-        after = bytes(scripts.made(stored, judged.edits, options))
+        after = bytes(scripts.edited(bytearray(stored), judged.edits, options))
         tally.check(f"{what}: {script}", after, left)
         for first, second in ((after, stored), (stored, after)):
             change = scripts.change_of(first, second, options.storage)
             back = b"".join(scripts.difference(first, second, change, options))
             edits = scripts.judged(back, len(first) // options.storage, options)
-            tally.check(f"{what}: back {back[:99]}", (bytes(scripts.made(first, edits.edits, options)), edits.complaints), (second, []))
+            tally.check(f"{what}: back {back[:99]}", (bytes(scripts.edited(bytearray(first), edits.edits, options)), edits.complaints), (second, []))
         same = [a == b for a, b in zip(samples, wanted)]
         if len(samples) == len(wanted):
             tally.check(f"{what}: samples that changed", scripts.change_of(stored, after, options.storage).samples, same.count(False))

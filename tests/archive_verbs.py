@@ -92,11 +92,17 @@ def try_keep(tally, folder):
     write(place, "d", data)
     write(place, "d.aec", b"mine")
     status, _, said = command(place, "keep", "d", "-n", "16")
-    tally.check("a stream of another", (status, said), (1, "aecp: d: d.aec exists and has no note: move it away\n"))
+    tally.check("a stream of another", (status, said), (1, "aecp: d: d.aec exists, has no note, and isn't this file's code with -n 16 -j 16 -r 128: move it away\n"))
     os.rename(os.path.join(place, "d.aec"), os.path.join(place, "away"))
     os.rename(os.path.join(place, "a.raw.aec.json"), os.path.join(place, "d.aec.json"))
     tally.check("a lone note", command(place, "keep", "d", "-n", "16")[0], 0)
     tally.check("a lone note: checked", command(place, "check", "d")[:2], (0, "1 checked, 1 sound, 0 damaged\n"))
+    os.unlink(os.path.join(place, "d.aec.json"))
+    stream = os.stat(os.path.join(place, "d.aec"))
+    tally.check("a lone stream", command(place, "keep", "d", "-n", "16")[::2], (0, "aecp: d: its stream had no note\n"))
+    tally.check("a lone stream: it stays", os.stat(os.path.join(place, "d.aec")).st_ino, stream.st_ino)
+    tally.check("a lone stream: checked", command(place, "check", "d")[:2], (0, "1 checked, 1 sound, 0 damaged\n"))
+    tally.check("names after options", command(place, "keep", "d", "-n", "16", "b.raw")[:2], (0, "2 kept already\n"))
 
 
 def try_back(tally, folder):
@@ -110,6 +116,8 @@ def try_back(tally, folder):
     tally.check("back: outside", command(place, "back", "f.aec", "new", "--range", "899:2")[0], 1)
     tally.check("back: no range", command(place, "back", "f.aec", "new", "--range", "899")[0], 2)
     tally.check("back: no file", command(place, "back", "g.aec"), (1, "", "aecp: g.aec: there is no such file\n"))
+    tally.check("back: a name after options", (command(place, "back", "f.aec", "--range", "5:3", "late")[0], read(os.path.join(place, "late"))), (0, data[10:16]))
+    tally.check("back: two names", command(place, "back", "f.aec", "--range", "5:3", "one", "two")[0], 2)
     tally.check("back: another name", (command(place, "back", "f.aec", "new")[0], read(os.path.join(place, "new"))), (0, data))
     quiet = subprocess.run(["sh", "-c", f'"{sys.executable}" -m aecp back f.aec - | true'], cwd=place, capture_output=True, check=False)
     tally.check("back: a broken pipe", quiet.stderr, b"")
@@ -235,6 +243,8 @@ def try_usage(tally, folder):
         tally.holds(status == 0 and printed.startswith(f"usage: aecp {verb}") and not said, f"{verb} --help: {status} {said}")
         tally.check(f"{verb}: wrong words", command(folder, verb, "--no-such-word")[0], 2)
     tally.check("no verb", command(folder)[0], 2)
+    loaded = "import sys, aecp.verbs; sys.exit('numpy' in sys.modules)"
+    tally.check("no verb loads numpy", subprocess.run([sys.executable, "-c", loaded], check=False).returncode, 0)
     environment = {**os.environ, "AECP_LIBRARY": os.path.join(folder, "none.so")}
     tally.check("help with no library", command(folder, "--help", env=environment)[0], 0)
     status, printed, said = command(folder, "check", ".", env=environment)

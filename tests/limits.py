@@ -2,8 +2,8 @@
 """The limits of the house: limits.py [FOLDER]
 
 Prints each place of the crates, and each script of too many lines, that passes one; what is wrong with the pages that are written by
-hand (page_limits.py: words, what two pages tell, links); and each exception that nothing needs. Ends with 1 where there is one. The last
-line counts the files that keep the limits.
+hand (page_limits.py: words, what two pages tell, links); copies of a file that have become different; and each exception that nothing
+needs. Ends with 1 where there is one. The last line counts the files that keep the limits.
 
 Free are what the formatter puts on one line (`use`, attributes) and the rows of a table within a text.
 """
@@ -23,6 +23,7 @@ TEXT = 100  # columns of code, clauses and comments
 SPEC = 160  # columns of a definition and of a proof
 BODY, DEFINITION, ANSWER = 40, 20, 20  # lines
 NAMES = 40  # of one `use`
+COPIES = ("asserts.rt", "tables.rt")  # of which crates of tests have copies, so that none waits for another's proof
 USE = re.compile(r"\s*(pub |pub\(crate\) |ghost )*use ")
 
 # Where a limit is passed for a reason: the file, the start of the line or the name, and why.
@@ -122,9 +123,20 @@ def long_parts(path, lines, most, what):
             last = number
 
 
-def places(path):
+def text_of(path):
     with open(os.path.join(TOP, path), encoding="utf-8") as file:
-        lines = file.read().splitlines()
+        return file.read()
+
+
+def other_copies():
+    """The copies of a file that differ from the first one."""
+    for name in COPIES:
+        first, *others = [path for path in files() if path.startswith("crates/") and path.endswith(f"/src/{name}")]
+        yield from (f"{path} isn't {first}" for path in others if text_of(path) != text_of(first))
+
+
+def places(path):
+    lines = text_of(path).splitlines()
     yield from long_file(path, lines)
     yield from wide_lines(path, lines)
     if path.endswith((".rt", ".antt")):
@@ -152,6 +164,9 @@ def main():
     for path, start in ALLOWED.keys() - needed:
         failed += 1
         print(f"nothing needs the exception for {path}: {start}")
+    copies = list(other_copies())
+    print("".join(f"{copy}\n" for copy in copies), end="")
+    failed += len(copies)
     wrongs, pages = page_limits.wrongs(TOP)
     print("".join(f"{wrong}\n" for wrong in wrongs), end="")
     passed, failed = passed + max(pages - len(wrongs), 0), failed + len(wrongs)

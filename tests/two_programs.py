@@ -18,7 +18,7 @@ import sys
 
 import damaged_cases
 import script_cases
-from program import Program, Tally, asked_of, on_each_core
+from program import Program, Tally, asked_of, on_each_core, short
 
 OLD = b"what DEST held before"
 
@@ -40,7 +40,7 @@ def some_stored(damaged, chance):
     return stored + chance.randbytes(chance.choice([0, 0, 1, 3]))
 
 
-def some_jobs(chance, number):
+def some_jobs(chance, number, _):
     """The jobs of a case: the words of each, the bytes of SOURCE, and those of a script."""
     damaged = damaged_cases.some_damaged(chance)
     settings, count = damaged.settings, len(damaged.samples)
@@ -60,29 +60,30 @@ def some_jobs(chance, number):
     ]
 
 
-def try_case(seed, number, program, other, tally):
+def try_case(seed, number, program, other, jobs, tally):
     before = tally.failed
-    for words, given, script in some_jobs(random.Random(f"{seed} {number}"), number):
-        what = f"{' '.join(words)} on {given.hex(' ') or 'no bytes'}"
+    for words, given, script in jobs(random.Random(f"{seed} {number}"), number, other):
+        what = f"{' '.join(words)} on {short(given) or 'no bytes'}"
         tally.check(what, answer(program, words, given, script), answer(other, words, given, script))
     if tally.failed > before:
         print(f"  that was --seed {seed} --only {number}", flush=True)
 
 
-def try_part(program, numbers, seed, path):
+def try_part(program, numbers, seed, path, jobs):
     tally, other = Tally(), Program(path, program.folder)
     for number in numbers:
-        try_case(seed, number, program, other, tally)
+        try_case(seed, number, program, other, jobs, tally)
     return tally
 
 
-def main():
-    asked, tally = asked_of("Has two programs do the same jobs, and compares what they answer.", 2000, other=True), Tally()
-    for part in on_each_core(try_part, asked.program, asked.numbers, asked.seed, os.path.abspath(asked.other)):
+def main(jobs, cases):
+    """Compares the jobs of so many cases: `jobs` gives those of a case, by chance, by its number, and with the other program."""
+    asked, tally = asked_of("Has two programs do the same jobs, and compares what they answer.", cases, other=True), Tally()
+    for part in on_each_core(try_part, asked.program, asked.numbers, asked.seed, os.path.abspath(asked.other), jobs):
         tally.add(part)
     tally.print()
     return 1 if tally.failed else 0
 
 
 if __name__ == "__main__":
-    sys.exit(main())
+    sys.exit(main(some_jobs, 2000))

@@ -3,10 +3,11 @@
 
 A row is a module, the public functions and types that it has, and the first sentence of the `//!`
 comment of its file. Below the table stands which libraries the crate uses, by crates.txt, and where
-its claims are. The rest of a README is written by hand: what stands above the line NOTE.
+its claims are. The rest of a README is written by hand: what stands above the line NOTE. A crate of
+tests may have none; all such crates are rows of a table in ARCHITECTURE.
 
-Fails where a module has no such comment, and with --check, which writes nothing, where a README
-isn't what is written.
+Fails where a module has no such comment, and with --check, which writes nothing, where a page isn't
+what is written.
 """
 
 import os
@@ -16,14 +17,22 @@ import sys
 from sources import TOP, all_crates, exports_of, files_below, module_of, text_of
 
 NOTE = "<!-- Written by `make pages` from the comments of the modules. -->\n"
+OF_TESTS = "<!-- Written by `make pages` from the comments of the crates of tests. -->\n"
+END = "<!-- end -->\n"
+PAGE = "docs/ARCHITECTURE.md"
+TESTS = "_trials"
 ITEM = re.compile(r"^pub (extern \"C\" )?(?:const )?(?:fn|struct|enum|trait) (\w+)", re.M)
+
+
+def comment_of(text):
+    """A file's comment, on one line."""
+    lines = re.match(r"(?://!.*\n)*", text).group().splitlines()
+    return " ".join(line.removeprefix("//!").strip() for line in lines).replace("|", "\\|")
 
 
 def sentence_of(text):
     """The first sentence of a file's comment, without its full stop."""
-    lines = re.match(r"(?://!.*\n)*", text).group().splitlines()
-    words = " ".join(line.removeprefix("//!").strip() for line in lines)
-    return re.split(r"\.(?: |$)", words)[0].replace("|", "\\|")
+    return re.split(r"\.(?: |$)", comment_of(text))[0]
 
 
 def items_of(crate, path):
@@ -35,8 +44,8 @@ def items_of(crate, path):
     return [] if module == "laws" else found
 
 
-def table_of(crate, wrongs):
-    """The rows of a crate's modules, without a column of public items where no module has one."""
+def rows_of(crate, wrongs):
+    """A row for each module of a crate: its name, its public items, its first sentence."""
     rows = []
     for path in files_below(f"crates/{crate.name}/src", ".rt"):
         if module_of(path):
@@ -44,11 +53,21 @@ def table_of(crate, wrongs):
             wrongs += [] if sentence else [f"{path} has no comment `//!`"]
             named = ", ".join(f"`{name}`" for name in items_of(crate.name, path))
             rows.append((f"`{module_of(path)}`", named, sentence))
-    rows.sort(key=lambda row: row[0].strip("`"))
-    heads = ("Module", "Public", "Contains")
+    return sorted(rows, key=lambda row: row[0].strip("`"))
+
+
+def table(heads, rows):
+    """A table with these rows, none where there are none."""
+    lines = (heads, ["---"] * len(heads), *rows) if rows else ()
+    return "".join(f"| {' | '.join(line)} |\n" for line in lines)
+
+
+def table_of(crate, wrongs):
+    """The rows of a crate's modules, without a column of public items where no module has one."""
+    rows = rows_of(crate, wrongs)
     kept = [0, 1, 2] if any(row[1] for row in rows) else [0, 2]
-    lines = [[row[i] for i in kept] for row in (heads, ["---"] * 3, *rows)]
-    return "".join(f"| {' | '.join(line)} |\n" for line in lines) if rows else ""
+    heads, *rows = [[row[i] for i in kept] for row in (("Module", "Public", "Contains"), *rows)]
+    return table(heads, rows)
 
 
 def uses_of(crate):
@@ -62,23 +81,48 @@ def uses_of(crate):
 
 def written(crate, wrongs):
     """A crate's README: what stands in it by hand, and the rest."""
-    by_hand = text_of(f"crates/{crate.name}/README.md").split(NOTE)[0].rstrip("\n")
-    table = table_of(crate, wrongs)
-    return f"{by_hand}\n\n{NOTE}\n{table}" + ("\n" if table else "") + uses_of(crate.name)
+    by_hand = text_of(readme_of(crate)).split(NOTE)[0].rstrip("\n")
+    modules = table_of(crate, wrongs)
+    return f"{by_hand}\n\n{NOTE}\n{modules}" + ("\n" if modules else "") + uses_of(crate.name)
+
+
+def readme_of(crate):
+    return f"crates/{crate.name}/README.md"
+
+
+def has_readme(crate):
+    return os.path.exists(os.path.join(TOP, readme_of(crate)))
+
+
+def tests_written(crates, wrongs):
+    """ARCHITECTURE with a row for each crate of tests: what it contains, and its modules."""
+    rows = []
+    for crate in crates:
+        if crate.name.endswith(TESTS):
+            is_program = os.path.exists(os.path.join(TOP, f"crates/{crate.name}/src/main.rt"))
+            comment = comment_of(text_of(f"crates/{crate.name}/src/{'main' if is_program else 'lib'}.rt"))
+            named = f"[{crate.name}](../{readme_of(crate)})" if has_readme(crate) else f"`{crate.name}`"
+            modules = rows_of(crate, [] if has_readme(crate) else wrongs)
+            rows.append((named, comment.rstrip("."), ", ".join(row[0] for row in modules)))
+    before, _, rest = text_of(PAGE).partition(OF_TESTS)
+    after = rest.partition(END)[2]
+    heads = ("Crate", "Contains", "Modules")
+    return f"{before}{OF_TESTS}\n{table(heads, rows)}\n{END}{after}"
 
 
 def main():
-    wrongs, crates = [], all_crates().values()
-    for crate in crates:
-        path = f"crates/{crate.name}/README.md"
-        page = written(crate, wrongs)
+    wrongs, crates = [], list(all_crates().values())
+    pages = {readme_of(crate): written(crate, wrongs) for crate in crates if has_readme(crate)}
+    wrongs += [f"no {readme_of(it)}" for it in crates if not (has_readme(it) or it.name.endswith(TESTS))]
+    pages[PAGE] = tests_written(crates, wrongs)
+    for path, page in pages.items():
         if sys.argv[1:] != ["--check"]:
             with open(os.path.join(TOP, path), "w", encoding="utf-8") as file:
                 file.write(page)
         elif text_of(path) != page:
             wrongs.append(f"{path} isn't what `make pages` writes")
     print("".join(f"FAILED: {wrong}\n" for wrong in wrongs), end="")
-    print(f"{len(crates)} passed, {len(wrongs)} failed")
+    print(f"{len(pages)} passed, {len(wrongs)} failed")
     return 1 if wrongs else 0
 
 

@@ -4,16 +4,24 @@ from __future__ import annotations
 
 import ctypes
 import mmap
+import sys
 from typing import Any, Optional
 
-numpy: Any
-try:
-    import numpy
-except ImportError:
-    numpy = None
-
-
 SMALL = 1 << 20  # bytes that take no time to clear
+
+
+def numpy_if_there() -> Any:
+    """numpy, None where it isn't installed. To load it takes longer than most calls, so it is loaded where an array is needed."""
+    try:
+        import numpy
+    except ImportError:
+        return None
+    return numpy
+
+
+def numpy_type(name: str) -> Any:
+    """A type of numpy, for isinstance. Until something has loaded numpy, nothing is of its types."""
+    return getattr(sys.modules.get("numpy"), name, ())
 
 
 class Source:
@@ -35,11 +43,13 @@ class Source:
             self.at = b"\0"
         elif not view.readonly:
             self.at = ctypes.addressof(ctypes.c_char.from_buffer(view.cast("B")))
-        elif numpy is not None:
-            self.held = numpy.frombuffer(view.cast("B"), numpy.uint8)
-            self.at = self.held.ctypes.data
         else:
-            self.at = bytes(view)
+            numpy = numpy_if_there()
+            if numpy is None:
+                self.at = bytes(view)
+            else:
+                self.held = numpy.frombuffer(view.cast("B"), numpy.uint8)
+                self.at = self.held.ctypes.data
 
 
 class Target:

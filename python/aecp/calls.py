@@ -5,7 +5,7 @@ from __future__ import annotations
 import ctypes
 from typing import Any, Optional
 
-from aecp.buffers import Source, Target, numpy, room_for
+from aecp.buffers import Source, Target, numpy_if_there, numpy_type, room_for
 from aecp.faults import NO_ROOM, fault_of
 from aecp.library import LIBRARY, Reply, c_options, text_of
 from aecp.options import Options, whole
@@ -29,8 +29,9 @@ def encode(samples: Any, options: Options) -> bytes:
 
 def native(samples: Any, options: Options) -> Any:
     """Samples as encode takes them, in memory as the options store them."""
-    if numpy is None or not isinstance(samples, numpy.ndarray):
+    if not isinstance(samples, numpy_type("ndarray")):
         return samples
+    numpy = numpy_if_there()
     if isinstance(samples, numpy.ma.MaskedArray):
         raise TypeError("an array with a mask can't be coded: use its filled()")
     return numpy.ascontiguousarray(samples.astype(options.dtype, order="C", casting="equiv", copy=False))
@@ -131,13 +132,14 @@ def of_dtype(out: Any, options: Options) -> Any:
     """An array to be filled. TypeError where its dtype isn't that of the options."""
     if out is None:
         return None
-    if numpy is not None and isinstance(out, numpy.ndarray) and out.dtype == numpy.dtype(options.dtype) and out.flags.c_contiguous:
+    if isinstance(out, numpy_type("ndarray")) and out.dtype == options.dtype and out.flags.c_contiguous:
         return out
     raise TypeError(f"out must be a numpy array of the dtype {options.dtype} in C order")
 
 
 def array_of(stored: Any, options: Options) -> Any:
     """Stored samples as an array over the same memory."""
+    numpy = numpy_if_there()
     if numpy is None:
         raise ImportError("arrays need numpy: use decode_bytes or decode_range_bytes")
     return numpy.frombuffer(stored, options.dtype)

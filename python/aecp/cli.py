@@ -120,6 +120,22 @@ def words() -> argparse.ArgumentParser:
     return parser
 
 
+def parsed(argv: Optional[list[str]]) -> argparse.Namespace:
+    """What the words ask for. File names may also come after options, where argparse leaves them over."""
+    parser = words()
+    asked, late = parser.parse_known_args(argv)
+    if late and all(word == "-" or not word.startswith("-") for word in late):
+        if "paths" in asked:
+            asked.paths += late
+            return asked
+        if "out" in asked and asked.out is None and len(late) == 1:
+            asked.out = late[0]
+            return asked
+    if late:
+        parser.error(f"unrecognized arguments: {' '.join(late)}")
+    return asked
+
+
 def interrupted(number: int, _: Any) -> NoReturn:
     """Stops what is done. A second stop is too late: what was begun is taken back by then."""
     for it in STOPS:
@@ -140,7 +156,7 @@ def quiet_pipes() -> Iterator[None]:
 
 def main(argv: Optional[list[str]] = None) -> NoReturn:
     """Does what the words say, and ends with the status."""
-    asked = words().parse_args(argv)
+    asked = parsed(argv)
     for stop in STOPS:
         if signal.getsignal(stop) is not signal.SIG_IGN:  # as under nohup
             signal.signal(stop, interrupted)

@@ -12,8 +12,8 @@ from typing import Any
 
 from aecp.calls import decode_bytes, encode
 from aecp.options import Options
-from numcodecs.abc import Codec
-from numcodecs.compat import ensure_contiguous_ndarray, ensure_ndarray, ndarray_copy
+from numcodecs.abc import Codec  # type: ignore[import]
+from numcodecs.compat import ensure_contiguous_ndarray, ensure_ndarray, ndarray_copy  # type: ignore[import]
 
 HEAD = 4
 OTHER_ORDER = 1 << 31

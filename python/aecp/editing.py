@@ -14,7 +14,7 @@ from aecp.faults import Fault
 from aecp.notes import WRITER, Note, Sum, now, sha256_of
 from aecp.options import Options
 from aecp.pairs import Damaged, Opened, Pair, Refused, is_of, other_bytes, read_if_there
-from aecp.scripts import Change, change_of, difference, judged, made, parts_of, script_within
+from aecp.scripts import Change, change_of, difference, edited, judged, parts_of, script_within
 
 SHOWN = 20  # bad lines that are shown
 
@@ -61,7 +61,7 @@ def edit(pair: Pair, script: bytes, allow_empty: bool) -> str:
         refuse_lines(checked.complaints)
         before = decoding.result()
         sound = pool.submit(judge_samples, before, note)
-        after = made(before, checked.edits, options)
+        after = edited(bytearray(before), checked.edits, options)
         coded, sum_after = pool.submit(encode, after, options), pool.submit(Sum.of, after)
         change = change_of(after, before, options.storage, parts_of(checked.edits, options.storage))
         inverse = inverse_of(opened, after, before, change)
@@ -132,7 +132,8 @@ def undo(pair: Pair) -> str:
 
 
 def earlier_stream(opened: Opened, entry: dict[str, Any], pool: ThreadPoolExecutor, has_sum: Future[None]) -> bytes:
-    """The stream before an edit, the last one of the history."""
+    """What is to be the stream before an edit, the last one of the history. Its sum shows whether it is, and so that of the samples that
+    it is made of need not be judged."""
     inverse, options = entry["inverse"], opened.note.options
     if "stream" in inverse:
         has_sum.result()
@@ -140,13 +141,9 @@ def earlier_stream(opened: Opened, entry: dict[str, Any], pool: ThreadPoolExecut
     decoding = pool.submit(samples_in, opened)
     back = judged(inverse["script"].encode("ascii"), opened.note.count, options)
     has_sum.result()
-    samples = decoding.result()
-    sound = pool.submit(judge_samples, samples, opened.note)
     if back.complaints:
         raise Refused(f"the inverse script doesn't fit: {back.complaints[0]}")
-    stream = encode(made(samples, back.edits, options), options)
-    sound.result()
-    return stream
+    return encode(edited(decoding.result(), back.edits, options), options)
 
 
 def log_lines(note: Note) -> list[str]:
@@ -175,12 +172,12 @@ def script_in(note: Note, place: int) -> bytes:
     return str(entry["script"]).encode("utf-8", "surrogateescape")
 
 
-def compared(first: Opened, second: Opened) -> tuple[bytes, bytes]:
+def compared(first: Opened, second: Opened) -> tuple[bytearray, bytearray]:
     """The stored samples of two streams, which have to be stored alike."""
     a, b = first.note.options, second.note.options
     if (a.bits, a.signed, a.storage, a.msb_first) != (b.bits, b.signed, b.storage, b.msb_first):
         raise Refused("the samples are stored in other ways, so no script makes one of the other")
-    return bytes(samples_in(first)), bytes(samples_in(second))
+    return samples_in(first), samples_in(second)
 
 
 def pixels(text: str, rows: int, columns: int, frame: int) -> str:

@@ -190,14 +190,16 @@ def keep_locked(keeping: Keeping, file: Found, pair: Pair) -> Outcome:
     mended = pair.mend(left) if left else None
     if pair.is_kept():
         return judge_kept(keeping, file.path, pair, mended or "")
-    if os.path.lexists(pair.path):
-        raise Refused(f"{shown(pair.name)} exists and has no note: move it away")
     before, data = os.stat(file.path), read_if_there(file.path)
     if data is None:
         raise Refused("there is no such file")
     if not file.is_named and len(data) % keeping.options.storage:
         return Outcome(file.path, "passed", f"passed over: {len(data)} bytes are no whole samples of {keeping.options.storage}")
     note, stream = coded(keeping, data, before)
+    if os.path.lexists(pair.path):
+        if read_if_there(pair.path) != stream:
+            raise Refused(f"{shown(pair.name)} exists, has no note, and isn't this file's code with {words_of(note.options)}: move it away")
+        mended = "its stream had no note"
     if os.path.lexists(pair.note_path):
         os.unlink(pair.note_path)
         mended = "its note had no stream, and is written anew"

@@ -78,7 +78,8 @@ class Pair:
                 return old_note_of(old)
         except BadNote as error:
             path = self.note_path if old is None else self.old_note_path
-            raise Damaged("bad note", f"the note {shown(os.path.basename(path))} can't be used: {error}") from None
+            name = shown(os.path.basename(path))
+            raise Damaged("bad note", f"the note {name} can't be used: {error}; `aecp rescue` with -n and --count reads the stream") from None
         raise Damaged("no note", "there is no note: `aecp keep` writes one; `aecp rescue` reads a stream with none")
 
     def note_to_be(self) -> Optional[Note]:
@@ -105,7 +106,7 @@ class Pair:
             if self.note_bytes() == before:
                 break
         if stream is None:
-            raise Damaged("no stream", "there is a note, but no stream")
+            raise Damaged("no stream", "there is a note, but no stream: `aecp keep` writes both anew from the original")
         raise Damaged("other bytes", other_bytes(stream, note))
 
     @contextlib.contextmanager
@@ -206,10 +207,11 @@ class Pair:
         return paths
 
     def create(self, note: Note, stream: bytes) -> None:
-        """Writes a new pair, where nothing has its names: both, or none."""
+        """Writes a new pair, both files or none, where nothing has their names but perhaps this very stream."""
         paths = self.write_new(note, stream)
         try:
-            os.link(paths[0], self.path)
+            if read_if_there(self.path) != stream:
+                os.link(paths[0], self.path)
             os.link(paths[1], self.note_path)
         except BaseException:
             with contextlib.suppress(OSError):

@@ -114,7 +114,7 @@ def rescued(stream: bytes, count: Optional[int], options: Options) -> Rescued:
     return Rescued(best, least, why, False)
 
 
-def rescue_text(found: Rescued, stream: bytes, note: Optional[Note]) -> str:
+def rescue_text(found: Rescued, stream: bytes, note: Optional[Note], has_count: bool) -> str:
     """What was rescued, in words."""
     if found.is_whole and note is not None:
         try:
@@ -123,7 +123,8 @@ def rescue_text(found: Rescued, stream: bytes, note: Optional[Note]) -> str:
         except Refused:
             return f"{found.number} samples, all that the note names; but some are wrong: their SHA-256 isn't that of the note. No checksum can show which"
     if found.is_whole:
-        return f"{found.number} samples: the whole stream decodes; without --count the last ones may be filler"
+        more = "no checksum shows whether they are right" if has_count else "without --count the last ones may be filler"
+        return f"{found.number} samples: the whole stream decodes; {more}"
     wanted = f" of {note.count}" if note is not None else ""
     text = f"{found.number}{wanted} samples: {found.why}"
     if note is not None and len(stream) == note.stream.bytes:

@@ -6,7 +6,7 @@ from array import array
 from collections.abc import Iterable
 from typing import Any, Union
 
-from aecp.buffers import numpy
+from aecp.buffers import numpy_if_there, numpy_type
 from aecp.options import whole
 
 Samples = Union[int, Iterable[int]]
@@ -43,7 +43,7 @@ def held_in(samples: Any) -> Any:
     if isinstance(samples, TEXTS):
         name = type(samples).__name__
         raise TypeError(f"{name} can't be taken as samples: pass numbers, for example list(data)")
-    if numpy is not None and isinstance(samples, (numpy.ndarray, numpy.generic)):
+    if isinstance(samples, (numpy_type("ndarray"), numpy_type("generic"))):
         return of_numpy(samples)
     if isinstance(samples, range):
         return array("q", samples)
@@ -67,6 +67,7 @@ def of_array(samples: "array[Any]") -> "array[int]":
 
 def of_numpy(samples: Any) -> Any:
     """An array of numpy, or a single number of it, as an array of 64-bit numbers."""
+    numpy = numpy_if_there()
     if isinstance(samples, numpy.ma.MaskedArray):
         raise TypeError("an array with a mask can't be taken as samples: use its filled() or compressed()")
     samples = numpy.asarray(samples)

@@ -128,13 +128,13 @@ class Store:
         return [int.from_bytes(part, order, signed=self.signed) for part in parts]
 
 
-def made(data: bytes, edits: list[Edit], options: Options) -> bytearray:
-    """The stored samples that edits leave, which were judged for them."""
-    store, out = Store(options), bytearray(data)
+def edited(samples: bytearray, edits: list[Edit], options: Options) -> bytearray:
+    """Makes edits on stored samples for which they were judged, and returns these."""
+    store = Store(options)
     for edit in edits:
-        first, end = edit.exchanged(len(out) // store.width)
-        out[first * store.width : end * store.width] = store.bytes_of(edit.values)
-    return out
+        first, end = edit.exchanged(len(samples) // store.width)
+        samples[first * store.width : end * store.width] = store.bytes_of(edit.values)
+    return samples
 
 
 def parts_of(edits: list[Edit], width: int) -> Optional[list[tuple[int, int]]]:

@@ -31,7 +31,8 @@ def refusing(path: str, work: Callable[[], int]) -> int:
     try:
         return work()
     except Refused as refusal:
-        return complain(f"{shown(path)}: {refusal}")
+        more = "; `aecp rescue` reads what is left of it" if isinstance(refusal, Damaged) and refusal.kind == "other bytes" else ""
+        return complain(f"{shown(path)}: {refusal}{more}")
     except BrokenPipeError:
         raise
     except OSError as error:
@@ -311,7 +312,7 @@ def do_rescue(asked: argparse.Namespace) -> int:
         options = note.options if asked.bits is None else options_of(asked)
         count = asked.count if asked.count is not None else note.count if note is not None else None
         found = reading.rescued(stream, count, options)
-        text = reading.rescue_text(found, stream, note)
+        text = reading.rescue_text(found, stream, note, count is not None)
         if asked.out is not None:
             reading.write_out(asked.out, found.samples)
         print(f"{shown(asked.file)}: {text}", file=sys.stderr if asked.out == "-" else sys.stdout)

@@ -7,7 +7,7 @@ from array import array
 from collections.abc import Iterable, Iterator, MutableSequence, Sequence
 from typing import Any, Callable, Optional, SupportsIndex, Union, overload
 
-from aecp.buffers import Source, Target, numpy, room_for
+from aecp.buffers import Source, Target, numpy_if_there, room_for
 from aecp.calls import number_of, place
 from aecp.faults import NO_ROOM, NOT_OPEN, SAMPLE_RANGE, Fault, fault_of
 from aecp.library import LIBRARY, Handle, Reply, c_options, text_of
@@ -210,6 +210,7 @@ class Workspace(MutableSequence[int]):
 
     def __array__(self, dtype: Any = None, copy: Optional[bool] = None) -> Any:
         """All samples as a numpy array of 64-bit numbers."""
+        numpy = numpy_if_there()
         samples = numpy.frombuffer(self[:], numpy.int64)
         return samples if dtype is None else samples.astype(dtype)
 

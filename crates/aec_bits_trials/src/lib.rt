@@ -1,6 +1,4 @@
-//! Tests alone: what no clause of `aec_params` and `aec_bits` says, and values from outside. They
-//! stand here because a crate with tests is proved twice, and its must-fail edits wait for both
-//! proofs.
+//! Tests of `aec_params` and `aec_bits`: what their clauses don't say, and values from outside.
 #![tactic(auto)]
 
 #[cfg(test)]

@@ -1,5 +1,4 @@
-//! Tests alone: what no clause of `aec_block` says, and values from outside. They stand here
-//! because a crate with tests is proved twice, and its must-fail edits wait for both proofs.
+//! Tests of `aec_block`: what its clauses don't say, and values from outside.
 #![tactic(auto)]
 
 #[cfg(test)]

@@ -34,3 +34,8 @@ pub(crate) fn holds_at<C: Debug>(rt: &impl Abort, condition: bool, case: &C)
 {
     assert!(rt; condition, "at {case:?}");
 }
+
+/// Fails, and shows what came.
+pub(crate) fn fails<C: Debug>(rt: &impl Abort, what: &C) {
+    assert!(rt; false, "{what:?}");
+}

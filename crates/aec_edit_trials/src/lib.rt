@@ -1,5 +1,5 @@
-//! Tests alone: what no clause of `aec_edit` says, and values from outside. They stand here
-//! because a crate with tests is proved twice, and its must-fail edits wait for both proofs.
+//! Tests of workspaces: what no clause of `aec_edit` says, and values from outside. Most are rows
+//! of a text.
 #![tactic(auto)]
 
 #[cfg(test)]

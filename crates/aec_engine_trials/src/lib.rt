@@ -1,5 +1,5 @@
-//! Tests alone: what no clause of `aec_engine` says, and values from outside; and what the tests of
-//! the command share with them.
+//! Tests of the engines: what the clauses of `aec_engine` leave open, and values from outside. The
+//! tests of the command use its devices too.
 #![tactic(auto)]
 
 #[cfg(test)]

@@ -1,5 +1,5 @@
-//! Tests alone: damaged and hostile streams, read by `decode_all` and by a plain reader that was
-//! written from docs/FORMAT.md without the library's code.
+//! Damaged and hostile streams, read by `decode_all` and by a plain reader that was written from
+//! docs/FORMAT.md without the library's code.
 #![tactic(auto)]
 
 #[cfg(test)]

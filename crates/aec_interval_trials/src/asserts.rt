@@ -28,6 +28,13 @@ pub(crate) fn holds(rt: &impl Abort, condition: bool)
     assert!(rt; condition);
 }
 
+/// The condition holds in this case.
+pub(crate) fn holds_at<C: Debug>(rt: &impl Abort, condition: bool, case: &C)
+    ensures it { condition ≡ true }
+{
+    assert!(rt; condition, "at {case:?}");
+}
+
 /// Fails, and shows what came.
 pub(crate) fn fails<C: Debug>(rt: &impl Abort, what: &C) {
     assert!(rt; false, "{what:?}");

@@ -1,5 +1,5 @@
-//! Tests alone: what no clause of `aec_interval` says, and values from outside. They stand here
-//! because a crate with tests is proved twice, and its must-fail edits wait for both proofs.
+//! Tests of intervals and streams: what no clause of `aec_interval` promises, and values from
+//! outside.
 #![tactic(auto)]
 
 #[cfg(test)]

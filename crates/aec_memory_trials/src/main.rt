@@ -1,5 +1,5 @@
-//! Makes calls of the libraries that can lack memory, and prints what it answers and what it
-//! leaves.
+//! A program for tests: calls of the libraries that can lack memory, and a line for each, with its
+//! result and what is there then.
 #![tactic(auto)]
 
 mod bits;

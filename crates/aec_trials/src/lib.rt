@@ -1,6 +1,5 @@
-//! Tests alone: what no clause of `aec_engine` and `aec_cli` says of the jobs of the command, and
-//! values from outside. They stand here because a crate with tests is proved twice, and its
-//! must-fail edits wait for both proofs.
+//! Tests of the command: what no clause of `aec_engine` and `aec_cli` says of its jobs, and values
+//! from outside.
 #![tactic(auto)]
 
 #[cfg(test)]
