@@ -124,7 +124,8 @@ pub(crate) fn choose_among(params: &Params, id_len: u32, block: &BlockRef, value
     if pairs_are_longer(options, split, values.len() as u64) {
         return shorter_of_split(params, id_len, block, uncompressed, split);
     }
-    let best = shorter_of_pairs(params, id_len, block, uncompressed);
+    let own = *params;
+    let best = shorter_of_pairs(&own, id_len, block, uncompressed);
     if options == 0 {
         return best;
     }
