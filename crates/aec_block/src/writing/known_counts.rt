@@ -38,7 +38,8 @@ pub(crate) fn write_values<const N: usize, const COPY: usize>(
         Coding::NoCompression => put_uncompressed(params, id_len, block, values, out),
         Coding::SecondExtension => {
             let own = *params;
-            put_paired(&own, id_len, block, out);
+            let lent = BlockRef::new(block.reference(), block.values());
+            put_paired(&own, id_len, &lent, out);
         },
         Coding::Split(k) => put_split(params, id_len, block, values, k, choice.bits, out),
     }
