@@ -1,5 +1,5 @@
 -- Sums in lanes are the sums of the values.
-use Rattle.std.proofs.Common.{◌≡◌, ℕ, ◌+◌, ◌-◌, ◌*◌, ◌/◌, ◌^◌, ◌≤◌, refl, ap, ◌∙◌, sym, subst, arith, List, [], ◌∷◌, length, map, take, drop, get_or}
+use Rattle.std.proofs.Common.{◌≡◌, ℕ, ◌+◌, ◌-◌, ◌*◌, ◌/◌, ◌^◌, ◌≤◌, refl, ap, ◌∙◌, sym, subst, arith, Option, Some, None, List, [], ◌∷◌, length, map, take, drop, get_or}
 use Rattle.std.specs.Simd.Lanes.{sum_l, Each1, zip2, fold_l}
 use mir.Syntax.{add, unsigned, w32, w64}
 use mir.Val.{Fits}
@@ -10,6 +10,10 @@ use Rattle.std.proofs.lemmas.List.{take_all, take_rest}
 use Rattle.std.proofs.lemmas.Nat.{shr_le}
 use Rattle.std.proofs.lemmas.Simd.{adds_fit, sum_fits, sum-zip2, fold-sum, length-zip2, zip2_splat, chunk-fits, shifts_fit_splat, widens}
 use Rattle.std.proofs.lemmas.List.Sums.{sum_by-cons, sum_by-append, sum_by-take-drop}
+use Rattle.aec_params.specs.Blocks.{Block}
+use Rattle.aec_params.specs.Places.{placed_values}
+use Rattle.aec_params.specs.Spellings.{after_reference, written_values}
+use Rattle.aec_block.specs.BlockShape.{IsSound}
 use Rattle.aec_block.specs.Lengths.{sum_of_shifted}
 
 -- the lanes of shifted values add up to the sum of them
@@ -43,27 +47,14 @@ zero_in_front k values =
     let nothing = shr_le 0 k in
     omega arith
 
--- seven values one by one
-seven : (values : List ℕ) → length values ≡ 7
-    → get_or values 0 0 ∷ (get_or values 1 0 ∷ (get_or values 2 0 ∷ (get_or values 3 0 ∷ (get_or values 4 0 ∷ (get_or values 5 0
-    ∷ (get_or values 6 0 ∷ [])))))) ≡ values
-seven (a ∷ (b ∷ (c ∷ (d ∷ (e ∷ (f ∷ (g ∷ []))))))) len = refl
-seven (a ∷ (b ∷ (c ∷ (d ∷ (e ∷ (f ∷ (g ∷ (h ∷ values)))))))) len = absurd (omega arith)
-seven (a ∷ (b ∷ (c ∷ (d ∷ (e ∷ (f ∷ [])))))) len = absurd (omega arith)
-seven (a ∷ (b ∷ (c ∷ (d ∷ (e ∷ []))))) len = absurd (omega arith)
-seven (a ∷ (b ∷ (c ∷ (d ∷ [])))) len = absurd (omega arith)
-seven (a ∷ (b ∷ (c ∷ []))) len = absurd (omega arith)
-seven (a ∷ (b ∷ [])) len = absurd (omega arith)
-seven (a ∷ []) len = absurd (omega arith)
-seven [] len = absurd (omega arith)
+-- nor does the reference place
+by_reference : (k : ℕ) (reference : Option ℕ) (values : List ℕ) → values ≡ placed_values reference (after_reference reference values)
+    → sum_of_shifted k values ≡ sum_of_shifted k (after_reference reference values)
+by_reference k None values placed = refl
+by_reference k (Some r) values placed = ap (sum_of_shifted k) placed ∙ zero_in_front k (after_reference (Some r) values)
 
-pub seven-sums : (k : ℕ) (values : List ℕ) → length values ≡ 7
-    → sum_of_shifted k (0 ∷ (get_or values 0 0 ∷ (get_or values 1 0 ∷ (get_or values 2 0 ∷ (get_or values 3 0 ∷ (get_or values 4 0
-    ∷ (get_or values 5 0 ∷ (get_or values 6 0 ∷ [])))))))) ≡ sum_of_shifted k values
-seven-sums k values len =
-    ap (λ (vs : List ℕ). sum_of_shifted k (0 ∷ vs)) (seven values len) ∙ zero_in_front k values
-
-pub ruleset behind_zero = (seven-sums)
+pub written-sums : (b : Block) → IsSound b → (k : ℕ) → sum_of_shifted k b.values ≡ sum_of_shifted k (written_values b)
+written-sums b sound k = by_reference k b.reference b.values sound.placed
 
 pub ruleset shifts = (chunk-fits, shifts_fit_splat, widens, zip2_splat, take_all, sum_l-shifted, eight_shifted-le)
 

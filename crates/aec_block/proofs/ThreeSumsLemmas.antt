@@ -7,7 +7,8 @@ use borrow.Table.Row.{s_int}
 use Rattle.std.proofs.lemmas.Simd.{adds_fit, sum_fits, sum-zip2, fold-sum, length-zip2}
 use Rattle.std.specs.List.{AllByRecursion}
 use Rattle.std.proofs.lemmas.List.Sums.{sum_by-cons, sum_by-take-drop}
-use Rattle.std.proofs.lemmas.Nat.{mul-le}
+use Rattle.std.proofs.lemmas.Nat.{mul-le, pow-add, pow_pos}
+use Rattle.std.proofs.Math.Nat.{div-lt_iff_lt-mul, add-mul}
 use Rattle.std.proofs.Math.Pow.{pow_mono}
 use Rattle.aec_block.specs.Lengths.{sum_of_shifted}
 use Rattle.aec_block.proofs.LanesLemmas.{eight_more}
@@ -57,6 +58,28 @@ below-sum n (v ∷ values) below =
     let added = sum_by-cons (λ (u : ℕ). u / 2 ^ 0) v values in
     let here = below.0 in
     omega arith
+
+-- a quotient has the fewer bits
+shifted-below : (k n m : ℕ) (values : List ℕ) → n ≤ m + k → AllByRecursion (λ v. v < 2 ^ n) values
+    → sum_of_shifted k values + length values ≤ length values * 2 ^ m
+shifted-below k n m [] wide below = omega arith
+shifted-below k n m (v ∷ values) wide below =
+    let rest = shifted-below k n m values wide below.1 in
+    let added = sum_by-cons (λ (u : ℕ). u / 2 ^ k) v values in
+    let power : 2 ^ n ≤ 2 ^ (m + k) = pow_mono wide in
+    let here = below.0 in
+    let product : 2 ^ (m + k) ≡ 2 ^ m * 2 ^ k = pow-add 2 m k in
+    let quotient : v / 2 ^ k < 2 ^ m = (div-lt_iff_lt-mul (pow_pos k)).1 (omega arith) in
+    let counts : (1 + length values) * 2 ^ m ≡ 1 * 2 ^ m + length values * 2 ^ m = add-mul _ _ _ in
+    omega arith
+
+pub shifted-small : (k n : ℕ) (values : List ℕ) → n ≤ 26 + k → length values ≤ 64 → AllByRecursion (λ v. v < 2 ^ n) values
+    → sum_of_shifted k values < 2 ^ 32
+shifted-small k n [] few most below = omega arith
+shifted-small k n (v ∷ values) few most below =
+    let same : 2 ^ 26 ≤ 2 ^ 26 = omega arith in
+    let product = mul-le (length (v ∷ values)) (2 ^ 26) 64 (2 ^ 26) most same in
+    omega (arith, shifted-below k n 26 (v ∷ values) few below)
 
 pub narrow-small : (n : ℕ) (values : List ℕ) → n ≤ 26 → length values ≤ 64 → AllByRecursion (λ v. v < 2 ^ n) values → sum_of_shifted 0 values < 2 ^ 32
 narrow-small n [] few most below = omega arith

@@ -120,11 +120,12 @@ pub(crate) fn choose_among(params: &Params, id_len: u32, block: &BlockRef, value
         bits: uncompressed_len(params, id_len, block, values),
     };
     let options = split_options(params, id_len);
-    let split = best_split(values, params.bits(), options);
+    let split = best_split(block.values(), values, params.bits(), options);
     if pairs_are_longer(options, split, values.len() as u64) {
         return shorter_of_split(params, id_len, block, uncompressed, split);
     }
-    let best = shorter_of_pairs(params, id_len, block, uncompressed);
+    let own = *params;
+    let best = shorter_of_pairs(&own, id_len, block, uncompressed);
     if options == 0 {
         return best;
     }

@@ -12,10 +12,15 @@ use crate::writing::known_counts::write_values;
 use aec_bits::BitBuf;
 use aec_params::{Fault, Params};
 
+/// The copies of `write_values` here: for blocks of `N` values without a reference, and with one.
+const WITHOUT_REFERENCE: usize = 1;
+
+const WITH_REFERENCE: usize = 2;
+
 /// Appends the shortest coded data set of a block whose values behind the reference place are given
-/// too, compiled for their number where that is known. `Memory` where a growth was refused.
+/// too. `Memory` where a growth was refused. `N` and `COPY` are those of `write_values`.
 #[inline(always)]
-fn write_chosen(
+fn write_chosen<const N: usize, const COPY: usize>(
     params: &Params,
     block: &BlockRef,
     values: &[u32],
@@ -28,11 +33,11 @@ fn write_chosen(
 {
     let id_len = params.id_len();
     let choice = choose_among(params, id_len, block, values);
-    write_values(params, id_len, block, values, choice, out)
+    write_values::<N, COPY>(params, id_len, block, values, choice, out)
 }
 
 /// Appends the shortest coded data set of a block of `N` values without a reference.
-#[inline(never)]
+#[inline(always)]
 fn write_others<const N: usize>(
     params: &Params,
     values: &[u32],
@@ -45,11 +50,11 @@ fn write_others<const N: usize>(
         out.old result out.new }
 {
     let values = &values[..N];
-    write_chosen(params, &BlockRef::new(None, values), values, out)
+    write_chosen::<N, WITHOUT_REFERENCE>(params, &BlockRef::new(None, values), values, out)
 }
 
 /// The same of a block of `N` values with a reference.
-#[inline(never)]
+#[inline(always)]
 fn write_first<const N: usize>(
     params: &Params,
     pattern: u32,
@@ -63,7 +68,7 @@ fn write_first<const N: usize>(
         out.old result out.new }
 {
     let all = &values[..N];
-    write_chosen(params, &BlockRef::new(Some(pattern), all), &all[1..N], out)
+    write_chosen::<N, WITH_REFERENCE>(params, &BlockRef::new(Some(pattern), all), &all[1..N], out)
 }
 
 /// Appends the shortest coded data set of the block of a reference, where there is one, and of `N`

@@ -208,7 +208,7 @@ fn put_uncompressed(
 }
 
 /// Appends a block by the second extension, for which there is room.
-#[inline(always)]
+#[inline(never)]
 #[tactic(auto, using(crate::proofs::WritingLemmas::parts))]
 fn put_paired(params: &Params, id_len: u32, block: &BlockRef, out: &mut BitBuf)
     requires allowed { IsAllowed params.now }
@@ -287,7 +287,7 @@ pub fn write_block(
     ensures { Appends (shortest_bits params.now block.now) out.old result out.new }
 {
     let lent = block.lent();
-    write_values(params, params.id_len(), &lent, lent.written(), choice, out)
+    write_values::<0, 0>(params, params.id_len(), &lent, lent.written(), choice, out)
 }
 
 /// The number that the code of a run of `z` blocks spells: 4, the remainder code, for a run of five

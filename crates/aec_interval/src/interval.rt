@@ -63,7 +63,8 @@ fn write_chunk<const N: usize>(
         run out.old result out.new }
 {
     if samples.len() != N || params.block_size() as usize != N {
-        return write_short(alloc, params, previous, samples, run, out);
+        let own = *params;
+        return write_short(alloc, &own, previous, samples, run, out);
     }
     let mut values = [0u32; N];
     write_next::<N>(params, previous, &samples[..N], &mut values, run, out)
@@ -162,8 +163,11 @@ fn write_known_intervals<const N: usize>(
     ensures kept { IsKept out.old.list out.new.list }
     ensures fault { IfErr result (λ e. e ≡ Memory) }
 {
+    // Calls that stay out of line are lent copies of this copy, so that the compiler can keep it in
+    // registers.
+    let own = *params;
     for interval in samples.chunks(interval_size(params)) {
-        write_interval::<N>(alloc, params, interval, out)?;
+        write_interval::<N>(alloc, &own, interval, out)?;
     }
     Ok(())
 }

@@ -100,27 +100,36 @@ fn sum_of_values(values: &[u32], bits: u32) -> u64
     }
 }
 
-/// The sum of the values without their `k` low bits, where that of the values as they are is known.
-fn sum_from(values: &[u32], total: u64, k: u32) -> u64
+/// The sum of values below `2^bits` without their `k` low bits, where that of the values as they
+/// are is known: in lanes of 32 bits where 64 of them fit these.
+#[inline(always)]
+fn sum_from(values: &[u32], bits: u32, total: u64, k: u32) -> u64
     requires total { total ≡ sum_of_shifted 0 values.now }
     requires bound { total ≤ 2 ^ 39 }
     requires k { k < 32 }
     requires len { length values.now ≤ most_values }
+    requires below { AllByRecursion (λ v. v < 2 ^ bits) values.now }
     ensures sum { result ≡ sum_of_shifted k values.now }
     ensures bound { result ≤ 2 ^ 39 }
 {
     if k == 0 {
         return total;
     }
+    if bits <= 26 + k {
+        return small_shifted_sum(values, k);
+    }
     shifted_sum(values, k)
 }
 
 /// The best k, where it is `first`, the next or the one behind that: each before is longer than the
-/// next, and the values add up to three times their number or less without `first` low bits.
+/// next, and the values add up to three times their number or less without `first` low bits. Their
+/// sums are those of `all`.
 #[inline(always)]
-fn best_of_three(values: &[u32], first: u32) -> Splitting
+fn best_of_three(all: &[u32], values: &[u32], first: u32) -> Splitting
     requires first { first < 30 }
     requires len { length values.now ≤ most_values }
+    requires len_all { length all.now ≤ most_values }
+    requires sums { (k : ℕ) → sum_of_shifted k all.now ≡ sum_of_shifted k values.now }
     requires before { (j : ℕ) → j < first
         → 3 * length values.now * 2 ^ j < sum_of_shifted 0 values.now }
     requires there { sum_of_shifted 0 values.now ≤ 3 * length values.now * 2 ^ first }
@@ -128,7 +137,7 @@ fn best_of_three(values: &[u32], first: u32) -> Splitting
     ensures bits { result.bits ≡ split_values_length result.k values.now }
     ensures bound { result.bits ≤ 2 ^ 40 }
 {
-    let sums = three_sums(values, first);
+    let sums = three_sums(all, first);
     let count = values.len();
     if !is_shorter_next(sums.first, sums.second, count as u64) {
         return with_k(sums.first, count, first);
@@ -143,25 +152,28 @@ fn best_of_three(values: &[u32], first: u32) -> Splitting
 /// the least; 0 where there are no options. The sums fall by half at least with each k, so what one
 /// more low bit gains never grows: at the first k that one more doesn't make shorter, no later one
 /// does. The sum of the values as they are says where to begin, and two further k are enough where
-/// it says so below the last.
+/// it says so below the last. The sums are taken of `all`: a 0 in the reference place, which adds
+/// nothing, makes the values fill lanes.
 #[inline(always)]
-pub(crate) fn best_split(values: &[u32], bits: u32, options: u32) -> Splitting
-    requires below { AllByRecursion (λ v. v < 2 ^ bits) values.now }
+pub(crate) fn best_split(all: &[u32], values: &[u32], bits: u32, options: u32) -> Splitting
+    requires below { AllByRecursion (λ v. v < 2 ^ bits) all.now }
     requires options { options ≤ 32 }
     requires len { length values.now ≤ most_values }
+    requires len_all { length all.now ≤ most_values }
+    requires sums { (k : ℕ) → sum_of_shifted k all.now ≡ sum_of_shifted k values.now }
     ensures best { 0 < options → IsBestSplit options result.k values.now }
     ensures bits { result.bits ≡ split_values_length result.k values.now }
     ensures bound { result.bits ≤ 2 ^ 40 }
 {
     let last = options.saturating_sub(1);
-    let total = sum_of_values(values, bits);
+    let total = sum_of_values(all, bits);
     let first = first_k(total, values.len() as u64, last);
     if first + 2 <= last {
-        return best_of_three(values, first);
+        return best_of_three(all, values, first);
     }
-    let mut sum = sum_from(values, total, first);
+    let mut sum = sum_from(all, bits, total, first);
     for k in first..last {
-        let next = sum_from(values, total, k + 1);
+        let next = sum_from(all, bits, total, k + 1);
         if !is_shorter_next(sum, next, values.len() as u64) {
             return with_k(sum, values.len(), k);
         }

@@ -81,33 +81,6 @@ pub(crate) fn sum_one_by_one(values: &[u32], k: u32) -> u64
     sum
 }
 
-/// Seven values behind a 0, which have the same sums and fill lanes.
-#[inline(always)]
-#[tactic(auto, using(crate::proofs::LanesLemmas::behind_zero))]
-pub(crate) fn seven_in_lanes(values: &[u32]) -> [u32; 8]
-    requires len { length values.now ≡ 7 }
-    ensures len { length result ≡ 8 }
-    ensures sums { (k : ℕ) → sum_of_shifted k result ≡ sum_of_shifted k values.now }
-{
-    [
-        0, values[0], values[1], values[2], values[3], values[4], values[5], values[6],
-    ]
-}
-
-/// The sum of a few values, fewer than eight: of seven in lanes.
-#[inline(always)]
-pub(crate) fn sum_of_few(values: &[u32], k: u32) -> u64
-    requires k { k < 32 }
-    requires few { length values.now < 8 }
-    ensures sum { result ≡ sum_of_shifted k values.now }
-    ensures bound { result ≤ most_values * 2 ^ 32 }
-{
-    if values.len() == 7 {
-        return sum_by_eights(&seven_in_lanes(values), k);
-    }
-    sum_one_by_one(values, k)
-}
-
 /// The values without their `k` low bits, added up.
 #[inline(always)]
 #[tactic(auto, using(crate::proofs::LanesLemmas::joined_sums))]
@@ -117,5 +90,5 @@ pub(crate) fn shifted_sum(values: &[u32], k: u32) -> u64
     ensures sum { result ≡ sum_of_shifted k values.now }
     ensures bound { result ≤ 2 * (most_values * 2 ^ 32) }
 {
-    sum_by_eights(values, k) + sum_of_few(rest_of_lanes(values), k)
+    sum_by_eights(values, k) + sum_one_by_one(rest_of_lanes(values), k)
 }

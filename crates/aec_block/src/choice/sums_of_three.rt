@@ -6,7 +6,7 @@ ghost use Rattle.std.specs.Simd.Lanes.{sum_l};
 ghost use Rattle.aec_block.specs.BlockShape.{most_values};
 ghost use Rattle.aec_block.specs.Lengths.{sum_of_shifted};
 
-use crate::choice::sums::{rest_of_lanes, seven_in_lanes, sum_of_few, sum_one_by_one};
+use crate::choice::sums::{rest_of_lanes, sum_one_by_one};
 use std::simd::prelude::*;
 
 /// The sums of values without k low bits, without one more, and without two more.
@@ -81,20 +81,16 @@ fn three_by_eights(values: &[u32], k: u32) -> ThreeSums
     }
 }
 
-/// The sums of a few values, fewer than eight: of seven in lanes.
+/// The sums of a few values, one by one.
 #[inline(always)]
 fn three_of_few(values: &[u32], k: u32) -> ThreeSums
     requires k { k < 30 }
     requires few { length values.now < 8 }
-    requires small { sum_of_shifted k values.now < 2 ^ 32 }
     ensures first { result.first ≡ sum_of_shifted k values.now }
     ensures second { result.second ≡ sum_of_shifted (k + 1) values.now }
     ensures third { result.third ≡ sum_of_shifted (k + 2) values.now }
     ensures bounds { (result.first ≤ 2 ^ 38) × (result.second ≤ 2 ^ 38) × (result.third ≤ 2 ^ 38) }
 {
-    if values.len() == 7 {
-        return three_by_eights(&seven_in_lanes(values), k);
-    }
     ThreeSums {
         first: sum_one_by_one(values, k),
         second: sum_one_by_one(values, k + 1),
@@ -148,5 +144,5 @@ pub(crate) fn small_shifted_sum(values: &[u32], k: u32) -> u64
     ensures sum { result ≡ sum_of_shifted k values.now }
     ensures bound { result < 2 ^ 32 }
 {
-    small_by_eights(values, k) + sum_of_few(rest_of_lanes(values), k)
+    small_by_eights(values, k) + sum_one_by_one(rest_of_lanes(values), k)
 }

@@ -59,7 +59,8 @@ impl Run {
         if self.blocks == 0 {
             return Ok(());
         }
-        write_run(params, self.reference, self.blocks, to_end, out)
+        let own = *params;
+        write_run(&own, self.reference, self.blocks, to_end, out)
     }
 }
 

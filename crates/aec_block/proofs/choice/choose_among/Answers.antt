@@ -1,18 +1,21 @@
-use Rattle.std.proofs.Common.{◌≡◌, ◌^◌, ◌*◌, ◌<◌, refl, ◌∙◌, sym, subst, arith, true, length}
+use Rattle.std.proofs.Common.{◌≡◌, ◌^◌, ◌*◌, ◌<◌, refl, ap, ◌∙◌, sym, subst, arith, true, length}
 use Rattle.std.specs.List.{AllByRecursion}
 use Rattle.std.specs.Prelude.{nat_lt, nat_le, ◌&&◌, ◌||◌}
 use Rattle.std.proofs.lemmas.Bool.Decides.{nat_tests}
-use Rattle.aec_block.specs.Lengths.{paired_length, split_values_length, IsBestSplit}
+use Rattle.aec_block.specs.Lengths.{sum_of_shifted, paired_length, split_values_length, IsBestSplit}
 use Rattle.aec_block.proofs.ChoiceLemmas.{names-first, names-split, names-unsplit, names-unpaired}
-use Rattle.aec_block.proofs.WritingLemmas.{after_reference-small}
+use Rattle.aec_block.proofs.LanesLemmas.{written-sums}
 use Rattle.aec_block.proofs.choice.choose_among.Goals as goal
 
 pub best_split-split-requires-clause-below : goal.best_split-split-requires-clause-below
 best_split-split-requires-clause-below c =
-    let b = c.args.block.now in
-    subst (λ n. AllByRecursion (λ v. v < 2 ^ n) c.args.values.now) (sym c.bits.ensures.value)
-    (subst (AllByRecursion (λ v. v < 2 ^ c.args.params.now.bits)) (sym c.requires.values)
-    (after_reference-small c.args.params.now.bits b.reference b.values c.requires.full.values))
+    subst (λ n. AllByRecursion (λ v. v < 2 ^ n) c.values.result.now) (sym c.bits.ensures.value)
+    (subst (AllByRecursion (λ v. v < 2 ^ c.args.params.now.bits)) (sym c.values.ensures.value) c.requires.full.values)
+
+pub best_split-split-requires-clause-sums : goal.best_split-split-requires-clause-sums
+best_split-split-requires-clause-sums c k =
+    ap (sum_of_shifted k) c.values.ensures.value ∙ written-sums c.args.block.now c.values.ensures.sound k
+    ∙ ap (sum_of_shifted k) (sym c.requires.values)
 
 pub returns-then-pairs_are_longer : goal.returns-then-pairs_are_longer
 returns-then-pairs_are_longer c =
