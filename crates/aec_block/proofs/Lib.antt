@@ -24,6 +24,7 @@ pub mod FillingLemmas
 pub mod ReadCdsLemmas
 pub mod PlainLemmas
 pub mod NoPlainLemmas
+pub mod ReadRunLemmas
 pub mod StandingLemmas
 pub mod SkippingLemmas
 pub mod ShortestLemmas

@@ -79,6 +79,13 @@ is_plain_body (value_pairs members) = false
 is_plain_body (split_values k values) = true
 is_plain_body (zero_blocks m) = false
 
+-- whether a body is a run of zero blocks
+abbrev pub is_run_body : Body → Bool
+is_run_body (uncompressed_values values) = false
+is_run_body (value_pairs members) = false
+is_run_body (split_values k values) = false
+is_run_body (zero_blocks m) = true
+
 -- whether such an identifier was taken
 abbrev pub is_plain_taken : Taken Kind → Bool
 is_plain_taken nothing = false
@@ -93,6 +100,10 @@ begins_plain s bits = is_plain_taken (kind_at (id_len s) bits)
 -- bits
 abbrev pub HasNoPlain : Settings → List Bool → Type 0
 HasNoPlain s bits = (c : CodedDataSet) (rest : List Bool) → cds_at s false bits ≡ taken c rest → is_plain_body c.body ≡ true → has_small_values s c ≡ false
+
+-- no run of zero blocks begins the bits
+abbrev pub HasNoRun : Settings → Bool → List Bool → Type 0
+HasNoRun s is_reference bits = (c : CodedDataSet) (rest : List Bool) → cds_at s is_reference bits ≡ taken c rest → is_run_body c.body ≡ false
 
 -- the coded data set c, whose values are at most 2^n - 1, is read as what it stands for, and the
 -- cursor moves past it (says that such a set stands there; the code takes many codewords from a

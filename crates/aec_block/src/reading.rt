@@ -3,6 +3,7 @@
 pub(crate) mod blocks;
 mod codewords;
 pub(crate) mod plain;
+pub(crate) mod runs;
 pub(crate) mod values;
 
 ghost use Rattle.std.specs.Prelude.{◌≡◌, ◌+◌, ◌≤◌, ◌<◌, ◌^◌, true, length, IfOk, IfErr, OnErr};

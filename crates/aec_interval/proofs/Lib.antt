@@ -40,6 +40,7 @@ pub mod PlainLemmas
 pub mod ReachedPlaceLemmas
 pub mod PieceReadingLemmas
 pub mod ShortLemmas
+pub mod ZeroIntervalLemmas
 pub mod SkippingLemmas
 pub mod IntervalFormatLemmas
 pub mod IntervalReadingLemmas

@@ -94,7 +94,8 @@ reads_unpredicted s old new values x more allowed off read one zero unmaps same 
 
 -- ---- one interval
 
-whole_end : (s : Settings) (count : Option ℕ) (limit i n : ℕ) → IsAllowed s → n ≡ i + s.interval → AreWithin s count limit n → IsUntestedEnd s count limit i n
+pub whole_end : (s : Settings) (count : Option ℕ) (limit i n : ℕ) → IsAllowed s → n ≡ i + s.interval → AreWithin s count limit n
+    → IsUntestedEnd s count limit i n
 whole_end s count limit i n allowed is within =
     untested-within s count limit i n 0 n allowed within.low within.counted is (sym (ap (λ b. if b then 1 else 0) within.unpadded)) (omega arith) within.samples
 

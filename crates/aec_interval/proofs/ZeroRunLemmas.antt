@@ -250,7 +250,7 @@ fills-longer s i z old reference x allowed some within filled repeats before =
         ∙ ap (λ l. old ++ l) (replicate-append-replicate (z * s.block_size) s.block_size x
         ∙ ap (λ n. replicate n x) (sym (ap (λ k. k * s.block_size) (add-one z) ∙ suc-mul z s.block_size)))
 
-fills-run : (s : Settings) (i z : ℕ) (old : List ℤ) (reference : Option ℕ) (x : ℤ) → IsAllowed s → 1 ≤ z → i % s.interval + z ≤ s.interval
+pub fills-run : (s : Settings) (i z : ℕ) (old : List ℤ) (reference : Option ℕ) (x : ℤ) → IsAllowed s → 1 ≤ z → i % s.interval + z ≤ s.interval
     → HasReference s (is_reference_block s (i % s.interval)) reference → AreFilled s i old → Repeats s reference old x
     → FillsNext s old (old ++ replicate (z * s.block_size) x) (run_blocks s reference z)
 fills-run s i zero old reference x allowed some within due filled repeats = absurd (omega arith)

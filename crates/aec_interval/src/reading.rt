@@ -114,7 +114,7 @@ pub(crate) fn skip_padding(params: &Params, reader: &mut BitReader, block: u64)
 }
 
 /// How many blocks that is at this block of an interval.
-fn block_count(params: &Params, place: u64, len: RunLen) -> u64
+pub(crate) fn block_count(params: &Params, place: u64, len: RunLen) -> u64
     requires { place < params.now.interval }
     ensures { result ≡ run_count params.now place len }
 {

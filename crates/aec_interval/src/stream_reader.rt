@@ -1,7 +1,7 @@
 //! A reader of samples, interval by interval.
 
 use crate::reached_place::ReachedPlace;
-use crate::reading::short::read_short;
+use crate::reading::short::{comes_zero_interval, read_short};
 use crate::reading::skipping::{count_asked, skip_interval};
 use crate::reading::whole::judge_count;
 use crate::reading::{Wanted, cut_to_count, read_interval, wants_more};
@@ -154,11 +154,13 @@ impl<'a> StreamReader<'a> {
         }
     }
 
-    /// Whether a plain coded data set seems to come next. The reader stays.
-    fn comes_plain(&mut self) -> bool
+    /// Whether several intervals may be read at once, as far as the next coded data set tells. The
+    /// reader stays.
+    fn comes_short(&mut self) -> bool
         ensures { self.new ≡ self.old }
     {
         comes_plain(&self.params, &mut self.reader)
+            || comes_zero_interval(&self.params, &mut self.reader)
     }
 
     /// Reads the next intervals into the vector, if they are short and it has room for them. Else
@@ -211,7 +213,7 @@ impl<'a> StreamReader<'a> {
         ensures ends { is_wanted_at self.new ≡ true
             → self.new.block % self.new.settings.interval ≡ 0 }
     {
-        if self.comes_plain() && self.next_short(most, samples) {
+        if self.comes_short() && self.next_short(most, samples) {
             return Ok(true);
         }
         self.next(samples)

@@ -1,8 +1,9 @@
-//! Reads several short intervals at a time, each of plain blocks only, where no block needs a test
-//! of its place: `read_short` says how many may be, `fill_intervals` goes on while one comes,
-//! `fill_interval` reads one, `fill_first_block` its first block.
+//! Reads several short intervals at a time, each of plain blocks only or one run of zero blocks,
+//! where no block needs a test of its place: `read_short` says how many may be, `fill_intervals`
+//! goes on while one comes, `fill_interval` reads one, `fill_first_block` its first block.
 
-ghost use Rattle.std.specs.Prelude.{◌≡◌, ◌≤◌, ◌<◌, ◌+◌, ◌-◌, ◌*◌, ◌%◌, ◌^◌, ℕ, true, false, length, take, vec_len, vec_capacity, IfSome};
+ghost use Rattle.std.specs.Prelude.{◌≡◌, ◌≤◌, ◌<◌, ◌+◌, ◌-◌, ◌*◌, ◌%◌, ◌^◌, ℕ, true, false, length, take, replicate, vec_len, vec_capacity, IfSome};
+ghost use Rattle.std.specs.Option.{is_some};
 ghost use Rattle.std.specs.List.{AllByRecursion};
 ghost use Rattle.aec_params.specs.Params.{IsHeld, interval_len};
 ghost use Rattle.aec_block.specs.BlockShape.{most_values};
@@ -10,10 +11,11 @@ ghost use Rattle.aec_interval.specs.Reached.{IsReached};
 ghost use Rattle.aec_interval.specs.PlainBlocks.{ReadsPlain};
 ghost use Rattle.aec_interval.specs.ShortIntervals.{AreWithin, ReadsFirst, ReadsWhole};
 
-use crate::reading::Wanted;
 use crate::reading::plain::fill_known_blocks;
+use crate::reading::zero_runs::repeated_sample;
+use crate::reading::{Wanted, block_count};
 use aec_bits::BitReader;
-use aec_block::{read_plain, read_plain_first, unmap_into};
+use aec_block::{comes_plain, read_plain, read_plain_first, read_run, unmap_into};
 use aec_params::Params;
 
 /// At most so many samples are read at a time.
@@ -55,7 +57,7 @@ fn fill_reference_block<const M: usize>(
 
 /// The same without a reference sample, where no sample is predicted.
 #[inline(always)]
-fn fill_unpredicted_block<const N: usize>(
+fn fill_unpredicted_block(
     params: &Params,
     reader: &mut BitReader,
     values: &mut [u32],
@@ -83,7 +85,7 @@ fn fill_unpredicted_block<const N: usize>(
 /// Reads the block that comes next as the first of its interval, if it is a plain one, and puts its
 /// samples into the front of `samples`. Else false.
 #[inline(always)]
-fn fill_first_block<const N: usize, const M: usize>(
+fn fill_first_block<const M: usize>(
     params: &Params,
     reader: &mut BitReader,
     values: &mut [u32],
@@ -100,7 +102,7 @@ fn fill_first_block<const N: usize, const M: usize>(
     if params.preprocess() {
         fill_reference_block::<M>(params, reader, values, samples)
     } else {
-        fill_unpredicted_block::<N>(params, reader, values, samples)
+        fill_unpredicted_block(params, reader, values, samples)
     }
 }
 
@@ -127,7 +129,7 @@ fn fill_rest<const N: usize>(params: &Params, reader: &mut BitReader, samples: &
 /// Reads the interval that comes next, if all its blocks are plain ones, and puts its samples into
 /// `samples`. Else false, and the reader is where it was.
 #[inline(always)]
-fn fill_interval<const N: usize, const M: usize>(
+fn fill_plain_interval<const N: usize, const M: usize>(
     params: &Params,
     reader: &mut BitReader,
     values: &mut [u32],
@@ -145,7 +147,7 @@ fn fill_interval<const N: usize, const M: usize>(
     // What the parameters promise is told by their calls.
     let _len = params.interval_len();
     let start = reader.pos();
-    if fill_first_block::<N, M>(params, reader, values, samples)
+    if fill_first_block::<M>(params, reader, values, samples)
         && fill_rest::<N>(params, reader, samples)
     {
         return true;
@@ -154,10 +156,87 @@ fn fill_interval<const N: usize, const M: usize>(
     false
 }
 
-/// Reads the intervals that come next, `most` of them, as long as all their blocks are plain ones,
-/// and puts their samples into `samples`. How many intervals were read.
+/// Reads the run of zero blocks that comes next, if it is as long as the interval that begins with
+/// it, and returns the sample that it repeats. Else `None`, and the reader is where it was.
+#[inline(always)]
+fn read_whole_run(params: &Params, reader: &mut BitReader) -> Option<i64>
+    requires { params.now.interval ≤ 64 }
+    ensures ok { IfSome result (λ sample. ReadsWhole params.now 1 reader.old reader.new
+        (replicate (interval_len params.now) sample)) }
+    ensures stays { is_some result ≡ false → reader.new ≡ reader.old }
+    ensures list { reader.new.list ≡ reader.old.list }
+{
+    // What the parameters promise is told by their calls.
+    let _len = params.interval_len();
+    let start = reader.pos();
+    if let Some((reference, len)) = read_run(params, reader, params.preprocess()) {
+        if block_count(params, 0, len) == u64::from(params.interval()) {
+            return Some(repeated_sample(params, reference, &[]));
+        }
+    }
+    reader.seek(start);
+    None
+}
+
+/// Whether a short interval comes next that is one run of zero blocks. The reader stays.
+pub(crate) fn comes_zero_interval(params: &Params, reader: &mut BitReader) -> bool
+    ensures { reader.new ≡ reader.old }
+{
+    let start = reader.pos();
+    let comes = params.interval() <= MOST_BLOCKS && read_whole_run(params, reader).is_some();
+    reader.seek(start);
+    comes
+}
+
+/// Reads the interval that comes next, if it is one run of zero blocks, and puts its samples into
+/// `samples`. Else false, and the reader is where it was.
+#[inline(always)]
+fn fill_zero_interval(params: &Params, reader: &mut BitReader, samples: &mut [i64]) -> bool
+    requires short { params.now.interval ≤ 64 }
+    requires len { length samples.old ≡ interval_len params.now }
+    ensures ok { result ≡ true → ReadsWhole params.now 1 reader.old reader.new samples.new }
+    ensures stays { result ≡ false → reader.new ≡ reader.old }
+    ensures len { length samples.new ≡ length samples.old }
+{
+    match read_whole_run(params, reader) {
+        None => false,
+        Some(sample) => {
+            samples.fill(sample);
+            true
+        }
+    }
+}
+
+/// Reads the interval that comes next, with `ZEROS` 1 if it is one run of zero blocks, and else if
+/// all its blocks are plain ones, and puts its samples into `samples`. Else false, and the reader
+/// is where it was. Both in one loop would make each of them slower.
+#[inline(always)]
+fn fill_interval<const N: usize, const M: usize, const ZEROS: usize>(
+    params: &Params,
+    reader: &mut BitReader,
+    values: &mut [u32],
+    samples: &mut [i64],
+) -> bool
+    requires size { N ≡ params.now.block_size }
+    requires small { N ≤ most_values }
+    requires short { params.now.interval ≤ 64 }
+    requires count { length values.old ≡ params.now.block_size }
+    requires len { length samples.old ≡ interval_len params.now }
+    ensures ok { result ≡ true → ReadsWhole params.now 1 reader.old reader.new samples.new }
+    ensures stays { result ≡ false → reader.new ≡ reader.old }
+    ensures count { length values.new ≡ length values.old }
+    ensures len { length samples.new ≡ length samples.old }
+{
+    if ZEROS == 1 {
+        return fill_zero_interval(params, reader, samples);
+    }
+    fill_plain_interval::<N, M>(params, reader, values, samples)
+}
+
+/// Reads the intervals that come next, `most` of them, as long as `fill_interval` reads them, and
+/// puts their samples into `samples`. How many intervals were read.
 #[inline(never)]
-fn fill_intervals<const N: usize, const M: usize>(
+fn fill_intervals<const N: usize, const M: usize, const ZEROS: usize>(
     params: &Params,
     reader: &mut BitReader,
     most: usize,
@@ -165,6 +244,7 @@ fn fill_intervals<const N: usize, const M: usize>(
 ) -> usize
     requires size { N ≡ params.now.block_size }
     requires small { N ≤ most_values }
+    requires short { params.now.interval ≤ 64 }
     requires room { most * interval_len params.now ≤ length samples.old }
     ensures reads { ReadsWhole params.now result reader.old reader.new
         (take (result * interval_len params.now) samples.new) }
@@ -181,7 +261,7 @@ fn fill_intervals<const N: usize, const M: usize>(
     let mut at = 0;
     while count < most {
         let part = &mut samples[at..at + len];
-        if !fill_interval::<N, M>(&own, reader, &mut values, part) {
+        if !fill_interval::<N, M, ZEROS>(&own, reader, &mut values, part) {
             return count;
         }
         count += 1;
@@ -191,12 +271,13 @@ fn fill_intervals<const N: usize, const M: usize>(
 }
 
 /// The same, compiled for the usual block sizes; none of others are read.
-fn fill_usual_intervals(
+fn fill_usual_intervals<const ZEROS: usize>(
     params: &Params,
     reader: &mut BitReader,
     most: usize,
     samples: &mut [i64],
 ) -> usize
+    requires short { params.now.interval ≤ 64 }
     requires room { most * interval_len params.now ≤ length samples.old }
     ensures reads { 0 < result → ReadsWhole params.now result reader.old reader.new
         (take (result * interval_len params.now) samples.new) }
@@ -206,12 +287,34 @@ fn fill_usual_intervals(
     ensures len { length samples.new ≡ length samples.old }
 {
     match params.block_size() {
-        8 => fill_intervals::<8, 7>(params, reader, most, samples),
-        16 => fill_intervals::<16, 15>(params, reader, most, samples),
-        32 => fill_intervals::<32, 31>(params, reader, most, samples),
-        64 => fill_intervals::<64, 63>(params, reader, most, samples),
+        8 => fill_intervals::<8, 7, ZEROS>(params, reader, most, samples),
+        16 => fill_intervals::<16, 15, ZEROS>(params, reader, most, samples),
+        32 => fill_intervals::<32, 31, ZEROS>(params, reader, most, samples),
+        64 => fill_intervals::<64, 63, ZEROS>(params, reader, most, samples),
         _ => 0,
     }
+}
+
+/// The same of plain blocks where such a block comes next, and else of zero blocks.
+fn fill_coming_intervals(
+    params: &Params,
+    reader: &mut BitReader,
+    most: usize,
+    samples: &mut [i64],
+) -> usize
+    requires short { params.now.interval ≤ 64 }
+    requires room { most * interval_len params.now ≤ length samples.old }
+    ensures reads { 0 < result → ReadsWhole params.now result reader.old reader.new
+        (take (result * interval_len params.now) samples.new) }
+    ensures stays { result ≡ 0 → reader.new ≡ reader.old }
+    ensures list { reader.new.list ≡ reader.old.list }
+    ensures within { result ≤ most }
+    ensures len { length samples.new ≡ length samples.old }
+{
+    if comes_plain(params, reader) {
+        return fill_usual_intervals::<0>(params, reader, most, samples);
+    }
+    fill_usual_intervals::<1>(params, reader, most, samples)
 }
 
 /// How many intervals from `wanted.first` on need no test of their place: their samples are within
@@ -237,6 +340,7 @@ fn intervals_at_once(params: &Params, wanted: Wanted, most: u64, capacity: usize
     requires counted { IfSome wanted.count (λ count. count ≤ 2 ^ 32) }
     ensures within { (n : ℕ) → 0 < n → n ≤ result → AreWithin params.now wanted.count wanted.limit
         (wanted.first + n * params.now.interval) }
+    ensures short { 0 < result → params.now.interval ≤ 8 }
     ensures most { result * interval_len params.now ≤ most }
     ensures room { result * interval_len params.now ≤ 2048 }
 {
@@ -247,7 +351,7 @@ fn intervals_at_once(params: &Params, wanted: Wanted, most: u64, capacity: usize
     room.min(untested_intervals(params, wanted))
 }
 
-/// Reads the intervals that come next, as long as all their blocks are plain ones, and puts their
+/// Reads the intervals that come next, as long as `fill_interval` reads them, and puts their
 /// samples in the place of those that are there, at most `most`. The number of the block that comes
 /// then: `wanted.first` where none was read, and what stands in `samples` isn't said then. Takes no
 /// memory.
@@ -281,7 +385,7 @@ pub(crate) fn read_short(
         return wanted.first;
     }
     let all = samples.as_mut_slice();
-    let count = fill_usual_intervals(params, reader, asked as usize, all);
+    let count = fill_coming_intervals(params, reader, asked as usize, all);
     samples.truncate(count * len as usize);
     wanted.first + count as u64 * u64::from(params.interval())
 }

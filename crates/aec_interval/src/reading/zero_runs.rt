@@ -13,7 +13,7 @@ use aec_params::Params;
 /// The sample that a zero block repeats after these: that of its reference, or else the
 /// prediction, and 0 where nothing is predicted.
 #[tactic(auto, using(crate::proofs::ZeroRunLemmas::repeated))]
-fn repeated_sample(params: &Params, reference: Option<u32>, samples: &[i64]) -> i64
+pub(crate) fn repeated_sample(params: &Params, reference: Option<u32>, samples: &[i64]) -> i64
     requires { IfSome reference (λ r. r < 2 ^ params.now.bits) }
     ensures { result ≡ sample_of_zeros params.now reference samples.now }
 {

@@ -2,7 +2,7 @@ use Rattle.std.proofs.Common.{◌-◌, take, refl, sym, subst, arith}
 use Rattle.aec_params.proofs.SettingLaws.{interval-positive}
 use Rattle.aec_interval.specs.ShortIntervals.{ReadsFirst}
 use Rattle.aec_interval.proofs.ShortLemmas.{reads_interval}
-use Rattle.aec_interval.proofs.reading.short.fill_interval.Goals as goal
+use Rattle.aec_interval.proofs.reading.short.fill_plain_interval.Goals as goal
 
 pub returns-then-fill_rest-clause-ok : goal.returns-then-fill_rest-clause-ok
 returns-then-fill_rest-clause-ok g c =
