@@ -1,3 +1,4 @@
+-- For proofs alone: no public contract cites this file.
 -- What the private functions do to the samples: places are exchanged for values, and for that
 -- intervals for fresh samples. The contract of `apply` cites `samples_after`, `needed_calls` and
 -- `opened_intervals` instead.

@@ -1,3 +1,4 @@
+-- For proofs alone: no public contract cites this file.
 -- The intervals that an exchange of places decodes: those that it touches and that keep a sample.
 -- The contract of `apply` cites `samples_after`, `needed_calls` and `opened_intervals` instead.
 use Rattle.std.specs.Prelude.{ℕ, ◌-◌, ◌*◌, ◌/◌, List, length, take, drop, filter, ℤ}
