@@ -134,8 +134,7 @@ impl<C: Codec> Workspace<C> {
     /// Where the intervals end that are coded anew where `len` samples come or go in front of place
     /// `place`.
     fn recoded_end(&self, place: u64, len: u64) -> u64
-        ensures { result ≡ recoded_end (C.format self.now.codec).most (length self.now.samples)
-            place len }
+        ensures { result ≡ recoded_end (C.format self.now.codec) self.now.samples place len }
     {
         let most = self.interval_len();
         if len % most == 0 {

@@ -27,4 +27,5 @@ pub mod StreamLaws
 pub mod ReadingLaws
 pub mod EditLaws
 pub mod MoveLaws
+pub mod RemovalLaws
 pub mod SampleShapeLaws
