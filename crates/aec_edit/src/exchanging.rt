@@ -1,7 +1,7 @@
 //! The one operation behind every edit: places are exchanged for values.
 
-use crate::fresh::Fresh;
 use crate::workspace::Workspace;
+use crate::workspace::fresh_coding::Fresh;
 use aec_bits::Codec;
 use aec_params::Fault;
 
