@@ -28,4 +28,6 @@ pub mod ReadingLaws
 pub mod EditLaws
 pub mod MoveLaws
 pub mod RemovalLaws
+pub mod NewIntervalLaws
+pub mod LostIntervalLaws
 pub mod SampleShapeLaws

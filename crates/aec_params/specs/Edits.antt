@@ -41,8 +41,8 @@ moved_intervals n len count places =
     if len == 0 then [] else reached_intervals n (record { first = places.first; stop = if len % n == 0 then places.stop else count })
 
 -- how many intervals of n samples an edit codes, on so many samples: of those that it leaves, the
--- ones that hold a new sample or are cut anew (how many an insertion or a removal codes, by lengths
--- alone: law `moves_by_length`)
+-- ones that hold a new sample or are cut anew (an insertion or a removal those that were not there
+-- before: law `moves_code_what_is_new`; how many, by lengths alone: law `moves_by_length`)
 abbrev pub needed_calls : ℕ → ℕ → Edit → ℕ
 needed_calls n old (Overwrite first values) = length (touched_intervals n first (length values))
 needed_calls n old (Append values) = if length values == 0 then 0 else div_ceil (old + length values) n - old / n
@@ -60,7 +60,8 @@ abbrev pub keeping_intervals : ℕ → ℕ → Stretch → List ℕ → List ℕ
 keeping_intervals n old places intervals = filter (keeps_a_sample n old places) intervals
 
 -- how many intervals hold a sample that an edit keeps and codes anew, so that they have to be
--- decoded first
+-- decoded first (of an insertion or a removal those that are not there after it: law
+-- `moves_open_what_is_lost`)
 abbrev pub opened_intervals : ℕ → ℕ → Edit → ℕ
 opened_intervals n old (Overwrite first values) =
     length (keeping_intervals n old (record { first = first; stop = first + length values }) (touched_intervals n first (length values)))
