@@ -56,6 +56,11 @@ version:
 theorem:
 	@python3 tools/theorem.py $(OF)
 
+# The calls and files that a sample passes on its way, and how many clauses a function has.
+.PHONY: walk
+walk:
+	@python3 tools/walk.py
+
 # The wrong bodies that the gate leaves out: each must be refused.
 wrong-bodies: bin/aec
 	python3 tests/wrong_bodies.py

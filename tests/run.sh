@@ -46,6 +46,7 @@ part definitions python3 tools/definitions.py --check
 part modules python3 tools/modules.py --check
 part theorems python3 tools/theorem.py --check
 part man python3 tools/man.py --check
+part walk python3 tools/walk.py --check
 part limits python3 tests/limits.py
 part edits python3 tests/edits_apply.py
 part cited python3 tests/cited.py

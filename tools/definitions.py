@@ -6,9 +6,11 @@ crate's specs/Lib.antt. First come those that the contract of a public function,
 cites, itself or by another definition; then those that serve proofs alone. A sentence's `§7` is a
 section of docs/FORMAT.md, its `COMMAND: Edits` a part of docs/COMMAND.md: both become links.
 
+A file whose definitions all serve proofs alone begins with the line MARK.
+
 Fails where a definition that a public contract cites has no sentence, where a section or a part
-that a sentence names isn't there, and with --check, which writes nothing, where the page isn't
-what is written.
+that a sentence names isn't there, where MARK is missing or stands in another file, and with
+--check, which writes nothing, where the page isn't what is written.
 """
 
 import os
@@ -19,6 +21,7 @@ from sources import TOP, all_crates, files_below, text_of
 from theorem import DECLARED, Library, Word
 
 PAGE = "docs/DEFINITIONS.md"
+MARK = "-- For proofs alone: no public contract cites this file."
 HEAD = """<!-- Written by `make pages` from the sentences over the definitions. -->
 
 # The definitions
@@ -39,7 +42,7 @@ this order: what is cited mostly stands before what cites it."""
 PRIVATE = """## What serves proofs alone
 
 Contracts of private functions, proofs, examples and tests use these. No public contract cites them, so no promise
-rests on them: skip them unless you change a proof."""
+rests on them: skip them unless you change a proof. A file of such definitions alone says so in its first line."""
 
 
 def headings(page):
@@ -129,7 +132,7 @@ def subject_of(path):
     for line in text_of(path).splitlines():
         if not line.startswith("-- "):
             break
-        words.append(line)
+        words += [] if line == MARK else [line]
     return sentence_of(words)
 
 
@@ -159,13 +162,23 @@ def part_of(library, crates, keep, links):
     return "\n\n".join(parts), count
 
 
+def marked_wrongly(library, crates, public):
+    """The files of definitions that lack MARK, or have it without being so."""
+    for crate in crates:
+        for path in spec_files(crate):
+            items = library.file(path).items.values()
+            is_private = bool(items) and not any(item.key() in public for item in items)
+            if not path.endswith("Examples.antt") and is_private != text_of(path).startswith(MARK + "\n"):
+                yield f"{path} {'lacks' if is_private else 'is cited, in spite of'} the line '{MARK}'"
+
+
 def written_page():
     """The page, what is wrong, and how many definitions are public and how many aren't."""
     library, links, crates = Library(), Links(), all_crates()
     public = cited_by(library, public_roots(library, crates))
     first, many = part_of(library, crates, lambda item: item.key() in public, links)
     second, few = part_of(library, crates, lambda item: item.key() not in public, links)
-    wrongs = links.wrongs
+    wrongs = links.wrongs + list(marked_wrongly(library, crates, public))
     for path, file in sorted(library.files.items()):
         items = file.items.values() if "/specs/" in path else ()
         silent = {it.at: it.name for it in items if it.key() in public and not it.words}

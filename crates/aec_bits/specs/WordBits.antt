@@ -1,3 +1,4 @@
+-- For proofs alone: no public contract cites this file.
 -- The bits of one word, as a name that stays closed in goals.
 use Rattle.std.specs.Prelude.{ℕ, Bool, List}
 use Rattle.aec_params.specs.Codewords.{binary}

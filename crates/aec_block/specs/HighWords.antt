@@ -1,3 +1,4 @@
+-- For proofs alone: no public contract cites this file.
 -- What the private functions of `writing::joined_high_parts` compute: words of codewords. The
 -- contract of `write_block` cites the bits of the spelling instead.
 use Rattle.std.specs.Prelude.{◌≡◌, ℕ, ◌+◌, ◌^◌, ◌<◌, List, ◌++◌, length}

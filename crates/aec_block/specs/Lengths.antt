@@ -1,3 +1,4 @@
+-- For proofs alone: no public contract cites this file.
 -- What the private functions of `choice::lengths` compute: the length of each spelling of a block,
 -- as a sum. The contract of `choose` cites `cds_bits` instead.
 use Rattle.std.specs.Prelude.{ℕ, ◌+◌, ◌*◌, ◌/◌, ◌^◌, ◌<◌, ◌≤◌, Option, Some, None, List, [], ◌∷◌, length}

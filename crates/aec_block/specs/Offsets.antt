@@ -1,3 +1,4 @@
+-- For proofs alone: no public contract cites this file.
 -- What the private functions of `mapping` and `mapping::small_differences` compute: the mapping on
 -- offsets from the least sample, of which `top` is the greatest. The contracts of `map`,
 -- `map_list`, `unmap` and `unmap_into` cite `mapped_value` and `mapped_after` instead.

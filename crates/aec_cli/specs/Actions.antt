@@ -1,3 +1,4 @@
+-- For proofs alone: no public contract cites this file.
 -- What a run of the program answers, action by action.
 use Rattle.std.specs.Prelude.{ℕ, ◌^◌, Bool, Result, List}
 use Rattle.aec_params.specs.declared.settings.Settings.{Settings}

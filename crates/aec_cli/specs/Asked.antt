@@ -1,3 +1,4 @@
+-- For proofs alone: no public contract cites this file.
 -- What the private functions that read a job give: what is done, before a name is kept.
 use Rattle.aec_cli.specs.declared.job.Asked.{Asked}
 use Rattle.aec_cli.specs.declared.job.Asked.TheVariants as asked

@@ -10,22 +10,26 @@ use Rattle.aec_edit.specs.Opened.{opened_first, opened_behind, opened_count, sam
 use Rattle.aec_params.proofs.CountLaws.{ceil_bounds}
 use Rattle.aec_edit.proofs.ExchangeLemmas.{begins_before, ends_after}
 use Rattle.aec_edit.proofs.OpenedLemmas.{first-head, first-both, behind-tail, behind-one, nothing_first, nothing_last, opened-count, opened_samples-parts, one_of, none_of}
+use Rattle.aec_params.proofs.MoveLaws.{from_to}
 
 -- ---- the samples
 
 module _ (n first stop : ℕ) (s : List ℤ) (some : 0 < n) (order : first ≤ stop) (within : stop ≤ length s) where
   -- what is decoded of the first interval, and of those behind it
   abbrev front_samples : List ℤ
-  front_samples = samples_of n s (opened_first n (length s) first stop)
+  front_samples = samples_of n s (opened_first n (length s) (from_to first stop))
 
   abbrev back_samples : List ℤ
-  back_samples = samples_of n s (opened_behind n (length s) first stop)
+  back_samples = samples_of n s (opened_behind n (length s) (from_to first stop))
 
-  parts : opened_samples n first stop s ≡ front_samples ++ back_samples
+  abbrev opened_ends : List ℤ
+  opened_ends = opened_samples n (from_to first stop) s
+
+  parts : opened_ends ≡ front_samples ++ back_samples
   parts = opened_samples-parts n first stop s some order
 
   -- the head stands in front
-  pub ends_head : (first % n ≤ length (opened_samples n first stop s)) × (take (first % n) (opened_samples n first stop s) ≡ head_of n first s)
+  pub ends_head : (first % n ≤ length opened_ends) × (take (first % n) opened_ends ≡ head_of n first s)
   ends_head =
       let begins = begins_before first n some in
       elim (cases_lt (first / n * n) first) [
@@ -43,14 +47,14 @@ module _ (n first stop : ℕ) (s : List ℤ) (some : 0 < n) (order : first ≤ s
         | inr whole ↦
             let none : first % n ≡ 0 = omega (arith, begins.2) in (
               omega arith,
-              ap (λ m. take m (opened_samples n first stop s)) none
+              ap (λ m. take m opened_ends) none
                   ∙ sym (drop_all (first / n * n) (take first s) (omega (arith, length-take first s))),
             )
       ]
 
   -- the tail stands at the end
-  pub ends_tail : (min (length s) (div_ceil stop n * n) - stop ≤ length (opened_samples n first stop s))
-      × (drop (length (opened_samples n first stop s) - (min (length s) (div_ceil stop n * n) - stop)) (opened_samples n first stop s) ≡ tail_of n stop s)
+  pub ends_tail : (min (length s) (div_ceil stop n * n) - stop ≤ length opened_ends)
+      × (drop (length opened_ends - (min (length s) (div_ceil stop n * n) - stop)) opened_ends ≡ tail_of n stop s)
   ends_tail =
       let begins = begins_before first n some in
       let back = ceil_bounds stop n some in
@@ -59,7 +63,7 @@ module _ (n first stop : ℕ) (s : List ℤ) (some : 0 < n) (order : first ≤ s
         | inr none ↦
             let zero_tail : min (length s) (div_ceil stop n * n) - stop ≡ 0 = omega arith in (
               omega arith,
-              drop_all (length (opened_samples n first stop s) - (min (length s) (div_ceil stop n * n) - stop)) (opened_samples n first stop s) (omega arith)
+              drop_all (length opened_ends - (min (length s) (div_ceil stop n * n) - stop)) opened_ends (omega arith)
                   ∙ sym (drop_all stop (take (div_ceil stop n * n) s) (omega (arith, length-take (div_ceil stop n * n) s))),
             )
         | inl keeps ↦
@@ -80,28 +84,28 @@ module _ (n first stop : ℕ) (s : List ℤ) (some : 0 < n) (order : first ≤ s
           ]
 
       first_tail : stop < min (length s) to → first / n + 1 ≡ div_ceil stop n
-          → (min (length s) to - stop ≤ length (opened_samples n first stop s))
-          × (drop (length (opened_samples n first stop s) - (min (length s) to - stop)) (opened_samples n first stop s) ≡ tail_of n stop s)
+          → (min (length s) to - stop ≤ length opened_ends)
+          × (drop (length opened_ends - (min (length s) to - stop)) opened_ends ≡ tail_of n stop s)
       first_tail keeps one =
           let begins = begins_before first n some in
           let from : ℕ = first / n * n in
           let opened : List ℤ = take n (drop from s) in
           let sum : from + n ≡ to = omega (arith, ap (λ k. k * n) one) in
-          let is : opened_samples n first stop s ≡ opened =
+          let is : opened_ends ≡ opened =
           parts ∙ ap (λ l. l ++ back_samples) (one_of n (first / n) s _ (first-both n (length s) first stop some order keeps one))
           ∙ ap (λ l. opened ++ l) (none_of n s _ (behind-one n (length s) first stop some order (omega arith))) ∙ append-nil opened in
           let part : opened ≡ drop from (take to s) = sym (drop-take from n s) ∙ ap (λ m. drop from (take m s)) sum in
           let len : length opened ≡ min n (length s - from) = omega (arith, length-take n (drop from s), length-drop from s) in
-          let past : length (opened_samples n first stop s) - (min (length s) to - stop) ≡ stop - from = omega (arith, ap length is, begins.0) in
+          let past : length opened_ends - (min (length s) to - stop) ≡ stop - from = omega (arith, ap length is, begins.0) in
           let whole : from + (stop - from) ≡ stop = omega (arith, begins.0) in (
             omega (arith, ap length is, begins.0),
-            ap (λ m. drop m (opened_samples n first stop s)) past ∙ ap (drop (stop - from)) (is ∙ part) ∙ drop-drop (stop - from) from (take to s)
+            ap (λ m. drop m opened_ends) past ∙ ap (drop (stop - from)) (is ∙ part) ∙ drop-drop (stop - from) from (take to s)
                 ∙ ap (λ m. drop m (take to s)) whole,
           )
 
       last_tail : stop < min (length s) to → first / n + 1 < div_ceil stop n
-          → (min (length s) to - stop ≤ length (opened_samples n first stop s))
-          × (drop (length (opened_samples n first stop s) - (min (length s) to - stop)) (opened_samples n first stop s) ≡ tail_of n stop s)
+          → (min (length s) to - stop ≤ length opened_ends)
+          × (drop (length opened_ends - (min (length s) to - stop)) opened_ends ≡ tail_of n stop s)
       last_tail keeps more =
           let back = ceil_bounds stop n some in
           let from : ℕ = (div_ceil stop n - 1) * n in
@@ -109,21 +113,21 @@ module _ (n first stop : ℕ) (s : List ℤ) (some : 0 < n) (order : first ≤ s
           let front : List ℤ = front_samples in
           let one : div_ceil stop n ≡ div_ceil stop n - 1 + 1 = omega arith in
           let sum : from + n ≡ to = omega (arith, ap (λ k. k * n) one) in
-          let is : opened_samples n first stop s ≡ front ++ opened =
+          let is : opened_ends ≡ front ++ opened =
           parts ∙ ap (λ l. front ++ l) (one_of n (div_ceil stop n - 1) s _ (behind-tail n (length s) first stop some order keeps more)) in
           let part : opened ≡ drop from (take to s) = sym (drop-take from n s) ∙ ap (λ m. drop from (take m s)) sum in
           let len : length opened ≡ min n (length s - from) = omega (arith, length-take n (drop from s), length-drop from s) in
-          let total : length (opened_samples n first stop s) ≡ length front + length opened = ap length is ∙ length-append front opened in
-          let past : length (opened_samples n first stop s) - (min (length s) to - stop) ≡ length front + (stop - from) = omega (arith, back.1) in
+          let total : length opened_ends ≡ length front + length opened = ap length is ∙ length-append front opened in
+          let past : length opened_ends - (min (length s) to - stop) ≡ length front + (stop - from) = omega (arith, back.1) in
           let whole : from + (stop - from) ≡ stop = omega (arith, back.1) in (
             omega (arith, back.1),
-            ap (λ m. drop m (opened_samples n first stop s)) past ∙ ap (drop (length front + (stop - from))) is
+            ap (λ m. drop m opened_ends) past ∙ ap (drop (length front + (stop - from))) is
                 ∙ sym (drop-drop (stop - from) (length front) (front ++ opened)) ∙ ap (drop (stop - from)) (drop_at front opened (length front) refl ∙ part)
                 ∙ drop-drop (stop - from) from (take to s) ∙ ap (λ m. drop m (take to s)) whole,
           )
 
   -- how many there are
-  pub opened_some : 0 < opened_count n (length s) first stop → 0 < first % n + (min (length s) (div_ceil stop n * n) - stop)
+  pub opened_some : 0 < opened_count n (length s) (from_to first stop) → 0 < first % n + (min (length s) (div_ceil stop n * n) - stop)
   opened_some some_opened =
       elim (cases_lt 0 (first % n + (min (length s) (div_ceil stop n * n) - stop))) [
         | inl keeps ↦ keeps
@@ -142,11 +146,12 @@ touched_end count size m n to stop r count_is m_is to_is r_is = cc
 
 -- values between what the end intervals keep: the samples of the touched intervals after the
 -- exchange
-pub fresh_is : (n first stop head tail : ℕ) (s values ends fresh : List ℤ) → 0 < n → first ≤ stop → stop ≤ length s → ends ≡ opened_samples n first stop s
+pub fresh_is : (n first stop head tail : ℕ) (s values ends fresh : List ℤ) → 0 < n → first ≤ stop → stop ≤ length s
+    → ends ≡ opened_samples n (from_to first stop) s
     → head ≡ first % n → tail ≡ min (length s) (div_ceil stop n * n) - stop → fresh ≡ take head ends ++ (values ++ drop (length ends - tail) ends)
     → fresh ≡ head_of n first s ++ (values ++ tail_of n stop s)
 fresh_is n first stop head tail s values ends fresh some order within ends_are head_is tail_is joined =
-    let all : List ℤ = opened_samples n first stop s in
+    let all : List ℤ = opened_samples n (from_to first stop) s in
     let tail_len : ℕ = min (length s) (div_ceil stop n * n) - stop in
     joined
     ∙ ap (λ l. take head l ++ (values ++ drop (length l - tail) l)) ends_are

@@ -7,8 +7,13 @@ use Rattle.std.proofs.lemmas.Bool.{cases_lt}
 use Rattle.std.proofs.lemmas.Nat.{div-add-mod', mod_below}
 use Rattle.std.proofs.lemmas.List.{length-take, length-drop}
 use Rattle.aec_bits.specs.Codec.{Format, AreHeld, IsLawful}
-use Rattle.aec_edit.specs.Changes.{IsExchange, exchange_calls, head_of, tail_of}
+use Rattle.aec_edit.specs.Changes.{Recoding, IsExchange, exchange_calls, head_of, tail_of}
+use Rattle.aec_params.proofs.MoveLaws.{from_to}
 use Rattle.aec_params.proofs.CountLaws.{ceil_bounds, ceil_unique, row_below, before_end}
+
+-- what is recoded, by its places
+abbrev pub recoding : ℕ → ℕ → ℕ → ℕ → Recoding
+recoding first stop to values = record { gone = from_to first stop; to = to; values = values }
 
 -- ---- numbers
 
@@ -40,7 +45,7 @@ ceil_from n m q c k split low high =
 -- ---- an exchange
 
 module _ (f : Format) (limit first stop : ℕ) (s values : List ℤ) (lawful : IsLawful f) (held : AreHeld f s)
-    (fits : IsExchange f limit s first stop values) where
+    (fits : IsExchange f limit s (from_to first stop) values) where
   pub head_len : length (head_of f.most first s) ≡ first % f.most
   head_len =
       omega (arith, length-drop (first / f.most * f.most) (take first s), length-take first s, fits.order, fits.within, begins_before first f.most lawful.some)

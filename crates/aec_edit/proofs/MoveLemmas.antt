@@ -4,11 +4,12 @@ use Rattle.std.specs.Int.{div_ceil}
 use Rattle.std.specs.List.{range_with_len, filter}
 use Rattle.std.proofs.lemmas.Bool.{cases_lt, cases_eq, eq-eqb, ne_eqb}
 use Rattle.std.proofs.Math.Nat.{mul-le-mul_right}
-use Rattle.aec_params.specs.Edits.{inside_calls}
+use Rattle.aec_params.specs.EditLaws.{inside_calls}
+use Rattle.aec_params.proofs.MoveLaws.{from_to}
 use Rattle.aec_params.proofs.CountLaws.{ceil_bounds, ceil_unique}
 use Rattle.aec_bits.specs.Codec.{Format, AreHeld}
 use Rattle.aec_edit.specs.Changes.{IsExchangeUpTo, fresh_total, recoding_calls}
-use Rattle.aec_edit.proofs.ExchangeLemmas.{begins_before, ceil_mono}
+use Rattle.aec_edit.proofs.ExchangeLemmas.{recoding, begins_before, ceil_mono}
 
 -- a place is at the beginning of an interval, or inside one
 pub places : (n a : ℕ) → 0 < n → ((a % n ≡ 0) × (inside_calls n a ≡ 0) × (div_ceil a n ≡ a / n) × (div_ceil a n * n ≡ a))
@@ -32,11 +33,15 @@ places n a h =
     positive zero h = absurd (h refl)
     positive (suc m) h = omega arith
 
+-- the interval up to which all is coded, where len samples come or go in front of a place
+abbrev pub end_for : ℕ → ℕ → ℕ → ℕ → ℕ
+end_for n count place len = cond (eqb (len % n) 0) (div_ceil place n) (div_ceil count n)
+
 -- ---- how many are coded
 
 -- all that stands behind the place
 pub later_calls : (n old first stop len : ℕ) → 0 < n → first ≤ stop → stop ≤ old
-    → recoding_calls n old first stop (div_ceil old n) len ≡ div_ceil (first + len + (old - stop)) n - first / n
+    → recoding_calls n old (recoding first stop (div_ceil old n) len) ≡ div_ceil (first + len + (old - stop)) n - first / n
 later_calls n old first stop len h order within =
     let new : ℕ = first + len + (old - stop) in
     let begins = begins_before first n h in
@@ -45,7 +50,8 @@ later_calls n old first stop len h order within =
     let low : first / n ≤ div_ceil new n = below new begins.0 all.0 (omega arith) in
     let split : div_ceil new n * n ≡ first / n * n + (div_ceil new n - first / n) * n =
     products (div_ceil new n) (first / n) (div_ceil new n - first / n) (omega arith) in
-    ceil_unique (fresh_total n old first stop (div_ceil old n) len) n (div_ceil new n - first / n) (omega (arith, begins.2)) (omega (arith, begins.2))
+    ceil_unique (fresh_total n old (recoding first stop (div_ceil old n) len)) n (div_ceil new n - first / n)
+    (omega (arith, begins.2)) (omega (arith, begins.2))
   where
     products : (a b c : ℕ) → a ≡ b + c → a * n ≡ b * n + c * n
     products a b c sum = ap (λ k. k * n) sum ∙ omega arith
@@ -57,19 +63,12 @@ later_calls n old first stop len h order within =
           | inl less ↦ let up = mul-le-mul_right {m = div_ceil new n + 1} {n = first / n} n (omega arith) in absurd (omega arith)
         ]
 
--- ---- how many are decoded
-
-pub length-filter-all : (test : ℕ → Bool) (a m : ℕ) → ((k : ℕ) → a ≤ k → k < a + m → test k ≡ true) → length (filter test (range_with_len a m)) ≡ m
-length-filter-all test a zero all = refl
-length-filter-all test a (suc m) all =
-    rw (all a (omega arith) (omega arith)) (ap suc (length-filter-all test (a + 1) m (λ k h l. all k (omega arith) (omega arith))))
-
 -- ---- what can be exchanged
 
 module _ (f : Format) (limit first stop : ℕ) (s values : List ℤ) (some : 1 ≤ f.most) (order : first ≤ stop) (within : stop ≤ length s)
     (held : AreHeld f values) (few : first + length values + (length s - stop) ≤ limit) where
   -- all that stands behind the place is coded
-  pub later_can : IsExchangeUpTo f limit s first stop (div_ceil (length s) f.most) values
+  pub later_can : IsExchangeUpTo f limit s (from_to first stop) (div_ceil (length s) f.most) values
   later_can = record {
     order = order;
     within = within;
@@ -82,8 +81,8 @@ module _ (f : Format) (limit first stop : ℕ) (s values : List ℤ) (some : 1 �
 
   -- the touched intervals alone are coded, as whole ones where others stand behind them
   pub whole_can : (div_ceil stop f.most * f.most < length s
-      → (k : ℕ) × (fresh_total f.most (length s) first stop (div_ceil stop f.most) (length values) ≡ k * f.most))
-      → IsExchangeUpTo f limit s first stop (div_ceil stop f.most) values
+      → (k : ℕ) × (fresh_total f.most (length s) (recoding first stop (div_ceil stop f.most) (length values)) ≡ k * f.most))
+      → IsExchangeUpTo f limit s (from_to first stop) (div_ceil stop f.most) values
   whole_can whole = record {
     order = order;
     within = within;

@@ -12,22 +12,17 @@ use Rattle.std.proofs.lemmas.Grind.{flat_map-append}
 use Rattle.std.proofs.lemmas.Result.{IfErr-weaker}
 use Rattle.std.proofs.lemmas.List.{append-nil, length-take, take-append-drop}
 use Rattle.std.proofs.lemmas.List.Elements.{filter-append}
-use Rattle.aec_params.specs.Edits.{keeps_a_sample}
+use Rattle.aec_params.specs.Edits.{keeps_a_sample, reached_intervals}
 use Rattle.aec_params.proofs.CountLaws.{ceil_bounds, before_end}
-use Rattle.aec_params.proofs.EditLaws.{length-filter-le}
-use Rattle.aec_edit.specs.Opened.{reached_intervals, opened_by_exchange, opened_first, opened_behind, opened_count, samples_of, opened_samples}
+use Rattle.aec_params.proofs.EditLaws.{length-filter-le, keeps_head, keeps_tail}
+use Rattle.aec_params.proofs.MoveLaws.{from_to}
+use Rattle.aec_edit.specs.Opened.{opened_by_exchange, opened_first, opened_behind, opened_count, samples_of, opened_samples}
 use Rattle.aec_edit.proofs.ExchangeLemmas.{begins_before, ceil_mono}
 
 -- ---- one interval
 
-pub keeps_head : (n count first len k : ℕ) → k * n < first → keeps_a_sample n count first len k ≡ true
-keeps_head n count first len k before = grind (arith, nat_tests)
-
-pub keeps_tail : (n count first len k : ℕ) → first + len < min (k * n + n) count → keeps_a_sample n count first len k ≡ true
-keeps_tail n count first len k behind = grind (arith, nat_tests)
-
-keeps_none : (n count first len k : ℕ) → first ≤ k * n → min (k * n + n) count ≤ first + len → keeps_a_sample n count first len k ≡ false
-keeps_none n count first len k after past = grind (arith, nat_tests)
+keeps_none : (n count first stop k : ℕ) → first ≤ k * n → min (k * n + n) count ≤ stop → keeps_a_sample n count (from_to first stop) k ≡ false
+keeps_none n count first stop k after past = grind (arith, nat_tests)
 
 -- an interval that begins in front of a place is reached
 reached_before : (n stop k : ℕ) → 0 < n → k * n < stop → k < div_ceil stop n
@@ -92,16 +87,16 @@ none_taken test a m e = rw e refl
 
 module _ (n count first stop : ℕ) (some : 0 < n) (order : first ≤ stop) where
   abbrev keeps : ℕ → Bool
-  keeps = keeps_a_sample n count first (stop - first)
+  keeps = keeps_a_sample n count (from_to first stop)
 
   -- how many are reached
   abbrev reached : ℕ
   reached = div_ceil stop n - first / n
 
-  first_there : first / n < div_ceil stop n → keeps (first / n) ≡ true → opened_first n count first stop ≡ first / n ∷ []
+  first_there : first / n < div_ceil stop n → keeps (first / n) ≡ true → opened_first n count (from_to first stop) ≡ first / n ∷ []
   first_there one e = first_of_range keeps (first / n) reached (omega arith) ∙ passed keeps (first / n) e
 
-  first_absent : (first / n < div_ceil stop n → keeps (first / n) ≡ false) → opened_first n count first stop ≡ []
+  first_absent : (first / n < div_ceil stop n → keeps (first / n) ≡ false) → opened_first n count (from_to first stop) ≡ []
   first_absent none =
       elim (cases_lt (first / n) (div_ceil stop n)) [
         | inl one ↦ first_of_range keeps (first / n) reached (omega arith) ∙ dropped keeps (first / n) (none one)
@@ -114,40 +109,40 @@ module _ (n count first stop : ℕ) (some : 0 < n) (order : first ≤ stop) wher
       let begins = begins_before first n some in
       let low = mul-le-mul_right {m = first / n + 1} {n = k} n (omega arith) in
       let next = before_end (k + 1) stop n some (omega arith) in
-      keeps_none n count first (stop - first) k (omega (arith, begins.1)) (omega arith)
+      keeps_none n count first stop k (omega (arith, begins.1)) (omega arith)
 
-  behind_is : first / n + 1 < div_ceil stop n → opened_behind n count first stop ≡ filter keeps ((div_ceil stop n - 1) ∷ [])
+  behind_is : first / n + 1 < div_ceil stop n → opened_behind n count (from_to first stop) ≡ filter keeps ((div_ceil stop n - 1) ∷ [])
   behind_is more =
       let e : first / n + reached - 1 ≡ div_ceil stop n - 1 = omega arith in
       behind_first keeps (first / n) reached (omega arith) between ∙ ap (λ k. filter keeps (k ∷ [])) e
 
   -- ---- where they keep one
 
-  pub first-head : first / n * n < first → opened_first n count first stop ≡ first / n ∷ []
-  first-head before = first_there (reached_before n stop (first / n) some (omega arith)) (keeps_head n count first (stop - first) (first / n) before)
+  pub first-head : first / n * n < first → opened_first n count (from_to first stop) ≡ first / n ∷ []
+  first-head before = first_there (reached_before n stop (first / n) some (omega arith)) (keeps_head n count first stop (first / n) before)
 
-  pub first-both : stop < min count (div_ceil stop n * n) → first / n + 1 ≡ div_ceil stop n → opened_first n count first stop ≡ first / n ∷ []
+  pub first-both : stop < min count (div_ceil stop n * n) → first / n + 1 ≡ div_ceil stop n → opened_first n count (from_to first stop) ≡ first / n ∷ []
   first-both behind one =
       let product : first / n * n + n ≡ div_ceil stop n * n = omega arith ∙ ap (λ k. k * n) one in
-      first_there (omega arith) (keeps_tail n count first (stop - first) (first / n) (omega arith))
+      first_there (omega arith) (keeps_tail n count first stop (first / n) (omega arith))
 
   pub behind-tail : stop < min count (div_ceil stop n * n) → first / n + 1 < div_ceil stop n
-      → opened_behind n count first stop ≡ (div_ceil stop n - 1) ∷ []
+      → opened_behind n count (from_to first stop) ≡ (div_ceil stop n - 1) ∷ []
   behind-tail behind more =
       let one : div_ceil stop n ≡ div_ceil stop n - 1 + 1 = omega arith in
       let product : div_ceil stop n * n ≡ (div_ceil stop n - 1) * n + n = ap (λ k. k * n) one ∙ omega arith in
-      behind_is more ∙ passed keeps (div_ceil stop n - 1) (keeps_tail n count first (stop - first) (div_ceil stop n - 1) (omega arith))
+      behind_is more ∙ passed keeps (div_ceil stop n - 1) (keeps_tail n count first stop (div_ceil stop n - 1) (omega arith))
 
-  pub behind-one : div_ceil stop n ≤ first / n + 1 → opened_behind n count first stop ≡ []
+  pub behind-one : div_ceil stop n ≤ first / n + 1 → opened_behind n count (from_to first stop) ≡ []
   behind-one one = no_range keeps (first / n) reached (omega arith)
 
-  pub nothing_first : first ≤ first / n * n → min count (div_ceil stop n * n) ≤ stop → opened_first n count first stop ≡ []
+  pub nothing_first : first ≤ first / n * n → min count (div_ceil stop n * n) ≤ stop → opened_first n count (from_to first stop) ≡ []
   nothing_first whole past =
       first_absent (λ one.
       let up = mul-le-mul_right {m = first / n + 1} {n = div_ceil stop n} n (omega arith) in
-      keeps_none n count first (stop - first) (first / n) whole (omega arith))
+      keeps_none n count first stop (first / n) whole (omega arith))
 
-  pub nothing_last : min count (div_ceil stop n * n) ≤ stop → opened_behind n count first stop ≡ []
+  pub nothing_last : min count (div_ceil stop n * n) ≤ stop → opened_behind n count (from_to first stop) ≡ []
   nothing_last past =
       elim (cases_lt (first / n + 1) (div_ceil stop n)) [
         | inr one ↦ behind-one one
@@ -157,33 +152,36 @@ module _ (n count first stop : ℕ) (some : 0 < n) (order : first ≤ stop) wher
             let product : div_ceil stop n * n ≡ (div_ceil stop n - 1) * n + n = ap (λ k. k * n) one ∙ omega arith in
             let low = mul-le-mul_right {m = first / n + 1} {n = div_ceil stop n - 1} n (omega arith) in
             behind_is more
-            ∙ dropped keeps (div_ceil stop n - 1) (keeps_none n count first (stop - first) (div_ceil stop n - 1) (omega (arith, begins.1)) (omega arith))
+            ∙ dropped keeps (div_ceil stop n - 1) (keeps_none n count first stop (div_ceil stop n - 1) (omega (arith, begins.1)) (omega arith))
       ]
 
   -- ---- how many there are
 
-  pub first_few : length (opened_first n count first stop) ≤ 1
-  first_few = omega (arith, length-filter-le keeps (take 1 (reached_intervals n first stop)), length-take 1 (reached_intervals n first stop))
+  pub first_few : length (opened_first n count (from_to first stop)) ≤ 1
+  first_few =
+      let all : List ℕ = reached_intervals n (from_to first stop) in
+      omega (arith, length-filter-le keeps (take 1 all), length-take 1 all)
 
-  pub behind_few : length (opened_behind n count first stop) ≤ 1
+  pub behind_few : length (opened_behind n count (from_to first stop)) ≤ 1
   behind_few =
       elim (cases_lt (first / n + 1) (div_ceil stop n)) [
         | inr one ↦ omega (arith, ap length (behind-one one))
         | inl more ↦ omega (arith, ap length (behind_is more), length-filter-le keeps ((div_ceil stop n - 1) ∷ []))
       ]
 
-  pub opened-parts : opened_by_exchange n count first stop ≡ opened_first n count first stop ++ opened_behind n count first stop
+  pub opened-parts : opened_by_exchange n count (from_to first stop) ≡ opened_first n count (from_to first stop) ++ opened_behind n count (from_to first stop)
   opened-parts =
-      let all : List ℕ = reached_intervals n first stop in
+      let all : List ℕ = reached_intervals n (from_to first stop) in
       ap (filter keeps) (sym (take-append-drop 1 all)) ∙ filter-append keeps (take 1 all) (drop 1 all)
 
-  pub opened-count : opened_count n count first stop ≡ length (opened_first n count first stop) + length (opened_behind n count first stop)
-  opened-count = ap length opened-parts ∙ length-append (opened_first n count first stop) (opened_behind n count first stop)
+  pub opened-count : opened_count n count (from_to first stop)
+      ≡ length (opened_first n count (from_to first stop)) + length (opened_behind n count (from_to first stop))
+  opened-count = ap length opened-parts ∙ length-append (opened_first n count (from_to first stop)) (opened_behind n count (from_to first stop))
 
   -- ---- as the code tests it, with m for the n that it is told
 
   module _ (m k : ℕ) (b : Bool) (m_is : m ≡ n) (is : b ≡ (nat_lt (k * n) stop && keeps k)) where
-    pub first_by : k ≡ first / m → b ≡ true → opened_first n count first stop ≡ k ∷ []
+    pub first_by : k ≡ first / m → b ≡ true → opened_first n count (from_to first stop) ≡ k ∷ []
     first_by k_is e =
         let first_is : k ≡ first / n = k_is ∙ ap (λ i. first / i) m_is in
         let both = both_true (nat_lt (k * n) stop) (keeps k) (sym is ∙ e) in
@@ -191,7 +189,7 @@ module _ (n count first stop : ℕ) (some : 0 < n) (order : first ≤ stop) wher
         (subst (λ i. keeps i ≡ true) first_is both.1)
         ∙ ap (λ i. i ∷ []) (sym first_is)
 
-    pub not_first_by : k ≡ first / m → b ≡ false → opened_first n count first stop ≡ []
+    pub not_first_by : k ≡ first / m → b ≡ false → opened_first n count (from_to first stop) ≡ []
     not_first_by k_is e =
         let absent : (nat_lt (first / n * n) stop && keeps (first / n)) ≡ false =
         subst (λ i. (nat_lt (i * n) stop && keeps i) ≡ false) (k_is ∙ ap (λ i. first / i) m_is) (sym is ∙ e) in
@@ -201,12 +199,12 @@ module _ (n count first stop : ℕ) (some : 0 < n) (order : first ≤ stop) wher
       last_is : (k ≡ div_ceil stop n - 1) × (first / n < k)
       last_is = (k_is ∙ ap (λ i. i - 1) (to_is ∙ ap (div_ceil stop) m_is), subst (λ i. first / i < k) m_is more)
 
-      pub behind_by : b ≡ true → opened_behind n count first stop ≡ k ∷ []
+      pub behind_by : b ≡ true → opened_behind n count (from_to first stop) ≡ k ∷ []
       behind_by e =
           let both = both_true (nat_lt (k * n) stop) (keeps k) (sym is ∙ e) in
           behind_is (omega (arith, last_is.0, last_is.1)) ∙ ap (λ i. filter keeps (i ∷ [])) (sym last_is.0) ∙ passed keeps k both.1
 
-      pub not_behind_by : b ≡ false → opened_behind n count first stop ≡ []
+      pub not_behind_by : b ≡ false → opened_behind n count (from_to first stop) ≡ []
       not_behind_by e =
           behind_is (omega (arith, last_is.0, last_is.1)) ∙ ap (λ i. filter keeps (i ∷ [])) (sym last_is.0)
           ∙ dropped keeps k (second_false (k * n) stop (keeps k) (before_end k stop n some (omega (arith, last_is.0, last_is.1))) (sym is ∙ e))
@@ -217,11 +215,11 @@ module _ (n count first stop : ℕ) (some : 0 < n) (order : first ≤ stop) wher
 
 -- the samples of both
 pub opened_samples-parts : (n first stop : ℕ) (s : List ℤ) → 0 < n → first ≤ stop
-    → opened_samples n first stop s
-    ≡ samples_of n s (opened_first n (length s) first stop) ++ samples_of n s (opened_behind n (length s) first stop)
+    → opened_samples n (from_to first stop) s
+    ≡ samples_of n s (opened_first n (length s) (from_to first stop)) ++ samples_of n s (opened_behind n (length s) (from_to first stop))
 opened_samples-parts n first stop s some order =
     ap (samples_of n s) (opened-parts n (length s) first stop some order)
-    ∙ flat_map-append (λ k. take n (drop (k * n) s)) (opened_first n (length s) first stop) (opened_behind n (length s) first stop)
+    ∙ flat_map-append (λ k. take n (drop (k * n) s)) (opened_first n (length s) (from_to first stop)) (opened_behind n (length s) (from_to first stop))
 
 -- the samples of one, or of none
 pub one_of : (n k : ℕ) (s : List ℤ) (opened : List ℕ) → opened ≡ k ∷ [] → samples_of n s opened ≡ take n (drop (k * n) s)

@@ -9,21 +9,22 @@ use Rattle.std.proofs.lemmas.List.Elements.{filter-append}
 use Rattle.std.proofs.Math.Nat.{mul-le-mul_right}
 use Rattle.aec_params.specs.declared.fault.Fault.{Fault}
 use Rattle.aec_params.specs.declared.edit.Edit.TheVariants.{Remove}
-use Rattle.aec_params.specs.Edits.{touched_intervals, keeps_a_sample, inside_calls, move_calls, move_openings, intervals_from}
+use Rattle.aec_params.specs.Edits.{touched_intervals, keeps_a_sample, reached_intervals, needed_calls, opened_intervals}
+use Rattle.aec_params.specs.EditLaws.{inside_calls}
 use Rattle.aec_params.proofs.CountLaws.{ceil_bounds, ceil_unique, before_end}
-use Rattle.aec_params.proofs.EditLaws.{touched_intervals-is}
-use Rattle.aec_params.proofs.MoveLaws.{range-append}
+use Rattle.aec_params.proofs.EditLaws.{touched_intervals-is, length-filter-all, keeps_tail}
+use Rattle.aec_params.proofs.MoveLaws.{from_to, needed_calls-remove}
+use Rattle.aec_params.proofs.RemovalLaws.{range-append}
 use Rattle.aec_bits.specs.Codec.{Format}
 use Rattle.aec_bits.proofs.RefusalLaws.{remove_fits}
 use Rattle.aec_edit.specs.Calls.{RisesAtMost}
 use Rattle.aec_edit.specs.Steps.{Applies}
-use Rattle.aec_edit.specs.Changes.{IsExchanged, IsNotExchanged, IsExchangeUpTo, exchanged, recoded_end, fresh_total, recoding_calls, recoding_openings, opened_by}
+use Rattle.aec_edit.specs.Changes.{IsExchanged, IsNotExchanged, IsExchangeUpTo, exchanged, fresh_total, recoding_calls, recoding_openings, opened_by}
 use Rattle.aec_edit.specs.Opened.{opened_first, opened_behind, opened_count}
-use Rattle.aec_edit.proofs.ExchangeLemmas.{begins_before, ceil_mono}
+use Rattle.aec_edit.proofs.ExchangeLemmas.{recoding, begins_before, ceil_mono}
 use Rattle.aec_edit.proofs.AnswerLemmas.{from_exchange}
-use Rattle.aec_edit.proofs.OpenedLemmas.{keeps_tail, nothing_first, nothing_last, first_few, behind_few, opened-count}
 use Rattle.aec_edit.proofs.OverwriteLemmas.{ceil_last, last_after, overwrite_opens}
-use Rattle.aec_edit.proofs.MoveLemmas.{places, later_calls, length-filter-all, later_can, whole_can}
+use Rattle.aec_edit.proofs.MoveLemmas.{places, end_for, later_calls, later_can, whole_can}
 
 -- ---- how many are coded
 
@@ -38,61 +39,26 @@ ceil_moved n first len h whole =
     ap (λ k. k * n) count ∙ omega arith
 
 pub whole_left : (n old first len : ℕ) → 0 < n → len % n ≡ 0 → first + len ≤ old
-    → recoding_calls n old first (first + len) (div_ceil (first + len) n) 0 ≡ 0 + inside_calls n first
+    → recoding_calls n old (recoding first (first + len) (div_ceil (first + len) n) 0) ≡ inside_calls n first
 whole_left n old first len h whole within =
     let moved = ceil_moved n first len h whole in
     let begins = begins_before first n h in
     elim (places n first h) [
       | inl start ↦
-          let sum : (0 + inside_calls n first) * n ≡ 0 = ap (λ k. (0 + k) * n) start.1 ∙ omega arith in
-          ceil_unique (fresh_total n old first (first + len) (div_ceil (first + len) n) 0) n (0 + inside_calls n first)
+          let sum : inside_calls n first * n ≡ 0 = ap (λ k. k * n) start.1 ∙ omega arith in
+          ceil_unique (fresh_total n old (recoding first (first + len) (div_ceil (first + len) n) 0)) n (inside_calls n first)
           (omega (arith, start.0, start.3)) (omega (arith, start.0, start.3))
       | inr cut ↦
-          let sum : (0 + inside_calls n first) * n ≡ n = ap (λ k. (0 + k) * n) cut.1 ∙ omega arith in
-          ceil_unique (fresh_total n old first (first + len) (div_ceil (first + len) n) 0) n (0 + inside_calls n first)
+          let sum : inside_calls n first * n ≡ n = ap (λ k. k * n) cut.1 ∙ omega arith in
+          ceil_unique (fresh_total n old (recoding first (first + len) (div_ceil (first + len) n) 0)) n (inside_calls n first)
           (omega (arith, cut.0, cut.3, begins.2)) (omega (arith, cut.0, cut.3, begins.2))
     ]
 
 -- ---- how many are decoded
 
-abbrev cut_openings : ℕ → ℕ → ℕ → ℕ → ℕ
-cut_openings n old first len = cond (eqb (first % n) 0) 0 (cond (eqb (first + len) old) 1 2)
-
-whole_opened : (n old first len : ℕ) → 0 < n → len % n ≡ 0 → first + len ≤ old
-    → recoding_openings n old first (first + len) (div_ceil (first + len) n) ≤ cut_openings n old first len
-whole_opened n old first len h whole within =
-    let moved = ceil_moved n first len h whole in
-    let begins = begins_before first n h in
-    elim (places n first h) [
-      | inl start ↦
-          let test : eqb (first % n) 0 ≡ true = eq-eqb (first % n) 0 start.0 in
-          let none_first = ap length (nothing_first n old first (first + len) h order (omega (arith, start.0, begins.2)) (omega (arith, start.3))) in
-          let none_last = ap length (nothing_last n old first (first + len) h order (omega (arith, start.3))) in
-          rw test (omega (arith, count))
-      | inr cut ↦
-          let test : eqb (first % n) 0 ≡ false = ne_eqb (first % n) 0 (λ e. absurd (omega (arith, cut.0))) in
-          rw test (at_end (cases_eq (first + len) old))
-    ]
-  where
-    order : first ≤ first + len
-    order = omega arith
-
-    count : opened_count n old first (first + len)
-        ≡ length (opened_first n old first (first + len)) + length (opened_behind n old first (first + len))
-    count = opened-count n old first (first + len) h order
-
-    at_end : (first + len ≡ old) ⊎ (first + len ≡ old → ⊥)
-        → recoding_openings n old first (first + len) (div_ceil (first + len) n) ≤ cond (eqb (first + len) old) 1 2
-    at_end (inl end) =
-        let test : eqb (first + len) old ≡ true = eq-eqb (first + len) old end in
-        let none_last = ap length (nothing_last n old first (first + len) h order (omega arith)) in
-        rw test (omega (arith, count, first_few n old first (first + len) h order))
-    at_end (inr inside) =
-        let test : eqb (first + len) old ≡ false = ne_eqb (first + len) old inside in
-        rw test (omega (arith, count, first_few n old first (first + len) h order, behind_few n old first (first + len) h order))
-
 later_opened : (n old first len : ℕ) → 0 < n → 0 < len → first + len ≤ old
-    → recoding_openings n old first (first + len) (div_ceil old n) ≤ length (filter (keeps_a_sample n old first len) (intervals_from n old first))
+    → recoding_openings n old (from_to first (first + len)) (div_ceil old n)
+    ≤ length (filter (keeps_a_sample n old (from_to first (first + len))) (reached_intervals n (from_to first old)))
 later_opened n old first len h some within =
     let cut : ℕ = div_ceil (first + len) n in
     let behind : List ℕ = range_with_len cut (div_ceil old n - cut) in
@@ -104,15 +70,15 @@ later_opened n old first len h some within =
     let number : (first + len - 1) / n - first / n + 1 ≡ cut - first / n = omega (arith, later, last) in
     let touched : touched_intervals n first len ≡ range_with_len (first / n) (cut - first / n) =
     touched_intervals-is n first len h some ∙ ap (range_with_len (first / n)) number in
-    let test : ℕ → Bool = keeps_a_sample n old first len in
+    let test : ℕ → Bool = keeps_a_sample n old (from_to first (first + len)) in
     let count : div_ceil old n - first / n ≡ (cut - first / n) + (div_ceil old n - cut) = omega (arith, later, last, up) in
     let place : first / n + (cut - first / n) ≡ cut = omega (arith, later, last) in
-    let parts : intervals_from n old first ≡ touched_intervals n first len ++ behind =
+    let parts : reached_intervals n (from_to first old) ≡ touched_intervals n first len ++ behind =
     ap (range_with_len (first / n)) count ∙ range-append (first / n) (cut - first / n) (div_ceil old n - cut)
     ∙ ap (λ a. range_with_len (first / n) (cut - first / n) ++ range_with_len a (div_ceil old n - cut)) place
     ∙ ap (λ l. l ++ behind) (sym touched) in
     let all_behind = length-filter-all test cut (div_ceil old n - cut)
-    (λ k from below. keeps_tail n old first len k (at_or_behind k from (omega (arith, up)))) in
+    (λ k from below. keeps_tail n old first (first + len) k (at_or_behind k from (omega (arith, up)))) in
     omega (
       arith,
       ends,
@@ -142,27 +108,31 @@ len_tests : (len : ℕ) → 0 < len → eqb len 0 ≡ false
 len_tests len some = ne_eqb len 0 (λ e. absurd (omega arith))
 
 pub remove_calls : (n old first len : ℕ) → 0 < n → 0 < len → first + len ≤ old
-    → recoding_calls n old first (first + len) (recoded_end n old (first + len) len) 0 ≡ move_calls n first len 0 (old - len)
-remove_calls n old first len h some within =
-    elim (cases_eq (len % n) 0) [
-      | inl whole ↦ rw (len_tests len some, eq-eqb (len % n) 0 whole) (whole_left n old first len h whole within)
-      | inr part ↦
-          let new : first + 0 + (old - (first + len)) ≡ old - len = omega arith in
-          rw (len_tests len some, ne_eqb (len % n) 0 part)
-          (later_calls n old first (first + len) 0 h (omega arith) within ∙ ap (λ k. div_ceil k n - first / n) new)
-    ]
+    → recoding_calls n old (recoding first (first + len) (end_for n old (first + len) len) 0) ≡ needed_calls n old (Remove first len)
+remove_calls n old first len h some within = by_number ∙ sym (needed_calls-remove n old first len h)
+  where
+    by_number : recoding_calls n old (recoding first (first + len) (end_for n old (first + len) len) 0)
+        ≡ cond (eqb len 0) 0 (cond (eqb (len % n) 0) (inside_calls n first) (div_ceil (old - len) n - first / n))
+    by_number =
+        elim (cases_eq (len % n) 0) [
+          | inl whole ↦ rw (len_tests len some, eq-eqb (len % n) 0 whole) (whole_left n old first len h whole within)
+          | inr part ↦
+              let new : first + 0 + (old - (first + len)) ≡ old - len = omega arith in
+              rw (len_tests len some, ne_eqb (len % n) 0 part)
+              (later_calls n old first (first + len) 0 h (omega arith) within ∙ ap (λ k. div_ceil k n - first / n) new)
+        ]
 
 pub remove_openings : (n old first len : ℕ) → 0 < n → 0 < len → first + len ≤ old
-    → recoding_openings n old first (first + len) (recoded_end n old (first + len) len) ≤ move_openings n old first len len (cond (eqb (first + len) old) 1 2)
+    → recoding_openings n old (from_to first (first + len)) (end_for n old (first + len) len) ≤ opened_intervals n old (Remove first len)
 remove_openings n old first len h some within =
     elim (cases_eq (len % n) 0) [
-      | inl whole ↦ rw (len_tests len some, eq-eqb (len % n) 0 whole) (whole_opened n old first len h whole within)
+      | inl whole ↦ rw (len_tests len some, eq-eqb (len % n) 0 whole) (omega arith)
       | inr part ↦ rw (len_tests len some, ne_eqb (len % n) 0 part) (later_opened n old first len h some within)
     ]
 
 -- one interval is coded, or none, where whole intervals go
 whole_fit : (n old first len : ℕ) → 0 < n → len % n ≡ 0 → div_ceil (first + len) n * n < old
-    → (k : ℕ) × (fresh_total n old first (first + len) (div_ceil (first + len) n) 0 ≡ k * n)
+    → (k : ℕ) × (fresh_total n old (recoding first (first + len) (div_ceil (first + len) n) 0) ≡ k * n)
 whole_fit n old first len h whole inside =
     let moved = ceil_moved n first len h whole in
     let begins = begins_before first n h in
@@ -172,7 +142,7 @@ whole_fit n old first len h whole inside =
     ]
 
 pub remove_can : (f : Format) (limit first len : ℕ) (s : List ℤ) → 1 ≤ f.most → first + len ≤ length s → length s ≤ limit
-    → IsExchangeUpTo f limit s first (first + len) (recoded_end f.most (length s) (first + len) len) []
+    → IsExchangeUpTo f limit s (from_to first (first + len)) (end_for f.most (length s) (first + len) len) []
 remove_can f limit first len s h within few =
     elim (cases_eq (len % f.most) 0) [
       | inl whole ↦
@@ -183,27 +153,32 @@ remove_can f limit first len s h within few =
 
 -- an exchange that is a removal
 pub removed : (f : Format) (limit calls reads first len stop to : ℕ) (s : List ℤ) (r : Result ℕ Fault) (s' : List ℤ) (calls' reads' : ℕ) → 1 ≤ f.most
-    → 0 < len → first + len ≤ length s → stop ≡ first + len → to ≡ recoded_end f.most (length s) (first + len) len
+    → 0 < len → first + len ≤ length s → stop ≡ first + len → to ≡ end_for f.most (length s) (first + len) len
     → MatchResult r
-    (λ coded. IsExchanged (recoding_calls f.most (length s) first stop to 0) calls coded calls')
-    (λ fault. IsNotExchanged (recoding_calls f.most (length s) first stop to 0) calls fault calls')
-    → OnOk r (s' ≡ exchanged first stop [] s) → OnErr r (s' ≡ s)
-    → RisesAtMost (opened_by (recoding_calls f.most (length s) first stop to 0) calls (recoding_openings f.most (length s) first stop to)) reads reads'
+    (λ coded. IsExchanged (recoding_calls f.most (length s) (recoding first stop to 0)) calls coded calls')
+    (λ fault. IsNotExchanged (recoding_calls f.most (length s) (recoding first stop to 0)) calls fault calls')
+    → OnOk r (s' ≡ exchanged (from_to first stop) [] s) → OnErr r (s' ≡ s)
+    → RisesAtMost (opened_by (recoding_calls f.most (length s) (recoding first stop to 0)) calls
+    (recoding_openings f.most (length s) (from_to first stop) to)) reads reads'
     → Applies f limit s calls reads (Remove first len) r s' calls' reads'
 removed f limit calls reads first len stop to s r s' calls' reads' h some within stop_is to_is answer ok err rises =
     at_stop (rw stop_is at answer) (rw stop_is at ok) (rw stop_is at rises)
   where
     at_stop : MatchResult r
-        (λ coded. IsExchanged (recoding_calls f.most (length s) first (first + len) to 0) calls coded calls')
-        (λ fault. IsNotExchanged (recoding_calls f.most (length s) first (first + len) to 0) calls fault calls')
-        → OnOk r (s' ≡ exchanged first (first + len) [] s)
-        → RisesAtMost (opened_by (recoding_calls f.most (length s) first (first + len) to 0) calls
-        (recoding_openings f.most (length s) first (first + len) to)) reads reads'
+        (λ coded. IsExchanged (recoding_calls f.most (length s) (recoding first (first + len) to 0)) calls coded calls')
+        (λ fault. IsNotExchanged (recoding_calls f.most (length s) (recoding first (first + len) to 0)) calls fault calls')
+        → OnOk r (s' ≡ exchanged (from_to first (first + len)) [] s)
+        → RisesAtMost (opened_by (recoding_calls f.most (length s) (recoding first (first + len) to 0)) calls
+        (recoding_openings f.most (length s) (from_to first (first + len)) to)) reads reads'
         → Applies f limit s calls reads (Remove first len) r s' calls' reads'
     at_stop answer ok rises =
         from_exchange f limit calls reads s (Remove first len)
-        (recoding_calls f.most (length s) first (first + len) to 0) (recoding_openings f.most (length s) first (first + len) to)
+        (recoding_calls f.most (length s) (recoding first (first + len) to 0)) (recoding_openings f.most (length s) (from_to first (first + len)) to)
         (remove_fits f limit first len s within)
-        (ap (λ t. recoding_calls f.most (length s) first (first + len) t 0) to_is ∙ remove_calls f.most (length s) first len h some within)
-        (omega (arith, ap (λ t. recoding_openings f.most (length s) first (first + len) t) to_is, remove_openings f.most (length s) first len h some within))
+        (ap (λ t. recoding_calls f.most (length s) (recoding first (first + len) t 0)) to_is ∙ remove_calls f.most (length s) first len h some within)
+        (omega (
+          arith,
+          ap (λ t. recoding_openings f.most (length s) (from_to first (first + len)) t) to_is,
+          remove_openings f.most (length s) first len h some within,
+        ))
         r s' calls' reads' answer ok err rises

@@ -6,7 +6,9 @@ use Rattle.std.proofs.lemmas.Bool.{ne_eqb}
 use Rattle.std.proofs.lemmas.List.{append-nil, drop_all}
 use Rattle.aec_params.specs.declared.fault.Fault.{Fault}
 use Rattle.aec_params.specs.declared.edit.Edit.TheVariants.{Truncate}
-use Rattle.aec_params.specs.Edits.{cut_calls, inside_calls}
+use Rattle.aec_params.specs.Edits.{cut_calls}
+use Rattle.aec_params.specs.EditLaws.{inside_calls}
+use Rattle.aec_params.proofs.MoveLaws.{from_to}
 use Rattle.aec_bits.specs.Codec.{Format}
 use Rattle.aec_bits.proofs.RefusalLaws.{truncate_fits}
 use Rattle.aec_edit.specs.Calls.{RisesAtMost}
@@ -32,7 +34,7 @@ truncate_calls n old stop h less =
       | inr cut ↦ omega (arith, inside, count, cut.1, cut.2)
     ]
 
-truncate_opens : (n old stop : ℕ) → 0 < n → stop < old → opened_count n old stop old ≤ cut_calls n old stop
+truncate_opens : (n old stop : ℕ) → 0 < n → stop < old → opened_count n old (from_to stop old) ≤ cut_calls n old stop
 truncate_opens n old stop h less =
     let order : stop ≤ old = omega arith in
     let inside = cut_inside n old stop less in
@@ -50,14 +52,14 @@ pub truncated : (f : Format) (limit calls reads stop old : ℕ) (s : List ℤ) (
     → old ≡ length s → stop < old
     → MatchResult r (λ coded. IsExchanged (exchange_calls f.most stop 0) calls coded calls')
     (λ fault. IsNotExchanged (exchange_calls f.most stop 0) calls fault calls')
-    → OnOk r (s' ≡ exchanged stop old [] s) → OnErr r (s' ≡ s)
-    → RisesAtMost (opened_by (exchange_calls f.most stop 0) calls (opened_count f.most (length s) stop old)) reads reads'
+    → OnOk r (s' ≡ exchanged (from_to stop old) [] s) → OnErr r (s' ≡ s)
+    → RisesAtMost (opened_by (exchange_calls f.most stop 0) calls (opened_count f.most (length s) (from_to stop old))) reads reads'
     → Applies f limit s calls reads (Truncate stop) r s' calls' reads'
 truncated f limit calls reads stop old s r s' calls' reads' h old_is less answer ok err rises =
-    from_exchange f limit calls reads s (Truncate stop) (exchange_calls f.most stop 0) (opened_count f.most (length s) stop old)
+    from_exchange f limit calls reads s (Truncate stop) (exchange_calls f.most stop 0) (opened_count f.most (length s) (from_to stop old))
     (truncate_fits f limit stop s (omega arith)) (truncate_calls f.most (length s) stop h (omega arith))
-    (omega (arith, ap (opened_count f.most (length s) stop) old_is, truncate_opens f.most (length s) stop h (omega arith)))
+    (omega (arith, ap (λ m. opened_count f.most (length s) (from_to stop m)) old_is, truncate_opens f.most (length s) stop h (omega arith)))
     r s' calls' reads' answer (rw no_more at ok) err rises
   where
-    no_more : exchanged stop old [] s ≡ take stop s
+    no_more : exchanged (from_to stop old) [] s ≡ take stop s
     no_more = ap (λ l. take stop s ++ l) (drop_all old s (omega arith)) ∙ append-nil (take stop s)

@@ -18,6 +18,8 @@ use Rattle.aec_params.proofs.CountLaws.{ceil_bounds}
 use Rattle.aec_edit.proofs.CallLemmas.{lacks_memory, recoded_at}
 use Rattle.aec_edit.proofs.HeldLemmas.{held-take, held-drop, held-append}
 use Rattle.aec_edit.proofs.ExchangeLemmas.{begins_before, ends_after, ceil_mono, fresh_len, fresh_count}
+use Rattle.aec_params.proofs.MoveLaws.{from_to}
+use Rattle.aec_edit.proofs.ExchangeLemmas.{recoding}
 
 -- what is to come, under other names
 pub coming_at : (f g : Format) (s s' front front' values values' back back' : List ℤ) (next next' end end' : ℕ) → g ≡ f → s' ≡ s
@@ -27,7 +29,7 @@ coming_at f g s s' front front' values values' back back' next next' end end' fo
     rw (format_is, s_is, front_is, values_is, back_is, next_is, end_is) refl
 
 module _ (f : Format) (limit first stop to : ℕ) (s values : List ℤ) (lawful : IsLawful f) (held : AreHeld f s)
-    (fits : IsExchangeUpTo f limit s first stop to values) where
+    (fits : IsExchangeUpTo f limit s (from_to first stop) to values) where
   abbrev pub tail : List ℤ
   tail = drop stop (take (to * f.most) s)
 
@@ -42,7 +44,7 @@ module _ (f : Format) (limit first stop to : ℕ) (s values : List ℤ) (lawful 
       ∙ sym (drop-append-le stop (take middle part) (drop middle part) inside)
       ∙ ap (drop stop) (take-append-drop middle part)
 
-  pub all_is : fresh_of f.most s first stop to values ≡ head_of f.most first s ++ (values ++ tail)
+  pub all_is : fresh_of f.most s (from_to first stop) to values ≡ head_of f.most first s ++ (values ++ tail)
   all_is = ap (λ l. head_of f.most first s ++ (values ++ l)) tail_is
 
   pub stop_before : stop ≤ to * f.most
@@ -50,7 +52,7 @@ module _ (f : Format) (limit first stop to : ℕ) (s values : List ℤ) (lawful 
       let order = mul-le-mul_right {m = div_ceil stop f.most} {n = to} f.most fits.reaches in
       omega (arith, (ceil_bounds stop f.most lawful.some).0)
 
-  pub all_len : length (fresh_of f.most s first stop to values) ≡ fresh_total f.most (length s) first stop to (length values)
+  pub all_len : length (fresh_of f.most s (from_to first stop) to values) ≡ fresh_total f.most (length s) (recoding first stop to (length values))
   all_len =
       omega (
         arith,
@@ -66,14 +68,14 @@ module _ (f : Format) (limit first stop to : ℕ) (s values : List ℤ) (lawful 
         begins_before first f.most lawful.some,
       )
 
-  pub all_held : AreHeld f (fresh_of f.most s first stop to values)
+  pub all_held : AreHeld f (fresh_of f.most s (from_to first stop) to values)
   all_held =
       rw all_is
       (held-append f.holds (head_of f.most first s) (values ++ tail)
       (held-drop f.holds (first / f.most * f.most) (take first s) (held-take f.holds first s held))
       (held-append f.holds values tail fits.held (held-drop f.holds stop (take (to * f.most) s) (held-take f.holds (to * f.most) s held))))
 
-  pub is_recoding_up_to : IsRecoding f limit s (first / f.most) to (fresh_of f.most s first stop to values)
+  pub is_recoding_up_to : IsRecoding f limit s (first / f.most) to (fresh_of f.most s (from_to first stop) to values)
   is_recoding_up_to =
       let begins = begins_before first f.most lawful.some in
       let after = ends_after f.most first stop lawful.some fits.order in
@@ -90,7 +92,7 @@ module _ (f : Format) (limit first stop to : ℕ) (s values : List ℤ) (lawful 
         few = omega (arith, all_len, begins.2, stop_before, fits.few, fits.within, fits.order);
       }
 
-  pub recoded_up_to : recoded f (first / f.most) to (fresh_of f.most s first stop to values) s ≡ exchanged first stop values s
+  pub recoded_up_to : recoded f (first / f.most) to (fresh_of f.most s (from_to first stop) to values) s ≡ exchanged (from_to first stop) values s
   recoded_up_to =
       let begins = begins_before first f.most lawful.some in
       let from : ℕ = first / f.most * f.most in
@@ -108,31 +110,34 @@ module _ (f : Format) (limit first stop to : ℕ) (s values : List ℤ) (lawful 
       ∙ ap (λ l. take first s ++ l) (append_assoc values tail (drop end s) ∙ ap (λ l. values ++ l) rest)
 
   -- what the touched intervals keep is coded
-  pub kept_more : first % f.most + (min (length s) (div_ceil stop f.most * f.most) - stop) ≤ fresh_total f.most (length s) first stop to (length values)
+  pub kept_more : first % f.most + (min (length s) (div_ceil stop f.most * f.most) - stop)
+      ≤ fresh_total f.most (length s) (recoding first stop to (length values))
   kept_more =
       let order = mul-le-mul_right {m = div_ceil stop f.most} {n = to} f.most fits.reaches in
       omega arith
 
   -- where some sample is coded, some interval is
-  pub some_calls : 0 < fresh_total f.most (length s) first stop to (length values) → 0 < recoding_calls f.most (length s) first stop to (length values)
+  pub some_calls : 0 < fresh_total f.most (length s) (recoding first stop to (length values))
+      → 0 < recoding_calls f.most (length s) (recoding first stop to (length values))
   some_calls some =
-      elim (cases_lt 0 (recoding_calls f.most (length s) first stop to (length values))) [
+      elim (cases_lt 0 (recoding_calls f.most (length s) (recoding first stop to (length values)))) [
         | inl codes ↦ codes
         | inr none ↦
-            let low = (ceil_bounds (fresh_total f.most (length s) first stop to (length values)) f.most lawful.some).0 in
-            let nothing : recoding_calls f.most (length s) first stop to (length values) * f.most ≡ 0 * f.most = ap (λ n. n * f.most) (let e : recoding_calls
-            f.most (length s) first stop to (length values) ≡ 0 = omega arith in e) in
+            let low = (ceil_bounds (fresh_total f.most (length s) (recoding first stop to (length values))) f.most lawful.some).0 in
+            let none_coded : recoding_calls f.most (length s) (recoding first stop to (length values)) ≡ 0 = omega arith in
+            let nothing : recoding_calls f.most (length s) (recoding first stop to (length values)) * f.most ≡ 0 * f.most =
+            ap (λ n. n * f.most) none_coded in
             absurd (omega arith)
       ]
 
 -- an exchange of as many, or at the end, codes up to its last interval
 module _ (f : Format) (limit first stop : ℕ) (s values : List ℤ) (lawful : IsLawful f) (held : AreHeld f s)
-    (fits : IsExchange f limit s first stop values) where
-  pub same_calls : recoding_calls f.most (length s) first stop (div_ceil stop f.most) (length values) ≡ exchange_calls f.most first (length values)
+    (fits : IsExchange f limit s (from_to first stop) values) where
+  pub same_calls : recoding_calls f.most (length s) (recoding first stop (div_ceil stop f.most) (length values)) ≡ exchange_calls f.most first (length values)
   same_calls =
       ap (λ n. div_ceil n f.most) (sym (fresh_len f limit first stop s values lawful held fits)) ∙ fresh_count f limit first stop s values lawful held fits
 
-  pub up_to_last : IsExchangeUpTo f limit s first stop (div_ceil stop f.most) values
+  pub up_to_last : IsExchangeUpTo f limit s (from_to first stop) (div_ceil stop f.most) values
   up_to_last =
       let begins = begins_before first f.most lawful.some in
       let back = ceil_bounds stop f.most lawful.some in
@@ -164,15 +169,15 @@ pub held_at : (f g : Format) (a b : List ℤ) → g ≡ f → a ≡ b → AreHel
 held_at f g a b format_is same held = rw (format_is, same) held
 
 pub total_is : (m n count size first stop to len r : ℕ) → m ≡ n → count ≡ size → r ≡ min count (to * m)
-    → first % m + (len + (r - stop)) ≡ fresh_total n size first stop to len
+    → first % m + (len + (r - stop)) ≡ fresh_total n size (recoding first stop to len)
 total_is m n count size first stop to len r m_is count_is r_is = cc
 
 pub calls_is : (m n count size first stop to len r d : ℕ) → m ≡ n → count ≡ size → r ≡ min count (to * m)
-    → d ≡ div_ceil (first % m + (len + (r - stop))) m → d ≡ recoding_calls n size first stop to len
+    → d ≡ div_ceil (first % m + (len + (r - stop))) m → d ≡ recoding_calls n size (recoding first stop to len)
 calls_is m n count size first stop to len r d m_is count_is r_is d_is = cc
 
-pub calls_in : (f g : Format) (total size first stop to len : ℕ) → g ≡ f → total ≡ fresh_total f.most size first stop to len
-    → div_ceil total g.most ≡ recoding_calls f.most size first stop to len
+pub calls_in : (f g : Format) (total size first stop to len : ℕ) → g ≡ f → total ≡ fresh_total f.most size (recoding first stop to len)
+    → div_ceil total g.most ≡ recoding_calls f.most size (recoding first stop to len)
 calls_in f g total size first stop to len format_is total_are = rw (format_is, total_are) refl
 
 pub code_for : (f g h : Format) (limit limit' from from' to : ℕ) (s s' fresh came : List ℤ) (bits : List Bool) (starts : List ℕ) (count total : ℕ)
@@ -199,37 +204,40 @@ reads_at a b calls opens opens' reads reads' same opens_same rises = rw (sym sam
 -- ---- an exchange up to some interval, as the code has it
 
 module _ (f : Format) (limit first stop to : ℕ) (s values : List ℤ) (lawful : IsLawful f) (held : AreHeld f s)
-    (fits : IsExchangeUpTo f limit s first stop to values) where
+    (fits : IsExchangeUpTo f limit s (from_to first stop) to values) where
   -- what was coded is the code of its fresh samples
   pub code_came : (g h : Format) (limit' from count : ℕ) (s' s'' front values' back : List ℤ) (next end : ℕ) (bits : List Bool) (starts : List ℕ)
       → g ≡ f → h ≡ g → limit' ≡ limit → s' ≡ s → s'' ≡ s' → front ≡ head_of f.most first s → values' ≡ values → back ≡ tail_of f.most stop s
       → next ≡ div_ceil stop f.most → end ≡ to → from ≡ first / f.most → bits ≡ code_of g (to_come g.most s' front values' back next end)
-      → starts ≡ starts_of g 0 (to_come g.most s' front values' back next end) → count ≡ fresh_total f.most (length s) first stop to (length values)
-      → IsCodeFor h limit' s'' from to bits starts count (fresh_of f.most s first stop to values)
+      → starts ≡ starts_of g 0 (to_come g.most s' front values' back next end) → count ≡ fresh_total f.most (length s) (recoding first stop to (length values))
+      → IsCodeFor h limit' s'' from to bits starts count (fresh_of f.most s (from_to first stop) to values)
   code_came g h limit' from count s' s'' front values' back next end bits starts format_is after_is limit_is s_is left_is front_is values_is back_is next_is
       end_is from_is bits_are starts_are count_is =
       let came = coming_at f g s s' (head_of f.most first s) front values values' (tail_of f.most stop s) back (div_ceil stop f.most) next to end
       format_is s_is front_is values_is back_is next_is end_is in
-      code_for f g h limit limit' (first / f.most) from to s s'' (fresh_of f.most s first stop to values) (to_come g.most s' front values' back next end)
-      bits starts count (fresh_total f.most (length s) first stop to (length values)) format_is (after_is ∙ format_is) limit_is (left_is ∙ s_is) from_is came
+      code_for f g h limit limit' (first / f.most) from to s s'' (fresh_of f.most s (from_to first stop) to values)
+      (to_come g.most s' front values' back next end)
+      bits starts count (fresh_total f.most (length s) (recoding first stop to (length values))) format_is
+      (after_is ∙ format_is) limit_is (left_is ∙ s_is) from_is came
       (is_recoding_up_to f limit first stop to s values lawful held fits) bits_are starts_are count_is
       (sym (ap length came ∙ all_len f limit first stop to s values lawful held fits))
 
   -- and then it is put in its place, which makes the exchange
   pub put_came : (h : Format) (from : ℕ) (s'' : List ℤ) → h ≡ f → s'' ≡ s → from ≡ first / f.most
-      → recoded h from to (fresh_of f.most s first stop to values) s'' ≡ exchanged first stop values s
+      → recoded h from to (fresh_of f.most s (from_to first stop) to values) s'' ≡ exchanged (from_to first stop) values s
   put_came h from s'' format_is s_is from_is =
-      recoded_at f h (first / f.most) from to to s s'' (fresh_of f.most s first stop to values) (fresh_of f.most s first stop to values) format_is from_is refl
-      s_is refl
+      recoded_at f h (first / f.most) from to to s s'' (fresh_of f.most s (from_to first stop) to values)
+      (fresh_of f.most s (from_to first stop) to values) format_is from_is refl s_is refl
       ∙ recoded_up_to f limit first stop to s values lawful held fits
 
   -- memory was wanting while it was coded, or for its code
   pub want_came : (g : Format) (calls after total' needed' : ℕ) (fault : Fault) → g ≡ f
-      → total' ≡ fresh_total f.most (length s) first stop to (length values)
-      → needed' ≡ recoding_calls f.most (length s) first stop to (length values) → needed' ≤ 2 ^ 64 - 1 - calls → fault ≡ Memory → 0 < total' → calls ≤ after
+      → total' ≡ fresh_total f.most (length s) (recoding first stop to (length values))
+      → needed' ≡ recoding_calls f.most (length s) (recoding first stop to (length values)) → needed' ≤ 2 ^ 64 - 1 - calls
+      → fault ≡ Memory → 0 < total' → calls ≤ after
       → after ≤ calls + div_ceil total' g.most
-      → IsNotExchanged (recoding_calls f.most (length s) first stop to (length values)) calls fault after
+      → IsNotExchanged (recoding_calls f.most (length s) (recoding first stop to (length values))) calls fault after
   want_came g calls after total' needed' fault format_is total_is needed_is enough fault_is some least most =
       let count = calls_in f g total' (length s) first stop to (length values) format_is total_is in
-      lacks_memory (recoding_calls f.most (length s) first stop to (length values)) calls after fault (omega (arith, needed_is, enough)) fault_is
+      lacks_memory (recoding_calls f.most (length s) (recoding first stop to (length values))) calls after fault (omega (arith, needed_is, enough)) fault_is
       (some_calls f limit first stop to s values lawful held fits (omega (arith, some, total_is))) least (omega (arith, most, count))

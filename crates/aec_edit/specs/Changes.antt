@@ -1,3 +1,4 @@
+-- For proofs alone: no public contract cites this file.
 -- What the private functions do to the samples: places are exchanged for values, and for that
 -- intervals for fresh samples. The contract of `apply` cites `samples_after`, `needed_calls` and
 -- `opened_intervals` instead.
@@ -6,6 +7,7 @@ use Rattle.std.specs.Prelude.{◌==◌, if◌then◌else◌, None, MatchOption, 
 use Rattle.std.specs.Int.{div_ceil}
 use Rattle.aec_bits.specs.Codec.{Format, AreHeld, code_of}
 use Rattle.aec_params.specs.declared.fault.Fault.{Fault}
+use Rattle.aec_params.specs.Edits.{Stretch}
 use Rattle.aec_edit.specs.Workspace.{interval_count}
 use Rattle.aec_edit.specs.Calls.{want_of_calls}
 use Rattle.aec_edit.specs.Steps.{LacksMemory}
@@ -13,17 +15,17 @@ use Rattle.aec_edit.specs.Index.{starts_of}
 use Rattle.aec_edit.specs.Fresh.{to_come}
 use Rattle.aec_edit.specs.Opened.{opened_count}
 
--- the samples with the places from first up to stop exchanged for values
-abbrev pub exchanged : ℕ → ℕ → List ℤ → List ℤ → List ℤ
-exchanged first stop values s = take first s ++ (values ++ drop stop s)
+-- the samples with some places exchanged for values
+abbrev pub exchanged : Stretch → List ℤ → List ℤ → List ℤ
+exchanged gone values s = take gone.first s ++ (values ++ drop gone.stop s)
 
 -- an exchange that a workspace can make: the values take as many places, or reach the end
-pub record IsExchange (f : Format) (limit : ℕ) (s : List ℤ) (first stop : ℕ) (values : List ℤ) : Type 0 where
-  pub order : first ≤ stop
-  pub within : stop ≤ length s
+pub record IsExchange (f : Format) (limit : ℕ) (s : List ℤ) (gone : Stretch) (values : List ℤ) : Type 0 where
+  pub order : gone.first ≤ gone.stop
+  pub within : gone.stop ≤ length s
   pub held : AreHeld f values
-  pub fitting : (stop ≡ length s) ⊎ (stop ≡ first + length values)
-  pub few : first + length values + (length s - stop) ≤ limit
+  pub fitting : (gone.stop ≡ length s) ⊎ (gone.stop ≡ gone.first + length values)
+  pub few : gone.first + length values + (length s - gone.stop) ≤ limit
 
 -- how many intervals it codes, of n samples each
 abbrev pub exchange_calls : ℕ → ℕ → ℕ → ℕ
@@ -31,7 +33,7 @@ exchange_calls n first len = div_ceil (first + len) n - first / n
 
 -- the samples with the intervals from number from up to number to exchanged for fresh samples
 abbrev pub recoded : Format → ℕ → ℕ → List ℤ → List ℤ → List ℤ
-recoded f from to fresh s = exchanged (from * f.most) (to * f.most) fresh s
+recoded f from to fresh s = exchanged (record { first = from * f.most; stop = to * f.most }) fresh s
 
 -- intervals that can be exchanged: the fresh samples fill whole intervals, as many as they like, or
 -- reach the end
@@ -68,35 +70,38 @@ opened_by needed calls opened = if is_some (want_of_calls calls needed) then 0 e
 
 -- ---- any exchange, of which the intervals up to number to are coded anew
 
--- the places of the intervals up to number to that are kept
-abbrev pub kept_behind : ℕ → ℕ → ℕ → ℕ → ℕ
-kept_behind n count stop to = min count (to * n) - stop
+-- its places, the number of the interval up to which it codes, and how many values come
+pub record Recoding : Type 0 where
+  pub gone : Stretch
+  pub to : ℕ
+  pub values : ℕ
 
--- how many samples it codes
-abbrev pub fresh_total : ℕ → ℕ → ℕ → ℕ → ℕ → ℕ → ℕ
-fresh_total n count first stop to len = first % n + (len + kept_behind n count stop to)
+-- how many samples it codes, of count: those in front of the places, the values, and those behind
+-- that are kept
+abbrev pub fresh_total : ℕ → ℕ → Recoding → ℕ
+fresh_total n count x = x.gone.first % n + (x.values + (min count (x.to * n) - x.gone.stop))
 
 -- how many intervals it codes
-abbrev pub recoding_calls : ℕ → ℕ → ℕ → ℕ → ℕ → ℕ → ℕ
-recoding_calls n count first stop to len = div_ceil (fresh_total n count first stop to len) n
+abbrev pub recoding_calls : ℕ → ℕ → Recoding → ℕ
+recoding_calls n count x = div_ceil (fresh_total n count x) n
 
 -- how many it decodes
-abbrev pub recoding_openings : ℕ → ℕ → ℕ → ℕ → ℕ → ℕ
-recoding_openings n count first stop to = opened_count n count first stop + (to - div_ceil stop n)
+abbrev pub recoding_openings : ℕ → ℕ → Stretch → ℕ → ℕ
+recoding_openings n count gone to = opened_count n count gone + (to - div_ceil gone.stop n)
 
 -- the samples that it codes
-abbrev pub fresh_of : ℕ → List ℤ → ℕ → ℕ → ℕ → List ℤ → List ℤ
-fresh_of n s first stop to values = to_come n s (head_of n first s) values (tail_of n stop s) (div_ceil stop n) to
+abbrev pub fresh_of : ℕ → List ℤ → Stretch → ℕ → List ℤ → List ℤ
+fresh_of n s gone to values = to_come n s (head_of n gone.first s) values (tail_of n gone.stop s) (div_ceil gone.stop n) to
 
 -- an exchange that a workspace can make so: what is coded fills whole intervals, or reaches the end
-pub record IsExchangeUpTo (f : Format) (limit : ℕ) (s : List ℤ) (first stop to : ℕ) (values : List ℤ) : Type 0 where
-  pub order : first ≤ stop
-  pub within : stop ≤ length s
-  pub reaches : div_ceil stop f.most ≤ to
+pub record IsExchangeUpTo (f : Format) (limit : ℕ) (s : List ℤ) (gone : Stretch) (to : ℕ) (values : List ℤ) : Type 0 where
+  pub order : gone.first ≤ gone.stop
+  pub within : gone.stop ≤ length s
+  pub reaches : div_ceil gone.stop f.most ≤ to
   pub inside : to ≤ interval_count f s
   pub held : AreHeld f values
-  pub fitting : (length s ≤ to * f.most) ⊎ ((k : ℕ) × (fresh_total f.most (length s) first stop to (length values) ≡ k * f.most))
-  pub few : first + length values + (length s - stop) ≤ limit
+  pub fitting : (length s ≤ to * f.most) ⊎ ((k : ℕ) × (fresh_total f.most (length s) (record { gone = gone; to = to; values = length values }) ≡ k * f.most))
+  pub few : gone.first + length values + (length s - gone.stop) ≤ limit
 
 -- bits, starts and a count that are the code of fresh samples for the intervals from number from up
 -- to number to
@@ -108,5 +113,5 @@ pub record IsCodeFor (f : Format) (limit : ℕ) (s : List ℤ) (from to : ℕ) (
 
 -- where the intervals end that an insertion of len samples codes: at the end of the one that is cut
 -- where they are whole intervals
-abbrev pub recoded_end : ℕ → ℕ → ℕ → ℕ → ℕ
-recoded_end n count first len = if len % n == 0 then div_ceil first n else div_ceil count n
+abbrev pub recoded_end : Format → List ℤ → ℕ → ℕ → ℕ
+recoded_end f s place len = if len % f.most == 0 then div_ceil place f.most else interval_count f s

@@ -1,3 +1,4 @@
+-- For proofs alone: no public contract cites this file.
 -- Overwrites that can be made before the samples behind them are there.
 use Rattle.std.specs.Prelude.{ℕ, ◌+◌, ◌≤◌, length}
 use Rattle.aec_params.specs.declared.edit.Edit.{Edit}

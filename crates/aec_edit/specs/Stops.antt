@@ -5,7 +5,7 @@ use Rattle.aec_params.specs.declared.edit.Edit.{Edit}
 use Rattle.aec_bits.specs.Codec.{Format}
 use Rattle.aec_edit.specs.declared.outcome.Outcome.{Outcome}
 use Rattle.aec_edit.specs.declared.outcome.Outcome.TheVariants.{Done, Refused}
-use Rattle.aec_edit.specs.declared.stopping.Stop.{Stop}
+use Rattle.aec_edit.specs.declared.outcome.Stop.{Stop}
 use Rattle.aec_edit.specs.Runs.{HasRun}
 
 -- each of these edits was made

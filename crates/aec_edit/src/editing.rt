@@ -1,16 +1,24 @@
-//! Edits, each made whole or not at all.
+//! Edits: why one doesn't fit, each made whole or not at all, and many in a row.
 
+use crate::outcome::{Outcome, Stop};
 use crate::workspace::Workspace;
 use aec_bits::Codec;
 use aec_params::{Edit, Fault};
 
 impl<C: Codec> Workspace<C> {
-    ghost use Rattle.std.specs.Prelude.{◌≡◌, length};
+    ghost use Rattle.std.specs.Prelude.{◌≡◌, length, ◌+◌, ◌-◌, ◌^◌, ◌<◌, ◌≤◌, true, false, None, Some, OnOk, IfErr, List, ◌++◌, vec_len, vec_capacity, OnErr};
     ghost use Rattle.aec_params.specs.declared.edit.Edit.TheVariants.{Overwrite, Append, Truncate, Insert, Remove};
-    ghost use Rattle.aec_edit.specs.Calls.{RisesAtMost, opened_at_most};
+    ghost use Rattle.aec_edit.specs.Calls.{RisesAtMost, opened_at_most, want_of_calls};
     ghost use Rattle.aec_edit.specs.Changes.{recoded_end};
     ghost use Rattle.aec_edit.specs.Steps.{Answers, Applies, samples_left, outcome_of};
     ghost use Rattle.aec_edit.specs.Unchanged.{KeepsRules};
+    ghost use Rattle.std.specs.List.{list_all};
+    ghost use Rattle.aec_params.specs.declared.fault.Fault.TheVariants.{OutOfRange, Spent, Memory};
+    ghost use Rattle.aec_bits.specs.Codec.{AreHeld};
+    ghost use Rattle.aec_bits.specs.Refusals.{growth_refusal, values_refusal, first_unheld as first_unheld_of};
+    ghost use Rattle.aec_edit.specs.Runs.{HasRun};
+    ghost use Rattle.aec_edit.specs.declared.outcome.Outcome.{Outcome as OutcomeOf};
+    ghost use Rattle.aec_edit.specs.Stops.{StopsAtRefusal};
 
     /// Makes an edit, and returns how many intervals it has coded: the number that is defined. It
     /// decodes at most as many as hold a sample that is kept and coded anew.
@@ -134,8 +142,7 @@ impl<C: Codec> Workspace<C> {
     /// Where the intervals end that are coded anew where `len` samples come or go in front of place
     /// `place`.
     fn recoded_end(&self, place: u64, len: u64) -> u64
-        ensures { result ≡ recoded_end (C.format self.now.codec).most (length self.now.samples)
-            place len }
+        ensures { result ≡ recoded_end (C.format self.now.codec) self.now.samples place len }
     {
         let most = self.interval_len();
         if len % most == 0 {
@@ -143,5 +150,143 @@ impl<C: Codec> Workspace<C> {
         } else {
             self.intervals()
         }
+    }
+
+    /// Whether there are `len` samples from place `first` on.
+    pub(crate) fn check_places(&self, first: u64, len: u64) -> Result<(), Fault>
+        ensures ok { OnOk result (first + len ≤ length self.now.samples) }
+        ensures few { length self.now.samples ≤ self.now.limit }
+        ensures bound { self.now.limit ≤ 2 ^ 32 }
+        ensures refuses { IfErr result
+            (λ e. (length self.now.samples < first + len)
+            × (e ≡ OutOfRange (length self.now.samples))) }
+    {
+        let count = self.count();
+        if len > count || first > count - len {
+            return Err(Fault::OutOfRange { count });
+        }
+        Ok(())
+    }
+
+    /// Whether fewer calls of the codec are left than are needed.
+    pub(crate) fn are_spent(&self, needed: u64) -> bool
+        ensures spent { result ≡ true
+            → want_of_calls (C.called self.now.codec) needed ≡ Some Spent }
+        ensures enough { result ≡ false → C.called self.now.codec + needed ≤ 2 ^ 64 - 1 }
+    {
+        needed > u64::MAX - self.calls()
+    }
+
+    /// Whether values can come: the limit has room for them, and they are samples.
+    pub(crate) fn check_growth(&self, values: &[i64]) -> Result<(), Fault>
+        ensures ok { OnOk result (growth_refusal (C.format self.now.codec) self.now.limit
+            self.now.samples values.now ≡ None) }
+        ensures few { OnOk result (length self.now.samples + length values.now ≤ self.now.limit) }
+        ensures held { OnOk result (AreHeld (C.format self.now.codec) values.now) }
+        ensures refuses { IfErr result (λ e.
+            growth_refusal (C.format self.now.codec) self.now.limit self.now.samples values.now
+            ≡ Some e) }
+    {
+        let limit = self.limit();
+        if values.len() as u64 > limit - self.count() {
+            return Err(Fault::TooManySamples { limit });
+        }
+        self.check_values(values)
+    }
+
+    /// Whether all values are samples; else the place of the first one that isn't.
+    pub(crate) fn check_values(&self, values: &[i64]) -> Result<(), Fault>
+        ensures ok { OnOk result (values_refusal (C.format self.now.codec) values.now ≡ None) }
+        ensures held { OnOk result (AreHeld (C.format self.now.codec) values.now) }
+        ensures refuses { IfErr result
+            (λ e. values_refusal (C.format self.now.codec) values.now ≡ Some e) }
+    {
+        match self.first_unheld(values) {
+            Some(index) => Err(Fault::SampleRange { index }),
+            None => Ok(()),
+        }
+    }
+
+    /// The place of the first value that is no sample.
+    fn first_unheld(&self, values: &[i64]) -> Option<u64>
+        ensures { result ≡ first_unheld_of (C.format self.now.codec).holds 0 values.now }
+    {
+        if self.are_held(values) {
+            return None;
+        }
+        for (index, x) in values.iter().enumerate() {
+            if !self.holds(*x) {
+                return Some(index as u64);
+            }
+        }
+        None
+    }
+
+    /// Whether all values are samples. Each is looked at, whatever the others are: so nothing is
+    /// decided from one to the next.
+    fn are_held(&self, values: &[i64]) -> bool
+        ensures { result ≡ list_all (C.format self.now.codec).holds values.now }
+    {
+        let mut held = true;
+        for x in values {
+            held &= self.holds(*x);
+        }
+        held
+    }
+
+    /// Applies edits in their order, and adds what became of each to `outcomes`: one outcome an
+    /// edit. An edit that is refused leaves samples and stream, and those after it are applied to
+    /// them. `Memory` where there is no room for so many outcomes; then nothing has been done.
+    #[tactic(auto, using(crate::proofs::RunLemmas::run_goes_on))]
+    pub fn run(&mut self, edits: &[Edit], outcomes: &mut Vec<Outcome>) -> Result<(), Fault>
+        ensures ok { OnOk result ((done : List OutcomeOf)
+            × (outcomes.new.items ≡ outcomes.old.items ++ done)
+            × HasRun (C.format self.old.codec) self.old.limit self.old.samples
+            (C.called self.old.codec) (C.read self.old.codec)
+            edits.now done self.new.samples (C.called self.new.codec) (C.read self.new.codec)) }
+        ensures rules { KeepsRules C.format self.old self.new }
+        ensures err { OnErr result (self.new ≡ self.old) }
+        ensures outcomes_err { OnErr result (outcomes.new.items ≡ outcomes.old.items) }
+        ensures full { OnErr result
+            (vec_capacity outcomes.old < vec_len outcomes.old + length edits.now) }
+        ensures fault { IfErr result (λ e. e ≡ Memory) }
+    {
+        outcomes.reserve(edits.len())?;
+        for edit in edits {
+            outcomes.push(outcome(self.apply(edit))).unwrap();
+        }
+        Ok(())
+    }
+
+    /// Applies edits in their order, and ends with the first that is refused: those before it are
+    /// made, and those behind it are not tried. Edits that code no interval take no memory.
+    pub fn run_until_refused(&mut self, edits: &[Edit]) -> Result<(), Stop>
+        ensures run { StopsAtRefusal (C.format self.old.codec) self.old.limit self.old.samples
+            (C.called self.old.codec) (C.read self.old.codec)
+            edits.now result self.new.samples (C.called self.new.codec) (C.read self.new.codec) }
+        ensures rules { KeepsRules C.format self.old self.new }
+    {
+        for (place, edit) in edits.iter().enumerate() {
+            if let Err(fault) = self.apply(edit) {
+                return Err(Stop {
+                    place: place as u64,
+                    fault,
+                });
+            }
+        }
+        Ok(())
+    }
+}
+
+ghost use Rattle.std.specs.Prelude.{◌≡◌};
+ghost use Rattle.aec_edit.specs.Steps.{outcome_of};
+
+/// What an answer says of an edit.
+fn outcome(answer: Result<u64, Fault>) -> Outcome
+    ensures { result ≡ outcome_of answer }
+{
+    match answer {
+        Ok(coded) => Outcome::Done { coded },
+        Err(fault) => Outcome::Refused { fault },
     }
 }

@@ -1,7 +1,7 @@
 //! The one operation behind every edit: places are exchanged for values.
 
-use crate::fresh::Fresh;
 use crate::workspace::Workspace;
+use crate::workspace::fresh_coding::Fresh;
 use aec_bits::Codec;
 use aec_params::Fault;
 
@@ -18,8 +18,8 @@ impl<C: Codec> Workspace<C> {
     /// Exchanges the samples from place `first` up to place `stop` for values, as many, or at the
     /// end, and answers how many intervals it has coded.
     pub(crate) fn exchange(&mut self, first: u64, stop: u64, values: &[i64]) -> Result<u64, Fault>
-        requires { IsExchange (C.format self.old.codec) self.old.limit self.old.samples first stop
-            values.now }
+        requires { IsExchange (C.format self.old.codec) self.old.limit self.old.samples
+            (record { first = first; stop = stop }) values.now }
         ensures answer { let needed
             = exchange_calls (C.format self.old.codec).most first (length values.now) in
             MatchResult result
@@ -27,12 +27,13 @@ impl<C: Codec> Workspace<C> {
             (λ fault. IsNotExchanged needed (C.called self.old.codec) fault
             (C.called self.new.codec)) }
         ensures ok { OnOk result (self.new.samples
-            ≡ exchanged first stop values.now self.old.samples) }
+            ≡ exchanged (record { first = first; stop = stop }) values.now self.old.samples) }
         ensures err { OnErr result (self.new.samples ≡ self.old.samples) }
         ensures reads { RisesAtMost
             (opened_by (exchange_calls (C.format self.old.codec).most first (length values.now))
             (C.called self.old.codec)
-            (opened_count (C.format self.old.codec).most (length self.old.samples) first stop))
+            (opened_count (C.format self.old.codec).most (length self.old.samples)
+            (record { first = first; stop = stop })))
             (C.read self.old.codec) (C.read self.new.codec) }
         ensures rules { KeepsRules C.format self.old self.new }
     {
@@ -50,24 +51,32 @@ impl<C: Codec> Workspace<C> {
         to: u64,
         values: &[i64],
     ) -> Result<u64, Fault>
-        requires { IsExchangeUpTo (C.format self.old.codec) self.old.limit self.old.samples first
-            stop to values.now }
+        requires { IsExchangeUpTo (C.format self.old.codec) self.old.limit self.old.samples
+            (record { first = first; stop = stop }) to values.now }
         ensures answer { let needed
-            = recoding_calls (C.format self.old.codec).most (length self.old.samples) first stop to
-            (length values.now) in
+            = recoding_calls (C.format self.old.codec).most (length self.old.samples)
+            (record {
+              gone = record { first = first; stop = stop };
+              to = to;
+              values = length values.now;
+            }) in
             MatchResult result
             (λ coded. IsExchanged needed (C.called self.old.codec) coded (C.called self.new.codec))
             (λ fault. IsNotExchanged needed (C.called self.old.codec) fault
             (C.called self.new.codec)) }
         ensures ok { OnOk result (self.new.samples
-            ≡ exchanged first stop values.now self.old.samples) }
+            ≡ exchanged (record { first = first; stop = stop }) values.now self.old.samples) }
         ensures err { OnErr result (self.new.samples ≡ self.old.samples) }
         ensures reads { RisesAtMost
             (opened_by (recoding_calls (C.format self.old.codec).most (length self.old.samples)
-            first stop to (length values.now))
+            (record {
+              gone = record { first = first; stop = stop };
+              to = to;
+              values = length values.now;
+            }))
             (C.called self.old.codec)
-            (recoding_openings (C.format self.old.codec).most (length self.old.samples) first stop
-            to))
+            (recoding_openings (C.format self.old.codec).most (length self.old.samples)
+            (record { first = first; stop = stop }) to))
             (C.read self.old.codec) (C.read self.new.codec) }
         ensures rules { KeepsRules C.format self.old self.new }
     {
@@ -93,8 +102,8 @@ impl<C: Codec> Workspace<C> {
         to: u64,
         values: &'a [i64],
     ) -> Result<Fresh<'a>, Fault>
-        requires { IsExchangeUpTo (C.format self.old.codec) self.old.limit self.old.samples first
-            stop to values.now }
+        requires { IsExchangeUpTo (C.format self.old.codec) self.old.limit self.old.samples
+            (record { first = first; stop = stop }) to values.now }
         ensures front { IfOk result
             (λ fresh. fresh.front.items
             ≡ head_of (C.format self.old.codec).most first self.old.samples) }
@@ -106,10 +115,15 @@ impl<C: Codec> Workspace<C> {
             (λ fresh. fresh.next ≡ div_ceil stop (C.format self.old.codec).most) }
         ensures end { IfOk result (λ fresh. fresh.end ≡ to) }
         ensures fault { IfErr result (λ e. (e ≡ Memory)
-            × (0 < recoding_calls (C.format self.old.codec).most (length self.old.samples) first
-            stop to (length values.now))) }
+            × (0 < recoding_calls (C.format self.old.codec).most (length self.old.samples)
+            (record {
+              gone = record { first = first; stop = stop };
+              to = to;
+              values = length values.now;
+            }))) }
         ensures read { IsOnlyRead C.format C.called C.read
-            (opened_count (C.format self.old.codec).most (length self.old.samples) first stop)
+            (opened_count (C.format self.old.codec).most (length self.old.samples)
+            (record { first = first; stop = stop }))
             self.old self.new }
     {
         let most = self.interval_len();
@@ -142,13 +156,15 @@ impl<C: Codec> Workspace<C> {
         requires ends { ends.old.items ≡ [] }
         requires spare { spare.old.items ≡ [] }
         ensures ok { OnOk result (ends.new.items
-            ≡ opened_samples (C.format self.old.codec).most first stop self.old.samples) }
+            ≡ opened_samples (C.format self.old.codec).most
+            (record { first = first; stop = stop }) self.old.samples) }
         ensures spare { OnOk result (spare.new.items ≡ []) }
         ensures fault { IfErr result (λ e. (e ≡ Memory)
-            × (0 < opened_count (C.format self.old.codec).most (length self.old.samples) first
-            stop)) }
+            × (0 < opened_count (C.format self.old.codec).most (length self.old.samples)
+            (record { first = first; stop = stop }))) }
         ensures read { IsOnlyRead C.format C.called C.read
-            (opened_count (C.format self.old.codec).most (length self.old.samples) first stop)
+            (opened_count (C.format self.old.codec).most (length self.old.samples)
+            (record { first = first; stop = stop }))
             self.old self.new }
     {
         self.open_first(first, stop, ends)?;
@@ -164,8 +180,8 @@ impl<C: Codec> Workspace<C> {
         requires within { stop ≤ length self.now.samples }
         requires place { k * (C.format self.now.codec).most ≤ stop }
         ensures { result ≡ (nat_lt (k * (C.format self.now.codec).most) stop
-            && keeps_a_sample (C.format self.now.codec).most (length self.now.samples) first
-            (stop - first) k) }
+            && keeps_a_sample (C.format self.now.codec).most (length self.now.samples)
+            (record { first = first; stop = stop }) k) }
     {
         let most = self.interval_len();
         let begin = k * most;
@@ -179,13 +195,14 @@ impl<C: Codec> Workspace<C> {
         requires within { stop ≤ length self.old.samples }
         ensures ok { OnOk result (ends.new.items ≡ ends.old.items
             ++ samples_of (C.format self.old.codec).most self.old.samples
-            (opened_first (C.format self.old.codec).most (length self.old.samples) first stop)) }
+            (opened_first (C.format self.old.codec).most (length self.old.samples)
+            (record { first = first; stop = stop }))) }
         ensures fault { IfErr result (λ e. (e ≡ Memory)
             × (0 < length (opened_first (C.format self.old.codec).most (length self.old.samples)
-            first stop))) }
+            (record { first = first; stop = stop })))) }
         ensures read { IsOnlyRead C.format C.called C.read
-            (length (opened_first (C.format self.old.codec).most (length self.old.samples) first
-            stop))
+            (length (opened_first (C.format self.old.codec).most (length self.old.samples)
+            (record { first = first; stop = stop })))
             self.old self.new }
     {
         let from = first / self.interval_len();
@@ -202,13 +219,14 @@ impl<C: Codec> Workspace<C> {
         requires within { stop ≤ length self.old.samples }
         ensures ok { OnOk result (ends.new.items ≡ ends.old.items
             ++ samples_of (C.format self.old.codec).most self.old.samples
-            (opened_behind (C.format self.old.codec).most (length self.old.samples) first stop)) }
+            (opened_behind (C.format self.old.codec).most (length self.old.samples)
+            (record { first = first; stop = stop }))) }
         ensures fault { IfErr result (λ e. (e ≡ Memory)
             × (0 < length (opened_behind (C.format self.old.codec).most (length self.old.samples)
-            first stop))) }
+            (record { first = first; stop = stop })))) }
         ensures read { IsOnlyRead C.format C.called C.read
-            (length (opened_behind (C.format self.old.codec).most (length self.old.samples) first
-            stop))
+            (length (opened_behind (C.format self.old.codec).most (length self.old.samples)
+            (record { first = first; stop = stop })))
             self.old self.new }
     {
         let most = self.interval_len();

@@ -1,4 +1,4 @@
-//! What became of an edit.
+//! What became of edits.
 
 use aec_params::Fault;
 
@@ -9,4 +9,13 @@ pub enum Outcome {
     Done { coded: u64 },
     /// It was refused.
     Refused { fault: Fault },
+}
+
+/// Where edits in a row have ended.
+#[derive(Clone, Copy, Debug, PartialEq, Eq, Drop)]
+pub struct Stop {
+    /// How many edits stand before the one that was refused.
+    pub place: u64,
+    /// Why it was refused.
+    pub fault: Fault,
 }

@@ -1,16 +1,13 @@
 //! The workspace: a coded list of samples.
 
-mod fresh_coding;
-mod intervals;
-mod recoding;
-mod scratch_lists;
+pub(crate) mod fresh_coding;
 
 ghost use Rattle.aec_edit.specs.Index.{KeptSamples, one_list};
 
-use crate::coded::Coded;
-use crate::scratch::Scratch;
+use crate::coded::{Coded, Cut};
 use aec_bits::{Codec, Sink};
 use aec_params::Fault;
+use fresh_coding::Scratch;
 use std::alloc::Global;
 use std::marker::Model;
 
@@ -53,13 +50,16 @@ impl<C: Codec> Model for Workspace<C> {
 }
 
 impl<C: Codec> Workspace<C> {
-    ghost use Rattle.std.specs.Prelude.{◌≡◌, ◌+◌, ◌<◌, ◌≤◌, ◌^◌, ◌⊎◌, [], length, MatchOption, OnOk, OnErr, IfErr};
+    ghost use Rattle.std.specs.Prelude.{◌≡◌, ◌+◌, ◌<◌, ◌≤◌, ◌^◌, ◌⊎◌, [], length, MatchOption, OnOk, OnErr, IfErr, ◌*◌, ◌++◌, take, drop, ℤ, List};
     ghost use Rattle.std.specs.Io.KnownBytes.{Appends};
     ghost use Rattle.aec_params.specs.declared.fault.Fault.TheVariants.{Memory, Write as WriteFault};
     ghost use Rattle.aec_params.specs.Codewords.{bytes_of};
     ghost use Rattle.aec_bits.specs.Codec.{AreHeld, code_of};
     ghost use Rattle.aec_bits.specs.Devices.{AppendsFront};
     ghost use Rattle.aec_edit.specs.Workspace.{interval_count, start_of};
+    ghost use Rattle.aec_edit.specs.Calls.{RisesAtMost};
+    ghost use Rattle.aec_edit.specs.Unchanged.{IsOnlyRead};
+    ghost use Rattle.aec_edit.specs.Changes.{recoded, IsCodeFor};
 
     /// An empty workspace, which is to hold no more samples than the limit. Takes no memory.
     pub fn new(alloc: Global, codec: C, limit: u64) -> Workspace<C>
@@ -167,5 +167,102 @@ impl<C: Codec> Workspace<C> {
             → W.failed out.old ≡ 0) }
     {
         self.coded.bits.write_to(out)
+    }
+
+    /// What new memory is asked of.
+    pub(crate) fn alloc(&self) -> Global {
+        self.alloc
+    }
+
+    /// The most samples that there may be.
+    pub(crate) fn limit(&self) -> u64
+        ensures { result ≡ self.now.limit }
+    {
+        self.limit
+    }
+
+    /// The number of samples in an interval that isn't the last.
+    pub(crate) fn interval_len(&self) -> u64
+        ensures value { result ≡ (C.format self.now.codec).most }
+        ensures some { 1 ≤ (C.format self.now.codec).most }
+        ensures few { (C.format self.now.codec).most ≤ 262144 }
+        ensures limit { self.now.limit ≤ 2 ^ 32 }
+        ensures held { AreHeld (C.format self.now.codec) self.now.samples }
+    {
+        let _ = &self.coded;
+        self.codec.interval_len()
+    }
+
+    /// Whether a number is a sample.
+    pub(crate) fn holds(&self, x: i64) -> bool
+        ensures { result ≡ (C.format self.now.codec).holds x }
+    {
+        self.codec.holds(x)
+    }
+
+    /// Where interval `i` begins in the code, or where the code ends.
+    pub(crate) fn start_at(&self, i: u64) -> u64
+        requires { i ≤ interval_count (C.format self.now.codec) self.now.samples }
+        ensures { result ≡ start_of (C.format self.now.codec) self.now.samples i }
+    {
+        if i < self.coded.starts.len() as u64 {
+            self.coded.starts[i as usize]
+        } else {
+            self.coded.bits.len()
+        }
+    }
+
+    /// That place, with the interval's number.
+    pub(crate) fn cut_at(&self, i: u64) -> Cut
+        requires { i ≤ interval_count (C.format self.now.codec) self.now.samples }
+        ensures interval { result.interval ≡ i }
+        ensures bit { result.bit ≡ start_of (C.format self.now.codec) self.now.samples i }
+    {
+        Cut {
+            interval: i,
+            bit: self.start_at(i),
+        }
+    }
+
+    /// Appends the samples of interval `i`. `Memory` where a growth was refused; `out` is then as
+    /// before.
+    pub(crate) fn decode_interval(&mut self, i: u64, out: &mut Vec<i64>) -> Result<(), Fault>
+        requires { i < interval_count (C.format self.old.codec) self.old.samples }
+        ensures ok { OnOk result (out.new.items ≡ out.old.items
+            ++ take (C.format self.old.codec).most
+            (drop (i * (C.format self.old.codec).most) self.old.samples)) }
+        ensures err { OnErr result (out.new.items ≡ out.old.items) }
+        ensures fault { IfErr result (λ e. e ≡ Memory) }
+        ensures read { IsOnlyRead C.format C.called C.read 1 self.old self.new }
+    {
+        let start = self.start_at(i);
+        let most = self.interval_len();
+        let len = most.min(self.coded.count - i * most);
+        self.codec.decode(&self.coded.bits, start, len, out)
+    }
+
+    /// Puts the code of fresh samples in the place of the intervals from number `from` up to number
+    /// `to`, and moves the starts of the later ones. All memory is taken first, so that nothing has
+    /// changed where it is refused.
+    pub(crate) fn put(&mut self, from: u64, to: u64, coded: &Coded) -> Result<(), Fault>
+        requires { (fresh : List ℤ)
+            × IsCodeFor (C.format self.old.codec) self.old.limit self.old.samples from to
+            coded.now.bits.list coded.now.starts.items coded.now.count fresh }
+        ensures ok { (fresh : List ℤ)
+            → IsCodeFor (C.format self.old.codec) self.old.limit self.old.samples from to
+            coded.now.bits.list coded.now.starts.items coded.now.count fresh
+            → OnOk result (self.new.samples
+            ≡ recoded (C.format self.old.codec) from to fresh self.old.samples) }
+        ensures err { OnErr result (self.new.samples ≡ self.old.samples) }
+        ensures fault { IfErr result (λ e. (e ≡ Memory) × (0 < coded.now.count)) }
+        ensures limit { self.new.limit ≡ self.old.limit }
+        ensures codec { self.new.codec ≡ self.old.codec }
+    {
+        let from = self.cut_at(from);
+        let to = self.cut_at(to);
+        let most = self.interval_len();
+        let later = self.count().saturating_sub(to.interval * most);
+        let count = from.interval * most + coded.count + later;
+        self.coded.replace(from, to, coded, count)
     }
 }

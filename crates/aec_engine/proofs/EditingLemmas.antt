@@ -9,7 +9,7 @@ use Rattle.aec_params.specs.Edits.{samples_after, needed_calls}
 use Rattle.aec_bits.specs.Codec.{Format}
 use Rattle.aec_edit.specs.declared.outcome.Outcome.{Outcome}
 use Rattle.aec_edit.specs.declared.outcome.Outcome.TheVariants.{Done, Refused}
-use Rattle.aec_edit.specs.declared.stopping.Stop.{Stop}
+use Rattle.aec_edit.specs.declared.outcome.Stop.{Stop}
 use Rattle.aec_edit.specs.Calls.{due_refusal}
 use Rattle.aec_edit.specs.Steps.{LacksMemory, IsRefused}
 use Rattle.aec_edit.specs.Runs.{AnswersAll, all_left}

@@ -1,3 +1,4 @@
+-- For proofs alone: no public contract cites this file.
 -- What feeding a source to a coder gives, step by step.
 use Rattle.std.specs.Prelude.{◌≡◌, ℕ, ◌+◌, ◌-◌, ◌*◌, Bool, false, Option, Some, List, [], length}
 use Rattle.std.specs.Io.KnownBytes.{Consumes}

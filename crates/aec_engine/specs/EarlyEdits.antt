@@ -1,3 +1,4 @@
+-- For proofs alone: no public contract cites this file.
 -- Edits of a script that are made before all samples are there.
 use Rattle.std.specs.Prelude.{◌≡◌, ℕ, ◌+◌, ◌^◌, ◌≤◌, ◌⊎◌, Bool, Option, None, Result, Ok, Err, ℤ, List, ◌++◌, length}
 use Rattle.aec_params.specs.declared.settings.Settings.{Settings}

@@ -1,3 +1,4 @@
+-- For proofs alone: no public contract cites this file.
 -- What is known of a stream that edits have left.
 use Rattle.std.specs.Prelude.{◌≡◌, ℕ, Bool, List, [], length}
 use Rattle.aec_params.specs.declared.settings.Settings.{Settings}

@@ -7,7 +7,7 @@ use Rattle.aec_params.specs.declared.edit.Edit.{Edit}
 use Rattle.aec_params.specs.Codewords.{bytes_of}
 use Rattle.aec_bits.specs.Codec.{Format, code_of}
 use Rattle.aec_bits.specs.Devices.{AppendsFront}
-use Rattle.aec_edit.specs.declared.stopping.Stop.{Stop}
+use Rattle.aec_edit.specs.declared.outcome.Stop.{Stop}
 use Rattle.aec_edit.specs.Stops.{StopsAtRefusal}
 use Rattle.aec_engine.specs.declared.scripts.EditFault.{EditFault}
 use Rattle.aec_engine.specs.declared.scripts.EditFault.TheVariants.{Plain, Line}

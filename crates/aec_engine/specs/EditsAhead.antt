@@ -1,3 +1,4 @@
+-- For proofs alone: no public contract cites this file.
 -- What is left of a script whose lines are read again when their edits are made.
 use Rattle.std.specs.Prelude.{◌≡◌, ℕ, ◌+◌, ◌^◌, ◌≤◌, ◌⊎◌, Option, Some, None, option_map, MatchOption, ⊤, []}
 use Rattle.aec_edit.specs.Early.{IsInside}

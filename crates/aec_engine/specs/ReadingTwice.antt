@@ -1,3 +1,4 @@
+-- For proofs alone: no public contract cites this file.
 -- What the parts of decoding give: the bits of a source, and what their two readings answer.
 use Rattle.std.specs.Prelude.{◌≡◌, ℕ, ◌+◌, ◌-◌, ◌*◌, ◌/◌, ◌%◌, ◌^◌, ◌<◌, ◌≤◌, ◌⊎◌, min, Bool, true, false, Option, None, Result, Ok, Err, MatchResult, ℤ, List, ◌++◌, length}
 use Rattle.std.specs.Int.{div_ceil}

@@ -1,3 +1,4 @@
+-- For proofs alone: no public contract cites this file.
 -- What the private functions that read scripts give: a line before its values are kept.
 use Rattle.std.specs.Prelude.{◌≡◌, ℕ, ℤ, Bool, true, Option, Some, None, is_some, option_map, length, ◌+◌, ◌<◌, ◌⊎◌, ◌≢◌, List, [], ◌++◌, ◌==◌}
 use Rattle.std.specs.List.{slice_split}

@@ -1,3 +1,4 @@
+-- For proofs alone: no public contract cites this file.
 -- What the private functions of `interval::filled_blocks` compute: the blocks of samples behind
 -- others of their interval, or at its start. The contract of `write_interval` cites `interval_bits`
 -- instead.

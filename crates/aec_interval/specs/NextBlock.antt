@@ -1,3 +1,4 @@
+-- For proofs alone: no public contract cites this file.
 -- What the private functions of `reading::samples` and `reading::zero_runs` compute: one block more
 -- behind whole blocks of samples. The contract of `decode_all` cites `IsReading` and `IsFault`
 -- instead.

@@ -1,3 +1,4 @@
+-- For proofs alone: no public contract cites this file.
 -- What the private functions of `interval::zero_runs` and `interval` compute: what is still to be
 -- written behind zero blocks that are counted. The contract of `write_interval` cites
 -- `interval_bits` instead.

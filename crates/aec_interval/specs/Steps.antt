@@ -1,3 +1,4 @@
+-- For proofs alone: no public contract cites this file.
 -- What the steps of a reading need and how far they come, whether they make samples or go over
 -- them: for the private functions of `reading`, `reading::plain` and `reading::skipping`. The
 -- contract of `decode_all` cites `IsReading` and `IsFault` instead.

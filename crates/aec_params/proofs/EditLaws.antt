@@ -3,6 +3,7 @@ use Rattle.std.proofs.Common.{◌≡◌, ℕ, zero, suc, ◌+◌, ◌-◌, ◌*�
 use Rattle.std.specs.List.{range_with_len, dedup_from, filter}
 use Rattle.std.specs.Int.{div_ceil}
 use Rattle.std.proofs.lemmas.Bool.{le-ltb, eq-eqb, ne_eqb, eqb-false, or_from}
+use Rattle.std.proofs.lemmas.Bool.Decides.{nat_tests}
 use Rattle.std.proofs.lemmas.Nat.{le-div}
 use Rattle.std.proofs.lemmas.List.Elements.{filter-append}
 use Rattle.std.proofs.lemmas.List.FromFn.{length-range_with_len}
@@ -10,7 +11,7 @@ use Rattle.std.proofs.Math.Nat.{div-mul-le_self, add-div_right, div-add-mod', mu
 use Rattle.aec_params.specs.declared.samples.Samples.{Samples}
 use Rattle.aec_params.specs.declared.edit.Edit.{Edit}
 use Rattle.aec_params.specs.declared.edit.Edit.TheVariants.{Overwrite, Append, Truncate, Insert, Remove}
-use Rattle.aec_params.specs.Edits.{touched_intervals, keeps_a_sample, needed_calls, opened_intervals}
+use Rattle.aec_params.specs.Edits.{Stretch, touched_intervals, keeps_a_sample, needed_calls, opened_intervals}
 use Rattle.aec_params.specs.EditLaws.{MovesNone}
 
 -- ---- quotients of consecutive numbers
@@ -109,8 +110,22 @@ ends_alone test a (suc m) none =
     let zero_inside = ap length inner in
     omega arith
 
+pub length-filter-all : (test : ℕ → Bool) (a m : ℕ) → ((k : ℕ) → a ≤ k → k < a + m → test k ≡ true) → length (filter test (range_with_len a m)) ≡ m
+length-filter-all test a zero all = refl
+length-filter-all test a (suc m) all =
+    rw (all a (omega arith) (omega arith)) (ap suc (length-filter-all test (a + 1) m (λ k h l. all k (omega arith) (omega arith))))
+
+-- ---- intervals that keep a sample
+
+pub keeps_head : (n old first stop k : ℕ) → k * n < first → keeps_a_sample n old (record { first = first; stop = stop }) k ≡ true
+keeps_head n old first stop k before = grind (arith, nat_tests)
+
+pub keeps_tail : (n old first stop k : ℕ) → stop < min (k * n + n) old → keeps_a_sample n old (record { first = first; stop = stop }) k ≡ true
+keeps_tail n old first stop k behind = grind (arith, nat_tests)
+
 -- an interval between the first and the last touched one keeps nothing
-keeps_nothing : (n old first len k : ℕ) → 0 < n → 0 < len → first / n < k → k < (first + len - 1) / n → keeps_a_sample n old first len k ≡ false
+keeps_nothing : (n old first len k : ℕ) → 0 < n → 0 < len → first / n < k → k < (first + len - 1) / n
+    → keeps_a_sample n old (record { first = first; stop = first + len }) k ≡ false
 keeps_nothing n old first len k h l a b =
     let up = mul-le-mul_right n (below (first / n) k n a) in
     let down = mul-le-mul_right n (below k ((first + len - 1) / n) n b) in
@@ -123,13 +138,15 @@ keeps_nothing n old first len k h l a b =
     below : (a b n : ℕ) → a < b → a + 1 ≤ b
     below a b n h = omega arith
 
-pub opened-two : (n old first len : ℕ) → 0 < n → length (filter (keeps_a_sample n old first len) (touched_intervals n first len)) ≤ 2
+pub opened-two : (n old first len : ℕ) → 0 < n
+    → length (filter (keeps_a_sample n old (record { first = first; stop = first + len })) (touched_intervals n first len)) ≤ 2
 opened-two n old first zero h = omega arith
 opened-two n old first (suc len) h =
+    let gone : Stretch = record { first = first; stop = first + suc len } in
     let e : (first + suc len - 1) / n - first / n + 1 ≡ suc ((first + suc len - 1) / n - first / n) = omega arith in
     let t = touched_intervals-is n first (suc len) h (omega arith) ∙ ap (range_with_len (first / n)) e in
-    subst (λ (xs : List ℕ). length (filter (keeps_a_sample n old first (suc len)) xs) ≤ 2) (sym t)
-    (ends_alone (keeps_a_sample n old first (suc len)) (first / n) ((first + suc len - 1) / n - first / n)
+    subst (λ (xs : List ℕ). length (filter (keeps_a_sample n old gone) xs) ≤ 2) (sym t)
+    (ends_alone (keeps_a_sample n old gone) (first / n) ((first + suc len - 1) / n - first / n)
     (λ k a b. keeps_nothing n old first (suc len) k h (omega arith) a (omega arith)))
 
 one_at_most : (b c : Bool) → cond b 0 (cond c 0 1) ≤ 2
@@ -170,7 +187,7 @@ opened_intervals-two n old (Remove first len) h stays = absurd stays
 
 pub opened_intervals-le-needed_calls : (n old : ℕ) (edit : Edit) → 0 < n → MovesNone edit → opened_intervals n old edit ≤ needed_calls n old edit
 opened_intervals-le-needed_calls n old (Overwrite first values) h stays =
-    length-filter-le (keeps_a_sample n old first (length values)) (touched_intervals n first (length values))
+    length-filter-le (keeps_a_sample n old (record { first = first; stop = first + length values })) (touched_intervals n first (length values))
 opened_intervals-le-needed_calls n old (Append values) h stays =
     needs_one (eqb (length values) 0) (eqb (old % n) 0) (div_ceil (old + length values) n - old / n)
     (λ b c. ceil_more n old (length values) h (positive (old % n) (eqb-false (old % n) 0 c)) (positive (length values) (eqb-false (length values) 0 b)))

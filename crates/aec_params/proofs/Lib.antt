@@ -27,4 +27,7 @@ pub mod StreamLaws
 pub mod ReadingLaws
 pub mod EditLaws
 pub mod MoveLaws
+pub mod RemovalLaws
+pub mod NewIntervalLaws
+pub mod LostIntervalLaws
 pub mod SampleShapeLaws

@@ -1,10 +1,11 @@
 -- What the definitions of edits were meant to say: how many intervals one codes and opens.
-use Rattle.std.specs.Prelude.{◌≡◌, ℕ, ◌+◌, ◌-◌, ◌*◌, ◌/◌, ◌<◌, ◌≤◌, ⊤, [], length}
-use Rattle.std.specs.List.{range_with_len}
+use Rattle.std.specs.Prelude.{◌≡◌, ℕ, ◌+◌, ◌-◌, ◌*◌, ◌/◌, ◌%◌, ◌<◌, ◌≤◌, ◌==◌, nat_lt, min, if◌then◌else◌, ⊤, Bool, true, false, Option, Some, None, List, [], length}
+use Rattle.std.specs.List.{range_with_len, list_any}
+use Rattle.std.specs.Int.{div_ceil}
 use Rattle.aec_params.specs.declared.edit.Edit.{Edit}
 use Rattle.aec_params.specs.declared.edit.Edit.TheVariants.{Overwrite, Append, Truncate, Insert, Remove}
 use Rattle.aec_params.specs.declared.samples.Samples.{Samples}
-use Rattle.aec_params.specs.Edits.{touched_intervals, opened_intervals, needed_calls}
+use Rattle.aec_params.specs.Edits.{Stretch, touched_intervals, reached_intervals, moved_intervals, keeping_intervals, opened_intervals, needed_calls}
 
 -- an edit that leaves each sample that it keeps at its place
 abbrev pub MovesNone : Edit → Type 0
@@ -24,6 +25,85 @@ pub record EditsTouchFew : Type 0 where
   pub appended : (n old : ℕ) (values : Samples) → 0 < n → needed_calls n old (Append values) ≡ length (touched_intervals n old (length values))
   pub opened : (n old : ℕ) (edit : Edit) → 0 < n → MovesNone edit
       → (opened_intervals n old edit ≤ 2) × (opened_intervals n old edit ≤ needed_calls n old edit)
+
+-- none for a place where an interval of n samples begins, one for a place inside of one
+abbrev pub inside_calls : ℕ → ℕ → ℕ
+inside_calls n first = if first % n == 0 then 0 else 1
+
+-- how many `moved_intervals` are. Whole intervals that come are coded, and so is the interval that
+-- their place is inside of; that one alone where whole intervals go. Otherwise all from that of the
+-- place on are coded, and all of these that keep a sample are opened
+pub record MovesByLength : Type 0 where
+  pub inserted : (n old first : ℕ) (values : Samples) → 0 < n
+      → needed_calls n old (Insert first values)
+      ≡ (let len : ℕ = length values in
+      if len == 0 then 0 else (if len % n == 0 then len / n + inside_calls n first else div_ceil (old + len) n - first / n))
+  pub removed : (n old first len : ℕ) → 0 < n
+      → needed_calls n old (Remove first len)
+      ≡ (if len == 0 then 0 else (if len % n == 0 then inside_calls n first else div_ceil (old - len) n - first / n))
+  pub opened_by_insertion : (n old first : ℕ) (values : Samples) → 0 < n → first ≤ old
+      → opened_intervals n old (Insert first values)
+      ≡ (let len : ℕ = length values in
+      if len == 0 then 0 else (if len % n == 0 then inside_calls n first else div_ceil old n - first / n))
+  pub opened_by_removal : (n old first len : ℕ) → 0 < n → first + len ≤ old
+      → opened_intervals n old (Remove first len)
+      ≡ (let kept : List ℕ =
+      keeping_intervals n old (record { first = first; stop = first + len }) (reached_intervals n (record { first = first; stop = old })) in
+      if len == 0 then 0
+      else (if len % n == 0 then (if first % n == 0 then 0 else (if first + len == old then 1 else 2)) else length kept))
+
+-- an exchange of places among old samples: those of `gone` for `fresh` new ones
+pub record Exchange : Type 0 where
+  pub old : ℕ
+  pub gone : Stretch
+  pub fresh : ℕ
+
+-- how many samples it leaves
+abbrev pub count_after : Exchange → ℕ
+count_after x = x.gone.first + x.fresh + (x.old - x.gone.stop)
+
+-- where the sample that it leaves at a place stood before it: nowhere if it is new
+abbrev pub stood_at : Exchange → ℕ → Option ℕ
+stood_at x place =
+    if nat_lt place x.gone.first then Some place
+    else (if nat_lt place (x.gone.first + x.fresh) then None else Some (place - (x.gone.first + x.fresh) + x.gone.stop))
+
+-- interval k of n samples after an exchange is interval i from before it, sample by sample
+pub record IsFromBefore (n : ℕ) (x : Exchange) (k i : ℕ) : Type 0 where
+  pub count : min (k * n + n) (count_after x) - k * n ≡ min (i * n + n) x.old - i * n
+  pub each : (j : ℕ) → k * n + j < min (k * n + n) (count_after x) → stood_at x (k * n + j) ≡ Some (i * n + j)
+
+-- an interval after an exchange is one of some, and was not there before it; or it is none of them,
+-- and was
+pub record IsNewIfOneOf (n : ℕ) (x : Exchange) (intervals : List ℕ) (k : ℕ) : Type 0 where
+  pub one : list_any (λ i. i == k) intervals ≡ true → (i : ℕ) → IsFromBefore n x k i → ⊥
+  pub none : list_any (λ i. i == k) intervals ≡ false → (i : ℕ) × IsFromBefore n x k i
+
+-- what `moved_intervals` are in the samples that an insertion or a removal leaves: those intervals
+-- that were not there before
+pub record MovesCodeWhatIsNew : Type 0 where
+  pub inserted : (n old first len k : ℕ) → 0 < n → first ≤ old → k < div_ceil (old + len) n
+      → IsNewIfOneOf n (record { old = old; gone = record { first = first; stop = first }; fresh = len })
+      (moved_intervals n len (old + len) (record { first = first; stop = first + len })) k
+  pub removed : (n old first len k : ℕ) → 0 < n → first + len ≤ old → k < div_ceil (old - len) n
+      → IsNewIfOneOf n (record { old = old; gone = record { first = first; stop = first + len }; fresh = 0 })
+      (moved_intervals n len (old - len) (record { first = first; stop = first })) k
+
+-- an interval before an exchange is one of some, and is not there after it; or it is none of them,
+-- and is
+pub record IsLostIfOneOf (n : ℕ) (x : Exchange) (intervals : List ℕ) (i : ℕ) : Type 0 where
+  pub one : list_any (λ k. k == i) intervals ≡ true → (k : ℕ) → IsFromBefore n x k i → ⊥
+  pub none : list_any (λ k. k == i) intervals ≡ false → (k : ℕ) × IsFromBefore n x k i
+
+-- what `moved_intervals` are in the samples before an insertion or a removal: those intervals that
+-- are not there after it. The ones among them that keep a sample are opened
+pub record MovesOpenWhatIsLost : Type 0 where
+  pub inserted : (n old first len i : ℕ) → 0 < n → first ≤ old → i < div_ceil old n
+      → IsLostIfOneOf n (record { old = old; gone = record { first = first; stop = first }; fresh = len })
+      (moved_intervals n len old (record { first = first; stop = first })) i
+  pub removed : (n old first len i : ℕ) → 0 < n → first + len ≤ old → i < div_ceil old n
+      → IsLostIfOneOf n (record { old = old; gone = record { first = first; stop = first + len }; fresh = 0 })
+      (moved_intervals n len old (record { first = first; stop = first + len })) i
 
 -- an insertion behind the last sample codes as many as the append, and a removal up to the end as
 -- many as the truncate

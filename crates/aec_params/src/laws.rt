@@ -2,7 +2,7 @@
 //! proved.
 
 ghost use Rattle.aec_params.specs.Laws.{FundamentalSequencesDiffer, BinaryNumbersDiffer, CodewordLengths, BinaryNumbersAreReadBack, ListsAreTold, EachNumberIsOnePair, SamplesAreValues, PiecesAreTheCut, WholePiecesComeFirst, BytesAreBits, BlocksTellSamples, SamplesAreBlocks, ReadingsHaveSamples};
-ghost use Rattle.aec_params.specs.EditLaws.{EditsTouchFew, EndsMeet, MovesOpenFew, MovesCodeNothing};
+ghost use Rattle.aec_params.specs.EditLaws.{EditsTouchFew, MovesByLength, MovesCodeWhatIsNew, MovesOpenWhatIsLost, EndsMeet, MovesOpenFew, MovesCodeNothing};
 
 /// Fundamental sequences of two numbers differ, whatever bits follow them.
 pub fn fundamental_sequences_differ()
@@ -74,6 +74,22 @@ pub fn readings_have_samples()
 /// that it codes.
 pub fn edits_touch_few()
     ensures { EditsTouchFew }
+{}
+
+/// How many intervals an insertion and a removal code and open, by lengths alone.
+pub fn moves_by_length()
+    ensures { MovesByLength }
+{}
+
+/// An insertion and a removal code just those intervals that weren't there before.
+pub fn moves_code_what_is_new()
+    ensures { MovesCodeWhatIsNew }
+{}
+
+/// An insertion and a removal open just those intervals that aren't there after them and keep a
+/// sample.
+pub fn moves_open_what_is_lost()
+    ensures { MovesOpenWhatIsLost }
 {}
 
 /// An insertion at the end codes as many intervals as the append does, a removal up to the end as

@@ -1,10 +1,128 @@
-//! The code of fresh samples, an interval at a time.
+//! Fresh samples and their code, an interval at a time, in lists that one edit leaves to the next.
+
+ghost use Rattle.std.specs.Prelude.{◌≡◌, ◌⊎◌, ◌≤◌, ◌++◌, true, false, [], length, drop, OnOk, OnErr, IfErr, ◌*◌, vec_capacity};
+ghost use Rattle.aec_params.specs.declared.fault.Fault.TheVariants.{Memory};
+ghost use Rattle.aec_edit.specs.Fresh.{BeginsWhole};
+ghost use Rattle.aec_edit.specs.Workspace.{IsScratchRoom};
 
 use super::Workspace;
 use crate::coded::Coded;
-use crate::fresh::{Fresh, drop_front};
 use aec_bits::Codec;
 use aec_params::Fault;
+use std::alloc::Global;
+use std::mem;
+
+/// Samples that are to be coded: those in front, the values, those behind them, and those of the
+/// old intervals from number `next` up to number `end`, which are still to be decoded.
+#[derive(Debug, Drop)]
+pub(crate) struct Fresh<'a> {
+    pub front: Vec<i64>,
+    pub values: &'a [i64],
+    pub back: Vec<i64>,
+    pub next: u64,
+    pub end: u64,
+}
+
+impl<'a> Fresh<'a> {
+    /// Whether the next interval, of `most` samples, stands whole in the values.
+    pub fn begins_whole(&self, most: usize) -> bool
+        ensures whole { result ≡ true → BeginsWhole most self.now.front.items self.now.values.now }
+        ensures not { result ≡ false
+            → BeginsWhole most self.now.front.items self.now.values.now → ⊥ }
+    {
+        self.front.is_empty() && self.values.len() >= most
+    }
+
+    /// Moves values and what is behind them to the front, until it holds a whole interval. `Memory`
+    /// where a growth was refused.
+    pub fn gather_held(&mut self, most: usize) -> Result<(), Fault>
+        ensures ok { OnOk result (self.new.front.items
+            ++ (self.new.values.now ++ self.new.back.items)
+            ≡ self.old.front.items ++ (self.old.values.now ++ self.old.back.items)) }
+        ensures full { OnOk result
+            ((most ≤ length self.new.front.items)
+            ⊎ ((self.new.values.now ≡ []) × (self.new.back.items ≡ []))) }
+        ensures fault { IfErr result (λ e. e ≡ Memory) }
+        ensures next { self.new.next ≡ self.old.next }
+        ensures end { self.new.end ≡ self.old.end }
+    {
+        let some = most.saturating_sub(self.front.len()).min(self.values.len());
+        let (now, later) = self.values.split_at(some);
+        self.front.extend_from_slice(now)?;
+        self.values = later;
+        if self.values.is_empty() && self.front.len() < most {
+            self.front.extend_from_slice(&self.back)?;
+            self.back.truncate(0);
+        }
+        Ok(())
+    }
+}
+
+/// Takes the first items away.
+pub(crate) fn drop_front(items: &mut Vec<i64>, len: usize)
+    requires { len ≤ length items.old.items }
+    ensures { items.new.items ≡ drop len items.old.items }
+{
+    let count = items.len();
+    items.copy_within(len..count, 0);
+    items.truncate(count - len);
+}
+
+/// Empty lists, after an accepted edit with the room that it has left: for fresh samples in front
+/// and behind, and for their code.
+#[derive(Debug, Drop)]
+pub(crate) struct Scratch {
+    pub front: Vec<i64>,
+    pub back: Vec<i64>,
+    pub coded: Coded,
+    ghost no_front: { front.items ≡ [] },
+    ghost no_back: { back.items ≡ [] },
+    ghost no_bits: { coded.bits.list ≡ [] },
+    ghost no_starts: { coded.starts.items ≡ [] },
+    ghost no_count: { coded.count ≡ 0 },
+}
+
+impl Scratch {
+    /// Lists with no room. Takes no memory.
+    pub fn new(alloc: Global) -> Scratch
+        ensures front { vec_capacity result.front ≡ 0 }
+        ensures back { vec_capacity result.back ≡ 0 }
+        ensures bits { result.coded.bits.room ≡ 0 }
+        ensures starts { vec_capacity result.coded.starts ≡ 0 }
+    {
+        Scratch {
+            front: Vec::new(alloc),
+            back: Vec::new(alloc),
+            coded: Coded::new(alloc),
+        }
+    }
+
+    /// These lists, emptied. Those with more room than edits of two intervals of `most` samples
+    /// need are let go.
+    pub fn of(alloc: Global, front: Vec<i64>, back: Vec<i64>, coded: Coded, most: usize) -> Scratch
+        requires { most ≤ 262144 }
+        ensures room { IsScratchRoom most (vec_capacity result.front) (vec_capacity result.back)
+            result.coded.bits.room (vec_capacity result.coded.starts) }
+    {
+        Scratch {
+            front: emptied(alloc, front, 2 * most),
+            back: emptied(alloc, back, most),
+            coded: coded.emptied(alloc, 2 * most as u64),
+        }
+    }
+}
+
+/// The list without its items. One that has room for more than `most` is let go.
+fn emptied(alloc: Global, mut items: Vec<i64>, most: usize) -> Vec<i64>
+    ensures items { result.items ≡ [] }
+    ensures capacity { vec_capacity result ≤ most }
+{
+    if items.capacity() > most {
+        return Vec::new(alloc);
+    }
+    items.clear();
+    items
+}
 
 impl<C: Codec> Workspace<C> {
     ghost use Rattle.std.specs.Prelude.{◌≡◌, ◌+◌, ◌-◌, ◌^◌, ◌<◌, ◌≤◌, ◌++◌, ◌∷◌, [], min, length, take, drop, IfOk, OnOk, OnErr, IfErr};
@@ -188,5 +306,43 @@ impl<C: Codec> Workspace<C> {
         }
         coded.count = count;
         Ok(coded)
+    }
+
+    /// Empty lists for samples in front of values and behind them, in the room that the edit before
+    /// has left.
+    pub(crate) fn take_lists(&mut self) -> (Vec<i64>, Vec<i64>)
+        ensures front { result.0.items ≡ [] }
+        ensures back { result.1.items ≡ [] }
+        ensures same { self.new ≡ self.old }
+    {
+        let alloc = self.alloc;
+        let Scratch {
+            front,
+            back,
+            coded,
+            ..
+        } = mem::replace(&mut self.scratch, Scratch::new(alloc));
+        self.scratch.coded = coded;
+        (front, back)
+    }
+
+    /// The code of no samples, in such room.
+    pub(crate) fn take_coded(&mut self) -> Coded
+        ensures bits { result.bits.list ≡ [] }
+        ensures starts { result.starts.items ≡ [] }
+        ensures count { result.count ≡ 0 }
+        ensures same { self.new ≡ self.old }
+    {
+        let empty = Coded::new(self.alloc);
+        mem::replace(&mut self.scratch.coded, empty)
+    }
+
+    /// Keeps the lists of an edit for the next one.
+    pub(crate) fn keep_lists(&mut self, fresh: Fresh<'_>, coded: Coded)
+        ensures same { self.new ≡ self.old }
+    {
+        let most = self.interval_len() as usize;
+        let Fresh { front, back, .. } = fresh;
+        self.scratch = Scratch::of(self.alloc, front, back, coded, most);
     }
 }

@@ -1,4 +1,5 @@
-use Rattle.aec_params.proofs.MoveLaws.{insertions_open, removals_open}
+use Rattle.aec_params.proofs.MoveLaws.{insertions_open}
+use Rattle.aec_params.proofs.RemovalLaws.{removals_open}
 use Rattle.aec_params.proofs.laws.moves_open_few.Goals as goal
 
 pub returns : goal.returns

@@ -5,6 +5,8 @@ use Rattle.aec_edit.specs.Changes.{recoding_calls, recoding_openings}
 use Rattle.aec_edit.specs.Opened.{opened_count}
 use Rattle.aec_edit.proofs.UpToLemmas.{up_to_last, same_calls, answer_at, reads_at}
 use Rattle.aec_edit.proofs.workspace.Workspace.exchange.Goals as goal
+use Rattle.aec_params.proofs.MoveLaws.{from_to}
+use Rattle.aec_edit.proofs.ExchangeLemmas.{recoding}
 
 pub exchange_up_to-requires : goal.exchange_up_to-requires
 exchange_up_to-requires g c =
@@ -21,7 +23,7 @@ returns-clause-answer g c =
     let size : ℕ = length seen.samples in
     let to : c.div_ceil.result ≡ div_ceil c.args.stop f.most = c.div_ceil.ensures ∙ ap (div_ceil c.args.stop) c.interval_len-most.ensures.value in
     answer_at _ _ _ _ _
-    (ap (λ t. recoding_calls f.most size c.args.first c.args.stop t (length c.args.values.now)) to
+    (ap (λ t. recoding_calls f.most size (recoding c.args.first c.args.stop t (length c.args.values.now))) to
     ∙ same_calls f seen.limit c.args.first c.args.stop seen.samples c.args.values.now (g.C.Codec.lawful seen.codec) c.interval_len-most.ensures.held c.requires)
     c.exchange_up_to.ensures.answer
 
@@ -31,10 +33,10 @@ returns-clause-reads g c =
     let f : Format = g.C.Codec.format seen.codec in
     let size : ℕ = length seen.samples in
     let to : c.div_ceil.result ≡ div_ceil c.args.stop f.most = c.div_ceil.ensures ∙ ap (div_ceil c.args.stop) c.interval_len-most.ensures.value in
-    let no_more : recoding_openings f.most size c.args.first c.args.stop (div_ceil c.args.stop f.most)
-    ≡ opened_count f.most size c.args.first c.args.stop = omega arith in
+    let no_more : recoding_openings f.most size (from_to c.args.first c.args.stop) (div_ceil c.args.stop f.most)
+    ≡ opened_count f.most size (from_to c.args.first c.args.stop) = omega arith in
     reads_at _ _ _ _ _ _ _
-    (ap (λ t. recoding_calls f.most size c.args.first c.args.stop t (length c.args.values.now)) to
+    (ap (λ t. recoding_calls f.most size (recoding c.args.first c.args.stop t (length c.args.values.now))) to
     ∙ same_calls f seen.limit c.args.first c.args.stop seen.samples c.args.values.now (g.C.Codec.lawful seen.codec) c.interval_len-most.ensures.held c.requires)
-    (ap (λ t. recoding_openings f.most size c.args.first c.args.stop t) to ∙ no_more)
+    (ap (λ t. recoding_openings f.most size (from_to c.args.first c.args.stop) t) to ∙ no_more)
     c.exchange_up_to.ensures.reads

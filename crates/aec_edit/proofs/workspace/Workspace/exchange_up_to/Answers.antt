@@ -5,6 +5,7 @@ use Rattle.aec_bits.specs.Codec.{Format}
 use Rattle.aec_edit.specs.Changes.{head_of, tail_of, fresh_of}
 use Rattle.aec_edit.proofs.UpToLemmas.{coming_at, held_at, total_is, calls_is, all_held, all_len, stop_before, code_came, put_came, want_came}
 use Rattle.aec_edit.proofs.workspace.Workspace.exchange_up_to.Goals as goal
+use Rattle.aec_params.proofs.MoveLaws.{from_to}
 
 pub overflow_sub-kept : goal.overflow_sub-kept
 overflow_sub-kept g c =
@@ -61,7 +62,7 @@ put-requires g c =
     let got = c.in_ok-fresh.ensures in
     let coded = c.in_ok-coded.ensures in
     let most = c.interval_len-most.ensures.value in (
-      fresh_of f.most seen.samples c.args.first c.args.stop c.args.to c.args.values.now,
+      fresh_of f.most seen.samples (from_to c.args.first c.args.stop) c.args.to c.args.values.now,
       code_came f seen.limit c.args.first c.args.stop c.args.to seen.samples c.args.values.now (g.C.Codec.lawful seen.codec)
           c.interval_len-most.ensures.held c.requires _ _ _ _ _ _ _ _ _ _ _ _ _ _ got.read.format coded.same.format
           (coded.same.limit ∙ got.read.limit) got.read.samples
@@ -97,7 +98,7 @@ returns-clause-ok g c =
     let held = c.interval_len-most.ensures.held in
     let from_is = ap (λ n. c.args.first / n) c.interval_len-most.ensures.value in
     ap (λ w. w.samples) c.keep_lists.ensures.same
-    ∙ c.in_ok-put.ensures.ok (fresh_of f.most seen.samples c.args.first c.args.stop c.args.to c.args.values.now)
+    ∙ c.in_ok-put.ensures.ok (fresh_of f.most seen.samples (from_to c.args.first c.args.stop) c.args.to c.args.values.now)
     (code_came f seen.limit c.args.first c.args.stop c.args.to seen.samples c.args.values.now lawful held c.requires _ _ _ _ _ _ _ _ _ _ _ _ _ _
     got.read.format coded.same.format
     (coded.same.limit ∙ got.read.limit) got.read.samples coded.same.samples got.front got.values got.back got.next got.end from_is

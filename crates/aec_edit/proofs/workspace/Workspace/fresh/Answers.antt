@@ -5,6 +5,7 @@ use Rattle.aec_edit.specs.Opened.{opened_samples}
 use Rattle.aec_edit.proofs.EndSamplesLemmas.{ends_head, ends_tail, opened_some, touched_end}
 use Rattle.aec_edit.proofs.UpToLemmas.{some_calls, kept_more}
 use Rattle.aec_edit.proofs.workspace.Workspace.fresh.Goals as goal
+use Rattle.aec_params.proofs.MoveLaws.{from_to}
 
 pub returns-in_err-open_ends-clause-fault : goal.returns-in_err-open_ends-clause-fault
 returns-in_err-open_ends-clause-fault g c =
@@ -25,7 +26,7 @@ head_and_tail-requires-clause-tail g c =
     let end = touched_end _ _ _ f.most _ c.args.stop _ c.count.ensures.value c.interval_len-most.ensures.value c.div_ceil-next.ensures c.min.ensures in
     let there = ends_tail f.most c.args.first c.args.stop c.args.self.now.samples
     (g.C.Codec.lawful c.args.self.now.codec).some c.requires.order c.requires.within in
-    let ends : c.open_ends.new.ends.items ≡ opened_samples f.most c.args.first c.args.stop c.args.self.now.samples =
+    let ends : c.open_ends.new.ends.items ≡ opened_samples f.most (from_to c.args.first c.args.stop) c.args.self.now.samples =
     rw c.take_lists-front.ensures.same at c.in_ok-open_ends.ensures.ok in
     omega (arith, end, there.0, ap length ends)
 
@@ -47,10 +48,10 @@ returns-clause-front g c =
     let head : c.args.first % c.interval_len-most.result ≡ c.args.first % f.most = ap (λ n. c.args.first % n) c.interval_len-most.ensures.value in
     let there = ends_head f.most c.args.first c.args.stop c.args.self.now.samples
     (g.C.Codec.lawful c.args.self.now.codec).some c.requires.order c.requires.within in
-    let ends : c.open_ends.new.ends.items ≡ opened_samples f.most c.args.first c.args.stop c.args.self.now.samples =
+    let ends : c.open_ends.new.ends.items ≡ opened_samples f.most (from_to c.args.first c.args.stop) c.args.self.now.samples =
     rw c.take_lists-front.ensures.same at c.in_ok-open_ends.ensures.ok in
     c.in_ok-head_and_tail.ensures.head ∙ ap (λ l. take (c.args.first % c.interval_len-most.result) l) ends
-    ∙ ap (λ m. take m (opened_samples f.most c.args.first c.args.stop c.args.self.now.samples)) head ∙ there.1
+    ∙ ap (λ m. take m (opened_samples f.most (from_to c.args.first c.args.stop) c.args.self.now.samples)) head ∙ there.1
 
 pub returns-clause-back : goal.returns-clause-back
 returns-clause-back g c =
@@ -58,10 +59,10 @@ returns-clause-back g c =
     let end = touched_end _ _ _ f.most _ c.args.stop _ c.count.ensures.value c.interval_len-most.ensures.value c.div_ceil-next.ensures c.min.ensures in
     let there = ends_tail f.most c.args.first c.args.stop c.args.self.now.samples
     (g.C.Codec.lawful c.args.self.now.codec).some c.requires.order c.requires.within in
-    let ends : c.open_ends.new.ends.items ≡ opened_samples f.most c.args.first c.args.stop c.args.self.now.samples =
+    let ends : c.open_ends.new.ends.items ≡ opened_samples f.most (from_to c.args.first c.args.stop) c.args.self.now.samples =
     rw c.take_lists-front.ensures.same at c.in_ok-open_ends.ensures.ok in
     c.in_ok-head_and_tail.ensures.tail
     ∙ ap (λ l. drop (length l - (c.min.result - c.args.stop)) l) ends
-    ∙ ap (λ m. drop (length (opened_samples f.most c.args.first c.args.stop c.args.self.now.samples) - m)
-    (opened_samples f.most c.args.first c.args.stop c.args.self.now.samples)) (ap (λ m. m - c.args.stop) end)
+    ∙ ap (λ m. drop (length (opened_samples f.most (from_to c.args.first c.args.stop) c.args.self.now.samples) - m)
+    (opened_samples f.most (from_to c.args.first c.args.stop) c.args.self.now.samples)) (ap (λ m. m - c.args.stop) end)
     ∙ there.1
