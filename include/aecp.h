@@ -73,7 +73,7 @@ enum {
     AECP_STREAM_TOO_LONG = 16, /* place: the greatest length in bytes, 2^40; the command aec allows 2^35 */
     AECP_EVEN_BLOCK_SIZE = 17,
     AECP_NO_ROOM = 18,         /* len: the bytes, or samples, that the answer takes */
-    AECP_NOT_OPEN = 19         /* the handle holds no workspace, the coder isn't open */
+    AECP_NOT_OPEN = 19         /* the handle holds no workspace, the coder or reader isn't open */
 };
 
 /* As a sample count: all samples that the stream decodes to, including the filler at its end. */
@@ -94,8 +94,8 @@ uint32_t aecp_encode(const aecp_options *options, const void *samples, size_t sa
 uint32_t aecp_decode(const aecp_options *options, uint64_t count, const uint8_t *coded, size_t coded_len, void *out,
                      size_t out_len, aecp_reply *reply);
 
-/* Decodes `len` of those samples, from place `first` on, counted from 0. Faults: those of aecp_decode, of the stream as a whole, and
- * OUT_OF_RANGE. Takes memory for the stream and for an interval of samples. Trap: `first` and `len` are samples, `out_len` is bytes. */
+/* Decodes `len` of those samples, from place `first` on, counted from 0. Faults: those of aecp_decode, of the first `count` samples, and
+ * OUT_OF_RANGE. Takes memory as aecp_decode does. Trap: `first` and `len` are samples, `out_len` is bytes. */
 uint32_t aecp_range(const aecp_options *options, uint64_t count, uint64_t first, uint64_t len, const uint8_t *coded,
                     size_t coded_len, void *out, size_t out_len, aecp_reply *reply);
 
@@ -211,6 +211,36 @@ uint32_t aecp_coder_take(aecp_coder *coder, uint8_t *out, size_t out_len, aecp_r
 
 /* Frees the coder. Allowed where none is open, and twice. */
 void aecp_coder_close(aecp_coder *coder);
+
+/* A reader that gives the samples of a stream interval by interval, and keeps a copy of the stream. All of it is the library's, and it
+ * begins as AECP_READER or as zeros. It is open from aecp_reader_open to aecp_reader_close. Copy no reader that is open. One thread at a
+ * time calls with a reader. The bytes of all intervals are, one after the other, those of one aecp_decode. */
+typedef struct {
+    void *at;
+    bool full;
+} aecp_reader;
+
+#define AECP_READER {0, false}
+
+/* Opens a reader at the first of the first `count` samples of a stream, or of all with AECP_ALL. `reply->len` is the length in bytes of the
+ * samples of a whole interval. On success the reader that `reader` held is freed; after a fault it is as it was. Faults: options,
+ * TOO_MANY_SAMPLES, MEMORY. Allocates the length of the stream, and eight bytes a sample of an interval. Trap: it reads no sample yet, so
+ * a bad stream opens too. */
+uint32_t aecp_reader_open(const aecp_options *options, uint64_t count, const uint8_t *coded, size_t coded_len, aecp_reader *reader,
+                          aecp_reply *reply);
+
+/* Puts the stored samples of the next interval into `out`, which is filled as by the calls above. `reply->len` is 0 if all samples were
+ * read. Faults: TRUNCATED, VALUE_TOO_LARGE, RUN_TOO_LONG, TOO_MANY_SAMPLES, MEMORY, NO_ROOM, NOT_OPEN. After a fault the reader is where
+ * it was. Trap: a fault comes only where its interval is read, so earlier samples may be those of a bad stream. */
+uint32_t aecp_reader_next(aecp_reader *reader, void *out, size_t out_len, aecp_reply *reply);
+
+/* Goes to where an interval begins, counted from 0, or behind the last sample if the stream has fewer intervals. `reply->len` is the
+ * number of samples before it, so UINT64_MAX counts all samples. Faults: TRUNCATED, VALUE_TOO_LARGE, RUN_TOO_LONG, TOO_MANY_SAMPLES,
+ * NOT_OPEN. After a fault the reader is where it was. Trap: it passes over all intervals between, and going back starts at the first. */
+uint32_t aecp_reader_go_to(aecp_reader *reader, uint64_t interval, aecp_reply *reply);
+
+/* Frees the reader. Allowed where none is open, and twice. */
+void aecp_reader_close(aecp_reader *reader);
 
 #ifdef __cplusplus
 }

@@ -42,7 +42,8 @@ THEIRS = os.environ.get("LIBAEC", "/usr/bin/aec")
 ALL, NO_ROOM, MEMORY = 2**64 - 1, 18, 12
 CALLS = {"bound", "decode", "encode", "range", "text", "open", "load", "close", "read", "write", "size", "calls",
          "version", "append", "insert", "overwrite", "remove", "truncate", "edit",
-         "coder_open", "coder_feed", "coder_finish", "coder_take", "coder_close"}
+         "coder_open", "coder_feed", "coder_finish", "coder_take", "coder_close",
+         "reader_open", "reader_next", "reader_go_to", "reader_close"}
 EIGHT, CODED = bytes(range(8)), bytes.fromhex("20092492")
 FLAGS = {"signed": "s", "msb_first": "m", "three_byte": "3", "pad": "p", "restricted": "t", "even_blocks": "e"}
 

@@ -1,7 +1,9 @@
 """Streams edited by scripts in one call, for library.py: each script by chance beside the model of script_model.py, whose samples the
 library codes afresh. A refused edit is named by its line and its text, and so is a line that is no edit. And streams coded in pieces,
-which are cut anywhere, beside those of one call."""
+which are cut anywhere, and decoded interval by interval, beside those of one call."""
 
+import copy
+import pickle
 import random
 
 from script_cases import some_count, some_samples, some_script, some_settings
@@ -92,9 +94,64 @@ def try_refused_pieces(aecp, tally):
         tally.check("nothing in pieces", aecp.Encoder(aecp.Options(8)).finish(), b"")
 
 
+def left_of(decoder):
+    """The stored samples that a decoder has left, by intervals."""
+    return list(iter(decoder.next_bytes, b""))
+
+
+def try_intervals(aecp, seed, number, tally):
+    """A stream read interval by interval, with a count and without; and from an interval on that was gone to, back or forth."""
+    chance = random.Random(f"intervals {seed} {number}")
+    settings = some_settings(chance)
+    stored = settings.stored(some_samples(settings, chance))
+    options = aecp.Options(**settings._asdict())
+    coded, count = aecp.encode(stored, options), len(stored) // settings.storage()
+    length = settings.block_size * settings.interval * settings.storage()
+    for count in (count, None):
+        whole = bytes(aecp.decode_bytes(coded, count, options))
+        wanted = [whole[at : at + length] for at in range(0, len(whole), length)]
+        decoder = aecp.Decoder(coded, count, options)
+        tally.check(f"intervals {seed} {number}", [left_of(decoder), left_of(decoder)], [wanted, []])
+        for place in (chance.randint(0, len(wanted)), chance.randint(0, len(wanted)), len(wanted) + 1, 2**64 - 1, 0):
+            before = min(place * length, len(whole)) // settings.storage()
+            got = decoder.go_to(place), bytes(decoder.next_bytes())
+            tally.check(f"intervals {seed} {number}: to {place}", got, (before, b"".join(wanted[place : place + 1])))
+
+
+def fault_of(call):
+    """The number and the place of the fault of a call; none where there is none."""
+    try:
+        call()
+    except Exception as fault:
+        return getattr(fault, "number", type(fault)), getattr(fault, "place", None)
+    return None
+
+
+def try_cut_intervals(aecp, tally):
+    """A stream cut in its second interval: the first is read, the fault is that of the whole each time. And what isn't opened or copied."""
+    options = aecp.Options(8, block_size=8, interval=1)
+    coded = aecp.encode(bytes(range(8)) + bytes(range(100, 116)), options)
+    cut = coded[: len(coded) * 2 // 3]
+    whole, decoder = fault_of(lambda: aecp.decode_bytes(cut, 24, options)), aecp.Decoder(cut, 24, options)
+    tally.check("the cut stream", whole[0], 6)
+    tally.check("before the cut", bytes(decoder.next_bytes()), bytes(range(8)))
+    while fault_of(decoder.next_bytes) is None:
+        pass
+    for call in (decoder.next_bytes, lambda: decoder.go_to(9), decoder.next_bytes):
+        tally.check("the fault of an interval", fault_of(call), whole)
+    tally.check("back", (decoder.go_to(0), bytes(decoder.next_bytes())), (0, bytes(range(8))))
+    tally.check("too many", fault_of(lambda: aecp.Decoder(coded, 2**32 + 1, options)), (9, 2**32))
+    tally.check("no options", fault_of(lambda: aecp.Decoder(coded, 8, aecp.Options(33))), (1, 0))
+    for call in (copy.copy, copy.deepcopy, pickle.dumps):
+        for held in (decoder, aecp.Encoder(options)):
+            tally.check("a copy", fault_of(lambda: call(held)), (TypeError, None))
+
+
 def try_scripts(aecp, seed, tally):
     try_kinds(aecp, tally)
     try_refused_pieces(aecp, tally)
+    try_cut_intervals(aecp, tally)
     for number in range(CASES):
         try_script(aecp, seed, number, tally)
         try_pieces(aecp, seed, number, tally)
+        try_intervals(aecp, seed, number, tally)

@@ -207,6 +207,56 @@ static void try_coder(void) {
     aecp_coder_close(&coder);
 }
 
+/* The samples of 16 bits that a reader puts from where it is, interval by interval, each time without room first. How long they are. */
+static size_t in_intervals(aecp_reader *reader, size_t most, uint8_t *out) {
+    aecp_reply reply;
+    size_t len = 0;
+    while (aecp_reader_next(reader, out + len, 0, &reply) == AECP_NO_ROOM) {
+        uint64_t next = reply.len;
+        check(next > 0 && next <= most, "length of an interval");
+        check(aecp_reader_next(reader, out + len, next - 1, &reply) == AECP_NO_ROOM && reply.len == next, "next without room");
+        check(aecp_reader_next(reader, out + len, LONG - len, &reply) == AECP_OK && reply.len == next, "next");
+        len += next;
+    }
+    check(reply.fault == AECP_OK && reply.len == 0, "the end");
+    return len;
+}
+
+/* A reader opened twice, its samples, from the first on and from an interval on, and its refusals. */
+static void try_reader(void) {
+    aecp_options options = AECP_OPTIONS(16), none = AECP_OPTIONS(0);
+    aecp_reader reader = AECP_READER;
+    uint8_t samples[LONG], coded[LONG], back[LONG];
+    aecp_reply reply;
+    options.interval = 3;
+    for (int i = 0; i < LONG; i++) samples[i] = (uint8_t)(i % 2 ? 3 : i * i % 200);
+    check(aecp_encode(&options, samples, LONG, coded, LONG, &reply) == AECP_OK, "encode");
+    size_t len = reply.len;
+    check(aecp_reader_next(&reader, back, LONG, &reply) == AECP_NOT_OPEN, "next of none");
+    check(aecp_reader_go_to(&reader, 0, &reply) == AECP_NOT_OPEN, "go to in none");
+    check(aecp_reader_open(&options, PIECES, coded, len, &reader, &reply) == AECP_OK && reply.len == 96, "open");
+    check(aecp_reader_open(&none, PIECES, coded, len, &reader, &reply) == AECP_BITS_PER_SAMPLE, "open without bits");
+    check(aecp_reader_open(&options, (1ull << 32) + 1, coded, len, &reader, &reply) == AECP_TOO_MANY_SAMPLES, "open for too many");
+    check(in_intervals(&reader, 96, back) == LONG && memcmp(back, samples, LONG) == 0, "all intervals");
+    check(aecp_reader_open(&options, PIECES, coded, len, &reader, &reply) == AECP_OK, "open again");
+    check(aecp_reader_go_to(&reader, 5, &reply) == AECP_OK && reply.len == 5 * 48, "go to 5");
+    check(in_intervals(&reader, 96, back) == LONG - 480 && memcmp(back, samples + 480, LONG - 480) == 0, "from 5 on");
+    check(aecp_reader_go_to(&reader, 2, &reply) == AECP_OK && reply.len == 2 * 48, "go back to 2");
+    check(aecp_reader_next(&reader, back, 96, &reply) == AECP_OK && memcmp(back, samples + 192, 96) == 0, "the third");
+    check(aecp_reader_go_to(&reader, UINT64_MAX, &reply) == AECP_OK && reply.len == PIECES, "to the end");
+    check(aecp_reader_next(&reader, 0, 0, &reply) == AECP_OK && reply.len == 0, "nothing there");
+    check(aecp_reader_open(&options, PIECES, coded, len / 2, &reader, &reply) == AECP_OK, "open a cut one");
+    check(aecp_reader_go_to(&reader, 99, &reply) == AECP_TRUNCATED && reply.place > 0, "go behind the cut");
+    uint64_t bit = reply.place;
+    check(aecp_reader_next(&reader, back, 96, &reply) == AECP_OK && memcmp(back, samples, 96) == 0, "where it was");
+    while (aecp_reader_next(&reader, back, 96, &reply) == AECP_OK) check(reply.len == 96, "before the cut");
+    check(reply.fault == AECP_TRUNCATED && reply.place == bit, "the cut");
+    check(aecp_reader_open(&options, 0, 0, 0, &reader, &reply) == AECP_OK, "open NULL");
+    check(aecp_reader_next(&reader, 0, 0, &reply) == AECP_OK && reply.len == 0, "none of NULL");
+    aecp_reader_close(&reader);
+    aecp_reader_close(&reader);
+}
+
 static void try_threads(void) {
     pthread_t all[THREADS];
     int64_t numbers[THREADS];
@@ -223,7 +273,7 @@ int main(int count, char **words) {
     if (loses)
         lose();
     else
-        try_calls(), try_coder();
+        try_calls(), try_coder(), try_reader();
     if (write(2, "grant\n", 6) != 6) return 2;
     if (!loses) try_threads();
     printf("%u passed, %u failed\n", passed, failed);

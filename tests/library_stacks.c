@@ -16,6 +16,7 @@ static int64_t values[SAMPLES], numbers[SAMPLES];
 static aecp_options options;
 static aecp_handle handle;
 static aecp_coder coder;
+static aecp_reader reader;
 static size_t samples_len, coded_len;
 
 /* Zeros, and then values of all widths. */
@@ -73,6 +74,10 @@ static int ends(void) {
     if (is("coder_finish")) return !aecp_coder_finish(&coder, &reply);
     if (is("coder_take")) return !aecp_coder_take(&coder, back, ROOM, &reply);
     if (is("coder_close")) return aecp_coder_close(&coder), 1;
+    if (is("reader_open")) return !aecp_reader_open(&options, SAMPLES, coded, coded_len, &reader, &reply);
+    if (is("reader_next")) return !aecp_reader_next(&reader, back, ROOM, &reply) && reply.len;
+    if (is("reader_go_to")) return !aecp_reader_go_to(&reader, UINT64_MAX, &reply) && reply.len == SAMPLES;
+    if (is("reader_close")) return aecp_reader_close(&reader), 1;
     if (is("text")) {
         char text[80];
         int longest = 0;
@@ -112,9 +117,11 @@ static int try_settings(size_t size, size_t *most) {
     coded_len = reply.len;
     if (aecp_load(&options, SAMPLES, coded, coded_len, &handle, &reply)) return 0;
     if (aecp_coder_open(&options, &coder, &reply) || aecp_coder_feed(&coder, samples, samples_len / 2, &reply)) return 0;
+    if (aecp_reader_open(&options, SAMPLES, coded, coded_len, &reader, &reply)) return 0;
     size_t bytes = taken(size);
     aecp_close(&handle);
     aecp_coder_close(&coder);
+    aecp_reader_close(&reader);
     if (bytes > *most) *most = bytes;
     return bytes > 0;
 }

@@ -21,7 +21,7 @@ try:
     from aecp.calls import decode, decode_bytes, decode_range, decode_range_bytes, encode
     from aecp.faults import Fault, LimitPassed, NoMemory, OptionsRefused, RangeRefused, SampleRefused, ScriptRefused, StreamRefused
     from aecp.options import Options
-    from aecp.streams import Encoder, edit
+    from aecp.streams import Decoder, Encoder, edit
     from aecp.workspace import Workspace
 except ImportError:
     # The command says in a line of its own that there is no library, and gives help without one.
@@ -29,6 +29,6 @@ except ImportError:
         raise
 
 __all__ = [
-    "Encoder", "Fault", "LimitPassed", "NoMemory", "Options", "OptionsRefused", "RangeRefused", "SampleRefused", "ScriptRefused",
+    "Decoder", "Encoder", "Fault", "LimitPassed", "NoMemory", "Options", "OptionsRefused", "RangeRefused", "SampleRefused", "ScriptRefused",
     "StreamRefused", "Workspace", "__version__", "decode", "decode_bytes", "decode_range", "decode_range_bytes", "edit", "encode",
 ]  # fmt: skip

@@ -50,6 +50,12 @@ class Coder(ctypes.Structure):
     _fields_ = [("at", ctypes.c_void_p), ("full", ctypes.c_bool)]
 
 
+class Reader(ctypes.Structure):
+    """aecp_reader."""
+
+    _fields_ = [("at", ctypes.c_void_p), ("full", ctypes.c_bool)]
+
+
 def place_of_library() -> str:
     """The path of the library: AECP_LIBRARY, else beside this module, else a checkout's bin, else where the loader looks."""
     named = os.environ.get("AECP_LIBRARY")
@@ -63,7 +69,7 @@ def call_types() -> dict[str, tuple[Any, list[Any]]]:
     """The type of the result and of the arguments of each call."""
     number, size, at = ctypes.c_uint64, ctypes.c_size_t, ctypes.c_void_p
     options, reply, handle = ctypes.POINTER(COptions), ctypes.POINTER(Reply), ctypes.POINTER(Handle)
-    coder = ctypes.POINTER(Coder)
+    coder, reader = ctypes.POINTER(Coder), ctypes.POINTER(Reader)
     ends = [at, size, at, size, reply]
     edits: dict[str, list[Any]] = {
         "aecp_append": [handle, at, size, reply],
@@ -79,6 +85,9 @@ def call_types() -> dict[str, tuple[Any, list[Any]]]:
         "aecp_open": [options, handle, reply],
         "aecp_overwrite": [handle, number, at, size, reply],
         "aecp_range": [options, number, number, number, *ends],
+        "aecp_reader_go_to": [reader, number, reply],
+        "aecp_reader_next": [reader, at, size, reply],
+        "aecp_reader_open": [options, number, at, size, reader, reply],
         "aecp_read": [handle, number, number, at, size, reply],
         "aecp_remove": [handle, number, number, reply],
         "aecp_truncate": [handle, number, reply],
@@ -89,6 +98,7 @@ def call_types() -> dict[str, tuple[Any, list[Any]]]:
         "aecp_calls": (number, [handle]),
         "aecp_close": (None, [handle]),
         "aecp_coder_close": (None, [coder]),
+        "aecp_reader_close": (None, [reader]),
         "aecp_size": (number, [handle]),
         "aecp_text": (size, [reply, at, size]),
         **{name: (ctypes.c_uint32, takes) for name, takes in edits.items()},

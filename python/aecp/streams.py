@@ -1,4 +1,4 @@
-"""Coded streams: edited by a script, and coded in pieces."""
+"""Coded streams: edited by a script, coded in pieces, and decoded in pieces."""
 
 from __future__ import annotations
 
@@ -6,9 +6,9 @@ import threading
 from typing import Any, Optional, Union
 
 from aecp.buffers import Source, Target, room_for
-from aecp.calls import native, number_of
+from aecp.calls import array_of, native, number_of, place
 from aecp.faults import NO_ROOM, fault_of
-from aecp.library import LIBRARY, Coder, EditReply, Reply, c_options, text_of
+from aecp.library import LIBRARY, Coder, EditReply, Reader, Reply, c_options, text_of
 from aecp.options import Options
 
 SPARE = 4096  # bytes that an edited stream may take beside those of the stream and of the script
@@ -36,7 +36,14 @@ def edit(coded: Any, count: Optional[int], script: Union[str, Any], options: Opt
         room = edited.reply.len
 
 
-class Encoder:
+class Alone:
+    """What holds memory of the library that no copy can share."""
+
+    def __reduce__(self) -> Any:
+        raise TypeError(f"{type(self).__name__} objects can't be copied or pickled")
+
+
+class Encoder(Alone):
     """Codes samples that come in pieces. However they are cut, the bytes are together those of one `encode` of all samples.
 
         coder = aecp.Encoder(options)
@@ -86,6 +93,56 @@ class Encoder:
     def __del__(self) -> None:
         if hasattr(self, "_coder"):
             LIBRARY.aecp_coder_close(self._coder)
+
+
+class Decoder(Alone):
+    """Decodes the first `count` samples of coded bytes, or all with count None, interval by interval: an iterator over arrays, as decode
+    returns them. It keeps a copy of the coded bytes, and the samples of one interval.
+
+        for samples in aecp.Decoder(coded, count, options):
+            ...
+
+    Raises what decode does, where it comes to the fault; the earlier samples were returned then. Any number of threads may call, and
+    each interval goes to one of them.
+    """
+
+    def __init__(self, coded: Any, count: Optional[int], options: Options) -> None:
+        self.options = options
+        self._lock = threading.Lock()
+        self._reader = Reader()
+        source, reply = Source(coded), Reply()
+        given = c_options(options)
+        judge(LIBRARY.aecp_reader_open(given, number_of(count), source.at, source.size, self._reader, reply), reply)
+        self._room = bytearray(reply.len)
+
+    def __iter__(self) -> "Decoder":
+        return self
+
+    def __next__(self) -> Any:
+        stored = self.next_bytes()
+        if not stored:
+            raise StopIteration
+        return array_of(stored, self.options)
+
+    def next_bytes(self) -> bytearray:
+        """The stored samples of the next interval; none after the last one. Needs no numpy."""
+        reply = Reply()
+        with self._lock:
+            target = Target(self._room)
+            judge(LIBRARY.aecp_reader_next(self._reader, target.at, target.size, reply), reply)
+            return bytearray(target.view[: reply.len])
+
+    def go_to(self, interval: int) -> int:
+        """Goes to where an interval begins, counted from 0, or behind the last sample if there are fewer. Returns the number of samples
+        before it. Raises what decode does, and is then where it was."""
+        reply = Reply()
+        with self._lock:
+            judge(LIBRARY.aecp_reader_go_to(self._reader, place(interval, "interval"), reply), reply)
+        return reply.len
+
+    def __del__(self) -> None:
+        if hasattr(self, "_reader"):
+            LIBRARY.aecp_reader_close(self._reader)
 
 
 def judge(number: int, reply: Reply) -> None:

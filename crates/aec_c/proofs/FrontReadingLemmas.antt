@@ -11,7 +11,7 @@ use Rattle.aec_params.specs.Reading.{StandsAt, next_block, next_begin, LeadsTo, 
 use Rattle.aec_params.proofs.ByteLaws.{length-bits_of_bytes}
 use Rattle.aec_bits.proofs.CodewordLemmas.{bits_of_bytes-append}
 use Rattle.aec_engine.specs.Transfers.{input_of}
-use Rattle.aec_engine.specs.Output.{IsRead, IsDecoded, not_taken, not_counted, decoded, faulty}
+use Rattle.aec_engine.specs.Output.{IsRead, IsDecoded, not_taken, not_counted, decoded, faulty, IsRanged, not_decoded, outside, cut_out}
 use Rattle.aec_engine.specs.Buffers.{FillsOne, OrMemory}
 use Rattle.aec_engine.proofs.OutputLemmas.{none_refused}
 use Rattle.aec_c.specs.Calls.{most}
@@ -95,13 +95,20 @@ module _ (s : Settings) (caps : Caps) (n : ℕ) (front rest : List ℕ) (short :
       subst (λ bytes. IsDecoded s caps (Some n) (input_of (front ++ rest) false) (Ok bytes)) same (decoded samples (read_on samples read))
   decoded_on answer bytes is (faulty fault taken within wrong) = absurd (cc)
 
-  -- what was put into a buffer from the front
-  pub fills_on : (before after : List ℕ) (len : ℕ) → FillsOne (OrMemory (IsDecoded s caps (Some n) (input_of front false))) before after (Ok len)
-      → FillsOne (OrMemory (IsDecoded s caps (Some n) (input_of (front ++ rest) false))) before after (Ok len)
+  ranged_on : (first len : ℕ) (answer : Result (List ℕ) Fault) (bytes : List ℕ) → answer ≡ Ok bytes
+      → IsRanged s caps (Some n) first len (input_of front false) answer → IsRanged s caps (Some n) first len (input_of (front ++ rest) false) (Ok bytes)
+  ranged_on first len answer bytes is (not_decoded fault refused) = absurd (cc)
+  ranged_on first len answer bytes is (outside samples read past) = absurd (cc)
+  ranged_on first len answer bytes is (cut_out samples read within) =
+      let same : _ ≡ bytes = cc in
+      subst (λ bytes. IsRanged s caps (Some n) first len (input_of (front ++ rest) false) (Ok bytes)) same (cut_out samples (read_on samples read) within)
+
+-- what was put into a buffer by an answer that is lawful of other bytes too
+module _ (A B : Result (List ℕ) Fault → Type 0) (on : (answer : Result (List ℕ) Fault) (bytes : List ℕ) → answer ≡ Ok bytes → A answer → B (Ok bytes)) where
+  fills_on : (before after : List ℕ) (len : ℕ) → FillsOne (OrMemory A) before after (Ok len) → FillsOne (OrMemory B) before after (Ok len)
   fills_on before after len one = by_answer one.answer refl
     where
-      by_answer : (answer : Result (List ℕ) Fault) → one.answer ≡ answer
-          → FillsOne (OrMemory (IsDecoded s caps (Some n) (input_of (front ++ rest) false))) before after (Ok len)
+      by_answer : (answer : Result (List ℕ) Fault) → one.answer ≡ answer → FillsOne (OrMemory B) before after (Ok len)
       by_answer (Err fault) is = let told = one.told in absurd (cc)
       by_answer (Ok bytes) is = record {
         answer = one.answer;
@@ -110,18 +117,29 @@ module _ (s : Settings) (caps : Caps) (n : ℕ) (front rest : List ℕ) (short :
         left = one.left;
       }
         where
-          by_one : OrMemory (IsDecoded s caps (Some n) (input_of front false)) one.answer
-              → OrMemory (IsDecoded s caps (Some n) (input_of (front ++ rest) false)) one.answer
+          by_one : OrMemory A one.answer → OrMemory B one.answer
           by_one (inl lacks) = absurd (cc)
-          by_one (inr answered) =
-              inr (subst (λ answer. IsDecoded s caps (Some n) (input_of (front ++ rest) false) answer) (sym is) (decoded_on one.answer bytes is answered))
+          by_one (inr answered) = inr (subst B (sym is) (on one.answer bytes is answered))
 
--- the same of bytes that are cut
-pub fills_whole : (s : Settings) (caps : Caps) (n front : ℕ) (bytes before after : List ℕ) (len : ℕ) → caps ≡ most → length bytes ≤ 2 ^ 40
-    → FillsOne (OrMemory (IsDecoded s caps (Some n) (input_of (take front bytes) false))) before after (Ok len)
-    → FillsOne (OrMemory (IsDecoded s most (Some n) (input_of bytes false))) before after (Ok len)
-fills_whole s caps n front bytes before after len greatest short one =
-    let whole : take front bytes ++ drop front bytes ≡ bytes = take-append-drop front bytes in
-    subst (λ b. FillsOne (OrMemory (IsDecoded s most (Some n) (input_of b false))) before after (Ok len)) whole
-    (fills_on s most n (take front bytes) (drop front bytes) (subst (λ b. length b ≤ 2 ^ 40) (sym whole) short) before after len
-    (subst (λ caps. FillsOne (OrMemory (IsDecoded s caps (Some n) (input_of (take front bytes) false))) before after (Ok len)) greatest one))
+module _ (s : Settings) (caps : Caps) (n front : ℕ) (bytes before after : List ℕ) (len : ℕ) (greatest : caps ≡ most) (short : length bytes ≤ 2 ^ 40) where
+  whole : take front bytes ++ drop front bytes ≡ bytes
+  whole = take-append-drop front bytes
+
+  in_most : length (take front bytes ++ drop front bytes) ≤ most.bytes
+  in_most = subst (λ b. length b ≤ 2 ^ 40) (sym whole) short
+
+  -- the same of bytes that are cut
+  pub fills_whole : FillsOne (OrMemory (IsDecoded s caps (Some n) (input_of (take front bytes) false))) before after (Ok len)
+      → FillsOne (OrMemory (IsDecoded s most (Some n) (input_of bytes false))) before after (Ok len)
+  fills_whole one =
+      subst (λ b. FillsOne (OrMemory (IsDecoded s most (Some n) (input_of b false))) before after (Ok len)) whole
+      (fills_on _ _ (decoded_on s most n (take front bytes) (drop front bytes) in_most) before after len
+      (subst (λ caps. FillsOne (OrMemory (IsDecoded s caps (Some n) (input_of (take front bytes) false))) before after (Ok len)) greatest one))
+
+  -- and of a range
+  pub ranges_whole : (first length : ℕ) → FillsOne (OrMemory (IsRanged s caps (Some n) first length (input_of (take front bytes) false))) before after (Ok len)
+      → FillsOne (OrMemory (IsRanged s most (Some n) first length (input_of bytes false))) before after (Ok len)
+  ranges_whole first length one =
+      subst (λ b. FillsOne (OrMemory (IsRanged s most (Some n) first length (input_of b false))) before after (Ok len)) whole
+      (fills_on _ _ (ranged_on s most n (take front bytes) (drop front bytes) in_most first length) before after len
+      (subst (λ caps. FillsOne (OrMemory (IsRanged s caps (Some n) first length (input_of (take front bytes) false))) before after (Ok len)) greatest one))

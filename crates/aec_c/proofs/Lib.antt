@@ -8,9 +8,13 @@ pub mod HandleSteps
 pub mod BoxedWorkspace
 pub mod CoderHandleSteps
 pub mod BoxedCoder
+pub mod ReaderHandleSteps
+pub mod BoxedReader
 pub mod HandleLemmas
 pub mod HandleLoadLemmas
 pub mod StreamEditLemmas
 pub mod CoderLemmas
 pub mod CoderLaws
 pub mod FrontReadingLemmas
+pub mod StandingLemmas
+pub mod ReaderLemmas

@@ -7,6 +7,7 @@ use Rattle.std.specs.Global.{Global}
 use Rattle.std.specs.Box.Ownership.{box_owns}
 use Rattle.aec_c.specs.contracts.handle.OpenWorkspace.{the_row}
 use Rattle.aec_c.specs.contracts.coder_handle.OpenCoder as coder
+use Rattle.aec_c.specs.contracts.reader_handle.OpenReader as reader
 
 -- the allocator of all programs, which has no data
 abbrev pub heap : Global
@@ -25,3 +26,10 @@ coder_owns true p (Some made) = box_owns (ghosts.dealloc_token heap) coder.the_r
 coder_owns true p None = ffalse
 coder_owns false p (Some made) = ffalse
 coder_owns false p None = ftrue
+
+-- the same with a reader
+abbrev pub reader_owns : Bool → Ptr → Option reader.the_row.Denot → Fml
+reader_owns true p (Some made) = box_owns (ghosts.dealloc_token heap) reader.the_row p made
+reader_owns true p None = ffalse
+reader_owns false p (Some made) = ffalse
+reader_owns false p None = ftrue

@@ -8,3 +8,5 @@ pub mod HandleReads
 pub mod HandleLoads
 pub mod StreamEdits
 pub mod Coders
+pub mod Standing
+pub mod Readers

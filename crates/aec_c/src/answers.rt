@@ -4,7 +4,7 @@ ghost use Rattle.std.specs.Prelude.{◌≡◌, ◌≤◌, ◌^◌, false, Some, 
 ghost use Rattle.aec_params.specs.Params.{IsAllowed, settings_fault};
 ghost use Rattle.std.specs.Result.{result_err};
 ghost use Rattle.aec_engine.specs.Transfers.{input_of};
-ghost use Rattle.aec_engine.specs.Output.{IsDecoded};
+ghost use Rattle.aec_engine.specs.Output.{IsDecoded, IsRanged};
 ghost use Rattle.aec_engine.specs.Buffers.{FillsOne, OrMemory};
 ghost use Rattle.aec_c.specs.Calls.{settings_of, count_of, most, IsCoding, IsDecoding, IsRanging};
 
@@ -111,6 +111,60 @@ pub(crate) fn decoded(
     }
 }
 
+/// Puts a range of the stored samples of the front of coded bytes into a buffer, where the front is
+/// read as so many samples and the range lies within; else none, and the buffer is as it was.
+fn ranged_front(
+    alloc: Global,
+    params: &Params,
+    count: u64,
+    first: u64,
+    len: u64,
+    front: usize,
+    bytes: &[u8],
+    out: &mut [u8],
+) -> Option<u64>
+    requires within { front ≤ length bytes.now }
+    requires short { length bytes.now ≤ 2 ^ 40 }
+    ensures some { IfSome result (λ put. FillsOne (OrMemory (IsRanged params.now most (Some count)
+        first len (input_of bytes.now false))) out.old out.new (Ok put)) }
+    ensures none { result ≡ None → out.new ≡ out.old }
+{
+    let front = &bytes[..front];
+    match range_into(alloc, params, limits(), Some(count), first, len, front, out) {
+        Ok(put) => Some(put),
+        Err(_) => None,
+    }
+}
+
+/// Puts a range of the stored samples of coded bytes into a buffer, where there is room for it.
+/// With a count only as many bytes are read at first as always suffice for a code of so many
+/// samples.
+fn ranged_shortly(
+    alloc: Global,
+    params: &Params,
+    count: Option<u64>,
+    first: u64,
+    len: u64,
+    suffice: u64,
+    bytes: &[u8],
+    out: &mut [u8],
+) -> Result<u64, Fault>
+    ensures { FillsOne (OrMemory (IsRanged params.now most count first len
+        (input_of bytes.now false))) out.old out.new result }
+{
+    let whole = bytes.len() as u64;
+    if suffice < whole
+        && whole <= 1 << 40
+        && let Some(count) = count
+    {
+        let front = suffice as usize;
+        if let Some(put) = ranged_front(alloc, params, count, first, len, front, bytes, out) {
+            return Ok(put);
+        }
+    }
+    range_into(alloc, params, limits(), count, first, len, bytes, out)
+}
+
 /// The same with a range of the stored samples.
 pub(crate) fn ranged(
     alloc: Global,
@@ -124,9 +178,12 @@ pub(crate) fn ranged(
     ensures { FillsOne (IsRanging (settings_of options.now) (count_of count) first len bytes.now)
         out.old out.new result }
 {
-    let count = counted(count);
     match params_of(options) {
-        Ok(params) => range_into(alloc, &params, limits(), count, first, len, bytes, out),
+        Ok(params) => {
+            let suffice = bound(options, count);
+            let count = counted(count);
+            ranged_shortly(alloc, &params, count, first, len, suffice, bytes, out)
+        }
         Err(fault) => Err(fault),
     }
 }

@@ -1,13 +1,13 @@
 use Rattle.std.proofs.Common.{sym, refl}
 use Rattle.aec_engine.proofs.BufferLemmas.{fills_refusal}
-use Rattle.aec_c.specs.Calls.{no_settings}
+use Rattle.aec_c.specs.Calls.{most, no_settings}
 use Rattle.aec_c.proofs.AnswerLemmas.{ranging_into}
 use Rattle.aec_c.proofs.answers.ranged.Goals as goal
 
 pub returns-in-Ok : goal.returns-in-Ok
 returns-in-Ok c =
-    ranging_into _ c.in-Ok.params c.limits.result _ c.counted-count.result c.args.first c.args.len c.args.bytes.now c.args.out.now _
-    c.range_into.result c.in-Ok.ensures.ok c.limits.ensures c.counted-count.ensures c.in-Ok.ensures.allowed c.range_into.ensures
+    ranging_into _ c.in-Ok.params most _ c.counted-count.result c.args.first c.args.len c.args.bytes.now c.args.out.now _
+    c.ranged_shortly.result c.in-Ok.ensures.ok refl c.counted-count.ensures c.in-Ok.ensures.allowed c.ranged_shortly.ensures
 
 pub returns-in-Err : goal.returns-in-Err
 returns-in-Err c =

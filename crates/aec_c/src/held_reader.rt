@@ -1,0 +1,220 @@
+//! Coded bits, with the place that a reading of them has come to.
+
+ghost use Rattle.std.specs.Prelude.{◌≡◌, ◌<◌, ◌^◌, ℕ, IfOk, IfErr, OnOk};
+ghost use Rattle.aec_c.specs.Standing.{place_in, HasCounted, IsOnWay, BeginsInterval, IsRefusalOf};
+
+use aec_bits::BitBuf;
+use aec_interval::{ReachedPlace, StreamReader};
+use aec_params::{Fault, Params};
+use std::alloc::Global;
+use std::marker::Model;
+
+/// A place, and how many samples lie before it.
+#[derive(Clone, Copy)]
+struct Stand {
+    place: ReachedPlace,
+    before: u64,
+}
+
+/// Coded bits that are read interval by interval, from call to call. Contracts see the place where
+/// the reading is, and how many samples lie before it.
+#[derive(Drop)]
+pub struct HeldReader {
+    params: Params,
+    count: Option<u64>,
+    bits: BitBuf,
+    at: Stand,
+}
+
+impl Model for HeldReader {
+    ghost use Rattle.aec_c.specs.Standing.{Standing, standing_at, IsStanding};
+
+    ghost Value = { Standing };
+
+    ghost view = { λ r.
+        standing_at r.params r.count r.bits.list r.at.place.block r.at.place.bit r.at.before };
+
+    ghost invariant = { λ r. IsStanding
+        (standing_at r.params r.count r.bits.list r.at.place.block r.at.place.bit r.at.before) };
+}
+
+/// Goes over so many intervals, or over all that are left. How many samples lie before the place
+/// where that ends, if `before` lie before the one where it begins.
+fn pass(
+    params: &Params,
+    reader: &mut StreamReader,
+    intervals: u64,
+    before: u64,
+) -> Result<u64, Fault>
+    requires settings { reader.old.settings ≡ params.now }
+    requires counted { HasCounted reader.old before }
+    requires few { reader.old.block < 2 ^ 34 }
+    ensures ok { IfOk result (HasCounted reader.new) }
+    ensures same { OnOk result
+        (reader.new ≡ place_in reader.old reader.new.block reader.new.bit) }
+    ensures begins { OnOk result ((k : ℕ) → IsOnWay k intervals reader.old
+        → BeginsInterval k reader.new) }
+    ensures refuses { IfErr result (IsRefusalOf reader.old) }
+{
+    // What the parameters promise is told by their calls.
+    let _len = params.interval_len();
+    let mut left = intervals;
+    let mut total = before;
+    while left > 0 {
+        match reader.skip()? {
+            Some(len) => {
+                total += len;
+                left -= 1;
+            }
+            None => left = 0,
+        }
+    }
+    Ok(total)
+}
+
+impl HeldReader {
+    ghost use Rattle.std.specs.Prelude.{◌≡◌, ◌+◌, ◌^◌, ◌⊎◌, List, ℤ, Some, IfOk, IfErr, IfSome, IsOk, OnOk, OnErr, length};
+    ghost use Rattle.std.specs.Option.{is_some};
+    ghost use Rattle.aec_params.specs.declared.fault.Fault.TheVariants.{Memory};
+    ghost use Rattle.aec_params.specs.Params.{IsAllowed};
+    ghost use Rattle.aec_params.specs.Codewords.{bits_of_bytes};
+    ghost use Rattle.aec_interval.specs.Reached.{count_refusal};
+    ghost use Rattle.aec_interval.specs.Pieces.{is_wanted_at, IsPlace, ReadsInterval, RefusesAt};
+    ghost use Rattle.aec_c.specs.Standing.{standing_at, place_in, standing_in, HasCounted, IsStanding, IsOnWay, BeginsInterval, IsRefusalOf};
+
+    /// A reader at the first bit of coded bytes.
+    pub(crate) fn new(
+        alloc: Global,
+        params: Params,
+        count: Option<u64>,
+        coded: &[u8],
+    ) -> Result<HeldReader, Fault>
+        ensures ok { IfOk result
+            (λ made. made ≡ standing_at params count (bits_of_bytes coded.now) 0 0 0) }
+        ensures refuses { IfErr result
+            (λ fault. (fault ≡ Memory) ⊎ (count_refusal (2 ^ 32) count ≡ Some fault)) }
+    {
+        let bits = BitBuf::from_bytes(alloc, coded)?;
+        let place = StreamReader::new(alloc, params, &bits, count, 1 << 32)?.place();
+        Ok(HeldReader {
+            params,
+            count,
+            bits,
+            at: Stand { place, before: 0 },
+        })
+    }
+
+    /// What is read.
+    pub(crate) fn params(&self) -> Params
+        ensures settings { result ≡ self.now.place.settings }
+        ensures allowed { IsAllowed result }
+    {
+        // What the parameters promise is told by their calls.
+        let _len = self.params.interval_len();
+        self.params
+    }
+
+    /// A reader of the bits at the place. Takes no memory.
+    fn reader(&self, alloc: Global, place: ReachedPlace) -> Result<StreamReader<'_>, Fault>
+        requires { IsPlace (place_in self.now.place place.block place.bit) }
+        ensures always { IsOk result }
+        ensures ok { IfOk result
+            (λ reader. reader ≡ place_in self.now.place place.block place.bit) }
+    {
+        let mut reader = StreamReader::new(alloc, self.params, &self.bits, self.count, 1 << 32)?;
+        reader.go_back(place);
+        Ok(reader)
+    }
+
+    /// Reads the samples of the next interval, and stays. Where the interval ends; `None` where all
+    /// samples were read.
+    pub(crate) fn peek(
+        &self,
+        alloc: Global,
+        samples: &mut Vec<i64>,
+    ) -> Result<Option<ReachedPlace>, Fault>
+        ensures more { IfOk result (λ end. is_some end ≡ is_wanted_at self.now.place) }
+        ensures read { IfOk result (λ end. IfSome end (λ end. ReadsInterval self.now.place
+            samples.new.items (place_in self.now.place end.block end.bit))) }
+        ensures reached { IfOk result (λ end. IfSome end
+            (λ end. IsPlace (place_in self.now.place end.block end.bit))) }
+        ensures refuses { IfErr result (RefusesAt self.now.place) }
+    {
+        let mut reader = self.reader(alloc, self.at.place)?;
+        if reader.next(samples)? {
+            Ok(Some(reader.place()))
+        } else {
+            Ok(None)
+        }
+    }
+
+    /// Goes on to the end of the next interval, behind its `len` samples.
+    pub(crate) fn go_on(&mut self, end: ReachedPlace, len: u64)
+        requires reads { (samples : List ℤ) × ReadsInterval self.old.place samples
+            (place_in self.old.place end.block end.bit) × (length samples ≡ len) }
+        requires reached { IsPlace (place_in self.old.place end.block end.bit) }
+        ensures { self.new ≡ record {
+          place = place_in self.old.place end.block end.bit;
+          before = self.old.before + len;
+        } }
+    {
+        // What the parameters promise is told by their calls.
+        let _len = self.params.interval_len();
+        self.at = Stand {
+            place: end,
+            before: self.at.before + len,
+        };
+    }
+
+    /// From where an interval is looked for, and how many intervals lie between: from here, unless
+    /// it begins before.
+    fn way(&self, interval: u64) -> (Stand, u64)
+        ensures standing { IsStanding (standing_in self.now.place result.0) }
+        ensures way { IsOnWay interval result.1 (standing_in self.now.place result.0).place }
+    {
+        let first = Stand {
+            place: ReachedPlace { block: 0, bit: 0 },
+            before: 0,
+        };
+        let here = self
+            .at
+            .place
+            .block
+            .div_ceil(u64::from(self.params.interval()));
+        if here <= interval {
+            (self.at, interval - here)
+        } else {
+            (first, interval)
+        }
+    }
+
+    /// Where an interval begins, or the end of all samples where there are fewer. Takes no memory.
+    fn found(&self, alloc: Global, interval: u64) -> Result<Stand, Fault>
+        ensures ok { IfOk result (λ at. IsStanding (standing_in self.now.place at)) }
+        ensures begins { IfOk result
+            (λ at. BeginsInterval interval (standing_in self.now.place at).place) }
+        ensures refuses { IfErr result (IsRefusalOf self.now.place) }
+    {
+        let (start, left) = self.way(interval);
+        let mut reader = self.reader(alloc, start.place)?;
+        let before = pass(&self.params, &mut reader, left, start.before)?;
+        Ok(Stand {
+            place: reader.place(),
+            before,
+        })
+    }
+
+    /// Goes to where an interval begins, or to the end of all samples where there are fewer. How
+    /// many samples lie before it.
+    pub(crate) fn go_to(&mut self, alloc: Global, interval: u64) -> Result<u64, Fault>
+        ensures ok { IfOk result (HasCounted self.new.place) }
+        ensures same { OnOk result (self.new.place ≡ place_in self.old.place self.new.place.block
+            self.new.place.bit) }
+        ensures begins { OnOk result (BeginsInterval interval self.new.place) }
+        ensures refuses { IfErr result (IsRefusalOf self.old.place) }
+        ensures err { OnErr result (self.new ≡ self.old) }
+    {
+        self.at = self.found(alloc, interval)?;
+        Ok(self.at.before)
+    }
+}

@@ -1,0 +1,69 @@
+//! The calls from C on a reader that gives samples interval by interval.
+
+ghost use Rattle.std.specs.Prelude.{◌≡◌, None};
+ghost use Rattle.aec_c.specs.Calls.{settings_of, count_of};
+ghost use Rattle.aec_c.specs.HandleCalls.{OnHandle};
+ghost use Rattle.aec_c.specs.Readers.{OpensReader, PutsNext, GoesTo};
+
+use crate::options::Options;
+use crate::reader_handle::ReaderHandle;
+use crate::readers::{gone_to, put_next, reader_closed, reader_opened};
+use crate::reply::Reply;
+use std::alloc::Global;
+
+/// Opens a reader at the first sample of a stream, of which it keeps a copy. On success the reader
+/// that the handle held is freed; after a refusal the handle is as it was.
+#[unsafe(no_mangle)]
+pub extern "C" fn aecp_reader_open(
+    alloc: Global,
+    options: &Options,
+    count: u64,
+    coded: &[u8],
+    reader: &mut ReaderHandle,
+    reply: &mut Reply,
+) -> u32
+    ensures opens { OpensReader (settings_of options.now) (count_of count) coded.now
+        reader.old.value reader.new.value reply.new }
+    ensures number { result ≡ reply.new.fault }
+{
+    *reply = reader_opened(alloc, options, count, coded, reader);
+    reply.fault
+}
+
+/// Puts the stored samples of the next interval into a buffer, and goes on behind them.
+#[unsafe(no_mangle)]
+pub extern "C" fn aecp_reader_next(
+    alloc: Global,
+    reader: &mut ReaderHandle,
+    out: &mut [u8],
+    reply: &mut Reply,
+) -> u32
+    ensures puts { PutsNext reader.old.value reader.new.value out.old out.new reply.new }
+    ensures number { result ≡ reply.new.fault }
+{
+    *reply = put_next(alloc, reader, out);
+    reply.fault
+}
+
+/// Goes to where an interval begins. Replies how many samples lie before it.
+#[unsafe(no_mangle)]
+pub extern "C" fn aecp_reader_go_to(
+    alloc: Global,
+    reader: &mut ReaderHandle,
+    interval: u64,
+    reply: &mut Reply,
+) -> u32
+    ensures goes { OnHandle (GoesTo interval) reader.old.value reader.new.value reply.new }
+    ensures number { result ≡ reply.new.fault }
+{
+    *reply = gone_to(alloc, reader, interval);
+    reply.fault
+}
+
+/// Frees the reader that a handle holds.
+#[unsafe(no_mangle)]
+pub extern "C" fn aecp_reader_close(alloc: Global, reader: &mut ReaderHandle)
+    ensures { reader.new.value ≡ None }
+{
+    reader_closed(alloc, reader);
+}

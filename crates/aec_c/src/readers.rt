@@ -1,0 +1,134 @@
+//! Samples read interval by interval by a reader that a handle holds.
+
+ghost use Rattle.std.specs.Prelude.{◌≡◌, ◌*◌, ◌⊎◌, None, IfOk, IfErr};
+ghost use Rattle.aec_params.specs.Params.{IsAllowed, interval_len, storage_len};
+ghost use Rattle.aec_params.specs.Codewords.{bits_of_bytes};
+ghost use Rattle.aec_c.specs.Calls.{settings_of, count_of};
+ghost use Rattle.aec_c.specs.HandleCalls.{OnHandle};
+ghost use Rattle.aec_c.specs.Standing.{standing_at};
+ghost use Rattle.aec_c.specs.Readers.{CannotOpen, OpensReader, ReadsNext, PutsNext, GoesTo};
+
+use crate::answers::params_of;
+use crate::handle_edits::not_open;
+use crate::held_reader::HeldReader;
+use crate::options::{Options, counted};
+use crate::reader_handle::{OpenReader, ReaderHandle};
+use crate::reply::{Reply, answered, refused, too_long};
+use aec_params::{Fault, Params, put_samples};
+use std::alloc::Global;
+use std::mem;
+
+/// A reader at the first bit of coded bytes.
+fn fresh_reader(
+    alloc: Global,
+    params: Params,
+    count: Option<u64>,
+    coded: &[u8],
+) -> Result<Box<OpenReader>, Fault>
+    ensures ok { IfOk result (λ made. made.value.reader
+        ≡ standing_at params count (bits_of_bytes coded.now) 0 0 0) }
+    ensures refuses { IfErr result (CannotOpen params count) }
+{
+    let reader = HeldReader::new(alloc, params, count, coded)?;
+    let samples = Vec::with_capacity(alloc, params.interval_len() as usize)?;
+    match Box::new(alloc, OpenReader { reader, samples }) {
+        Ok(made) => Ok(made),
+        Err(_) => Err(Fault::Memory),
+    }
+}
+
+/// How many bytes the samples of a whole interval take.
+fn interval_bytes(params: &Params) -> u64
+    ensures { result ≡ interval_len params.now * storage_len params.now }
+{
+    params.interval_len() * params.storage() as u64
+}
+
+/// Frees the reader that a handle holds.
+pub(crate) fn reader_closed(alloc: Global, handle: &mut ReaderHandle)
+    ensures { handle.new.value ≡ None }
+{
+    let _held = mem::replace(handle, ReaderHandle::empty()).into_box(alloc);
+}
+
+/// Puts a reader at the first bit of coded bytes in the place of what a handle holds.
+pub(crate) fn reader_opened(
+    alloc: Global,
+    options: &Options,
+    count: u64,
+    coded: &[u8],
+    handle: &mut ReaderHandle,
+) -> Reply
+    ensures { OpensReader (settings_of options.now) (count_of count) coded.now
+        handle.old.value handle.new.value result }
+{
+    let params = match params_of(options) {
+        Ok(params) => params,
+        Err(fault) => return refused(fault),
+    };
+    match fresh_reader(alloc, params, counted(count), coded) {
+        Ok(made) => {
+            reader_closed(alloc, handle);
+            *handle = ReaderHandle::of(made);
+            answered(interval_bytes(&params))
+        }
+        Err(fault) => refused(fault),
+    }
+}
+
+/// Puts the stored samples of the next interval into a buffer with room for them, and goes on.
+fn next_open(alloc: Global, made: &mut OpenReader, out: &mut [u8]) -> Reply
+    ensures { ReadsNext made.old made.new out.old out.new result }
+{
+    let params = made.reader.params();
+    let end = match made.reader.peek(alloc, &mut made.samples) {
+        Ok(Some(end)) => end,
+        Ok(None) => return answered(0),
+        Err(fault) => return refused(fault),
+    };
+    let size = params.storage() * made.samples.len();
+    if size > out.len() {
+        return too_long(size as u64);
+    }
+    put_samples(&params, &made.samples, &mut out[..size]);
+    made.reader.go_on(end, made.samples.len() as u64);
+    answered(size as u64)
+}
+
+/// Goes to where an interval begins.
+fn go_open(alloc: Global, made: &mut OpenReader, interval: u64) -> Reply
+    ensures { GoesTo interval made.old made.new result }
+{
+    match made.reader.go_to(alloc, interval) {
+        Ok(before) => answered(before),
+        Err(fault) => refused(fault),
+    }
+}
+
+/// Puts the stored samples of the next interval into a buffer, by the reader that a handle holds.
+pub(crate) fn put_next(alloc: Global, handle: &mut ReaderHandle, out: &mut [u8]) -> Reply
+    ensures { PutsNext handle.old.value handle.new.value out.old out.new result }
+{
+    match mem::replace(handle, ReaderHandle::empty()).into_box(alloc) {
+        Some(mut made) => {
+            let reply = next_open(alloc, &mut made, out);
+            *handle = ReaderHandle::of(made);
+            reply
+        }
+        None => not_open(),
+    }
+}
+
+/// Goes to where an interval begins, by the reader that a handle holds.
+pub(crate) fn gone_to(alloc: Global, handle: &mut ReaderHandle, interval: u64) -> Reply
+    ensures { OnHandle (GoesTo interval) handle.old.value handle.new.value result }
+{
+    match mem::replace(handle, ReaderHandle::empty()).into_box(alloc) {
+        Some(mut made) => {
+            let reply = go_open(alloc, &mut made, interval);
+            *handle = ReaderHandle::of(made);
+            reply
+        }
+        None => not_open(),
+    }
+}
