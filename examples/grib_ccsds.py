@@ -1,7 +1,7 @@
 #!/usr/bin/env python3
 """The coded stream of a GRIB2 message (data representation template 5.42):
 
-    grib_ccsds.py options FILE                  prints the words for aec, with --count
+    grib_ccsds.py options FILE                  prints the options for aec, with --count
     grib_ccsds.py values AEC FILE FIRST:LEN     prints LEN values from place FIRST on, a line each
     grib_ccsds.py set AEC FILE PLACE VALUE OUT  writes the file with another value at a place; all
                                                 others stay as they are
@@ -258,7 +258,8 @@ def edited(read, aec, script):
 
 
 def count_after(script, count):
-    """How many samples a script leaves of so many. The script is one that aec has taken."""
+    """How many samples a script leaves of so many. The script is one that aec has taken; a kind of
+    edit that isn't known here is refused, since it may change the count."""
     for line in script.split(b"\n"):
         kind, *values = line.split() or [b"#"]
         if kind == b"truncate":
@@ -269,6 +270,8 @@ def count_after(script, count):
             count += len(values)
         elif kind == b"insert":
             count += len(values) - 1
+        elif kind != b"overwrite" and not kind.startswith(b"#"):
+            raise Refused(f"what {kind.decode()} does to the count isn't known")
     return count
 
 

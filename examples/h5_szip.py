@@ -1,15 +1,15 @@
 #!/usr/bin/env python3
 """The coded streams of an HDF5 data set with the szip filter. Needs h5py, but not HDF5's own szip:
 
-    h5_szip.py show FILE DATASET              prints shape, type, chunks, and the words for aec
-    h5_szip.py read AEC FILE DATASET OUT      writes all elements as raw bytes, as they are stored,
-                                              the last place first to change
+    h5_szip.py show FILE DATASET              prints shape, type, chunks, and the options for aec
+    h5_szip.py read AEC FILE DATASET OUT      writes all elements as bytes, as they are stored, the
+                                              last index fastest
     h5_szip.py edit AEC FILE DATASET PLACE VALUE
-                                              gives the element at PLACE, as 3,0,17, another value:
-                                              in FILE itself
+                                              changes the element at PLACE, such as 3,0,17, to
+                                              VALUE, in FILE itself
 
-A chunk that the filter has passed over is stored raw, and stays so; one that no longer shrinks is
-written raw.
+A chunk that the filter has left uncoded stays uncoded. One that no longer shrinks is written
+uncoded.
 """
 
 import itertools

@@ -47,8 +47,8 @@ PACKAGES = {
  The library codes, decodes and edits integer samples in memory, in the format
  CCSDS 121.0-B-3 of GRIB2 (template 5.42), HDF5 (szip) and space packets.
  .
- This package has the header aecp.h, the archive libaecp.a and the file aecp.pc
- for pkg-config.""",
+ This package has the header aecp.h, the archive libaecp.a, the manual page
+ aecp(3), and files for pkg-config and CMake.""",
     },
 }
 
@@ -169,6 +169,7 @@ def split_library(top, work):
     page = os.path.join(dev, "usr/share/man/man3/aecp.3")
     stage.write(page + ".gz", packed(stage.read(page)))
     os.remove(page)
+    stage.write(os.path.join(dev, "usr/share/doc/libaecp-dev/LIBRARY.md"), stage.library_page(top))
     return shared, dev
 
 

@@ -1,6 +1,7 @@
 """What each package contains, put below a folder."""
 
 import os
+import re
 import subprocess
 
 import pages
@@ -45,3 +46,17 @@ def library(top, folder, prefix, libdir, pc_prefix):
 def user_pages(folder, without):
     """The pages for users alone."""
     pages.install(folder, without)
+
+
+def library_page(top):
+    """The page of the library, for a package that has no other page."""
+    page = "docs/LIBRARY.md"
+    return pages.with_links(page, read(os.path.join(top, page)).decode(), set()).encode()
+
+
+def notices(top):
+    """The notices of the kit's crates whose code is in the binaries, as plain text. Their licence asks for them in each copy."""
+    text = read(os.path.join(top, "packaging/debian/copyright")).decode()
+    comment = re.search(r"(?ms)^Comment:\n(.*?)\n\n", text)[1]
+    licence = re.search(r"(?ms)^License: Expat\n(.*)", text)[1]
+    return re.sub(r"(?m)^ \.?", "", f"{comment}\n\n{licence}").encode()

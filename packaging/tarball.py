@@ -30,8 +30,9 @@ def fill(top, folder, version, proved):
     stage.library(top, folder, "", "lib", "${pcfiledir}/../..")
     with open(os.path.join(top, "packaging", "install.sh"), "rb") as file:
         stage.write(os.path.join(folder, "install.sh"), file.read(), 0o755)
-    with open(os.path.join(top, "LICENSE"), "rb") as file:
-        stage.write(os.path.join(folder, "LICENSE"), file.read())
+    stage.write(os.path.join(folder, "LICENSE"), stage.read(os.path.join(top, "LICENSE")))
+    for place in ("NOTICES", "share/doc/aec/NOTICES"):
+        stage.write(os.path.join(folder, place), stage.notices(top))
     readme = README.format(version=version).encode()
     stage.write(os.path.join(folder, "README"), readme)
     stage.write(os.path.join(folder, "PROVED"), proved.encode())
@@ -43,7 +44,8 @@ README = """aec {version} for Linux on x86-64-v2 (SSE4.2), glibc 2.34 or newer.
     sh install.sh uninstall PREFIX    removes what was installed
     PROGRAM=aec-proved sh install.sh PREFIX    installs the program as aec-proved, beside libaec's aec
 
-bin/aec also runs in this folder. share/doc/aec/README.md is the first page, and PROVED says what was proved of which files.
+bin/aec also runs in this folder. share/doc/aec/README.md is the first page. PROVED says what was proved of which files. LICENSE
+is the licence, and NOTICES has the licence of crates whose code is in the binaries.
 """
 
 

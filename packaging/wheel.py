@@ -8,6 +8,7 @@ import time
 import zipfile
 
 import elf
+import stage
 
 GLIBC = (2, 17)
 PLACES = {"libaecp.so": "aecp/libaecp.so"}
@@ -18,6 +19,7 @@ Version: {version}
 Summary: {summary}
 License: BSD-2-Clause
 License-File: LICENSE
+License-File: NOTICES
 Keywords: ccsds,compression,szip,grib,hdf5,zarr,lossless
 Classifier: Development Status :: 4 - Beta
 Classifier: Intended Audience :: Science/Research
@@ -101,6 +103,7 @@ def build(top, folder, version, moment, proved):
         **module_files(source, library),
         f"{info}/LICENSE": data_of(os.path.join(top, "LICENSE")),
         f"{info}/METADATA": metadata.encode(),
+        f"{info}/NOTICES": stage.notices(top),
         f"{info}/PROVED": proved.encode(),
         f"{info}/WHEEL": WHEEL.format(tag=TAG).encode(),
         f"{info}/entry_points.txt": data_of(os.path.join(source, "entry_points.txt")),

@@ -17,8 +17,10 @@ import re
 import shutil
 import subprocess
 import sys
+import tarfile
 import tempfile
 import time
+import zipfile
 
 HERE = os.path.dirname(os.path.abspath(__file__))
 TOP = os.path.dirname(HERE)
@@ -29,6 +31,7 @@ import elf
 import package_modules
 import package_roots
 import proved
+import stage
 import wheel
 from program import Tally
 
@@ -116,6 +119,20 @@ def try_links_again(tally):
     subprocess.run(["sh", "library.sh", "--link"], cwd=TOP, check=True)
     for path, data in zip(paths, before):
         tally.holds(data_of(path) == data, f"linking {path} again writes other bytes")
+
+
+def try_notices(made, tally):
+    """That the tarball and the wheel contain the licence of the kit's crates, as plain text, with their names."""
+    text = stage.notices(TOP).decode()
+    for name in ("byteorder", "clap", "smallvec", "strsim", "thiserror", "\nTHE SOFTWARE IS PROVIDED", "\n\nPermission is hereby granted"):
+        tally.holds(name in text, f"the notices lack {name!r}")
+    tally.check("lines of the notices that begin with a blank", re.findall(r"(?m)^[ .].*", text), [])
+    top = f"aec-{version()}-x86_64-linux"
+    with tarfile.open(made[top + ".tar.gz"]) as archive:
+        for place in ("NOTICES", "share/doc/aec/NOTICES"):
+            tally.check(f"{place} of the tarball", archive.extractfile(f"{top}/{place}").read().decode(), text)
+    with zipfile.ZipFile(next(path for name, path in made.items() if name.endswith(".whl"))) as archive:
+        tally.check("NOTICES of the wheel", archive.read(f"aecp-{version()}.dist-info/NOTICES").decode(), text)
 
 
 def try_symbols(made, tally):
@@ -263,6 +280,7 @@ def main():
     print(f"make dist: {time.monotonic() - begun:.0f} s" + ("" if is_proved() else ", of binaries that nobody has proved"), flush=True)
     with tempfile.TemporaryDirectory() as folder:
         try_versions(made, tally)
+        try_notices(made, tally)
         try_builds(made, folder, tally)
         try_links_again(tally)
         try_symbols(made, tally)

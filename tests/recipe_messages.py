@@ -155,6 +155,8 @@ def try_bad_messages(aec, script, tally):
         answer = script.run(GRIB, "edit", aec.path, "script", "m", "out")
         tally.check(f"script {lines}", answer, (1, f"grib_ccsds.py: {text}\n"))
         tally.check(f"script {lines}: OUT", aec.read("out"), b"old")
+    answer = called(grib_ccsds.count_after, b"overwrite 0 1\n#swap 1\n\r\nswap 0 1", 8)
+    tally.check("an unknown kind", answer, (1, "what swap does to the count isn't known"))
     aec.write("script", b"overwrite 0 1")
     try_words(aec, script, tally)
     tally.check("FILE stays", aec.read("m"), good)

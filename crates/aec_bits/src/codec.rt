@@ -1,4 +1,4 @@
-//! What codes samples, an interval at a time.
+//! The trait of an interval coder.
 
 ghost use Rattle.std.specs.Prelude.{◌≡◌, ◌+◌, ◌-◌, ◌^◌, ◌⊎◌, ◌↔◌, ◌++◌, ℕ, ℤ, List, Err, OnOk, OnErr, IfErr};
 ghost use Rattle.aec_params.specs.declared.fault.Fault.TheVariants.{Spent, Memory};

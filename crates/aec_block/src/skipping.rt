@@ -1,4 +1,4 @@
-//! Goes over one coded data set.
+//! Skips one coded data set.
 
 mod values;
 

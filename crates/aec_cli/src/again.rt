@@ -1,4 +1,4 @@
-//! Calls of a file that are made again where a signal interrupts them.
+//! Repeats calls of a file that a signal interrupts.
 
 ghost use Rattle.std.specs.Prelude.{◌≡◌, ◌≢◌, ◌↔◌, IfErr, IsTrue, MatchResult, Some, None};
 ghost use Rattle.std.specs.Io.{ReadsAtMost, WritesAtMost};

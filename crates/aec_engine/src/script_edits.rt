@@ -1,4 +1,4 @@
-//! Scripts that are judged first, and whose lines are read again, each when its edit is to be made.
+//! Judges whole scripts first, and reads each line again when its edit is applied.
 
 ghost use Rattle.std.specs.Prelude.{◌≡◌, ◌≢◌, ℕ, Some, None, IfOk, IfErr};
 ghost use Rattle.aec_params.specs.declared.fault.Fault.TheVariants.{Memory, Script as ScriptFault};

@@ -1,4 +1,4 @@
-//! A place that a reader has come to.
+//! A place that a reader has reached.
 
 /// Where a `StreamReader` was between two steps, or when all was read: the block that comes next,
 /// and the bit at which its coded data set would begin.

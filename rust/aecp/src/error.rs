@@ -58,7 +58,7 @@ impl Error {
         }
     }
 
-    /// Returns the bit, index, count or limit that the fault names, else 0.
+    /// Returns the bit, index, count or limit that the fault names, or 0 if it names none.
     pub fn place(&self) -> u64 {
         match *self {
             Error::Sample { index } => index,

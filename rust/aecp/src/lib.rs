@@ -35,9 +35,9 @@ pub use options::Options;
 pub use sample::Sample;
 pub use workspace::Workspace;
 
-/// The samples that a byte of a stream can stand for, at most: blocks of 64 zeros in runs of 64
-/// blocks, 9 bits a run.
-const MOST_A_BYTE: u64 = 64 * 64;
+/// More samples than a byte of a stream can contain. At most, each 7 bits are a run of 64 blocks of
+/// 64 zeros.
+const MOST_A_BYTE: u64 = 64 * 64 * 8 / 7 + 1;
 /// The bytes that are allocated before the stream is checked, at most.
 const FIRST_ROOM: u64 = 1 << 24;
 
@@ -47,7 +47,7 @@ pub fn version() -> (u32, u32, u32) {
     (number / 10000, number / 100 % 100, number % 100)
 }
 
-/// Codes samples. Bytes at the end of a slice of `u8` that are no whole sample are dropped.
+/// Codes samples. Bytes at the end of a slice of `u8` that don't fill a sample are dropped.
 ///
 /// # Errors
 /// [`Error::Options`], [`Error::Sample`] with the index of the first sample that is out of range,
@@ -60,7 +60,7 @@ pub fn encode<T: Sample>(samples: &[T], options: &Options) -> Result<Vec<u8>, Er
 }
 
 /// Decodes the first `count` samples of a stream. Bytes after these are not read. With `None` all
-/// samples are decoded, and also the filler of the last block.
+/// samples are decoded, and also the filler at the end.
 ///
 /// # Errors
 /// [`Error::Options`], [`Error::Stream`] with the bit where the refused coded data set begins,
@@ -84,7 +84,7 @@ pub fn decode<T: Sample>(
     filled(room, |out| raw::decode(&options.0, count, coded, out))
 }
 
-/// Decodes `len` of the first `count` samples, from place `first` on, counted from 0. The whole
+/// Decodes `len` of the first `count` samples, from sample `first` on, counted from 0. The whole
 /// stream is checked.
 ///
 /// # Errors
@@ -102,20 +102,20 @@ pub fn decode_range<T: Sample>(
     filled(room, |out| raw::range(&options.0, count, first, len, coded, out))
 }
 
-/// A count for C. `u64::MAX`, which stands for no count there, becomes the number below it.
+/// Returns a count for C. `u64::MAX`, which means no count there, becomes the number below it.
 fn number_of(count: Option<u64>) -> u64 {
     count.map_or(raw::ALL, |it| it.min(raw::ALL - 1))
 }
 
-/// A guess of the bytes that so many samples take, which a wrong count doesn't make large.
+/// Returns a guess of the bytes of so many stored samples. A wrong count doesn't make it large.
 fn most_stored(coded: &[u8], count: u64, options: &Options) -> u64 {
     let most = (coded.len() as u64).saturating_mul(MOST_A_BYTE);
     let stored = count.min(most).saturating_mul(options.storage() as u64);
     stored.min(FIRST_ROOM)
 }
 
-/// A vector that a call fills. `room` is a guess of its bytes. If the call asks for more, it is
-/// made again.
+/// Returns a vector that a call fills. `room` is a guess of its bytes. If the call asks for more
+/// bytes, it is repeated.
 pub(crate) fn filled<T: Sample>(
     room: u64,
     call: impl Fn(&mut [u8]) -> raw::Reply,
@@ -136,7 +136,7 @@ pub(crate) fn filled<T: Sample>(
     }
 }
 
-/// A vector of so many zeros.
+/// Returns a vector of so many zeros.
 pub(crate) fn zeros<T: Copy + Default>(len: u64) -> Result<Vec<T>, Error> {
     let len = usize::try_from(len).map_err(|_| Error::Memory)?;
     let mut out = Vec::new();

@@ -14,8 +14,8 @@ use crate::raw;
 pub struct Options(pub(crate) raw::Options);
 
 impl Options {
-    /// Returns options for samples of `bits` bits, 1 to 32: unsigned, least significant byte first,
-    /// in blocks of 16 samples and intervals of 128 blocks.
+    /// Returns options for samples of `bits` bits, 1 to 32: unsigned, little-endian, in blocks of
+    /// 16 samples and intervals of 128 blocks.
     pub fn new(bits: u32) -> Options {
         Options(raw::Options {
             bits,
@@ -50,7 +50,7 @@ impl Options {
         self
     }
 
-    /// Sets whether a stored sample has its most significant byte first.
+    /// Sets whether stored samples are big-endian, not little-endian.
     pub fn msb_first(mut self, is_on: bool) -> Options {
         self.0.msb_first = is_on;
         self
@@ -101,8 +101,8 @@ impl Options {
         }
     }
 
-    /// Returns a length in bytes that suffices for the code of so many samples. 0 if the options
-    /// are refused, or if there are more than 2^32 samples.
+    /// Returns a length in bytes that suffices for the code of so many samples, or 0 if the options
+    /// are refused or there are more than 2^32 samples.
     pub fn bound(&self, samples: u64) -> u64 {
         raw::bound(&self.0, samples)
     }

@@ -78,8 +78,8 @@ impl Workspace {
         checked(self.handle.append(values))
     }
 
-    /// Replaces samples by as many values, from place `first` on. Returns the number of intervals
-    /// that were coded.
+    /// Replaces `values.len()` samples by the values, from sample `first` on. Returns the number of
+    /// intervals that were coded.
     ///
     /// # Errors
     /// [`Error::Range`], [`Error::Sample`], [`Error::Spent`], [`Error::Memory`]. The samples are
@@ -88,8 +88,8 @@ impl Workspace {
         checked(self.handle.overwrite(first, values))
     }
 
-    /// Inserts values before the sample at place `first`. Returns the number of intervals that were
-    /// coded.
+    /// Inserts values before sample `first`, or after the last sample if `first` is the number of
+    /// samples. Returns the number of intervals that were coded.
     ///
     /// # Errors
     /// [`Error::Range`], [`Error::Sample`], [`Error::Limit`], [`Error::Spent`], [`Error::Memory`].
@@ -98,7 +98,7 @@ impl Workspace {
         checked(self.handle.insert(first, values))
     }
 
-    /// Removes `len` samples, from place `first` on. Returns the number of intervals that were
+    /// Removes `len` samples, from sample `first` on. Returns the number of intervals that were
     /// coded.
     ///
     /// # Errors
@@ -115,7 +115,7 @@ impl Workspace {
         checked(self.handle.truncate(count))
     }
 
-    /// Returns `len` samples, from place `first` on.
+    /// Returns `len` samples, from sample `first` on.
     ///
     /// # Errors
     /// [`Error::Range`], [`Error::Memory`].

@@ -1,4 +1,4 @@
-//! The place behind so many ones, found by words.
+//! Finds the position after n ones, by words.
 
 ghost use Rattle.std.specs.Prelude.{◌≡◌, ◌+◌, ◌*◌, ◌<◌, ◌≤◌, ◌^◌, Some, length, drop, count_ones, IfSome};
 ghost use Rattle.aec_params.specs.Codewords.{binary};

@@ -1,4 +1,4 @@
-//! What is coded for samples, put into a list of values, whatever stood there before.
+//! Maps samples into a list of values, overwriting what it held.
 
 ghost use Rattle.std.specs.Prelude.{◌≡◌, ◌<◌, ◌≤◌, true, length, map as list_map};
 ghost use Rattle.std.specs.List.{AllByRecursion};

@@ -1,6 +1,6 @@
-//! Values taken back to samples eight at a time, where all of them stand for differences within the
-//! room on both sides of their prediction: there a difference is known from its value alone, and
-//! the differences added up, modulo 2^32, are the offsets, whose rooms then show whether it was so.
+//! Unmaps eight values at once where each difference is within t of its prediction on both sides:
+//! a value alone then says its difference, the sums modulo 2^32 are the offsets, and their t prove
+//! the condition.
 
 ghost use Rattle.std.specs.Prelude.{◌≡◌, ◌+◌, ◌-◌, ◌*◌, ◌/◌, ◌^◌, ◌<◌, ◌≤◌, ◌+ℤ◌, true, pos, ℕ, length, take, map as list_map, get_or, vec_len, vec_capacity};
 ghost use Rattle.std.specs.List.{AllByRecursion};

@@ -1,4 +1,4 @@
-//! Values taken back to the samples for which they are coded, put in the place of others.
+//! Unmaps values to samples, overwriting a list of samples.
 
 ghost use Rattle.std.specs.Prelude.{◌≡◌, ◌+◌, ◌*◌, ◌/◌, ◌<◌, ◌≤◌, ◌^◌, ◌+ℤ◌, ℤ, pos, true, false, [], length, take, map as list_map};
 ghost use Rattle.std.specs.List.{AllByRecursion};

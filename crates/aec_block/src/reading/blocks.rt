@@ -1,4 +1,4 @@
-//! Fills a block with values that are read, whatever stood in it before.
+//! Reads values into a block, overwriting what it held.
 
 ghost use Rattle.std.specs.Prelude.{◌≡◌, ◌≤◌, ◌<◌, ◌*◌, ◌/◌, ◌^◌, [], length};
 ghost use Rattle.std.specs.Option.{is_some};

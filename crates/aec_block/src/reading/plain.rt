@@ -1,5 +1,5 @@
-//! Reads what nearly all coded data sets are: one block without a reference sample, whose values
-//! are written one by one.
+//! Reads plain coded data sets, which nearly all are: one block, whose values are written one by
+//! one.
 
 ghost use Rattle.std.specs.Prelude.{◌≡◌, ◌≤◌, ◌<◌, ◌+◌, ◌^◌, true, false, length, Some, None, IfSome, IfOk, OnErr};
 ghost use Rattle.std.specs.Option.{is_some};

@@ -1,4 +1,4 @@
-//! Goes over values without keeping them. Those that nothing judges aren't read.
+//! Skips values. Those that nothing judges aren't read.
 
 ghost use Rattle.std.specs.Prelude.{◌≡◌, ◌≤◌, ◌<◌, ◌*◌, ◌^◌, length};
 ghost use Rattle.aec_params.specs.CodedDataSets.{written_count};

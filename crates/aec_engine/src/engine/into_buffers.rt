@@ -1,6 +1,6 @@
-//! Coded bytes in memory read back into a buffer: read once to judge them, and again to put the
-//! bytes of their samples straight into the buffer. It can be no `Sink`: an engine hands a sink
-//! back of which is known what it has taken, and not that it still holds the same buffer.
+//! Decodes coded bytes in memory into a buffer: reads them once to judge them, and again to put
+//! the bytes of their samples into the buffer. The buffer can't be a `Sink`: contracts say what the
+//! sink that an engine hands back has taken, and not that it still holds the same buffer.
 
 ghost use Rattle.std.specs.Prelude.{◌≡◌, ℕ, ◌+◌, ◌*◌, ◌≤◌, ◌^◌, ◌++◌, List, ℤ, false, length, take, drop, vec_capacity, IsOk};
 ghost use Rattle.std.specs.List.{AllByRecursion};

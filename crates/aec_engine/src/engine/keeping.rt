@@ -1,5 +1,5 @@
-//! Coded bits whose samples are written: the bytes of those in front are kept while the bits are
-//! judged, and only the bits behind them are read twice.
+//! Decodes coded bits: keeps the first samples' bytes while judging, so that only the later bits
+//! are read twice.
 
 ghost use Rattle.std.specs.Prelude.{◌≡◌, ℕ, ◌+◌, ◌*◌, ◌<◌, ◌≤◌, ◌^◌, ◌⊎◌, None, true, length, vec_len, vec_capacity, IfOk, IfErr, OnOk};
 ghost use Rattle.aec_params.specs.Params.{interval_len, storage_len};

@@ -1,6 +1,6 @@
-//! The samples of coded bits taken over into a workspace by whole intervals, and the edits of a
-//! script made on them: those that only overwrite samples which are there already are made
-//! meanwhile, while little of the stream stands behind them.
+//! Loads coded bits' samples into a workspace by whole intervals and applies a script: leading
+//! overwrites of samples already loaded are applied during loading, while little of the stream
+//! follows them.
 
 ghost use Rattle.std.specs.Prelude.{◌≡◌, ◌+◌, ◌-◌, ◌<◌, ◌≤◌, ◌*◌, ◌/◌, ◌%◌, ◌^◌, ◌++◌, min, max, length, true, false, [], None, List, ℤ, IfOk, IfErr, OnOk, Ok};
 ghost use Rattle.std.specs.Int.{div_ceil};

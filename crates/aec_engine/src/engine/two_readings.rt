@@ -1,4 +1,4 @@
-//! Coded bits read twice: once to judge them, and once to write the samples that they stand for.
+//! Reads coded bits twice: once to judge them, and once to write their samples.
 
 ghost use Rattle.std.specs.Prelude.{◌≡◌, ℕ, ◌+◌, ◌*◌, ◌<◌, ◌≤◌, ◌++◌, [], max, List, ℤ, length, vec_len, vec_capacity, IfOk, IfErr, OnOk, OnErr};
 ghost use Rattle.std.specs.List.{AllByRecursion};

@@ -1,6 +1,6 @@
-//! The plain road of a block: `filled_block` makes its values, `choose` finds the shortest option,
-//! `write_block` writes it. It codes a block of any size, and one that has fewer samples than the
-//! others.
+//! The general road of a block: `filled_block` makes its values, `choose` finds the shortest
+//! option, `write_block` writes it. It codes a block of any size, and one that has fewer samples
+//! than the others.
 
 ghost use Rattle.std.specs.Prelude.{◌≡◌, ◌+◌, ◌-◌, ◌<◌, ◌≤◌, ◌++◌, length, replicate};
 ghost use Rattle.std.specs.List.{AllByRecursion};

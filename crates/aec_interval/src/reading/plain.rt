@@ -1,7 +1,7 @@
-//! Blocks read one behind the other, each a coded data set of its own without a reference sample,
-//! where none needs a test of its place: `read_most_plain` makes places for some more blocks,
-//! `push_plain_blocks` keeps those that were filled, `fill_plain_blocks` goes on while a plain one
-//! comes, `fill_plain_block` reads one.
+//! Reads plain blocks without a reference sample, one after the other, where none needs a test of
+//! its place: `read_most_plain` makes places for some more blocks, `push_plain_blocks` keeps those
+//! that were filled, `fill_plain_blocks` goes on while a plain one comes, `fill_plain_block` reads
+//! one.
 
 ghost use Rattle.std.specs.Prelude.{◌≡◌, ◌≤◌, ◌<◌, ◌+◌, ◌-◌, ◌*◌, ◌%◌, ◌^◌, true, false, max, length, take, vec_len, vec_capacity, IfSome};
 ghost use Rattle.std.specs.List.{AllByRecursion};

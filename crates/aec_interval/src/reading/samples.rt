@@ -1,4 +1,4 @@
-//! Samples behind those that were read: blocks of values taken back to samples.
+//! Unmaps blocks of values, and appends their samples to those that were read.
 
 ghost use Rattle.std.specs.Prelude.{◌≡◌, ◌+◌, ◌<◌, ◌≤◌, ◌^◌, ◌∷◌, ◌++◌, [], List, pos, length, replicate, vec_len, vec_capacity};
 ghost use Rattle.std.specs.List.{AllByRecursion};

@@ -1,4 +1,4 @@
-//! Short intervals read several at a time, each of plain blocks alone, where no block needs a test
+//! Reads several short intervals at a time, each of plain blocks only, where no block needs a test
 //! of its place: `read_short` says how many may be, `fill_intervals` goes on while one comes,
 //! `fill_interval` reads one, `fill_first_block` its first block.
 

@@ -1,4 +1,4 @@
-//! Coded data sets gone over without their samples, from where an interval begins.
+//! Skips coded data sets from the start of an interval, without making their samples.
 
 ghost use Rattle.std.specs.Prelude.{◌≡◌, ◌≤◌, ◌<◌, ◌+◌, ◌%◌, ◌^◌, IfOk, IfErr};
 ghost use Rattle.aec_params.specs.Params.{IsAllowed};

@@ -1,4 +1,4 @@
-//! Runs of zero blocks taken back to samples.
+//! Turns runs of zero blocks back into samples.
 
 ghost use Rattle.std.specs.Prelude.{◌≡◌, ◌≤◌, ◌<◌, ◌+◌, ◌*◌, ◌%◌, ◌^◌, vec_len, vec_capacity, IfSome};
 ghost use Rattle.aec_params.specs.Params.{IsAllowed};

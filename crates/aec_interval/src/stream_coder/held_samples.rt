@@ -1,4 +1,4 @@
-//! The samples of an interval that is not complete.
+//! The samples of an incomplete interval.
 
 use aec_params::{Fault, Params, load_samples};
 use std::alloc::Global;

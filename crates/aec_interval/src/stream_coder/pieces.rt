@@ -1,4 +1,4 @@
-//! Stored samples joined to those of an interval that is not complete, which is coded once it is.
+//! Joins stored samples to those of an incomplete interval, and codes it once it is complete.
 
 ghost use Rattle.std.specs.Prelude.{◌≡◌, ◌+◌, ◌-◌, ◌*◌, ◌<◌, ◌≤◌, ◌%◌, ◌/◌, [], ◌∷◌, ◌++◌, true, false, None, length, take, OnOk, OnErr, IfOk, IfErr};
 ghost use Rattle.std.specs.List.{AllByRecursion};

@@ -1,4 +1,4 @@
-//! The bytes of a sample that is not complete.
+//! The bytes of an incomplete sample.
 
 use std::marker::Model;
 
