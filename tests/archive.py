@@ -64,6 +64,7 @@ LINES = [
     (b"# one\n\nAppend 1\r\n", "line 3: 'Append' is none of overwrite, append, truncate, insert, remove"),
     (b"append +1", "line 1: '+1' is no value"),
     (b"overwrite x 1", "line 1: 'x' is no place"),
+    (b"Overwrite" * 9, "line 1: 'OverwriteOverwriteOverwriteOve..' is none of overwrite, append, truncate, insert, remove"),
     (b"overwrite \xff 1", "line 1: '\\\\xff' is no place"),
 ]
 

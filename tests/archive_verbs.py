@@ -115,6 +115,10 @@ def try_back(tally, folder):
     tally.check("back: it exists", command(place, "back", "f.aec"), (1, "", "aecp: f.aec: f exists, and nothing is written over it\n"))
     tally.check("back: outside", command(place, "back", "f.aec", "new", "--range", "899:2")[0], 1)
     tally.check("back: no range", command(place, "back", "f.aec", "new", "--range", "899")[0], 2)
+    tally.check("back: no folder", command(place, "back", "f.aec", "none/f"), (1, "", "aecp: f.aec: there is no folder none\n"))
+    write(place, "plain", data)
+    said = "plain.aec: not kept: there is neither a stream nor a note: `aecp keep` writes both\n1 checked, 0 sound, 1 damaged\n"
+    tally.check("check: not kept", command(place, "check", "plain"), (1, said, ""))
     tally.check("back: no file", command(place, "back", "g.aec"), (1, "", "aecp: g.aec: there is no such file\n"))
     tally.check("back: a name after options", (command(place, "back", "f.aec", "--range", "5:3", "late")[0], read(os.path.join(place, "late"))), (0, data[10:16]))
     tally.check("back: two names", command(place, "back", "f.aec", "--range", "5:3", "one", "two")[0], 2)
@@ -145,6 +149,8 @@ def try_edits(tally, folder):
         tally.check(f"pixels {table}", command(place, "pixels", "--shape", "10x20", table), (0, "overwrite 3 5\noverwrite 22 7\n", ""))
     tally.check("pixels: a frame", command(place, "pixels", "--shape", "10x20", "--frame", "2", "table.csv")[1], "overwrite 403 5\noverwrite 422 7\n")
     tally.check("pixels: outside", command(place, "pixels", "--shape", "1x20", "table.csv")[0], 1)
+    tally.check("pixels: no table", command(place, "pixels", "--shape", "9x9", "-", given=b"1," + b"x" * 200000)[::2], (1, "aecp: -: it is no table of row, column and value\n"))
+    tally.check("pixels: other ends of lines", command(place, "pixels", "--shape", "9x9", "-", given=b"0,1,5\r0,2,6\r\n")[1], "overwrite 1 5\noverwrite 2 6\n")
     tally.check("pixels: a shape", command(place, "pixels", "--shape", "1", "table.csv")[0], 2)
     status, _, said = command(place, "pixels", "--shape", "10x20", "-", given=b"0,2,7\n0,2,8\n1,x,2\n")
     wanted = "aecp: -: the table is refused:\n  line 2: row 0, column 2 has two values, 7 and 8\n  line 3: '1 x 2' is no row, column and value\n"
@@ -251,6 +257,7 @@ def try_usage(tally, folder):
     is_so = (status, printed, said.count("\n")) == (1, "", 1) and said.startswith("aecp: aecp can't use the library ")
     tally.holds(is_so, f"no library: {status} {printed} {said}")
     tally.check("check: nothing there", command(folder, "check", "none")[0], 1)
+    tally.check("info: a folder", command(folder, "info", "."), (1, "", "aecp: .: it is a folder: name a file in it\n"))
     limited = {"preexec_fn": lambda: resource.setrlimit(resource.RLIMIT_AS, (1 << 28, 1 << 28))}
     place = tempfile.mkdtemp(dir=folder)
     write(place, "f", bytes(200 << 20))

@@ -14,7 +14,7 @@ from aecp.faults import Fault
 from aecp.notes import WRITER, Note, Sum, now, sha256_of
 from aecp.options import Options
 from aecp.pairs import Damaged, Opened, Pair, Refused, is_of, other_bytes, read_if_there
-from aecp.scripts import Change, change_of, difference, edited, judged, parts_of, script_within
+from aecp.scripts import Change, change_of, cut, difference, edited, judged, parts_of, script_within
 
 SHOWN = 20  # bad lines that are shown
 
@@ -180,19 +180,27 @@ def compared(first: Opened, second: Opened) -> tuple[bytearray, bytearray]:
     return samples_in(first), samples_in(second)
 
 
+def cells_of(text: str) -> list[list[str]]:
+    """The cells of each line of a table, which are divided by tabs, semicolons or commas, as in its first line."""
+    first = text.partition("\n")[0]
+    delimiter = "\t" if "\t" in first else ";" if ";" in first else ","
+    try:
+        return [[word.strip() for word in words] for words in csv.reader(io.StringIO(text, newline=None), delimiter=delimiter)]
+    except csv.Error:
+        raise Refused("it is no table of row, column and value") from None
+
+
 def pixels(text: str, rows: int, columns: int, frame: int) -> str:
     """The script that a table of row, column and value is, sorted by place."""
     values: dict[int, int] = {}
     complaints = []
-    delimiter = "\t" if "\t" in text.partition("\n")[0] else ";" if ";" in text.partition("\n")[0] else ","
-    for line, words in enumerate(csv.reader(io.StringIO(text), delimiter=delimiter), 1):
-        words = [word.strip() for word in words]
+    for line, words in enumerate(cells_of(text), 1):
         if not any(words) or words[0].startswith("#") or (line == 1 and not re.match(r"[-+]?[0-9]", words[0])):
             continue
         try:
             row, column, value = map(int, words)
         except ValueError:
-            complaints.append(f"line {line}: {' '.join(words)!r} is no row, column and value")
+            complaints.append(f"line {line}: {cut(' '.join(words))!r} is no row, column and value")
             continue
         place = (frame * rows + row) * columns + column
         if not (0 <= row < rows and 0 <= column < columns):

@@ -33,6 +33,8 @@ def write_out(path: str, data: Any) -> None:
             file.write(data)
         return
     folder, name = os.path.split(path)
+    if not os.path.isdir(folder or "."):
+        raise Refused(f"there is no folder {shown(folder)}")
     new = os.path.join(folder, f".{name}.{os.getpid()}.new")
     try:
         write_synced(new, data)

@@ -14,6 +14,7 @@ PART = 1 << 16  # samples that are compared at once
 SMALL_PART = 1 << 11  # where differences are looked for
 LEAF = 16  # samples that are compared one by one
 A_LINE = 1000  # values of a line that is written
+SHOWN = 30  # characters of a word in a complaint
 # How many places follow a name, and whether values come after them.
 FORMS = {"overwrite": (1, True), "append": (0, True), "truncate": (1, False), "insert": (1, True), "remove": (2, False)}
 PLACES = {"overwrite": "FIRST V..", "append": "V..", "truncate": "COUNT", "insert": "FIRST V..", "remove": "FIRST LEN"}
@@ -49,11 +50,16 @@ class Judged(NamedTuple):
     left: int
 
 
+def cut(word: str) -> str:
+    """A word for a complaint, without its end where it is long."""
+    return word if len(word) <= SHOWN else f"{word[:SHOWN]}.."
+
+
 def number_in(word: str, least: int, end: int, what: str) -> int:
     if not re.fullmatch(r"-?[0-9]+" if least < 0 else r"[0-9]+", word):
-        raise BadLine(f"{word!r} is no {what}")
+        raise BadLine(f"{cut(word)!r} is no {what}")
     if len(word) > 25 or not least <= int(word) < end:
-        raise BadLine(f"{word} doesn't fit 64 bits")
+        raise BadLine(f"{cut(word)} doesn't fit 64 bits")
     return int(word)
 
 
@@ -61,7 +67,7 @@ def edit_of(line: int, words: list[str], allow_empty: bool) -> Edit:
     """The edit that the words of a line say."""
     name, rest = words[0], words[1:]
     if name not in FORMS:
-        raise BadLine(f"{name!r} is none of {', '.join(FORMS)}")
+        raise BadLine(f"{cut(name)!r} is none of {', '.join(FORMS)}")
     many, has_values = FORMS[name]
     if len(rest) < many or (len(rest) > many and not has_values):
         raise BadLine(f"the words of {name} are {PLACES[name]}")

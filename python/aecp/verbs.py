@@ -150,7 +150,7 @@ def pair_of(path: str, mend: bool = True) -> Pair:
     """The pair of a stream, once what a stopped run left is finished and said."""
     pair = Pair(checking.stream_of(path) if os.path.basename(path) != STREAM else path)
     if not os.path.lexists(pair.path) and not os.path.lexists(pair.note_path):
-        raise Refused("there is no such file")
+        raise Refused("it is a folder: name a file in it" if os.path.isdir(path) else "there is no such file")
     if mend and os.access(pair.folder, os.W_OK) and (os.path.exists(pair.lock_path) or pair.leftovers()):
         with pair.locked(wait=False) as is_locked:
             if is_locked:
