@@ -1,5 +1,5 @@
 -- What a removal codes and decodes, as its definition has it and as the code has it.
-use Rattle.std.proofs.Common.{◌≡◌, ℕ, ◌+◌, ◌-◌, ◌*◌, ◌/◌, ◌%◌, ◌<◌, ◌≤◌, min, Bool, true, false, cond, eqb, List, [], ◌++◌, length, ℤ, refl, sym, ap, ◌∙◌, inl, inr, ◌⊎◌, arith, Result, length-append}
+use Rattle.std.proofs.Common.{◌≡◌, ℕ, ◌+◌, ◌-◌, ◌*◌, ◌/◌, ◌%◌, ◌<◌, ◌≤◌, min, Bool, false, cond, eqb, List, [], ◌++◌, length, ℤ, refl, sym, ap, ◌∙◌, inl, inr, ◌⊎◌, arith, Result, length-append}
 use Rattle.std.specs.Result.{MatchResult, OnOk, OnErr}
 use Rattle.std.specs.Int.{div_ceil}
 use Rattle.std.specs.List.{range_with_len, filter}
@@ -20,7 +20,6 @@ use Rattle.aec_bits.proofs.RefusalLaws.{remove_fits}
 use Rattle.aec_edit.specs.Calls.{RisesAtMost}
 use Rattle.aec_edit.specs.Steps.{Applies}
 use Rattle.aec_edit.specs.Changes.{IsExchanged, IsNotExchanged, IsExchangeUpTo, exchanged, fresh_total, recoding_calls, recoding_openings, opened_by}
-use Rattle.aec_edit.specs.Opened.{opened_first, opened_behind, opened_count}
 use Rattle.aec_edit.proofs.ExchangeLemmas.{recoding, begins_before, ceil_mono}
 use Rattle.aec_edit.proofs.AnswerLemmas.{from_exchange}
 use Rattle.aec_edit.proofs.OverwriteLemmas.{ceil_last, last_after, overwrite_opens}

@@ -1,11 +1,11 @@
 -- The intervals that an insertion or a removal opens are those that are not there after it.
-use Rattle.std.proofs.Common.{◌≡◌, ℕ, ◌+◌, ◌-◌, ◌*◌, ◌/◌, ◌%◌, ◌<◌, ◌≤◌, Bool, true, false, inl, inr, eqb, Some, List, [], refl, sym, ap, ◌∙◌, arith, ◌⊎◌}
+use Rattle.std.proofs.Common.{◌≡◌, ℕ, ◌+◌, ◌-◌, ◌*◌, ◌/◌, ◌%◌, ◌<◌, ◌≤◌, true, false, inl, inr, eqb, Some, List, [], refl, sym, ◌∙◌, arith, ◌⊎◌}
 use Rattle.std.specs.List.{range_with_len, list_any}
 use Rattle.std.specs.Int.{div_ceil}
 use Rattle.std.proofs.lemmas.Bool.{eq-eqb, ne_eqb, cases_eq, cases_lt}
 use Rattle.std.proofs.Math.Nat.{div-add-mod', mod-lt, mul-le-mul_right}
 use Rattle.aec_params.specs.Edits.{moved_intervals}
-use Rattle.aec_params.specs.EditLaws.{Exchange, stood_at, IsFromBefore, IsLostIfOneOf}
+use Rattle.aec_params.specs.EditLaws.{Exchange, IsFromBefore, IsLostIfOneOf}
 use Rattle.aec_params.proofs.CountLaws.{row_below, before_end, past_end}
 use Rattle.aec_params.proofs.EditLaws.{positive}
 use Rattle.aec_params.proofs.MoveLaws.{from_to}

@@ -1,12 +1,12 @@
 -- The intervals that an insertion or a removal codes are those that were not there before.
-use Rattle.std.proofs.Common.{◌≡◌, ℕ, zero, suc, ◌+◌, ◌-◌, ◌*◌, ◌/◌, ◌%◌, ◌<◌, ◌≤◌, min, Bool, true, false, inl, inr, cond, eqb, ltb, Option, Some, None, List, [], ◌∷◌, refl, sym, ap, ◌∙◌, arith, ◌⊎◌}
+use Rattle.std.proofs.Common.{◌≡◌, ℕ, zero, suc, ◌+◌, ◌-◌, ◌*◌, ◌/◌, ◌%◌, ◌<◌, ◌≤◌, true, false, inl, inr, eqb, Some, None, List, [], refl, sym, ap, ◌∙◌, arith, ◌⊎◌}
 use Rattle.std.specs.List.{range_with_len, list_any}
 use Rattle.std.specs.Int.{div_ceil}
 use Rattle.std.proofs.lemmas.Bool.{lt-ltb, le-ltb, eq-eqb, ne_eqb, cases_eq, cases_lt}
 use Rattle.std.proofs.Math.Nat.{div-add-mod', mul-mod_left, mod-lt, mul-le-mul_right}
-use Rattle.aec_params.specs.Edits.{Stretch, moved_intervals}
+use Rattle.aec_params.specs.Edits.{moved_intervals}
 use Rattle.aec_params.specs.EditLaws.{Exchange, count_after, stood_at, IsFromBefore, IsNewIfOneOf}
-use Rattle.aec_params.proofs.CountLaws.{ceil_bounds, row_below, before_end, past_end}
+use Rattle.aec_params.proofs.CountLaws.{row_below, before_end, past_end}
 use Rattle.aec_params.proofs.EditLaws.{positive}
 use Rattle.aec_params.proofs.MoveLaws.{from_to}
 

@@ -1,17 +1,16 @@
 -- Which intervals a removal opens.
-use Rattle.std.proofs.Common.{◌≡◌, ℕ, zero, suc, ◌+◌, ◌-◌, ◌*◌, ◌/◌, ◌%◌, ◌<◌, ◌≤◌, min, Bool, true, false, inl, inr, cond, eqb, ltb, List, [], ◌∷◌, ◌++◌, length, refl, ap, ◌∙◌, arith, ⊎_elim, length-append}
+use Rattle.std.proofs.Common.{◌≡◌, ℕ, zero, suc, ◌+◌, ◌-◌, ◌*◌, ◌/◌, ◌%◌, ◌<◌, ◌≤◌, min, Bool, true, false, inl, inr, cond, eqb, ltb, [], ◌∷◌, ◌++◌, length, refl, ap, ◌∙◌, arith, length-append}
 use Rattle.std.specs.List.{range_with_len, filter}
 use Rattle.std.specs.Int.{div_ceil}
-use Rattle.std.proofs.lemmas.Bool.{le-ltb, eq-eqb, ne_eqb, eqb-true, or_from, cases_eq, cases_lt}
+use Rattle.std.proofs.lemmas.Bool.{le-ltb, eq-eqb, ne_eqb, or_from, cases_eq, cases_lt}
 use Rattle.std.proofs.lemmas.List.Elements.{filter-append}
 use Rattle.std.proofs.lemmas.List.FromFn.{length-range_with_len}
-use Rattle.std.proofs.Math.Nat.{div-add-mod', mul-le-mul_right, mul-mod_left, mod-lt}
-use Rattle.aec_params.specs.declared.samples.Samples.{Samples}
-use Rattle.aec_params.specs.declared.edit.Edit.TheVariants.{Append, Truncate, Insert, Remove}
-use Rattle.aec_params.specs.Edits.{Stretch, keeps_a_sample, needed_calls, opened_intervals, moved_intervals, reached_intervals}
+use Rattle.std.proofs.Math.Nat.{div-add-mod', mul-le-mul_right, mod-lt}
+use Rattle.aec_params.specs.declared.edit.Edit.TheVariants.{Remove}
+use Rattle.aec_params.specs.Edits.{Stretch, keeps_a_sample, needed_calls, opened_intervals, reached_intervals}
 use Rattle.aec_params.specs.EditLaws.{inside_calls}
-use Rattle.aec_params.proofs.CountLaws.{ceil_unique, ceil_bounds, row_below, before_end}
-use Rattle.aec_params.proofs.EditLaws.{div-le, positive, length-filter-le, length-filter-all, filter-one_more, filter-none, keeps_head, keeps_tail}
+use Rattle.aec_params.proofs.CountLaws.{ceil_bounds, row_below}
+use Rattle.aec_params.proofs.EditLaws.{div-le, positive, length-filter-le, filter-one_more, filter-none, keeps_head, keeps_tail}
 use Rattle.aec_params.proofs.MoveLaws.{from_to, ceil_inside, div-whole, whole-inside, needed_calls-remove}
 
 -- ---- intervals that a removal opens

@@ -1,5 +1,5 @@
 -- What the definitions of edits were meant to say: how many intervals one codes and opens.
-use Rattle.std.specs.Prelude.{◌≡◌, ℕ, ◌+◌, ◌-◌, ◌*◌, ◌/◌, ◌%◌, ◌<◌, ◌≤◌, ◌==◌, nat_lt, min, if◌then◌else◌, ⊤, Bool, true, false, Option, Some, None, List, [], length}
+use Rattle.std.specs.Prelude.{◌≡◌, ℕ, ◌+◌, ◌-◌, ◌*◌, ◌/◌, ◌%◌, ◌<◌, ◌≤◌, ◌==◌, nat_lt, min, if◌then◌else◌, ⊤, true, false, Option, Some, None, List, [], length}
 use Rattle.std.specs.List.{range_with_len, list_any}
 use Rattle.std.specs.Int.{div_ceil}
 use Rattle.aec_params.specs.declared.edit.Edit.{Edit}

@@ -1,12 +1,12 @@
 //! One sample as it is stored: its bytes into it, and back.
 
 ghost use Rattle.std.specs.Prelude.{IfSome, ◌≡◌, ◌<◌, ◌≤◌, ◌^◌, ◌*◌, ◌%◌, ◌++◌, drop, length};
-ghost use Rattle.byteorder.specs.Endian.{big_number, little_number, big_bytes, little_bytes};
 ghost use Rattle.aec_params.specs.Params.{IsHeld, pattern_value, storage_len};
 ghost use Rattle.aec_params.specs.Stored.{stored_bytes, stored_number, has_sign_above, number_in, sample_of_number};
 
+use crate::numbers::{first_number, put_number};
 use crate::params::Params;
-use byteorder::{BigEndian, ByteOrder, LittleEndian};
+use byteorder::{BigEndian, LittleEndian};
 
 /// Returns the sample that the bytes of one sample are; `None` where its unused bits are not what
 /// its width allows. Takes no memory.
@@ -30,40 +30,11 @@ fn number_of(params: &Params, group: &[u8]) -> u64
     requires { length group.now ≡ storage_len params.now }
     ensures { result ≡ number_in params.now group.now }
 {
+    let width = params.storage();
     if params.msb_first() {
-        big_number_of(group, params.storage())
+        first_number::<BigEndian>(group, width)
     } else {
-        little_number_of(group, params.storage())
-    }
-}
-
-/// The number in one to four bytes, the most significant first.
-fn big_number_of(group: &[u8], width: usize) -> u64
-    requires few { width ≤ 4 }
-    requires some { 1 ≤ width }
-    requires whole { length group.now ≡ width }
-    ensures { result ≡ big_number width group.now }
-{
-    match width {
-        1 => u64::from(group[0]),
-        2 => u64::from(BigEndian::read_u16(group)),
-        3 => u64::from(BigEndian::read_u24(group)),
-        _ => u64::from(BigEndian::read_u32(group)),
-    }
-}
-
-/// The number in one to four bytes, the least significant first.
-fn little_number_of(group: &[u8], width: usize) -> u64
-    requires few { width ≤ 4 }
-    requires some { 1 ≤ width }
-    requires whole { length group.now ≡ width }
-    ensures { result ≡ little_number width group.now }
-{
-    match width {
-        1 => u64::from(group[0]),
-        2 => u64::from(LittleEndian::read_u16(group)),
-        3 => u64::from(LittleEndian::read_u24(group)),
-        _ => u64::from(LittleEndian::read_u32(group)),
+        first_number::<LittleEndian>(group, width)
     }
 }
 
@@ -103,41 +74,9 @@ pub fn put_sample(params: &Params, x: i64, out: &mut [u8; 4]) -> usize
     let width = params.storage();
     let number = full_width(params, x);
     if params.msb_first() {
-        put_big(out, number, width);
+        put_number::<BigEndian>(&mut out[..], number, width);
     } else {
-        put_little(out, number, width);
+        put_number::<LittleEndian>(&mut out[..], number, width);
     }
     width
-}
-
-/// Writes a number to the first one to four bytes, the most significant first, and leaves the
-/// others.
-fn put_big(out: &mut [u8; 4], number: u64, width: usize)
-    requires few { width ≤ 4 }
-    requires some { 1 ≤ width }
-    requires fits { number < 256 ^ width }
-    ensures { out.new ≡ big_bytes width number ++ drop width out.old }
-{
-    match width {
-        1 => out[0] = number as u8,
-        2 => BigEndian::write_u16(out, number as u16),
-        3 => BigEndian::write_u24(out, number as u32),
-        _ => BigEndian::write_u32(out, number as u32),
-    }
-}
-
-/// Writes a number to the first one to four bytes, the least significant first, and leaves the
-/// others.
-fn put_little(out: &mut [u8; 4], number: u64, width: usize)
-    requires few { width ≤ 4 }
-    requires some { 1 ≤ width }
-    requires fits { number < 256 ^ width }
-    ensures { out.new ≡ little_bytes width number ++ drop width out.old }
-{
-    match width {
-        1 => out[0] = number as u8,
-        2 => LittleEndian::write_u16(out, number as u16),
-        3 => LittleEndian::write_u24(out, number as u32),
-        _ => LittleEndian::write_u32(out, number as u32),
-    }
 }
