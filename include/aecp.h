@@ -6,12 +6,12 @@
  * overlap nothing else that is passed; a bool is 0 or 1; malloc, realloc and free belong to one allocator. Make no call in a signal
  * handler, or in a forked child of a process with threads.
  *
- * Between calls the library keeps only what handles and coders hold. Every buffer stays the caller's. A call frees what it allocates
- * before it returns, except what an open handle or coder holds. Several threads may call at once, each with an `out`, a `reply`, and a
- * handle or coder of its own.
+ * Between calls the library keeps only what handles, coders and readers hold. Every buffer stays the caller's. A call frees what it
+ * allocates before it returns, except what an open handle, coder or reader holds. Several threads may call at once, each with an `out`, a
+ * `reply`, and a handle, coder or reader of its own.
  *
- * The least stack of a thread, as the tests measure it: 32 KiB for aecp_encode, aecp_decode, aecp_range and aecp_edit; 16 KiB for the
- * others. At least 4 KiB are left then, and the thread itself takes some 8 KiB.
+ * The least stack of a thread, as the tests measure it: 32 KiB for aecp_encode and aecp_edit; 16 KiB for the others. At least 4 KiB are
+ * left then, and the thread itself takes some 8 KiB.
  */
 #ifndef AECP_H
 #define AECP_H
@@ -88,14 +88,16 @@ uint32_t aecp_encode(const aecp_options *options, const void *samples, size_t sa
                      aecp_reply *reply);
 
 /* Decodes the first `count` samples of a stream, or all with AECP_ALL. Bytes after them are not read. Faults: options, TRUNCATED,
- * VALUE_TOO_LARGE, RUN_TOO_LONG, TOO_MANY_SAMPLES, STREAM_TOO_LONG, MEMORY, NO_ROOM. Allocates an interval of samples, and the stream's
- * first aecp_bound(options, count) bytes; the whole stream with AECP_ALL, or if it is damaged or another coder wrote more. Trap: AECP_ALL
- * decodes filler too, and accepts many cut streams; 1.5 MB can decode to 2^32 samples. */
+ * VALUE_TOO_LARGE, RUN_TOO_LONG, TOO_MANY_SAMPLES, STREAM_TOO_LONG, MEMORY, NO_ROOM. Allocates an interval of samples and its bytes,
+ * 64 KiB, and the stream's first aecp_bound(options, count) bytes; the whole stream with AECP_ALL, or if it is damaged or another coder
+ * wrote more; up to 16 MiB more if a block has at most 32 bytes. Trap: AECP_ALL decodes filler too, and accepts many cut streams; 1.5 MB
+ * can decode to 2^32 samples. */
 uint32_t aecp_decode(const aecp_options *options, uint64_t count, const uint8_t *coded, size_t coded_len, void *out,
                      size_t out_len, aecp_reply *reply);
 
 /* Decodes `len` of those samples, from place `first` on, counted from 0. Faults: those of aecp_decode, of the first `count` samples, and
- * OUT_OF_RANGE. Takes memory as aecp_decode does. Trap: `first` and `len` are samples, `out_len` is bytes. */
+ * OUT_OF_RANGE. Allocates an interval of samples, at least 16 KiB, and of the stream as much as aecp_decode. Trap: `first` and `len` are
+ * samples, `out_len` is bytes. */
 uint32_t aecp_range(const aecp_options *options, uint64_t count, uint64_t first, uint64_t len, const uint8_t *coded,
                     size_t coded_len, void *out, size_t out_len, aecp_reply *reply);
 

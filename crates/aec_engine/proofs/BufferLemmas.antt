@@ -2,7 +2,6 @@
 use Rattle.std.proofs.Common.{◌≡◌, ℕ, ◌*◌, ◌<◌, ◌≤◌, Bool, false, Option, None, Some, Result, Ok, Err, ℤ, List, ◌++◌, length, drop, refl, sym, ap, ◌∙◌, subst, arith, inl, inr}
 use Rattle.std.specs.Prelude.{nat_le}
 use Rattle.std.proofs.lemmas.Bool.{cond-true, cond-false, le-leb, lt-leb}
-use Rattle.std.proofs.lemmas.List.{take_all}
 use Rattle.aec_params.specs.declared.settings.Settings.{Settings}
 use Rattle.aec_params.specs.declared.fault.Fault.{Fault}
 use Rattle.aec_params.specs.Limits.{Caps}
@@ -34,7 +33,7 @@ abbrev pub HasRange : Place → ℕ → ℕ → Type 0
 HasRange p first len = (xs : List ℤ) × AreSamplesOf p xs × (length (samples_from first len xs) ≡ len)
 
 -- the bytes of the range
-size_of : (p : Place) (s : Settings) (first len size : ℕ) (xs : List ℤ) → IsAllowed p.settings → HasRange p first len → AreSamplesOf p xs
+pub size_of : (p : Place) (s : Settings) (first len size : ℕ) (xs : List ℤ) → IsAllowed p.settings → HasRange p first len → AreSamplesOf p xs
     → size ≡ len * storage_len s → length (all_stored s (samples_from first len xs)) ≡ size
 size_of p s first len size xs a range told is =
     let one : range.0 ≡ xs = (bits_are_read_in_one_way p.settings p.count p.limit p.bits a).one_reading range.0 xs range.1.reading told.reading in
@@ -81,33 +80,12 @@ pub fills_map : (answers others : Result (List ℕ) Fault → Type 0) (before af
 fills_map answers others before after r weaker one =
     record { answer = one.answer; answered = weaker one.answer one.answered; told = one.told; left = one.left }
 
-pub whole_range : (p : Place) (total : ℕ) → HaveSamples p total → HasRange p 0 total
-whole_range p total have =
-    let all = take_all total have.samples (omega (arith, have.counted)) in
-    (have.samples, record { reading = have.reading }, ap length all ∙ have.counted)
-
 -- no more samples than the limit
 pub few_samples : (s : Settings) (count : Option ℕ) (limit : ℕ) (bits : List Bool) (p : Place) (total : ℕ) → IsAllowed s → p ≡ place_at s count limit bits 0 0
     → None ≡ count_refusal limit count → HaveSamples p total → total ≤ limit
 few_samples s count limit bits p total a is none have =
     let reading = subst (λ (p : Place). IsReading p.settings p.count p.limit p.bits have.samples) is have.reading in
     omega (arith, have.counted, read-within s limit bits count have.samples a (sym none) reading)
-
-pub decodes_into : (s : Settings) (count : Option ℕ) (limit most : ℕ) (bits : List Bool) (p : Place) (total : ℕ) (before after : List ℕ) (r : Result ℕ Fault)
-    → limit ≡ most → p ≡ place_at s count limit bits 0 0 → None ≡ count_refusal limit count → (have : HaveSamples p total)
-    → ((xs : List ℤ) → AreSamplesOf p xs → FillsOne (StoresPart s 0 total xs) before after r) → FillsOne (DecodesBits s count most bits) before after r
-decodes_into s count limit most bits p total before after r same is none have fills =
-    subst (λ limit. FillsOne (DecodesBits s count limit bits) before after r) same
-    (fills_map (StoresPart s 0 total have.samples) (DecodesBits s count limit bits) before after r answer
-    (fills have.samples (record { reading = have.reading })))
-  where
-    reading : IsReading s count limit bits have.samples
-    reading = subst (λ (p : Place). IsReading p.settings p.count p.limit p.bits have.samples) is have.reading
-
-    answer : (a : Result (List ℕ) Fault) → StoresPart s 0 total have.samples a → DecodesBits s count limit bits a
-    answer a twice.stored = subst (λ xs. DecodesBits s count limit bits (Ok (all_stored s xs)))
-        (sym (take_all total have.samples (omega (arith, have.counted)))) (twice.read have.samples (sym none) reading)
-    answer a twice.no_room = twice.no_memory
 
 -- the answer to all bytes of a source that did not fail
 pub whole_answer : (answers : Input → Result (List ℕ) Fault → Type 0) (enough : List ℕ → Bool) (source : Taking) (bytes : List ℕ)

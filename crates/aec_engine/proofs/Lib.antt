@@ -31,4 +31,5 @@ pub mod EditFrontLemmas
 pub mod EditedStreamLemmas
 pub mod FillLemmas
 pub mod BufferLemmas
+pub mod KeptBufferLemmas
 pub mod RangeBufferLemmas

@@ -1,23 +1,35 @@
-//! Decodes coded bytes in memory into a buffer: reads them once to judge them, and again to put
-//! the bytes of their samples into the buffer. The buffer can't be a `Sink`: contracts say what the
-//! sink that an engine hands back has taken, and not that it still holds the same buffer.
+//! Decodes coded bytes in memory into a buffer: reads them once to judge them, with the bytes of
+//! the samples in front kept, and puts those of the rest into the buffer when it reads again. The
+//! buffer can't be a `Sink`: contracts say what the sink that an engine hands back has taken, and
+//! not that it still holds the same buffer.
 
-ghost use Rattle.std.specs.Prelude.{◌≡◌, ℕ, ◌+◌, ◌*◌, ◌≤◌, ◌^◌, ◌++◌, List, ℤ, false, length, take, drop, vec_capacity, IsOk};
+ghost use Rattle.std.specs.Prelude.{◌≡◌, ℕ, ◌+◌, ◌*◌, ◌≤◌, ◌^◌, ◌++◌, List, [], ℤ, Some, Ok, false, length, take, drop, vec_capacity, IsOk, IfOk, IfErr};
 ghost use Rattle.std.specs.List.{AllByRecursion};
 ghost use Rattle.aec_params.specs.Params.{IsHeld, interval_len, storage_len};
-ghost use Rattle.aec_engine.specs.Transfers.{input_of};
+ghost use Rattle.aec_engine.specs.Transfers.{input_of, RefusesIntake};
 ghost use Rattle.aec_engine.specs.Output.{all_stored, samples_from, IsDecoded, IsRanged};
-ghost use Rattle.aec_engine.specs.ReadingTwice.{AreSamplesOf, IsBegun, StoresPart, DecodesBits, CutsBits};
+ghost use Rattle.aec_engine.specs.ReadingTwice.{AreSamplesOf, GaveWhole, IsBegun, StoresPart, DecodesBits, CutsBits};
 ghost use Rattle.aec_engine.specs.Buffers.{FillsOne, OrMemory};
 
-use crate::engine::bit_intake::read_bits;
+use crate::engine::keeping::keep_front;
 use crate::engine::ranging::judge_range;
-use crate::engine::two_readings::{count_samples, judge_samples, part_of};
-use crate::in_memory::SliceSource;
+use crate::engine::two_readings::{buffers, judge_from, judge_samples, part_of, room_at_once};
 use aec_bits::BitBuf;
 use aec_interval::StreamReader;
 use aec_params::{Fault, Limits, Params, put_samples};
 use std::alloc::Global;
+
+/// The bits of coded bytes, which are at most `limit`; else `StreamTooLong`, before any memory is
+/// taken.
+fn bits_of(alloc: Global, coded: &[u8], limit: u64) -> Result<BitBuf, Fault>
+    ensures ok { IfOk result (λ bits. GaveWhole (Some coded.now) (Some []) 0 limit bits.list) }
+    ensures refuses { IfErr result (RefusesIntake (Some coded.now) (Some []) 0 limit) }
+{
+    if coded.len() as u64 > limit {
+        return Err(Fault::StreamTooLong { limit });
+    }
+    BitBuf::from_bytes(alloc, coded)
+}
 
 /// Puts the bytes of samples after the first `at` bytes of a buffer. Returns where they end.
 fn put_behind(params: &Params, samples: &[i64], at: usize, out: &mut [u8]) -> usize
@@ -58,7 +70,7 @@ fn fill_range(
     let mut skip = first - before;
     let mut left = len;
     let mut at = 0;
-    while left > 0 && reader.next(samples)? {
+    while left > 0 && reader.next_few(samples.capacity() as u64, samples)? {
         let part = part_of(samples, skip, left);
         left -= part.len() as u64;
         at = put_behind(params, part, at, out);
@@ -91,14 +103,54 @@ fn put_range_front(
     if size > out.len() as u64 {
         return Ok(size);
     }
-    let mut samples = Vec::with_capacity(alloc, params.interval_len() as usize)?;
+    let mut samples = room_at_once(alloc, params)?;
     let front = &mut out[..size as usize];
     fill_range(params, reader, before, first, len, &mut samples, front)?;
     Ok(size)
 }
 
-/// Reads coded bits twice: judges them first, then puts the bytes of their samples to the front of
-/// a buffer, where there is room.
+/// Puts kept bytes, and behind them the bytes of the `left` samples behind the first `kept`, to the
+/// front of a buffer, where there is room for them; `before` samples are behind the reader. How
+/// many bytes they are. Takes no memory.
+fn put_kept(
+    params: &Params,
+    reader: &mut StreamReader,
+    bytes: &[u8],
+    before: u64,
+    kept: u64,
+    left: u64,
+    samples: &mut Vec<i64>,
+    out: &mut [u8],
+) -> Result<u64, Fault>
+    requires settings { reader.old.settings ≡ params.now }
+    requires read { (xs : List ℤ) × AreSamplesOf reader.old xs
+        × (length (samples_from kept left xs) ≡ left) }
+    requires few { left ≤ 2 ^ 32 }
+    requires begun { IsBegun reader.old before kept }
+    requires room { interval_len params.now ≤ vec_capacity samples.old }
+    ensures { (xs : List ℤ) → AreSamplesOf reader.old xs
+        → FillsOne (λ answer. answer ≡ Ok (bytes.now
+        ++ all_stored params.now (samples_from kept left xs))) out.old out.new result }
+{
+    let size = bytes.len() + left as usize * params.storage();
+    if size > out.len() {
+        return Ok(size as u64);
+    }
+    out[..bytes.len()].copy_from_slice(bytes);
+    fill_range(
+        params,
+        reader,
+        before,
+        kept,
+        left,
+        samples,
+        &mut out[bytes.len()..size],
+    )?;
+    Ok(size as u64)
+}
+
+/// Judges coded bits and keeps the bytes of the samples in front, then puts these to the front of a
+/// buffer, where there is room, and behind them the bytes of the rest, read again.
 fn decode_bits_into(
     alloc: Global,
     params: &Params,
@@ -113,16 +165,29 @@ fn decode_bits_into(
     // What the parameters promise is told by their calls.
     let _len = params.interval_len();
     let mut reader = StreamReader::new(alloc, *params, bits, count, limits.samples())?;
-    let total = count_samples(params, &mut reader)?;
-    put_range_front(alloc, params, &mut reader, 0, 0, total, out)
+    let (mut samples, mut bytes) = buffers(alloc, params)?;
+    let kept = keep_front(params, &mut reader, &mut samples, &mut bytes)?;
+    let judged = judge_from(params, &mut reader, kept, kept)?;
+    let left = judged.total.saturating_sub(kept);
+    put_kept(
+        params,
+        &mut reader,
+        &bytes,
+        judged.before,
+        kept,
+        left,
+        &mut samples,
+        out,
+    )
 }
 
 /// Puts the stored bytes of the samples that coded bytes are read as to the front of a buffer,
 /// where there is room for all of them, and leaves the rest of it; else leaves all of it. How many
 /// bytes they are. The refusals are those of `decode_bytes`; the buffer is as it was then.
 ///
-/// The coded bytes are read twice, so that the samples are not kept: memory is taken for the coded
-/// bytes, and for one interval of samples.
+/// Memory is taken for the coded bytes, for one interval of samples and their bytes, and for 64 KiB
+/// of bytes that are kept while the coded bytes are judged. Of short blocks up to 16 MiB are kept,
+/// where there is memory. What lies behind is read twice.
 pub fn decode_into(
     alloc: Global,
     params: &Params,
@@ -134,8 +199,7 @@ pub fn decode_into(
     ensures { FillsOne (OrMemory (IsDecoded params.now limits count (input_of coded.now false)))
         out.old out.new result }
 {
-    let mut source = SliceSource::new(coded);
-    let bits = read_bits(alloc, &mut source, limits.bytes())?;
+    let bits = bits_of(alloc, coded, limits.bytes())?;
     decode_bits_into(alloc, params, limits, count, &bits, out)
 }
 
@@ -179,7 +243,6 @@ pub fn range_into(
         (IsRanged params.now limits count first len (input_of coded.now false)))
         out.old out.new result }
 {
-    let mut source = SliceSource::new(coded);
-    let bits = read_bits(alloc, &mut source, limits.bytes())?;
+    let bits = bits_of(alloc, coded, limits.bytes())?;
     range_bits_into(alloc, params, limits, count, first, len, &bits, out)
 }

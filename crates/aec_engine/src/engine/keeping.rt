@@ -95,7 +95,7 @@ fn has_room(bytes: &mut Vec<u8>, room: &mut usize, more: usize, most: u64) -> bo
 /// Reads the samples of a stream from its first bit on, and keeps the bytes of the first samples,
 /// as many as there is room for. Returns how many samples these are: the reader is after them. The
 /// refusals are those of judging.
-fn keep_front(
+pub(crate) fn keep_front(
     params: &Params,
     reader: &mut StreamReader,
     samples: &mut Vec<i64>,

@@ -135,20 +135,6 @@ pub(crate) fn judge_all(params: &Params, reader: &mut StreamReader) -> Result<Ju
     Ok(judged)
 }
 
-/// The same. Returns how many samples there are.
-pub(crate) fn count_samples(params: &Params, reader: &mut StreamReader) -> Result<u64, Fault>
-    requires settings { reader.old.settings ≡ params.now }
-    requires block { reader.old.block ≡ 0 }
-    requires bit { reader.old.bit ≡ 0 }
-    ensures ok { IfOk result (λ total. HaveSamples reader.old total) }
-    ensures refuses { IfErr result
-        (λ fault. RefusesReading reader.old.settings reader.old.count reader.old.limit
-        reader.old.bits 0 0 fault) }
-    ensures same { OnOk result (reader.new ≡ reader.old) }
-{
-    Ok(judge_all(params, reader)?.total)
-}
-
 /// Of samples those after the first `skip`, at most `left` of them.
 pub(crate) fn part_of(samples: &[i64], skip: u64, left: u64) -> &[i64]
     ensures { result.now ≡ samples_from skip left samples.now }

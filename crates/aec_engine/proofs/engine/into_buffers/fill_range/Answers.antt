@@ -1,7 +1,6 @@
 use Rattle.std.proofs.Common.{Some, [], take, inl, inr, arith, sym, subst, ap, refl, ◌∙◌}
 use Rattle.aec_params.specs.Params.{IsAllowed, interval_len}
 use Rattle.aec_engine.specs.Output.{samples_from}
-use Rattle.aec_interval.proofs.PieceReadingLemmas.{several-of_one}
 use Rattle.aec_engine.proofs.PutRangeLemmas.{puts_none, puts_more, not_refused, part_is_held}
 use Rattle.aec_engine.proofs.FillLemmas.{taken_none, puts_behind, length-behind, part_fits, all_filled}
 use Rattle.aec_engine.proofs.engine.into_buffers.fill_range.Goals as goal
@@ -15,57 +14,57 @@ loop-left-init c = record {
   room = c.requires.room;
 }
 
-pub returns-in_err-next-clause-sound : goal.returns-in_err-next-clause-sound
-returns-in_err-next-clause-sound c =
-    not_refused c.args.reader.now c.loop-left.reader _ _ _ _ _ _ _ _ _ c.in_err-next.field-0.0
+pub returns-in_err-next_few-clause-sound : goal.returns-in_err-next_few-clause-sound
+returns-in_err-next_few-clause-sound c =
+    not_refused c.args.reader.now c.loop-left.reader _ _ _ _ _ _ _ _ _ c.in_err-next_few.field-0.0
     (subst IsAllowed (sym c.requires.settings) c.interval_len-len.ensures.allowed) c.loop-left.invariant.puts (c.requires.read.0, c.requires.read.1)
-    c.in_err-next.ensures.refuses c.in_err-next.ensures.full (omega (arith, c.loop-left.invariant.room, ap interval_len c.requires.settings))
+    c.in_err-next_few.ensures.refuses c.in_err-next_few.ensures.full (omega (arith, c.loop-left.invariant.room, ap interval_len c.requires.settings))
 
-pub returns-in_err-next-clause-filled : goal.returns-in_err-next-clause-filled
-returns-in_err-next-clause-filled c =
-    not_refused c.args.reader.now c.loop-left.reader _ _ _ _ _ _ _ _ _ c.in_err-next.field-0.0
+pub returns-in_err-next_few-clause-filled : goal.returns-in_err-next_few-clause-filled
+returns-in_err-next_few-clause-filled c =
+    not_refused c.args.reader.now c.loop-left.reader _ _ _ _ _ _ _ _ _ c.in_err-next_few.field-0.0
     (subst IsAllowed (sym c.requires.settings) c.interval_len-len.ensures.allowed) c.loop-left.invariant.puts (c.requires.read.0, c.requires.read.1)
-    c.in_err-next.ensures.refuses c.in_err-next.ensures.full (omega (arith, c.loop-left.invariant.room, ap interval_len c.requires.settings))
+    c.in_err-next_few.ensures.refuses c.in_err-next_few.ensures.full (omega (arith, c.loop-left.invariant.room, ap interval_len c.requires.settings))
 
 pub put_behind-at-requires-clause-held : goal.put_behind-at-requires-clause-held
 put_behind-at-requires-clause-held c =
-    part_is_held c.args.reader.now c.loop-left.reader c.next.new.self c.args.params.now _ _ _ _ c.loop-left.invariant.puts.same c.requires.settings
-    (c.in_ok-next.ensures.read c.if-branch.true).piece (c.part_of-part.ensures ∙ ap (samples_from _ _) c.deref.ensures.value)
+    part_is_held c.args.reader.now c.loop-left.reader c.next_few.new.self c.args.params.now _ _ _ _ c.loop-left.invariant.puts.same c.requires.settings
+    (c.in_ok-next_few.ensures.read c.if-branch.true).piece (c.part_of-part.ensures ∙ ap (samples_from _ _) c.deref.ensures.value)
 
 pub put_behind-at-requires-clause-room : goal.put_behind-at-requires-clause-room
 put_behind-at-requires-clause-room c =
     part_fits c.args.reader.now c.loop-left.reader c.args.params.now c.args.first c.args.len c.loop-left.skip c.loop-left.left c.loop-left.at c.loop-left.out
     (subst IsAllowed (sym c.requires.settings) c.interval_len-len.ensures.allowed) c.loop-left.invariant.puts c.loop-left.invariant.within
-    (c.requires.read.0, c.requires.read.1, c.loop-left.invariant.whole ∙ c.requires.read.2) c.next.new.self c.next.new.samples.items
-    c.part_of-part.result.now (several-of_one c.loop-left.reader c.next.new.self c.next.new.samples.items (c.in_ok-next.ensures.read c.if-branch.true))
-    c.next.ensures.ends (c.part_of-part.ensures ∙ ap (samples_from _ _) c.deref.ensures.value)
+    (c.requires.read.0, c.requires.read.1, c.loop-left.invariant.whole ∙ c.requires.read.2) c.next_few.new.self c.next_few.new.samples.items
+    c.part_of-part.result.now (c.in_ok-next_few.ensures.read c.if-branch.true)
+    c.next_few.ensures.ends (c.part_of-part.ensures ∙ ap (samples_from _ _) c.deref.ensures.value)
 
 pub loop-left-preserved : goal.loop-left-preserved
 loop-left-preserved c =
     let is = c.part_of-part.ensures ∙ ap (samples_from _ _) c.deref.ensures.value in
     let a = subst IsAllowed (sym c.requires.settings) c.interval_len-len.ensures.allowed in
-    let step = several-of_one c.loop-left.reader c.next.new.self c.next.new.samples.items (c.in_ok-next.ensures.read c.if-branch.true) in
+    let step = c.in_ok-next_few.ensures.read c.if-branch.true in
     let room = part_fits c.args.reader.now c.loop-left.reader c.args.params.now c.args.first c.args.len c.loop-left.skip c.loop-left.left c.loop-left.at
     c.loop-left.out a c.loop-left.invariant.puts c.loop-left.invariant.within
-    (c.requires.read.0, c.requires.read.1, c.loop-left.invariant.whole ∙ c.requires.read.2) c.next.new.self c.next.new.samples.items
-    c.part_of-part.result.now step c.next.ensures.ends is in
+    (c.requires.read.0, c.requires.read.1, c.loop-left.invariant.whole ∙ c.requires.read.2) c.next_few.new.self c.next_few.new.samples.items
+    c.part_of-part.result.now step c.next_few.ensures.ends is in
     let long = length-behind c.args.params.now c.loop-left.at c.loop-left.out c.put_behind-at.new.out c.part_of-part.result.now room
     c.put_behind-at.ensures.bytes in
     record {
-      puts = puts_more c.args.reader.now c.loop-left.reader c.next.new.self c.args.params.now c.args.first c.args.len c.loop-left.skip c.loop-left.left _ _
-          _ _ _ [] [] c.next.new.samples.items c.part_of-part.result.now a c.loop-left.invariant.puts step c.next.ensures.few c.next.ensures.ends is
+      puts = puts_more c.args.reader.now c.loop-left.reader c.next_few.new.self c.args.params.now c.args.first c.args.len c.loop-left.skip c.loop-left.left _ _
+          _ _ _ [] [] c.next_few.new.samples.items c.part_of-part.result.now a c.loop-left.invariant.puts step c.next_few.ensures.few c.next_few.ensures.ends is
           (puts_behind c.args.params.now c.loop-left.at c.put_behind-at.result c.loop-left.out c.put_behind-at.new.out c.part_of-part.result.now
           c.loop-left.invariant.within c.put_behind-at.ensures.bytes c.put_behind-at.ensures.end) (omega arith) refl;
       within = omega (arith, c.put_behind-at.ensures.end, room, long);
       whole = long ∙ c.loop-left.invariant.whole;
-      room = omega (arith, c.loop-left.invariant.room, c.next.ensures.capacity);
+      room = omega (arith, c.loop-left.invariant.room, c.next_few.ensures.capacity);
     }
 
 pub returns-else-branch-clause-filled : goal.returns-else-branch-clause-filled
 returns-else-branch-clause-filled c =
     all_filled c.args.reader.now c.loop-left.reader c.args.params.now c.args.first c.args.len c.loop-left.skip c.loop-left.left c.loop-left.at c.loop-left.out
     (subst IsAllowed (sym c.requires.settings) c.interval_len-len.ensures.allowed) c.loop-left.invariant.puts c.loop-left.invariant.within
-    (c.requires.read.0, c.requires.read.1, c.loop-left.invariant.whole ∙ c.requires.read.2) (inr (sym c.in_ok-next.ensures.more ∙ c.if-branch.false))
+    (c.requires.read.0, c.requires.read.1, c.loop-left.invariant.whole ∙ c.requires.read.2) (inr (sym c.in_ok-next_few.ensures.more ∙ c.if-branch.false))
 
 pub returns-after-loop-left-clause-filled : goal.returns-after-loop-left-clause-filled
 returns-after-loop-left-clause-filled c =

@@ -1,4 +1,4 @@
-use Rattle.std.proofs.Common.{◌*◌, ◌++◌, drop, arith, ap, subst, sym}
+use Rattle.std.proofs.Common.{◌*◌, ◌++◌, ◌∙◌, drop, arith, ap, subst, sym}
 use Rattle.std.proofs.lemmas.Result.{err_from_is_err_and}
 use Rattle.aec_params.specs.declared.fault.Fault.TheVariants.{Memory}
 use Rattle.aec_params.specs.Params.{IsAllowed}
@@ -15,7 +15,7 @@ returns-then-size-out c xs told =
 pub returns-in_err-samples : goal.returns-in_err-samples
 returns-in_err-samples c xs told =
     let exit = err_from_is_err_and c.from_residual.result c.from_residual.ensures.1 in
-    fills_refusal _ c.args.out.now _ exit.0 Memory exit.1 exit.2 no_room
+    fills_refusal _ c.args.out.now _ exit.0 Memory exit.1 (exit.2 ∙ c.in_err-samples.ensures.fault) no_room
 
 pub returns : goal.returns
 returns c xs told =
