@@ -1,5 +1,5 @@
--- What the private functions of reading compute, on lists of bits; proofs/ ties it to coded data
--- sets. `read_cds` and `skip_cds` cite none of this.
+-- What the private functions of reading compute, on lists of bits; the laws of `laws.rt` say that
+-- it is the reading of coded data sets. `read_cds` and `skip_cds` cite none of this.
 use Rattle.std.specs.Prelude.{ℕ, zero, suc, ◌+◌, ◌-◌, ◌*◌, ◌/◌, ◌^◌, ◌==◌, nat_le, Bool, true, false, if◌then◌else◌, Option, Some, None, List, [], ◌∷◌, length, take, drop}
 use Rattle.aec_params.specs.declared.settings.Settings.{Settings}
 use Rattle.aec_params.specs.Params.{id_len}

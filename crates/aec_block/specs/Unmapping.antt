@@ -1,4 +1,4 @@
--- Samples taken back from values, one behind the other.
+-- Samples taken back from values, one after the other.
 use Rattle.std.specs.Prelude.{◌≡◌, ℕ, ℤ, List, ◌++◌, Some}
 use Rattle.std.specs.List.{AllByRecursion, last_or}
 use Rattle.aec_params.specs.declared.settings.Settings.{Settings}

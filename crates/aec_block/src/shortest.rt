@@ -17,7 +17,7 @@ const WITHOUT_REFERENCE: usize = 1;
 
 const WITH_REFERENCE: usize = 2;
 
-/// Appends the shortest coded data set of a block whose values behind the reference place are given
+/// Appends the shortest coded data set of a block whose values after the reference place are given
 /// too. `Memory` where a growth was refused. `N` and `COPY` are those of `write_values`.
 #[inline(always)]
 fn write_chosen<const N: usize, const COPY: usize>(

@@ -19,7 +19,7 @@ want_of_calls calls needed = if nat_lt (2 ^ 64 - 1 - calls) needed then Some Spe
 abbrev pub due_refusal : Format → ℕ → List ℤ → ℕ → Edit → Option Fault
 due_refusal f limit s calls e = option_or (refusal_of f limit s e) (want_of_calls calls (needed_calls f.most (length s) e))
 
--- how many intervals an edit may decode: none where it is refused for more than want of memory
+-- how many intervals an edit may decode: none if it is refused for a reason other than memory
 abbrev pub opened_at_most : Format → ℕ → List ℤ → ℕ → Edit → ℕ
 opened_at_most f limit s calls e = if is_some (due_refusal f limit s calls e) then 0 else opened_intervals f.most (length s) e
 

@@ -7,8 +7,7 @@ use Rattle.std.specs.Prelude.{◌≡◌, ℕ, ◌+◌, ◌*◌, ◌≤◌, ◌�
 abbrev pub old_part : ℕ → List ℤ → ℕ → ℕ → List ℤ
 old_part n s next end = drop (next * n) (take (end * n) s)
 
--- the samples still to come: those in front, the values, those behind them, and those of old
--- intervals
+-- the samples still to come: those before, the values, those after them, and those of old intervals
 abbrev pub to_come : ℕ → List ℤ → List ℤ → List ℤ → List ℤ → ℕ → ℕ → List ℤ
 to_come n s front values back next end = front ++ (values ++ (back ++ old_part n s next end))
 

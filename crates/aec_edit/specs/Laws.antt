@@ -23,7 +23,7 @@ OverwritesCodeWhatTheyTouch = (f : Format) (limit : ℕ) (s : List ℤ) (calls f
     → Answers f limit s calls (Overwrite first values) (Done coded) after
     → (coded ≡ length (touched_intervals f.most first (length values))) × (after ≡ calls + length (touched_intervals f.most first (length values)))
 
--- a refused edit leaves the samples; and but for want of memory the calls
+-- a refused edit leaves the samples unchanged, and unless it is refused with `Memory` the calls
 abbrev pub RefusedEditsChangeNothing : Type 0
 RefusedEditsChangeNothing = (f : Format) (limit : ℕ) (s : List ℤ) (calls : ℕ) (e : Edit) (fault : Fault) (after : ℕ)
     → Answers f limit s calls e (Refused fault) after → (samples_left s e (Refused fault) ≡ s) × (fault ≢ Memory → after ≡ calls)
@@ -40,7 +40,7 @@ pub record CodesNothing (n old : ℕ) : Type 0 where
   pub remove_whole : (k j : ℕ) → needed_calls n old (Remove (k * n) (j * n)) ≡ 0
   pub remove_rest : (k : ℕ) → k * n ≤ old → needed_calls n old (Remove (k * n) (old - k * n)) ≡ 0
 
--- an edit that codes nothing and fits is made, whatever memory there is
+-- an edit that codes nothing and fits is made, never refused with `Memory`
 abbrev pub IsAlwaysMade : Type 0
 IsAlwaysMade = (f : Format) (limit : ℕ) (s : List ℤ) (calls : ℕ) (e : Edit) (outcome : Outcome) (after : ℕ)
     → refusal_of f limit s e ≡ None → needed_calls f.most (length s) e ≡ 0
@@ -57,8 +57,8 @@ pub record EditsThatCodeNothingAreMade : Type 0 where
 abbrev pub HadMemory : List Outcome → Type 0
 HadMemory outcomes = AllByRecursion (λ outcome. outcome ≢ Refused Memory) outcomes
 
--- over a run the calls rise by what the edits that were made have coded, or by more where memory
--- was wanting
+-- over a run the calls rise by what the accepted edits have coded, or by more if an edit was
+-- refused with `Memory`
 abbrev pub RunsCountTheirCalls : Type 0
 RunsCountTheirCalls = (f : Format) (limit : ℕ) (s : List ℤ) (calls : ℕ) (edits : List Edit) (done : List Outcome) (after : ℕ)
     → AnswersAll f limit s calls edits done after
@@ -74,7 +74,7 @@ pub record RunsJoin : Type 0 where
   pub one : (f : Format) (limit : ℕ) (s : List ℤ) (calls : ℕ) (e : Edit) (outcome : Outcome) (after : ℕ)
       → Answers f limit s calls e outcome after → AnswersAll f limit s calls (e ∷ []) (outcome ∷ []) after
 
--- where memory is there, edits have one list of outcomes, and no more
+-- edits have exactly one list of outcomes without `Memory`
 pub record RunsHaveOneAnswer : Type 0 where
   pub some : (f : Format) (limit : ℕ) (s : List ℤ) (calls : ℕ) (edits : List Edit) → calls < 2 ^ 64
       → (done : List Outcome) × (after : ℕ) × AnswersAll f limit s calls edits done after × HadMemory done × (after < 2 ^ 64)

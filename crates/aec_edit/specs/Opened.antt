@@ -13,7 +13,7 @@ opened_by_exchange n count gone = keeping_intervals n count gone (reached_interv
 abbrev pub opened_first : ℕ → ℕ → Stretch → List ℕ
 opened_first n count gone = keeping_intervals n count gone (take 1 (reached_intervals n gone))
 
--- those of them behind the first that is reached
+-- those of them after the first that is reached
 abbrev pub opened_behind : ℕ → ℕ → Stretch → List ℕ
 opened_behind n count gone = keeping_intervals n count gone (drop 1 (reached_intervals n gone))
 

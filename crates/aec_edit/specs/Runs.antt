@@ -31,8 +31,8 @@ all_coded [] = 0
 all_coded (Done coded ∷ outcomes) = coded + all_coded outcomes
 all_coded (Refused fault ∷ outcomes) = all_coded outcomes
 
--- how many intervals an edit may decode that has this outcome: none where it is refused for more
--- than want of memory
+-- how many intervals an edit with this outcome may decode: none if it is refused for a reason other
+-- than memory
 abbrev pub opened_for : ℕ → ℕ → Edit → Outcome → ℕ
 opened_for n old e (Done coded) = opened_intervals n old e
 opened_for n old e (Refused Memory) = opened_intervals n old e

@@ -9,15 +9,15 @@ use Rattle.aec_edit.specs.declared.outcome.Outcome.{Outcome}
 use Rattle.aec_edit.specs.declared.outcome.Outcome.TheVariants.{Done, Refused}
 use Rattle.aec_edit.specs.Calls.{due_refusal, opened_at_most, RisesAtMost}
 
--- an edit of the samples s that is made: nothing is against it, and the coder is called once for
--- each interval that it codes
+-- an edit of the samples s that is made: no refusal is due, and the coder is called once for each
+-- interval that it codes
 pub record IsAccepted (f : Format) (limit : ℕ) (s : List ℤ) (calls : ℕ) (e : Edit) (coded after : ℕ) : Type 0 where
   pub fits : due_refusal f limit s calls e ≡ None
   pub coded_is : coded ≡ needed_calls f.most (length s) e
   pub calls_are : after ≡ calls + coded
 
--- an edit that fits, refused for want of memory: it codes some interval, and the coder may have
--- been called for it
+-- want of memory at an edit: it codes some interval, and the coder may have been called for it
+-- (that the edit fits stands in `IsRefused`)
 pub record LacksMemory (needed calls : ℕ) (fault : Fault) (after : ℕ) : Type 0 where
   pub fault_is : fault ≡ Memory
   pub some : 0 < needed

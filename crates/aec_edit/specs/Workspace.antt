@@ -19,8 +19,8 @@ pub record Contents (C : Type 0) : Type 0 where
   pub room : Room
 
 -- The most room that the lists of an edit keep for the next one, where an interval has n samples:
--- for 2n samples in front and n behind, for 256n bits of code (128 for each of 2n samples), and for
--- 2n starts.
+-- for 2n samples before the change and n after it, for 256n bits of code (128 for each of 2n
+-- samples), and for 2n starts.
 pub record IsScratchRoom (n front back bits starts : ℕ) : Type 0 where
   pub front_fits : front ≤ 2 * n
   pub back_fits : back ≤ n
@@ -36,9 +36,8 @@ interval_count f s = div_ceil (length s) f.most
 abbrev pub start_of : Format → List ℤ → ℕ → ℕ
 start_of f s i = length (code_of f (take (i * f.most) s))
 
--- bytes have one reading with so many samples: their bits begin with the code of these held
--- samples, whatever follows, and with that of no other held list of so many (by any codec, where
--- the code decodes interval by interval)
+-- the bits of bytes begin with the code of these held samples, whatever follows, and with that of
+-- no other held list of this length (by any codec, where the code decodes interval by interval)
 pub record HasOneReading (f : Format) (bytes : List ℕ) (samples : List ℤ) : Type 0 where
   pub held : AreHeld f samples
   pub begins : (rest : List Bool) × (bits_of_bytes bytes ≡ code_of f samples ++ rest)

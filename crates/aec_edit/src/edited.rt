@@ -25,7 +25,7 @@ pub struct Edited {
     pub bits: u64,
     /// The samples that the stream is read as, all of them.
     pub samples: Vec<i64>,
-    /// How many intervals the codec has coded.
+    /// The codec's count of coded intervals, from where it began to count.
     pub calls: u64,
 }
 
@@ -33,9 +33,10 @@ pub struct Edited {
 ///
 /// Each edit is answered as the definition says for the samples and the calls that those before it
 /// have left. What is written is, bit for bit, the code of the samples that the accepted edits
-/// leave; read with its count it gives these samples and no others. `Memory` where there is no room
-/// for the outcomes or for the samples that are read, but not for no edits; nothing was written
-/// then. `Write` where the sink fails, which has then taken the front of the stream.
+/// leave; read with its count it gives these samples and no others. Fails with `Memory` if there is
+/// no room for the outcomes or for the samples read, never without edits; nothing was written then.
+/// Fails with `Write` if the sink fails, which has then taken a front of the stream. Of a sink
+/// whose bytes are unknown nothing is said of what is written.
 pub fn write_edited<C: Codec + Drop, W: Sink>(
     alloc: Global,
     codec: C,

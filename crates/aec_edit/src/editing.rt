@@ -20,12 +20,12 @@ impl<C: Codec> Workspace<C> {
     ghost use Rattle.aec_edit.specs.declared.outcome.Outcome.{Outcome as OutcomeOf};
     ghost use Rattle.aec_edit.specs.Stops.{StopsAtRefusal};
 
-    /// Makes an edit, and returns how many intervals it has coded: the number that is defined. It
-    /// decodes at most as many as hold a sample that is kept and coded anew.
+    /// Makes an edit, and returns how many intervals it has coded: `needed_calls`. It decodes no
+    /// more intervals than hold a sample that is kept and coded anew.
     ///
     /// A refused edit changes no sample. An edit that doesn't fit is refused for that, then with
-    /// `Spent`, then with `Memory` where a growth was refused. An edit that codes no interval takes
-    /// no memory.
+    /// `Spent`, then with `Memory` where a growth was refused. An edit that codes no interval never
+    /// fails with `Memory`.
     ///
     /// `Spent` comes exactly where the edit fits, and the calls of the codec so far, with those
     /// that the edit needs, pass `u64::MAX`. No call is made then.
@@ -67,8 +67,7 @@ impl<C: Codec> Workspace<C> {
         self.exchange(first, first + len, values)
     }
 
-    /// Adds the values behind the last sample, as `apply` does with an `Append` of them, and
-    /// answers what it answers.
+    /// Appends the values, as `apply` does with an `Append` of them, and returns what it returns.
     pub fn append(&mut self, values: &[i64]) -> Result<u64, Fault>
         ensures applies { Applies (C.format self.old.codec) self.old.limit self.old.samples
             (C.called self.old.codec)
@@ -102,7 +101,7 @@ impl<C: Codec> Workspace<C> {
         self.exchange(stop, count, &[])
     }
 
-    /// Puts the values in front of the sample at place `first`, or behind the last one.
+    /// Inserts the values before the sample at place `first`, or after the last one.
     fn insert(&mut self, first: u64, values: &[i64]) -> Result<u64, Fault>
         ensures applies { Applies (C.format self.old.codec) self.old.limit self.old.samples
             (C.called self.old.codec)
@@ -259,7 +258,8 @@ impl<C: Codec> Workspace<C> {
     }
 
     /// Applies edits in their order, and ends with the first that is refused: those before it are
-    /// made, and those behind it are not tried. Edits that code no interval take no memory.
+    /// made, and those after it are not tried. Edits that code no interval never fail with
+    /// `Memory`.
     pub fn run_until_refused(&mut self, edits: &[Edit]) -> Result<(), Stop>
         ensures run { StopsAtRefusal (C.format self.old.codec) self.old.limit self.old.samples
             (C.called self.old.codec) (C.read self.old.codec)

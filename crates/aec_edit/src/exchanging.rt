@@ -189,7 +189,7 @@ impl<C: Codec> Workspace<C> {
     }
 
     /// Decodes the first touched interval where it keeps a sample in front of the places, or is the
-    /// last one too and keeps one behind them.
+    /// last one too and keeps one after them.
     fn open_first(&mut self, first: u64, stop: u64, ends: &mut Vec<i64>) -> Result<(), Fault>
         requires order { first ≤ stop }
         requires within { stop ≤ length self.old.samples }
@@ -212,7 +212,7 @@ impl<C: Codec> Workspace<C> {
         Ok(())
     }
 
-    /// Decodes the last touched interval where it isn't the first and keeps a sample behind the
+    /// Decodes the last touched interval where it isn't the first and keeps a sample after the
     /// places.
     fn open_last(&mut self, first: u64, stop: u64, ends: &mut Vec<i64>) -> Result<(), Fault>
         requires order { first ≤ stop }

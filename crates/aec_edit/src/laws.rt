@@ -15,19 +15,19 @@ pub fn overwrites_code_what_they_touch()
     ensures { OverwritesCodeWhatTheyTouch }
 {}
 
-/// A refused edit leaves the samples, and with them their code; and but for want of memory the
-/// calls.
+/// A refused edit leaves the samples unchanged, and with them their code; and unless it is refused
+/// with `Memory` the calls.
 pub fn refused_edits_change_nothing()
     ensures { RefusedEditsChangeNothing }
 {}
 
-/// An edit that codes no interval is made wherever it fits, whatever memory there is.
+/// An edit that codes no interval is made if it fits, never refused with `Memory`.
 pub fn edits_that_code_nothing_are_made()
     ensures { EditsThatCodeNothingAreMade }
 {}
 
-/// Over a run the calls rise by what the edits that were made have coded, or by more where memory
-/// was wanting.
+/// Over a run the calls rise by what the accepted edits have coded, or by more if an edit was
+/// refused with `Memory`.
 pub fn runs_count_their_calls()
     ensures { RunsCountTheirCalls }
 {}
@@ -37,7 +37,7 @@ pub fn runs_join()
     ensures { RunsJoin }
 {}
 
-/// Where memory is there, edits have one list of outcomes, and no more.
+/// Edits have exactly one list of outcomes without `Memory`.
 pub fn runs_have_one_answer()
     ensures { RunsHaveOneAnswer }
 {}

@@ -14,9 +14,9 @@ impl<C: Codec> Workspace<C> {
     ghost use Rattle.aec_edit.specs.Unchanged.{IsOnlyRead};
 
     /// The `len` samples from place `first` on. `OutOfRange` exactly where one of them is past the
-    /// samples, then `Memory` where a growth was refused; a range of no samples takes no memory.
-    /// Only the intervals that hold one of them are decoded, none where the range is refused for
-    /// its place.
+    /// samples, then `Memory` where a growth was refused; a range of no samples never fails with
+    /// `Memory`. At most as many intervals are decoded as hold one of the samples, none if the
+    /// range is refused for its place.
     pub fn range(&mut self, alloc: Global, first: u64, len: u64) -> Result<Vec<i64>, Fault>
         ensures ok { IfOk result (λ v. v.items ≡ take len (drop first self.old.samples)) }
         ensures within { OnOk result (range_refusal (length self.old.samples) first len ≡ None) }

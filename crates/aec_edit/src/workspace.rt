@@ -136,14 +136,14 @@ impl<C: Codec> Workspace<C> {
         }
     }
 
-    /// How many intervals the codec has coded.
+    /// The codec's count of coded intervals, from where it began to count.
     pub fn calls(&self) -> u64
         ensures { result ≡ C.called self.now.codec }
     {
         self.codec.calls()
     }
 
-    /// How often the codec has been asked to decode an interval.
+    /// The codec's count of calls of `decode`.
     pub fn reads(&self) -> u64
         ensures { result ≡ C.read self.now.codec }
     {
@@ -152,7 +152,7 @@ impl<C: Codec> Workspace<C> {
 
     /// Appends the bytes that the code of the samples fills to what the sink has taken; zeros fill
     /// the last one. `Write` where the sink fails, which has then taken the front of these bytes.
-    /// Takes no memory, and doesn't call `begin`.
+    /// Never fails with `Memory`, and doesn't call `begin`.
     pub fn write_to<W: Sink>(&self, out: &mut W) -> Result<(), Fault>
         ensures ok { OnOk result (Appends (W.taken out.old) (W.taken out.new)
             (bytes_of (code_of (C.format self.now.codec) self.now.samples))) }

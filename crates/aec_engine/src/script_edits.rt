@@ -48,7 +48,7 @@ pub(crate) struct NextEdit {
     pub(crate) line: u64,
 }
 
-/// What is left of a script: its next edit, how many lines were read up to it, and the text behind
+/// What is left of a script: its next edit, how many lines were read up to it, and the text after
 /// these. So no more of a script is kept than its text and the values of one line.
 #[derive(Drop)]
 pub(crate) struct EditsAhead<'a> {
@@ -75,7 +75,7 @@ impl<'a> EditsAhead<'a> {
         Ok(ahead)
     }
 
-    /// Leaves the next edit, and reads lines up to the one behind it.
+    /// Leaves the next edit, and reads lines up to the one after it.
     pub(crate) fn advance(&mut self, alloc: Global) -> Result<(), Fault>
         requires known { AreKnown self.old }
         ensures ok { IfOk result (λ _. left_in self.new ≡ behind self.old) }

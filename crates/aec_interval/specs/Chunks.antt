@@ -1,5 +1,5 @@
 -- For proofs alone: no public contract cites this file.
--- What the private functions of `interval::filled_blocks` compute: the blocks of samples behind
+-- What the private functions of `interval::filled_blocks` compute: the blocks of samples after
 -- others of their interval, or at its start. The contract of `write_interval` cites `interval_bits`
 -- instead.
 use Rattle.std.specs.Prelude.{◌≡◌, ℕ, ◌*◌, ◌≤◌, ⊤, Option, Some, None, ℤ, List, length}

@@ -1,6 +1,6 @@
 -- For proofs alone: no public contract cites this file.
 -- What the private functions of `reading::samples` and `reading::zero_runs` compute: one block more
--- behind whole blocks of samples. The contract of `decode_all` cites `IsReading` and `IsFault`
+-- after whole blocks of samples. The contract of `decode_all` cites `IsReading` and `IsFault`
 -- instead.
 use Rattle.std.specs.Prelude.{ℕ, zero, suc, ◌%◌, ◌==◌, ◌&&◌, Bool, true, false, if◌then◌else◌, Option, Some, None, ℤ, pos, List, [], ◌∷◌, ◌++◌, length, replicate, unwrap_or}
 use Rattle.std.specs.List.{last_or}

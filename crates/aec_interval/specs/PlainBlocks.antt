@@ -1,5 +1,5 @@
 -- For proofs alone: no public contract cites this file.
--- Plain blocks read one behind the other: what the private functions of `reading::plain` do for
+-- Plain blocks read one after the other: what the private functions of `reading::plain` do for
 -- every reading that comes to the first of them. The contract of `decode_all` cites `IsReading` and
 -- `IsFault` instead.
 use Rattle.std.specs.Prelude.{◌≡◌, ◌<◌, ◌≤◌, ℕ, ◌+◌, ◌-◌, ◌/◌, ◌%◌, ℤ, List}

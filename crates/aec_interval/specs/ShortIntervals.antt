@@ -1,5 +1,5 @@
 -- For proofs alone: no public contract cites this file.
--- Whole intervals read one behind the other: what the private functions of `reading::short` do for
+-- Whole intervals read one after the other: what the private functions of `reading::short` do for
 -- every reading in which none of their blocks needs a test of its place.
 use Rattle.std.specs.Prelude.{◌≡◌, ◌≤◌, ◌^◌, ℕ, ◌+◌, ◌*◌, ◌%◌, false, Option, IfSome, ℤ, List, unwrap_or}
 use Rattle.std.specs.List.{AllByRecursion}

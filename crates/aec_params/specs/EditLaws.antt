@@ -105,7 +105,7 @@ pub record MovesOpenWhatIsLost : Type 0 where
       → IsLostIfOneOf n (record { old = old; gone = record { first = first; stop = first + len }; fresh = 0 })
       (moved_intervals n len old (record { first = first; stop = first + len })) i
 
--- an insertion behind the last sample codes as many as the append, and a removal up to the end as
+-- an insertion after the last sample codes as many as the append, and a removal up to the end as
 -- many as the truncate
 pub record EndsMeet : Type 0 where
   pub inserted : (n old : ℕ) (values : Samples) → 0 < n → needed_calls n old (Insert old values) ≡ needed_calls n old (Append values)

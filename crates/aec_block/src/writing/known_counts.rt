@@ -13,7 +13,7 @@ use crate::writing::{put_paired, put_split, put_uncompressed};
 use aec_bits::BitBuf;
 use aec_params::{Fault, Params};
 
-/// Appends the coded data set of a block whose values behind the reference place are given too, by
+/// Appends the coded data set of a block whose values after the reference place are given too, by
 /// the option of `choose`. `Memory` where a growth was refused. `N` and `COPY` are for the compiler
 /// alone, which inlines so much code only where its one caller stands: each caller names its own.
 #[inline(always)]

@@ -12,8 +12,8 @@ use aec_params::Fault;
 use std::alloc::Global;
 use std::mem;
 
-/// Samples that are to be coded: those in front, the values, those behind them, and those of the
-/// old intervals from number `next` up to number `end`, which are still to be decoded.
+/// Samples that are to be coded: those before, the values, those after them, and those of the old
+/// intervals from number `next` up to number `end`, which are still to be decoded.
 #[derive(Debug, Drop)]
 pub(crate) struct Fresh<'a> {
     pub front: Vec<i64>,
@@ -33,7 +33,7 @@ impl<'a> Fresh<'a> {
         self.front.is_empty() && self.values.len() >= most
     }
 
-    /// Moves values and what is behind them to the front, until it holds a whole interval. `Memory`
+    /// Moves values and what follows them to the front, until it holds a whole interval. `Memory`
     /// where a growth was refused.
     pub fn gather_held(&mut self, most: usize) -> Result<(), Fault>
         ensures ok { OnOk result (self.new.front.items
@@ -168,8 +168,8 @@ impl<C: Codec> Workspace<C> {
         Ok(())
     }
 
-    /// Codes one interval behind others. `Memory` where a growth was refused; the call may have
-    /// been made then.
+    /// Codes one interval after others. `Memory` where a growth was refused; the call may have been
+    /// made then.
     fn code_interval(&mut self, interval: &[i64], coded: &mut Coded) -> Result<(), Fault>
         requires some { 1 ≤ length interval.now }
         requires few { length interval.now ≤ (C.format self.old.codec).most }
@@ -216,7 +216,7 @@ impl<C: Codec> Workspace<C> {
         Ok(())
     }
 
-    /// Codes the next interval of fresh samples behind others. Where it stands whole in the values,
+    /// Codes the next interval of fresh samples after others. Where it stands whole in the values,
     /// it is coded from there; else it is brought to the front. `Memory` where a growth was
     /// refused; the call may have been made then.
     fn code_next(&mut self, fresh: &mut Fresh<'_>, coded: &mut Coded) -> Result<(), Fault>
@@ -308,8 +308,8 @@ impl<C: Codec> Workspace<C> {
         Ok(coded)
     }
 
-    /// Empty lists for samples in front of values and behind them, in the room that the edit before
-    /// has left.
+    /// Empty lists for samples before values and after them, in the room that the edit before has
+    /// left.
     pub(crate) fn take_lists(&mut self) -> (Vec<i64>, Vec<i64>)
         ensures front { result.0.items ≡ [] }
         ensures back { result.1.items ≡ [] }
