@@ -8,7 +8,7 @@ ghost use Rattle.aec_block.specs.Written.{shortest_bits, Appends};
 
 use crate::block::BlockRef;
 use crate::choice::choose_among;
-use crate::writing::known_counts::write_values;
+use crate::writing::by_choice::write_values;
 use aec_bits::BitBuf;
 use aec_params::{Fault, Params};
 

@@ -1,10 +1,10 @@
 //! What is written for one block, and for a run of zero blocks.
 
+pub(crate) mod by_choice;
 mod gathered;
 mod high_parts;
 mod joined_high_parts;
 mod joined_low_parts;
-pub(crate) mod known_counts;
 
 ghost use Rattle.std.specs.Prelude.{◌≡◌, ◌+◌, ◌-◌, ◌*◌, ◌/◌, ◌<◌, ◌≤◌, ◌^◌, ◌++◌, false, length, drop, if◌then◌else◌, OnOk, OnErr, IfErr};
 ghost use Rattle.aec_params.specs.declared.fault.Fault.TheVariants.{Memory};
@@ -21,10 +21,10 @@ ghost use Rattle.aec_block.specs.Written.{high_parts, low_parts, split_parts, sh
 use crate::block::{Block, BlockRef};
 use crate::choice::lengths::{head_len, pair_len};
 use crate::choice::{Choice, Coding};
+use crate::writing::by_choice::write_values;
 use crate::writing::gathered::Gathered;
 use crate::writing::high_parts::put_high_parts;
 use crate::writing::joined_low_parts::low_word;
-use crate::writing::known_counts::write_values;
 use aec_bits::BitBuf;
 use aec_params::{Fault, Params};
 
@@ -308,6 +308,7 @@ fn code_of_run(z: u32, to_end: bool) -> u32
 /// Appends the coded data set of a run of `z` zero blocks, of which the first has the reference
 /// where there is one, and which ends its segment or not. `Memory` where a growth was refused,
 /// never if there is room for the coded data set; nothing has changed then.
+#[inline(always)]
 #[tactic(auto, using(crate::proofs::WritingLemmas::parts))]
 pub fn write_run(
     params: &Params,

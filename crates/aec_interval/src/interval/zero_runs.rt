@@ -59,8 +59,7 @@ impl Run {
         if self.blocks == 0 {
             return Ok(());
         }
-        let own = *params;
-        write_run(&own, self.reference, self.blocks, to_end, out)
+        write_run(params, self.reference, self.blocks, to_end, out)
     }
 }
 
