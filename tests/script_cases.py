@@ -120,6 +120,10 @@ def misfit_line(settings, count, chance):
 def some_script(settings, count, chance, number):
     """A script for so many samples: sound, or with a line that is no edit, or with one that doesn't fit."""
     lines = []
+    for _ in range(chance.choice([0, 0, 3, 20]) if count else 0):
+        values = some_values(settings, chance, count if chance.random() < 0.2 else 1)
+        place = some_place(settings, count - len(values), chance)
+        lines.append(line_of("overwrite", [written(place, chance), *(value_written(x, chance) for x in values)], chance))
     for _ in range(chance.choice([0, 1, 2, 5, 9])):
         line, count = fitting_line(settings, count, chance)
         lines += [chance.choice(SKIPPED_LINES) for _ in range(chance.choice([0, 0, 1, 2]))] + [line]

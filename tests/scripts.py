@@ -86,6 +86,43 @@ def try_long_scripts(program, tally):
         tally.check(f"{what}: DEST", program.read("dest"), wanted)
 
 
+def try_overwrites(program, tally):
+    """Leading overwrites, which are made in the order of their places: in other orders, some that share samples, one that is
+    refused among them, and more than are put in order."""
+    many = 20_000
+    orders = {
+        "descending": range(many - 1, -1, -1),
+        "in any order": random.Random(7).sample(range(many), many),
+        "each place twice": [*range(many - 1, -1, -2), *range(many - 2, -1, -2)] * 2,
+    }
+    rows = [
+        ("shared from before", [(20, [1, 2]), (19, [3, 4])]),
+        ("shared from behind", [(19, [3, 4]), (20, [1, 2])]),
+        ("a place three times", [(20, [1]), (20, [2]), (3, [4]), (20, [3])]),
+        ("around another", [(10, [5] * 20), (40, [6]), (12, [7]), (5, [8] * 30), (6, [9])]),
+        ("touching", [(30, [1, 2, 3]), (27, [4, 5, 6]), (33, [7]), (26, [8])]),
+        ("without a value", [(48, []), (20, [1]), (20, []), (0, [])]),
+        *((what, [(place, [place % 251]) for place in order]) for what, order in orders.items()),
+    ]
+    for what, overwrites in rows:
+        samples = bytearray(48 if len(overwrites) < 10 else many)
+        program.write("source", program.answer([], bytes(samples)))
+        for place, values in overwrites:
+            samples[place : place + len(values)] = bytes(values)
+        lines = ["overwrite " + " ".join(map(str, [place, *values])) for place, values in overwrites]
+        program.write("script", "\n\n".join(lines).encode())
+        answer = program.run("--edit", "script", "--count", str(len(samples)), "source", "dest")
+        tally.check(f"overwrites, {what}: answer", answer, said(None))
+        tally.check(f"overwrites, {what}: DEST", program.read("dest"), program.answer([], bytes(samples)))
+    program.write("source", ZEROS)
+    for refused, why in (("48 1", "position outside the 48 samples"), ("7 256", "sample 0 is out of range")):
+        program.write("script", f"overwrite 20 1\noverwrite 19 2\noverwrite {refused}\noverwrite 300 1\n".encode())
+        program.write("dest", b"old")
+        answer = program.run("--edit", "script", "--count", "48", "source", "dest")
+        tally.check(f"overwrites, {refused} among them: answer", answer, said(f"line 3: {why}"))
+        tally.check(f"overwrites, {refused} among them: DEST", program.read("dest"), b"old")
+
+
 def try_case(seed, number, program, tally):
     chance = random.Random(f"{seed} {number}")
     settings = some_settings(chance)
@@ -145,6 +182,7 @@ def main():
         try_shared_names(program, tally)
         try_lines(program, tally)
         try_long_scripts(program, tally)
+        try_overwrites(program, tally)
         for number in asked.numbers:
             try_case(asked.seed, number, program, tally)
         try_options(program, tally)

@@ -52,7 +52,7 @@ leads-stop f limit a b es gs fault leads (steps.lacks_memory line at) = steps.la
 -- ---- one edit
 
 -- an overwrite calls the coder at most as often as there are samples
-needed-inside : (n old : ℕ) (e : Edit) → 0 < n → IsInside old e → needed_calls n old e ≤ old
+pub needed-inside : (n old : ℕ) (e : Edit) → 0 < n → IsInside old e → needed_calls n old e ≤ old
 needed-inside n old (Overwrite first values) some inside = omega (arith, touched-le n first (length values) some, inside)
 needed-inside n old (Append values) some inside = absurd inside
 needed-inside n old (Truncate count) some inside = absurd inside
@@ -70,7 +70,7 @@ due-inside f limit due s rest e inside few =
     ap₂ option_or (refusal_of-inside f limit s rest e inside)
     (ap (want_of_calls due) (needed_calls-inside f.most (length s) (length (s ++ rest)) e inside) ∙ enough due (needed_calls f.most (length s) e) few)
 
-due-here : (f : Format) (limit calls : ℕ) (s : List ℤ) (e : Edit) → calls + needed_calls f.most (length s) e ≤ 2 ^ 64 - 1
+pub due-here : (f : Format) (limit calls : ℕ) (s : List ℤ) (e : Edit) → calls + needed_calls f.most (length s) e ≤ 2 ^ 64 - 1
     → due_refusal f limit s calls e ≡ option_or (refusal_of f limit s e) None
 due-here f limit calls s e few = ap (option_or (refusal_of f limit s e)) (enough calls (needed_calls f.most (length s) e) few)
 

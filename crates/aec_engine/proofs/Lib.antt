@@ -23,6 +23,9 @@ pub mod CallLemmas
 pub mod EditingLemmas
 pub mod EarlyEditLemmas
 pub mod LoadingLemmas
+pub mod ReorderedLemmas
+pub mod PlannedLemmas
+pub mod PlanLemmas
 pub mod RoomLemmas
 pub mod EditedLemmas
 pub mod EditAnswerLemmas

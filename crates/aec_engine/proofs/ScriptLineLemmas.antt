@@ -61,3 +61,9 @@ pub listed_known : (n : ℕ) (m : Meaning) (rest : Listing) → m ≢ unknown �
 listed_known n nothing rest known = refl
 listed_known n (change e) rest known = refl
 listed_known n unknown rest known = absurd (known refl)
+
+-- what is behind a line has no bad line, where they have none together
+pub listed_sound : (n : ℕ) (m : Meaning) (rest : Listing) → (listed n m rest).bad ≡ None → rest.bad ≡ None
+listed_sound n nothing rest sound = sound
+listed_sound n (change e) rest sound = sound
+listed_sound n unknown rest sound = absurd (cc)

@@ -1,20 +1,21 @@
 -- For proofs alone: no public contract cites this file.
 -- What is left of a script whose lines are read again when their edits are made.
-use Rattle.std.specs.Prelude.{◌≡◌, ℕ, ◌+◌, ◌^◌, ◌≤◌, ◌⊎◌, Option, Some, None, option_map, MatchOption, ⊤, []}
+use Rattle.std.specs.Prelude.{◌≡◌, ℕ, ◌+◌, ◌-◌, ◌^◌, ◌≤◌, ◌⊎◌, Option, Some, None, option_map, MatchOption, ⊤, [], length, drop}
 use Rattle.aec_edit.specs.Early.{IsInside}
 use Rattle.aec_engine.specs.declared.script_edits.NextEdit.{NextEdit}
 use Rattle.aec_engine.specs.declared.script_edits.EditsAhead.{EditsAhead}
 use Rattle.aec_engine.specs.Numerals.{Text}
 use Rattle.aec_engine.specs.Scripts.{change, Listing, listed, listing_from}
 use Rattle.aec_engine.specs.ScriptLines.{lines_left, text_left}
+use Rattle.aec_engine.specs.Planning.{planned_in}
 
 -- the text that is not read again yet
 abbrev pub text_behind : EditsAhead → Option Text
 text_behind ahead = option_map (λ text. text.now) ahead.rest
 
--- the listing of its lines
+-- the listing of the planned overwrites, and of its lines
 abbrev pub behind : EditsAhead → Listing
-behind ahead = listing_from (ahead.number + 1) (lines_left (text_behind ahead))
+behind ahead = planned_in (drop ahead.taken ahead.window.now) (listing_from (ahead.number + 1) (lines_left (text_behind ahead)))
 
 -- a listing, with an edit before it
 abbrev pub with_next : Option NextEdit → Listing → Listing
@@ -30,9 +31,17 @@ pub record AreKnown (ahead : EditsAhead) : Type 0 where
   pub sound : (behind ahead).bad ≡ None
   pub few : ahead.number + text_left (text_behind ahead) ≤ 2 ^ 63
 
+-- a listing of nothing
+abbrev pub no_edits : Listing
+no_edits = record { edits = []; lines = []; bad = None }
+
 -- where no edit is ready, none is left
 abbrev pub IsReady : EditsAhead → Type 0
-IsReady ahead = MatchOption ahead.next (behind ahead ≡ record { edits = []; lines = []; bad = None }) (λ next. ⊤)
+IsReady ahead = MatchOption ahead.next (behind ahead ≡ no_edits) (λ next. ⊤)
+
+-- how many planned overwrites and bytes are not read again yet
+abbrev pub unread : EditsAhead → ℕ
+unread ahead = (length ahead.window.now - ahead.taken) + text_left (text_behind ahead)
 
 -- no edit is left, or the next one is no overwrite inside so many samples, or so many calls of the
 -- coder are too many

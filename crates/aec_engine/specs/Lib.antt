@@ -10,8 +10,9 @@ pub mod CodingSteps
 pub mod ReadingTwice
 pub mod Editing
 pub mod EditingSteps
-pub mod EditsAhead
 pub mod EarlyEdits
+pub mod Planning
+pub mod EditsAhead
 pub mod InMemory
 pub mod Laws
 pub mod EditedStreams

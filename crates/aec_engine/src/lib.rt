@@ -11,6 +11,7 @@ pub mod laws;
 mod numerals;
 mod script_edits;
 mod script_lines;
+mod script_plan;
 mod script_reading;
 mod script_words;
 mod scripts;

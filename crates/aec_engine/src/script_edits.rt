@@ -1,11 +1,14 @@
 //! Judges whole scripts first, and reads each line again when its edit is applied.
 
-ghost use Rattle.std.specs.Prelude.{◌≡◌, ◌≢◌, ℕ, Some, None, IfOk, IfErr};
+ghost use Rattle.std.specs.Prelude.{◌≡◌, ◌≢◌, ◌+◌, ◌^◌, ◌<◌, ◌≤◌, ℕ, Some, None, IfOk, IfErr, IfSome, MatchOption};
 ghost use Rattle.aec_params.specs.declared.fault.Fault.TheVariants.{Memory, Script as ScriptFault};
-ghost use Rattle.aec_engine.specs.Scripts.{listing_of, meaning_of, unknown};
-ghost use Rattle.aec_engine.specs.EditsAhead.{AreKnown, IsReady, behind, left_in};
+ghost use Rattle.aec_engine.specs.Scripts.{listed, listing_of, meaning_of, unknown};
+ghost use Rattle.aec_engine.specs.ScriptLines.{text_left};
+ghost use Rattle.aec_engine.specs.Planning.{listing_in, text_behind};
+ghost use Rattle.aec_engine.specs.EditsAhead.{AreKnown, IsReady, behind, left_in, no_edits, unread};
 
 use crate::script_lines::{Line, parsed_line};
+use crate::script_plan::{Plan, Planned};
 use crate::script_reading::{cut_line, edit_on_line};
 use aec_params::{Edit, Fault};
 use std::alloc::Global;
@@ -48,31 +51,58 @@ pub(crate) struct NextEdit {
     pub(crate) line: u64,
 }
 
-/// What is left of a script: its next edit, how many lines were read up to it, and the text after
-/// these. So no more of a script is kept than its text and the values of one line.
+/// What is left of a script: its next edit, the planned overwrites and how many of them were read,
+/// how many lines were read of the text, and the text after these. So no more of a script is kept
+/// than its text, its plan and the values of one line.
 #[derive(Drop)]
 pub(crate) struct EditsAhead<'a> {
     pub(crate) next: Option<NextEdit>,
+    window: &'a [Planned<'a>],
+    taken: usize,
     number: u64,
     rest: Option<&'a [u8]>,
 }
 
 impl<'a> EditsAhead<'a> {
     /// All edits of a script.
-    pub(crate) fn new(alloc: Global, text: &'a [u8]) -> Result<EditsAhead<'a>, Fault>
-        requires known { (listing_of text.now).bad ≡ None }
-        ensures all { IfOk result (λ ahead. left_in ahead ≡ listing_of text.now) }
+    pub(crate) fn new(alloc: Global, plan: &'a Plan<'a>) -> Result<EditsAhead<'a>, Fault>
+        requires sound { (listing_in plan.now).bad ≡ None }
+        requires few { plan.now.number + text_left (text_behind plan.now) ≤ 2 ^ 63 }
+        ensures all { IfOk result (λ ahead. left_in ahead ≡ listing_in plan.now) }
         ensures known { IfOk result (λ ahead. AreKnown ahead) }
         ensures ready { IfOk result (λ ahead. IsReady ahead) }
         ensures fault { IfErr result (λ e. e ≡ Memory) }
     {
         let mut ahead = EditsAhead {
             next: None,
-            number: 0,
-            rest: Some(text),
+            window: plan.window.as_slice(),
+            taken: 0,
+            number: plan.number,
+            rest: plan.rest,
         };
         ahead.advance(alloc)?;
         Ok(ahead)
+    }
+
+    /// The next line and its number.
+    fn next_line(&mut self) -> Option<(u64, &'a [u8])>
+        requires { AreKnown self.old }
+        ensures cut { MatchOption result (behind self.old ≡ no_edits)
+            (λ cut. behind self.old ≡ listed cut.0 (meaning_of cut.1.now) (behind self.new)) }
+        ensures done { result ≡ None → self.new ≡ self.old }
+        ensures next { self.new.next ≡ self.old.next }
+        ensures known { AreKnown self.new }
+        ensures shorter { IfSome result (λ _. unread self.new < unread self.old) }
+    {
+        if let Some(planned) = self.window.get(self.taken) {
+            self.taken += 1;
+            return Some((planned.line, planned.text));
+        }
+        let text = self.rest?;
+        let (line, after) = cut_line(text);
+        self.number += 1;
+        self.rest = after;
+        Some((self.number, line))
     }
 
     /// Leaves the next edit, and reads lines up to the one after it.
@@ -84,15 +114,9 @@ impl<'a> EditsAhead<'a> {
         ensures fault { IfErr result (λ e. e ≡ Memory) }
     {
         self.next = None;
-        while let Some(text) = self.rest {
-            let (line, after) = cut_line(text);
-            self.number += 1;
-            self.rest = after;
-            if let Some(edit) = edit_on_line(alloc, self.number, line)? {
-                self.next = Some(NextEdit {
-                    edit,
-                    line: self.number,
-                });
+        while let Some((number, line)) = self.next_line() {
+            if let Some(edit) = edit_on_line(alloc, number, line)? {
+                self.next = Some(NextEdit { edit, line: number });
                 return Ok(());
             }
         }

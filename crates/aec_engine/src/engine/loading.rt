@@ -5,7 +5,8 @@
 ghost use Rattle.std.specs.Prelude.{◌≡◌, ◌+◌, ◌-◌, ◌<◌, ◌≤◌, ◌*◌, ◌/◌, ◌%◌, ◌^◌, ◌++◌, min, max, length, true, false, [], None, List, ℤ, IfOk, IfErr, OnOk, Ok};
 ghost use Rattle.std.specs.Int.{div_ceil};
 ghost use Rattle.aec_params.specs.declared.fault.Fault.TheVariants.{Memory};
-ghost use Rattle.aec_params.specs.Params.{interval_len};
+ghost use Rattle.aec_params.specs.Limits.{AreLimits};
+ghost use Rattle.aec_params.specs.Params.{IsAllowed, interval_len};
 ghost use Rattle.aec_params.specs.Reading.{IsReading};
 ghost use Rattle.aec_interval.specs.IntervalFormat.{interval_format};
 ghost use Rattle.aec_interval.specs.Reached.{count_refusal, RefusesDecoding};
@@ -14,12 +15,15 @@ ghost use Rattle.aec_engine.specs.EditingSteps.{recoded_of};
 ghost use Rattle.aec_interval.specs.Pieces.{is_wanted_at};
 ghost use Rattle.aec_engine.specs.ReadingTwice.{AreSamplesOf, EndsAt, HaveSamples, HasRoomOfRead, AsksForRead, ReadsOn, LacksMemoryAlone};
 ghost use Rattle.aec_engine.specs.Scripts.{listing_of};
+ghost use Rattle.aec_engine.specs.ScriptLines.{text_left};
+ghost use Rattle.aec_engine.specs.Planning.{listing_in, text_behind};
 ghost use Rattle.aec_engine.specs.EditsAhead.{AreKnown, IsReady, left_in};
 ghost use Rattle.aec_engine.specs.EarlyEdits.{LoadsAll, StopsLoading, EditsBits, EditsSamples};
 
 use crate::engine::carrying::{carry_early, carry_rest};
 use crate::engine::two_readings::{AT_ONCE, Judged, judge_all, room_at_once};
 use crate::script_edits::EditsAhead;
+use crate::script_plan::{Plan, plan_script};
 use crate::scripts::EditFault;
 use aec_bits::{BitBuf, Codec};
 use aec_edit::Workspace;
@@ -131,6 +135,7 @@ fn judged_reader<'a>(
     ensures block { IfOk result (λ read. read.0.block ≡ 0) }
     ensures bit { IfOk result (λ read. read.0.bit ≡ 0) }
     ensures within { IfOk result (λ _. count_refusal limits.samples count ≡ None) }
+    ensures limits { AreLimits limits }
     ensures read { IfOk result (λ read. (xs : List ℤ) × AreSamplesOf read.0 xs) }
     ensures samples { IfOk result (λ read. (xs : List ℤ) → AreSamplesOf read.0 xs
         → IsReading params.now count limits.samples bits.now.list xs) }
@@ -157,6 +162,7 @@ impl Room {
     fn of(params: &Params, judged: Judged) -> Room
         ensures bits { result.bits ≡ min (judged.bits + judged.bits / 16) (2 ^ 64 - 1) }
         ensures enough { judged.bits ≤ result.bits }
+        ensures allowed { IsAllowed params.now }
         ensures intervals { result.intervals ≡ div_ceil judged.total (interval_len params.now) }
     {
         Room {
@@ -195,7 +201,7 @@ fn edit_samples<C: Codec + Drop>(
     limits: Limits,
     room: Room,
     reader: &mut StreamReader,
-    script: &[u8],
+    plan: &Plan,
 ) -> Result<Workspace<C>, EditFault>
     requires settings { reader.old.settings ≡ params.now }
     requires limit { reader.old.limit ≡ limits.samples }
@@ -205,15 +211,16 @@ fn edit_samples<C: Codec + Drop>(
     requires read { (xs : List ℤ) × AreSamplesOf reader.old xs }
     requires format { C.format codec ≡ interval_format params.now }
     requires fresh { C.called codec ≡ 0 }
-    requires known { (listing_of script.now).bad ≡ None }
+    requires sound { (listing_in plan.now).bad ≡ None }
+    requires few { plan.now.number + text_left (text_behind plan.now) ≤ 2 ^ 63 }
     requires room { AsksForRead reader.old room.bits room.intervals }
-    ensures edits { EditsSamples params.now limits.samples reader.old (listing_of script.now)
+    ensures edits { EditsSamples params.now limits.samples reader.old (listing_in plan.now)
         (answer_by (λ w. recoded_of (C.format w.codec) w.samples (C.called w.codec)) result) }
     ensures format { IfOk result (λ w. C.format w.codec ≡ interval_format params.now) }
 {
     let mut samples = room_at_once(alloc, params)?;
     let mut workspace = roomy_workspace(alloc, codec, limits, room)?;
-    let mut ahead = EditsAhead::new(alloc, script)?;
+    let mut ahead = EditsAhead::new(alloc, plan)?;
     append_all(
         alloc,
         params,
@@ -247,5 +254,6 @@ pub(crate) fn edit_bits<C: Codec + Drop>(
 {
     let (mut reader, judged) = judged_reader(alloc, params, limits, count, bits)?;
     let room = Room::of(params, judged);
-    edit_samples(alloc, codec, params, limits, room, &mut reader, script)
+    let plan = plan_script(alloc, params, judged.total, script);
+    edit_samples(alloc, codec, params, limits, room, &mut reader, &plan)
 }

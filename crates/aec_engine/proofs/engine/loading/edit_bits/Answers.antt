@@ -1,5 +1,8 @@
+use Rattle.std.proofs.Common.{◌<◌, subst, ◌∙◌, ap₂}
 use Rattle.std.proofs.lemmas.Result.{err_from_is_err_and}
+use Rattle.aec_interval.specs.Reached.{count_refusal}
 use Rattle.aec_engine.proofs.LoadingLemmas.{unread_err, edits_bits}
+use Rattle.aec_engine.proofs.ReorderedLemmas.{edits_reordered}
 use Rattle.aec_engine.proofs.RoomLemmas.{room_judged}
 use Rattle.aec_engine.proofs.engine.loading.edit_bits.Goals as goal
 
@@ -15,6 +18,9 @@ returns-in_err-reader-clause-edits g c =
 
 pub returns-clause-edits : goal.returns-clause-edits
 returns-clause-edits g c =
-    let given = c.in_ok-reader.ensures.read in
-    edits_bits _ _ _ _ c.in_ok-reader.reader _ _ given.0 given.1 c.in_ok-reader.ensures.samples c.in_ok-reader.ensures.within
-    c.edit_samples.ensures.edits
+    let read = c.in_ok-reader.ensures in
+    let some = subst (λ f. 0 < f.most) c.requires.format (g.C.Codec.lawful c.args.codec).some in
+    let counted = ap₂ count_refusal read.limit read.count ∙ read.within in
+    edits_bits _ _ _ _ c.in_ok-reader.reader _ _ read.read.0 read.read.1 read.samples read.within
+    (edits_reordered c.args.params.now _ _ c.in_ok-reader.reader _ _ _ c.of-room.ensures.allowed some c.judged_reader.ensures.limits.samples
+    read.settings read.limit counted read.total c.plan_script-plan.ensures.alike c.edit_samples.ensures.edits)
