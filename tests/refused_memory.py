@@ -4,9 +4,10 @@
 Runs the program at PATH_OF_AEC with a small library loaded before the C library, which refuses growths (calls of malloc, calloc
 and realloc): the k-th and all after it, and the k-th alone, for each k until a run meets no refusal. Each refused run has to
 end with status 1, with the one line for want of memory on standard error, and has to leave DEST as it was, or absent. The
-run that meets no refusal has to give the right bytes. A run goes on, and then has to give the right bytes too, without two kinds of growths
-alone: one that takes more room than is needed, on inputs longer than a piece; and where that growth alone is refused, the list of the
-words of the process, which is then made step by step.
+run that meets no refusal has to give the right bytes. A run goes on, and then has to give the right bytes too, without three kinds of
+growths alone: one that takes more room than is needed, on inputs longer than a piece; and where that growth alone is refused, the list of
+the words of the process, which is then made step by step, and the list of overwrites in the order of their places, which are then made in
+the order of the script.
 
 Beside that a short stream of very many samples is decoded, cut to a range and edited with little memory, and a stream is edited
 by a script of a million lines with four times its bytes, without the library.
@@ -64,6 +65,9 @@ RUNS = [
 # decoding then keeps no more bytes.
 SPARING = {"decoding of noise": True, "an edit of noise": False}
 
+# Runs that go on without one growth more where it alone is refused: that of the list of overwrites.
+ORDERED = {"edits made early"}
+
 
 def list_of_words(run):
     """The number of the growth for the list of the words of the process. Before it the words are read: a growth for each, one for the
@@ -72,8 +76,10 @@ def list_of_words(run):
     return words + 3 + (words > 4) + (words > 8)
 
 
-def may_go_on(run, alone, first):
-    """Whether a run may go on without a growth."""
+def may_go_on(run, alone, first, spared):
+    """Whether a run that went on without some growths may go on without another."""
+    if run.what in ORDERED and alone and not spared - {list_of_words(run)}:
+        return True
     return alone and first == list_of_words(run) or run.what in SPARING and (alone or SPARING[run.what])
 
 
@@ -120,7 +126,7 @@ def refuse_in_turn(refusing, alone, old, tally):
         answer, _, refused = refusing.answer(old, first, last)
         way = f"{what}: growth {first} {'alone' if alone else 'and all after it'}: {answer}"
         complete = refusing.is_complete(answer, old)
-        goes_on = may_go_on(refusing.run, alone, first) and complete
+        goes_on = may_go_on(refusing.run, alone, first, spared) and complete
         if refused == 0:
             tally.holds(complete, f"{way}, with none refused")
             return first, spared
