@@ -14,10 +14,14 @@ use std::test::Fail;
 /// The most samples that may be asked for.
 pub(crate) const MOST: u64 = 1 << 32;
 
-// Both are asked through these, so that their clauses stay out of the loops' proofs.
+// They are asked through these, so that their clauses stay out of the loops' proofs.
 
 pub(crate) fn next(reader: &mut StreamReader, samples: &mut Vec<i64>) -> Result<bool, Fault> {
     reader.next(samples)
+}
+
+fn next_few(reader: &mut StreamReader, samples: &mut Vec<i64>) -> Result<bool, Fault> {
+    reader.next_few(64, samples)
 }
 
 pub(crate) fn skip(reader: &mut StreamReader) -> Result<Option<u64>, Fault> {
@@ -30,6 +34,19 @@ fn read_by_steps(alloc: Global, reader: &mut StreamReader) -> Result<Vec<i64>, F
     let mut samples = Vec::new(alloc);
     for _ in 0..MOST {
         if !next(reader, &mut samples)? {
+            break;
+        }
+        all.extend_from_slice(&samples)?;
+    }
+    Ok(all)
+}
+
+/// The samples that a reader hands out, several intervals at a time where it does so.
+fn read_by_few(alloc: Global, reader: &mut StreamReader) -> Result<Vec<i64>, Fault> {
+    let mut all = Vec::new(alloc);
+    let mut samples = Vec::new(alloc);
+    for _ in 0..MOST {
+        if !next_few(reader, &mut samples)? {
             break;
         }
         all.extend_from_slice(&samples)?;
@@ -68,6 +85,9 @@ pub(crate) fn expect_read(
         same(rt, steps.as_slice(), samples);
         reader.restart();
     }
+    let few = read_by_few(alloc, &mut reader)?;
+    same(rt, few.as_slice(), samples);
+    reader.restart();
     same(rt, len_by_steps(&mut reader)?, samples.len() as u64);
     Ok(())
 }
