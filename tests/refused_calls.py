@@ -24,7 +24,7 @@ from typing import NamedTuple
 from program import Program, Tally
 from refusing import Growths, build, has_compiler, print_skipped, ways
 
-ROWS = os.path.join(os.path.dirname(__file__), "..", "crates", "aec_memory_trials", "stdout")
+ROWS = os.path.join(os.path.dirname(__file__), "..", "crates", "aec_memory_tests", "stdout")
 WANT = "out of memory"
 COUNTERS = re.compile(r"calls (\d+), reads (\d+),")
 

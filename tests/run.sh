@@ -68,7 +68,7 @@ part damaged on_program tests/damaged.py
 echo "== refused memory"
 part memory on_program tests/refused_memory.py
 echo "== refused memory in calls of the libraries"
-part calls on_program tests/refused_calls.py aec_memory_trials
+part calls on_program tests/refused_calls.py aec_memory_tests
 echo "== files that fail"
 part files on_program tests/failing_files.py
 echo "== too little stack or address space"

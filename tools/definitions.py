@@ -89,7 +89,7 @@ def contract_lines(lines, start):
 def public_roots(library, crates):
     """Pairs of a file and lines of it: what is public of each crate, but for crates of tests."""
     for crate in crates.values():
-        if crate.name.endswith("_trials"):
+        if crate.name.endswith("_tests"):
             continue
         for one in crate.functions:
             if one.is_public:

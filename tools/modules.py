@@ -20,7 +20,7 @@ NOTE = "<!-- Written by `make pages` from the comments of the modules. -->\n"
 OF_TESTS = "<!-- Written by `make pages` from the comments of the crates of tests. -->\n"
 END = "<!-- end -->\n"
 PAGE = "docs/ARCHITECTURE.md"
-TESTS = "_trials"
+TESTS = "_tests"
 ITEM = re.compile(r"^pub (extern \"C\" )?(?:const )?(?:fn|struct|enum|trait) (\w+)", re.M)
 
 

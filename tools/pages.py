@@ -113,7 +113,7 @@ class Names:
         """Each public function has a wrong body in the gate, or is said to have none."""
         for one in self.functions:
             path = one.path()
-            is_left_out = one.is_declared or one.module == "laws" or one.crate.endswith("_trials")
+            is_left_out = one.is_declared or one.module == "laws" or one.crate.endswith("_tests")
             if one.is_public and not is_left_out and path not in self.guarded | self.bare:
                 self.wrongs.append(f"neither with an edit of the gate nor bare: {path}")
         for path in sorted(self.guarded & self.bare):
@@ -175,7 +175,7 @@ class Names:
         """What there is and nobody has named."""
         wanted = {one: f"test {one}" for one in [*(it.path() for it in self.tests), *self.scripts]}
         for one in self.functions:
-            if one.is_public and not one.crate.endswith("_trials"):
+            if one.is_public and not one.crate.endswith("_tests"):
                 path = one.path()
                 clauses = sorted(one.clauses or {""})
                 wanted |= {(path, it): f"clause {it or NAMELESS} of {path}" for it in clauses}

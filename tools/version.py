@@ -17,7 +17,7 @@ TOP = os.path.join(os.path.dirname(os.path.abspath(__file__)), "..")
 # The files with a copy, and the text around each copy. POINTS stands for 1.2.3, and NUMBER for 10203.
 PLACES = [
     ("crates/aec_cli/src/words.rt", 'const VERSION: &str = "POINTS";'),
-    ("crates/aec_trials/src/words.rt", 'b"aec POINTS\\n"'),
+    ("crates/aec_tests/src/words.rt", 'b"aec POINTS\\n"'),
     ("crates/aec_c/src/exports.rt", "aecp_version() -> u32\n    ensures { result ≡ NUMBER }\n{\n    NUMBER\n}"),
     ("crates/aec_c/claims.txt", "The version is NUMBER, that of POINTS\n"),
     ("include/aecp.h", "The version of this header, POINTS:"),

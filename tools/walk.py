@@ -80,7 +80,7 @@ class House:
     def __init__(self):
         crates = all_crates()
         self.functions = [
-            one for crate in crates.values() if not crate.name.endswith(("_trials", "_example")) for one in crate.functions if not one.is_test
+            one for crate in crates.values() if not crate.name.endswith(("_tests", "_example")) for one in crate.functions if not one.is_test
         ]
         self.impls = {pair for crate in crates.values() for pair in crate.impls if pair[0]}
         self.by_name = {}

@@ -2,7 +2,7 @@
 
 use aec_bits::{Sink, Source};
 use aec_cli::{Action, Job, Usage, command, decode, encode, perform, range, settings};
-use aec_engine_trials::devices::{Basin, Pieces};
+use aec_engine_tests::devices::{Basin, Pieces};
 use aec_params::{Fault, Limits, Params, Settings};
 use std::alloc::{AllocError, Global};
 use std::rt::Files;

@@ -1,5 +1,5 @@
-use Rattle.aec_interval_trials.proofs.ReaderLemmas.{place_behind}
-use Rattle.aec_interval_trials.proofs.places.read_again.Goals as goal
+use Rattle.aec_interval_tests.proofs.ReaderLemmas.{place_behind}
+use Rattle.aec_interval_tests.proofs.places.read_again.Goals as goal
 
 pub go_back-requires : goal.go_back-requires
 go_back-requires c = record {

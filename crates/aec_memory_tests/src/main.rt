@@ -23,7 +23,7 @@ fn main(rt: HostRuntime) -> ExitCode {
     match try_all(&rt) {
         Ok(()) => ExitCode::SUCCESS,
         Err(fault) => {
-            let _ = eprintln!(rt; "aec_memory_trials: {fault}");
+            let _ = eprintln!(rt; "aec_memory_tests: {fault}");
             ExitCode::FAILURE
         }
     }

@@ -3,7 +3,7 @@
 use crate::asserts::{holds_at, same, same_at};
 use crate::shared::{DEFAULTS, run_engine, run_of};
 use aec_cli::Action;
-use aec_engine_trials::devices::{After, Basin, Pieces};
+use aec_engine_tests::devices::{After, Basin, Pieces};
 use aec_params::{Limits, Params, Settings};
 use std::alloc::{Alloc, Global};
 use std::fs;

@@ -4,7 +4,7 @@ use crate::asserts::same_at;
 use crate::shared::{DEFAULTS, run_engine};
 use crate::tables::{cell, spelled};
 use aec_cli::Action;
-use aec_engine_trials::devices::{After, Basin, Pieces};
+use aec_engine_tests::devices::{After, Basin, Pieces};
 use aec_params::{Limits, Params, Settings};
 use std::alloc::{Alloc, Global};
 use std::process::Abort;

@@ -1,6 +1,6 @@
 use Rattle.std.proofs.Common.{◌≡◌, drop}
 use Rattle.aec_bits.specs.Refusals.{first_unheld}
-use Rattle.aec_memory_trials.proofs.codecs.first_unheld.Given as goal
+use Rattle.aec_memory_tests.proofs.codecs.first_unheld.Given as goal
 
 -- every number so far is a sample, so the first that is none is among those that are left
 abbrev pub invariant-loop-index : goal.invariant-loop-index

@@ -6,7 +6,7 @@ use crate::asserts::holds_at;
 use crate::shared::{Outcome, job_of, run_engine};
 use crate::tables::{cell, spelled};
 use aec_cli::Job;
-use aec_engine_trials::devices::{After, Basin, Pieces};
+use aec_engine_tests::devices::{After, Basin, Pieces};
 use aec_params::Limits;
 use std::alloc::Global;
 use std::process::Abort;

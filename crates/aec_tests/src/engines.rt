@@ -3,7 +3,7 @@
 use crate::asserts::same;
 use crate::shared::{DEFAULTS, Outcome, engine_into, run_engine};
 use aec_cli::{Action, encode};
-use aec_engine_trials::devices::{After, Basin, Marked, Pieces};
+use aec_engine_tests::devices::{After, Basin, Marked, Pieces};
 use aec_params::{Fault, Limits, Params, Settings};
 use std::alloc::Global;
 use std::process::Abort;
