@@ -199,7 +199,7 @@ typedef struct {
 uint32_t aecp_coder_open(const aecp_options *options, aecp_coder *coder, aecp_reply *reply);
 
 /* Codes more stored samples; a sample may be cut in two. `reply->len` is the number of bytes left to take. Faults: SAMPLE_RANGE, whose
- * place counts from the first of all samples, TOO_MANY_SAMPLES, MEMORY, NOT_OPEN. Each later call returns the first fault again. Keeps
+ * place counts from the first of all samples, TOO_MANY_SAMPLES, MEMORY, NOT_OPEN. Each later feed returns the first fault again. Keeps
  * the code until it is taken, and less than an interval of samples. Trap: bytes come interval by interval, so a call may yield none. */
 uint32_t aecp_coder_feed(aecp_coder *coder, const void *samples, size_t samples_len, aecp_reply *reply);
 
@@ -214,9 +214,9 @@ uint32_t aecp_coder_take(aecp_coder *coder, uint8_t *out, size_t out_len, aecp_r
 /* Frees the coder. Allowed where none is open, and twice. */
 void aecp_coder_close(aecp_coder *coder);
 
-/* A reader that gives the samples of a stream interval by interval, and keeps a copy of the stream. All of it is the library's, and it
- * begins as AECP_READER or as zeros. It is open from aecp_reader_open to aecp_reader_close. Copy no reader that is open. One thread at a
- * time calls with a reader. The bytes of all intervals are, one after the other, those of one aecp_decode. */
+/* A reader returns the samples of a stream interval by interval, and keeps a copy of the stream. Only the library uses its members. It
+ * begins as AECP_READER or as zeros, and is open from aecp_reader_open to aecp_reader_close. Don't copy an open reader. One thread at a
+ * time may use a reader. The bytes of all intervals are, one after the other, those of one aecp_decode. */
 typedef struct {
     void *at;
     bool full;
@@ -224,20 +224,20 @@ typedef struct {
 
 #define AECP_READER {0, false}
 
-/* Opens a reader at the first of the first `count` samples of a stream, or of all with AECP_ALL. `reply->len` is the length in bytes of the
- * samples of a whole interval. On success the reader that `reader` held is freed; after a fault it is as it was. Faults: options,
- * TOO_MANY_SAMPLES, MEMORY. Allocates the length of the stream, and eight bytes a sample of an interval. Trap: it reads no sample yet, so
- * a bad stream opens too. */
+/* Opens a reader of a stream's first `count` samples, or of all with AECP_ALL, at sample 0. `reply->len` is the length in bytes of the
+ * samples of a whole interval. On success the reader that `reader` held is freed; after a fault it is unchanged. Faults: options,
+ * TOO_MANY_SAMPLES, MEMORY. Allocates the length of the stream, and eight bytes a sample of an interval. Traps: it reads no sample yet,
+ * so a bad stream opens too; a reader that didn't begin as zeros frees arbitrary memory. */
 uint32_t aecp_reader_open(const aecp_options *options, uint64_t count, const uint8_t *coded, size_t coded_len, aecp_reader *reader,
                           aecp_reply *reply);
 
-/* Puts the stored samples of the next interval into `out`, which is filled as by the calls above. `reply->len` is 0 if all samples were
+/* Writes the stored samples of the next interval to `out`, as the calls above do. `reply->len` is 0 if all samples were
  * read. Faults: TRUNCATED, VALUE_TOO_LARGE, RUN_TOO_LONG, TOO_MANY_SAMPLES, MEMORY, NO_ROOM, NOT_OPEN. After a fault the reader is where
  * it was. Trap: a fault comes only where its interval is read, so earlier samples may be those of a bad stream. */
 uint32_t aecp_reader_next(aecp_reader *reader, void *out, size_t out_len, aecp_reply *reply);
 
-/* Goes to where an interval begins, counted from 0, or behind the last sample if the stream has fewer intervals. `reply->len` is the
- * number of samples before it, so UINT64_MAX counts all samples. Faults: TRUNCATED, VALUE_TOO_LARGE, RUN_TOO_LONG, TOO_MANY_SAMPLES,
+/* Goes to the start of `interval`, counted from 0, or to the end if the stream has fewer intervals. `reply->len` is the number
+ * of samples before there; interval UINT64_MAX counts all samples. Faults: TRUNCATED, VALUE_TOO_LARGE, RUN_TOO_LONG, TOO_MANY_SAMPLES,
  * NOT_OPEN. After a fault the reader is where it was. Trap: it passes over all intervals between, and going back starts at the first. */
 uint32_t aecp_reader_go_to(aecp_reader *reader, uint64_t interval, aecp_reply *reply);
 

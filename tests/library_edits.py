@@ -142,6 +142,11 @@ def try_cut_intervals(aecp, tally):
     tally.check("back", (decoder.go_to(0), bytes(decoder.next_bytes())), (0, bytes(range(8))))
     tally.check("too many", fault_of(lambda: aecp.Decoder(coded, 2**32 + 1, options)), (9, 2**32))
     tally.check("no options", fault_of(lambda: aecp.Decoder(coded, 8, aecp.Options(33))), (1, 0))
+    # No array has samples of three bytes: the refusal leaves the reader where it was.
+    wide = aecp.Options(24, block_size=8, interval=1, three_byte=True)
+    decoder = aecp.Decoder(aecp.encode(bytes(range(24)), wide), 8, wide)
+    tally.check("three bytes", fault_of(lambda: next(decoder))[0] in (ValueError, ImportError), True)
+    tally.check("then as bytes", bytes(decoder.next_bytes()), bytes(range(24)))
     for call in (copy.copy, copy.deepcopy, pickle.dumps):
         for held in (decoder, aecp.Encoder(options)):
             tally.check("a copy", fault_of(lambda: call(held)), (TypeError, None))

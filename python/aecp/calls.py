@@ -139,7 +139,12 @@ def of_dtype(out: Any, options: Options) -> Any:
 
 def array_of(stored: Any, options: Options) -> Any:
     """Stored samples as an array over the same memory."""
+    return needed_numpy().frombuffer(stored, options.dtype)
+
+
+def needed_numpy() -> Any:
+    """numpy. ImportError where it isn't installed."""
     numpy = numpy_if_there()
     if numpy is None:
-        raise ImportError("arrays need numpy: use decode_bytes or decode_range_bytes")
-    return numpy.frombuffer(stored, options.dtype)
+        raise ImportError("arrays need numpy: use decode_bytes, decode_range_bytes or next_bytes")
+    return numpy

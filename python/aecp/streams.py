@@ -6,7 +6,7 @@ import threading
 from typing import Any, Optional, Union
 
 from aecp.buffers import Source, Target, room_for
-from aecp.calls import array_of, native, number_of, place
+from aecp.calls import native, needed_numpy, number_of, place
 from aecp.faults import NO_ROOM, fault_of
 from aecp.library import LIBRARY, Coder, EditReply, Reader, Reply, c_options, text_of
 from aecp.options import Options
@@ -119,10 +119,12 @@ class Decoder(Alone):
         return self
 
     def __next__(self) -> Any:
+        # What these raise, they raise before the reader moves.
+        numpy, dtype = needed_numpy(), self.options.dtype
         stored = self.next_bytes()
         if not stored:
             raise StopIteration
-        return array_of(stored, self.options)
+        return numpy.frombuffer(stored, dtype)
 
     def next_bytes(self) -> bytearray:
         """The stored samples of the next interval; none after the last one. Needs no numpy."""
@@ -133,8 +135,8 @@ class Decoder(Alone):
             return bytearray(target.view[: reply.len])
 
     def go_to(self, interval: int) -> int:
-        """Goes to where an interval begins, counted from 0, or behind the last sample if there are fewer. Returns the number of samples
-        before it. Raises what decode does, and is then where it was."""
+        """Goes to the start of an interval, counted from 0, or to the end if there are fewer. Returns the number of samples before
+        there. Raises what decode does, and is then where it was."""
         reply = Reply()
         with self._lock:
             judge(LIBRARY.aecp_reader_go_to(self._reader, place(interval, "interval"), reply), reply)
