@@ -34,15 +34,15 @@ abbrev pub cut_calls : ℕ → ℕ → ℕ → ℕ
 cut_calls n old count = if count == old then 0 else (if count % n == 0 then 0 else 1)
 
 -- the intervals that are cut anew where len samples come or go: none if len is 0. If len fills
--- whole intervals, the samples behind the places stand in their intervals as before: so those that
--- the places reach. Otherwise all of count samples, from that of the first place on
+-- whole intervals, later samples keep their grouping, so only the intervals that the places reach.
+-- Otherwise all of count samples, from that of the first place on
 abbrev pub moved_intervals : ℕ → ℕ → ℕ → Stretch → List ℕ
 moved_intervals n len count places =
     if len == 0 then [] else reached_intervals n (record { first = places.first; stop = if len % n == 0 then places.stop else count })
 
--- how many intervals of n samples an edit codes, on so many samples: of those that it leaves, the
--- ones that hold a new sample or are cut anew (an insertion or a removal those that were not there
--- before: law `moves_code_what_is_new`; how many, by lengths alone: law `moves_by_length`)
+-- how many intervals of n samples an edit of old samples codes: those of the result that hold a new
+-- sample or are cut anew (of an insertion or a removal those not there before: law
+-- `moves_code_what_is_new`; how many, by lengths: law `moves_by_length`)
 abbrev pub needed_calls : ℕ → ℕ → Edit → ℕ
 needed_calls n old (Overwrite first values) = length (touched_intervals n first (length values))
 needed_calls n old (Append values) = if length values == 0 then 0 else div_ceil (old + length values) n - old / n

@@ -1,5 +1,5 @@
-//! The values of a block without some low bits, and those without one and two more, added up in one
-//! pass, where the sums fit eight lanes of 32 bits.
+//! The sums of a block's values without k, k + 1 and k + 2 low bits, in one pass, where they fit
+//! eight lanes of 32 bits.
 
 ghost use Rattle.std.specs.Prelude.{◌≡◌, ◌+◌, ◌*◌, ◌/◌, ◌^◌, ◌<◌, ◌≤◌, length, take};
 ghost use Rattle.std.specs.Simd.Lanes.{sum_l};

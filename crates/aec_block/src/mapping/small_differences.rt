@@ -1,6 +1,6 @@
 //! Unmaps eight values at once where each difference is within t of its prediction on both sides:
-//! a value alone then says its difference, the sums modulo 2^32 are the offsets, and their t prove
-//! the condition.
+//! then a value determines its difference, sums modulo 2^32 are the offsets, and the t there
+//! confirm the condition.
 
 ghost use Rattle.std.specs.Prelude.{◌≡◌, ◌+◌, ◌-◌, ◌*◌, ◌/◌, ◌^◌, ◌<◌, ◌≤◌, ◌+ℤ◌, true, pos, ℕ, length, take, map as list_map, get_or, vec_len, vec_capacity};
 ghost use Rattle.std.specs.List.{AllByRecursion};

@@ -132,10 +132,10 @@ pub fn edit_over<C: Codec + Drop, Q: Source, R: Source, W: Sink>(
 /// The refusals in their order: `Read`, `StreamTooLong` and `Memory` as they are met while the
 /// script is read, then `Script` (and until then nothing is taken of the source); those of
 /// `decode`; `Memory`, also where there is no room to read a line again when its edit is to be
-/// made. The first edit that is refused, for its place, the limit, its values, or want of calls or
-/// of memory, is named by its line and ends the run; all other refusals are plain. Nothing has been
-/// written then and `begin` was not called. After `begin` only `Write` can come, and a front of the
-/// answer has been written.
+/// made. The first edit that is refused for its place, the limit, its values or want of calls is
+/// named by its line and ends the run; so is the first that lacks memory, in the order in which
+/// they are made; all other refusals are plain. Nothing has been written then and `begin` was not
+/// called. After `begin` only `Write` can come, and a front of the answer has been written.
 pub fn edit<Q: Source, R: Source, W: Sink>(
     alloc: Global,
     params: &Params,

@@ -1,7 +1,6 @@
-//! Decodes coded bytes in memory into a buffer: reads them once to judge them, with the bytes of
-//! the samples in front kept, and puts those of the rest into the buffer when it reads again. The
-//! buffer can't be a `Sink`: contracts say what the sink that an engine hands back has taken, and
-//! not that it still holds the same buffer.
+//! Decodes coded bytes in memory into a buffer: keeps the first samples' bytes while judging, and
+//! puts the rest into the buffer when reading again. The buffer can't be a `Sink`: contracts say
+//! what the sink that an engine hands back has taken, and not that it still holds the same buffer.
 
 ghost use Rattle.std.specs.Prelude.{◌≡◌, ℕ, ◌+◌, ◌*◌, ◌≤◌, ◌^◌, ◌++◌, List, [], ℤ, Some, Ok, false, length, take, drop, vec_capacity, IsOk, IfOk, IfErr};
 ghost use Rattle.std.specs.List.{AllByRecursion};
@@ -185,9 +184,9 @@ fn decode_bits_into(
 /// where there is room for all of them, and leaves the rest of it; else leaves all of it. How many
 /// bytes they are. The refusals are those of `decode_bytes`; the buffer is as it was then.
 ///
-/// Memory is taken for the coded bytes, for one interval of samples and their bytes, and for 64 KiB
-/// of bytes that are kept while the coded bytes are judged. Of short blocks up to 16 MiB are kept,
-/// where there is memory. What lies behind is read twice.
+/// Memory is taken for the coded bytes, for an interval of samples, at least 2,048, and their
+/// bytes, and for 64 KiB of bytes that are kept while the coded bytes are judged. Of short blocks
+/// up to 16 MiB are kept, where there is memory. What lies behind is read twice.
 pub fn decode_into(
     alloc: Global,
     params: &Params,

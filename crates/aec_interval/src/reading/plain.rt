@@ -1,6 +1,6 @@
 //! Reads plain blocks without a reference sample, one after the other, where none needs a test of
-//! its place: `read_most_plain` makes places for some more blocks, `push_plain_blocks` keeps those
-//! that were filled, `fill_plain_blocks` goes on while a plain one comes, `fill_plain_block` reads
+//! its place: `read_most_plain` sets how many blocks, `push_plain_blocks` makes their places and
+//! keeps the filled, `fill_plain_blocks` reads while the next is plain, `fill_plain_block` reads
 //! one.
 
 ghost use Rattle.std.specs.Prelude.{◌≡◌, ◌≤◌, ◌<◌, ◌+◌, ◌-◌, ◌*◌, ◌%◌, ◌^◌, true, false, max, length, take, vec_len, vec_capacity, IfSome};
