@@ -15,9 +15,11 @@ use Rattle.aec_c.specs.Replies.{done, refused_for, reply_to}
 use Rattle.aec_c.specs.HandleCalls.{not_open}
 use Rattle.aec_c.specs.Standing.{standing_at, place_in, BeginsInterval, IsFaultOnWay}
 
--- why coded bytes aren't opened: the options, a count above the limit, or want of memory
+-- why coded bytes aren't opened: the options; or, if they are allowed, a count above the limit or
+-- want of memory
 abbrev pub CannotOpen : Settings → Option ℕ → Fault → Type 0
-CannotOpen s count fault = (fault ≡ Memory) ⊎ ((settings_fault s ≡ Some fault) ⊎ (count_refusal (2 ^ 32) count ≡ Some fault))
+CannotOpen s count fault =
+    (settings_fault s ≡ Some fault) ⊎ (IsAllowed s × ((fault ≡ Memory) ⊎ (count_refusal (2 ^ 32) count ≡ Some fault)))
 
 -- opening: a reader at the first bit of coded bytes in the place of what was held, with the length
 -- in bytes of the samples of a whole interval; or a refusal that changes nothing
