@@ -135,11 +135,15 @@ def try_cut_intervals(aecp, tally):
     whole, decoder = fault_of(lambda: aecp.decode_bytes(cut, 24, options)), aecp.Decoder(cut, 24, options)
     tally.check("the cut stream", whole[0], 6)
     tally.check("before the cut", bytes(decoder.next_bytes()), bytes(range(8)))
+    read = 1
     while fault_of(decoder.next_bytes) is None:
-        pass
+        read += 1
     for call in (decoder.next_bytes, lambda: decoder.go_to(9), decoder.next_bytes):
         tally.check("the fault of an interval", fault_of(call), whole)
     tally.check("back", (decoder.go_to(0), bytes(decoder.next_bytes())), (0, bytes(range(8))))
+    fresh = aecp.Decoder(cut, 24, options)
+    # What lies behind the interval that is gone to isn't judged.
+    tally.check("to the cut", (fresh.go_to(read), fault_of(lambda: fresh.go_to(read + 1))), (8 * read, whole))
     tally.check("too many", fault_of(lambda: aecp.Decoder(coded, 2**32 + 1, options)), (9, 2**32))
     tally.check("no options", fault_of(lambda: aecp.Decoder(coded, 8, aecp.Options(33))), (1, 0))
     # No array has samples of three bytes: the refusal leaves the reader where it was.

@@ -1,17 +1,20 @@
 -- A reading that is kept between calls: what its steps lead to, and the way to an interval.
-use Rattle.std.proofs.Common.{◌≡◌, ℕ, ◌+◌, ◌-◌, ◌*◌, ◌/◌, ◌%◌, ◌<◌, ◌≤◌, ◌^◌, Bool, true, Option, List, [], ℤ, ◌++◌, length, refl, sym, ap, subst, ◌∙◌, arith}
+use Rattle.std.proofs.Common.{◌≡◌, ℕ, ◌+◌, ◌-◌, ◌*◌, ◌/◌, ◌%◌, ◌<◌, ◌≤◌, ◌^◌, Bool, true, Option, List, [], Result, Err, IfErr, ℤ, ◌++◌, length, refl, sym, ap, subst, ◌∙◌, arith}
 use Rattle.std.specs.Int.{div_ceil}
-use Rattle.std.proofs.Math.Nat.{add-mul, zero-mod}
+use Rattle.std.proofs.Math.Nat.{add-mul, zero-mod, mul-le-mul_right}
 use Rattle.std.proofs.lemmas.Nat.{div-add-mod'}
 use Rattle.std.proofs.lemmas.List.{length-append}
 use Rattle.aec_params.specs.declared.settings.Settings.{Settings}
+use Rattle.aec_params.specs.declared.fault.Fault.{Fault}
 use Rattle.aec_params.specs.Params.{IsAllowed}
 use Rattle.aec_params.proofs.CountLaws.{ceil_bounds, ceil_unique}
 use Rattle.aec_params.proofs.SettingLaws.{interval-positive}
 use Rattle.aec_interval.specs.Pieces.{Place, place_at, is_wanted_at, IsPlace, ReadsInterval}
+use Rattle.aec_interval.specs.Skipping.{IsFaultAt}
+use Rattle.aec_interval.proofs.PlaceLemmas.{LeadsTo-append}
 use Rattle.aec_interval.proofs.PieceReadingLemmas.{has_read_nothing, has_read_several, several-of_one}
 use Rattle.aec_engine.proofs.ReadTwiceLemmas.{CountsSoFar, counts_few}
-use Rattle.aec_c.specs.Standing.{Standing, standing_at, place_in, HasCounted, IsStanding, IsOnWay}
+use Rattle.aec_c.specs.Standing.{Standing, standing_at, place_in, HasCounted, IsStanding, IsOnWay, IsFaultOnWay}
 
 -- ---- what was counted
 
@@ -58,6 +61,33 @@ pub way_on : (k left m : ℕ) (p q : Place) (ys : List ℤ) → left ≡ m + 1 �
 way_on k left m p q ys one_less way step =
     subst (IsOnWay k m) (sym step.piece.same) (later k left m p q.block q.bit one_less way step.wanted step.within
     (λ more. step.to_end (subst (λ q. is_wanted_at q ≡ true) (sym step.piece.same) more)))
+
+-- a fault of the next interval lies on the way to a later one
+fault_on_way : (k left total : ℕ) (start p : Place) (fault : Fault) → 0 < left → IsOnWay k left p → CountsSoFar start p total → IsFaultAt p fault
+    → IsFaultOnWay k start fault
+fault_on_way k left total start p fault some way so_far at =
+    subst (λ p. IsFaultOnWay k p fault) so_far.same (record {
+      wrong = record {
+        sets = so_far.read.sets ++ at.wrong.sets;
+        block = at.wrong.block;
+        bit = at.wrong.bit;
+        leads = LeadsTo-append p.settings p.count p.limit p.bits 0 0 so_far.read.sets p.block p.bit at.wrong.sets at.wrong.block at.wrong.bit
+            so_far.read.leads at.wrong.leads;
+        wanted = at.wrong.wanted;
+        wrong = at.wrong.wrong;
+      };
+      before = omega (arith, product, at.before, way.within);
+    })
+  where
+    product : 1 * p.settings.interval ≤ left * p.settings.interval
+    product = mul-le-mul_right p.settings.interval (omega (arith, some))
+
+pub wrong_on_way : {X : Type 0} (r : Result X Fault) (fault other : Fault) (start p : Place) (intervals left total : ℕ) → r ≡ Err fault → fault ≡ other
+    → 0 < left → ((k : ℕ) → IsOnWay k intervals start → IsOnWay k left p) → CountsSoFar start p total → IsFaultAt p other
+    → IfErr r (λ fault. (k : ℕ) → IsOnWay k intervals start → IsFaultOnWay k start fault)
+wrong_on_way {X} r fault other start p intervals left total is same some way so_far at =
+    let P : Result X Fault → Type 0 = λ r. IfErr r (λ fault. (k : ℕ) → IsOnWay k intervals start → IsFaultOnWay k start fault) in
+    subst P (sym (is ∙ ap Err same)) (λ k from. fault_on_way k left total start p other some (way k from) so_far at)
 
 -- before the first bit nothing was read
 pub standing_first : (p : Place) → IsPlace p → IsStanding (record { place = place_in p 0 0; before = 0 })

@@ -4,7 +4,7 @@ use Rattle.aec_params.specs.declared.settings.Settings.{Settings}
 use Rattle.aec_params.specs.declared.fault.Fault.{Fault}
 use Rattle.aec_params.specs.declared.fault.Fault.TheVariants.{Memory}
 use Rattle.aec_params.specs.declared.edit.Edit.TheVariants.{Append}
-use Rattle.aec_params.specs.Params.{settings_fault}
+use Rattle.aec_params.specs.Params.{IsAllowed, settings_fault}
 use Rattle.aec_params.specs.Codewords.{bits_of_bytes}
 use Rattle.aec_params.specs.Reading.{IsReading}
 use Rattle.aec_interval.specs.IntervalFormat.{interval_format}
@@ -20,11 +20,12 @@ use Rattle.aec_c.specs.HandleCalls.{format_of}
 abbrev pub AreRead : Settings → Option ℕ → List ℕ → List ℤ → Type 0
 AreRead s count bytes samples = IsReading s count (2 ^ 32) (bits_of_bytes bytes) samples
 
--- why bytes aren't read
+-- why bytes aren't read: the options; or, if they are allowed, what decoding refuses or want of
+-- memory
 pub data CannotRead (s : Settings) (count : Option ℕ) (bytes : List ℕ) (fault : Fault) : Type 0 where
   bad_options : settings_fault s ≡ Some fault → CannotRead s count bytes fault
-  not_read : RefusesDecoding s count (2 ^ 32) (bits_of_bytes bytes) fault → CannotRead s count bytes fault
-  no_memory : fault ≡ Memory → CannotRead s count bytes fault
+  not_read : IsAllowed s → RefusesDecoding s count (2 ^ 32) (bits_of_bytes bytes) fault → CannotRead s count bytes fault
+  no_memory : IsAllowed s → fault ≡ Memory → CannotRead s count bytes fault
 
 -- a workspace with these samples, whose coder has been called once for each interval of them, and
 -- never to decode

@@ -13,11 +13,13 @@ use Rattle.aec_c.specs.declared.reader_handle.OpenReader.{OpenReader}
 use Rattle.aec_c.specs.declared.reply.Reply.{Reply}
 use Rattle.aec_c.specs.Replies.{done, refused_for, reply_to}
 use Rattle.aec_c.specs.HandleCalls.{not_open}
-use Rattle.aec_c.specs.Standing.{standing_at, place_in, BeginsInterval, IsRefusalOf}
+use Rattle.aec_c.specs.Standing.{standing_at, place_in, BeginsInterval, IsFaultOnWay}
 
--- why coded bytes aren't opened: the options, a count above the limit, or want of memory
+-- why coded bytes aren't opened: the options; or, if they are allowed, a count above the limit or
+-- want of memory
 abbrev pub CannotOpen : Settings → Option ℕ → Fault → Type 0
-CannotOpen s count fault = (fault ≡ Memory) ⊎ ((settings_fault s ≡ Some fault) ⊎ (count_refusal (2 ^ 32) count ≡ Some fault))
+CannotOpen s count fault =
+    (settings_fault s ≡ Some fault) ⊎ (IsAllowed s × ((fault ≡ Memory) ⊎ (count_refusal (2 ^ 32) count ≡ Some fault)))
 
 -- opening: a reader at the first bit of coded bytes in the place of what was held, with the length
 -- in bytes of the samples of a whole interval; or a refusal that changes nothing
@@ -46,8 +48,9 @@ pub data PutsNext (old new : Option OpenReader) (before after : List ℕ) (reply
   none_put : old ≡ None → new ≡ None → after ≡ before → reply ≡ not_open → PutsNext old new before after reply
 
 -- the reader where interval k begins, or behind the last sample if there are fewer intervals, with
--- the number of samples before it; or the fault that all bits are refused for
+-- the number of samples before it; or the fault of all bits, if it lies before there
 pub data GoesTo (k : ℕ) (before after : OpenReader) (reply : Reply) : Type 0 where
   gone : (samples : List ℤ) → after.reader.place ≡ place_in before.reader.place after.reader.place.block after.reader.place.bit
       → BeginsInterval k after.reader.place → HasRead after.reader.place samples → reply ≡ done (length samples) → GoesTo k before after reply
-  not_reached : (fault : Fault) → IsRefusalOf before.reader.place fault → after.reader ≡ before.reader → reply ≡ refused_for fault → GoesTo k before after reply
+  not_reached : (fault : Fault) → IsFaultOnWay k before.reader.place fault → after.reader ≡ before.reader → reply ≡ refused_for fault
+      → GoesTo k before after reply

@@ -2,8 +2,8 @@
 use Rattle.std.specs.Prelude.{◌≡◌, ℕ, ◌+◌, ◌*◌, ◌≤◌, ◌^◌, Bool, true, Option, List, ℤ, length}
 use Rattle.aec_params.specs.declared.settings.Settings.{Settings}
 use Rattle.aec_params.specs.declared.fault.Fault.{Fault}
-use Rattle.aec_interval.specs.Reached.{RefusesReading}
 use Rattle.aec_interval.specs.Pieces.{Place, place_at, is_wanted_at, IsPlace, HasRead}
+use Rattle.aec_interval.specs.Skipping.{IsFaultBefore}
 use Rattle.aec_c.specs.declared.held_reader.Stand.{Stand}
 
 -- a place in coded bits, and how many samples lie before it
@@ -44,6 +44,6 @@ pub record IsOnWay (k left : ℕ) (p : Place) : Type 0 where
   pub begins : is_wanted_at p ≡ true → p.block + left * p.settings.interval ≡ k * p.settings.interval
   pub within : p.block + left * p.settings.interval ≤ k * p.settings.interval
 
--- why the bits are not read as samples, from the first one on
-abbrev pub IsRefusalOf : Place → Fault → Type 0
-IsRefusalOf p fault = RefusesReading p.settings p.count p.limit p.bits 0 0 fault
+-- the fault of a coded data set that would begin before interval k, in bits read from the first on
+abbrev pub IsFaultOnWay : ℕ → Place → Fault → Type 0
+IsFaultOnWay k p fault = IsFaultBefore p.settings p.count p.limit p.bits 0 0 (k * p.settings.interval) fault

@@ -1,7 +1,7 @@
 //! Coded bits, with the place that a reading of them has come to.
 
 ghost use Rattle.std.specs.Prelude.{◌≡◌, ◌<◌, ◌^◌, ℕ, IfOk, IfErr, OnOk};
-ghost use Rattle.aec_c.specs.Standing.{place_in, HasCounted, IsOnWay, BeginsInterval, IsRefusalOf};
+ghost use Rattle.aec_c.specs.Standing.{place_in, HasCounted, IsOnWay, BeginsInterval, IsFaultOnWay};
 
 use aec_bits::BitBuf;
 use aec_interval::{ReachedPlace, StreamReader};
@@ -54,7 +54,8 @@ fn pass(
         (reader.new ≡ place_in reader.old reader.new.block reader.new.bit) }
     ensures begins { OnOk result ((k : ℕ) → IsOnWay k intervals reader.old
         → BeginsInterval k reader.new) }
-    ensures refuses { IfErr result (IsRefusalOf reader.old) }
+    ensures refuses { IfErr result (λ fault. (k : ℕ) → IsOnWay k intervals reader.old
+        → IsFaultOnWay k reader.old fault) }
 {
     // What the parameters promise is told by their calls.
     let _len = params.interval_len();
@@ -80,7 +81,7 @@ impl HeldReader {
     ghost use Rattle.aec_params.specs.Codewords.{bits_of_bytes};
     ghost use Rattle.aec_interval.specs.Reached.{count_refusal};
     ghost use Rattle.aec_interval.specs.Pieces.{is_wanted_at, IsPlace, ReadsInterval, RefusesAt};
-    ghost use Rattle.aec_c.specs.Standing.{standing_at, place_in, standing_in, HasCounted, IsStanding, IsOnWay, BeginsInterval, IsRefusalOf};
+    ghost use Rattle.aec_c.specs.Standing.{standing_at, place_in, standing_in, HasCounted, IsStanding, IsOnWay, BeginsInterval, IsFaultOnWay};
 
     /// A reader at the first bit of coded bytes.
     pub(crate) fn new(
@@ -193,7 +194,7 @@ impl HeldReader {
         ensures ok { IfOk result (λ at. IsStanding (standing_in self.now.place at)) }
         ensures begins { IfOk result
             (λ at. BeginsInterval interval (standing_in self.now.place at).place) }
-        ensures refuses { IfErr result (IsRefusalOf self.now.place) }
+        ensures refuses { IfErr result (IsFaultOnWay interval self.now.place) }
     {
         let (start, left) = self.way(interval);
         let mut reader = self.reader(alloc, start.place)?;
@@ -211,7 +212,7 @@ impl HeldReader {
         ensures same { OnOk result (self.new.place ≡ place_in self.old.place self.new.place.block
             self.new.place.bit) }
         ensures begins { OnOk result (BeginsInterval interval self.new.place) }
-        ensures refuses { IfErr result (IsRefusalOf self.old.place) }
+        ensures refuses { IfErr result (IsFaultOnWay interval self.old.place) }
         ensures err { OnErr result (self.new ≡ self.old) }
     {
         self.at = self.found(alloc, interval)?;

@@ -1,12 +1,14 @@
 //! Samples read interval by interval by a reader that a handle holds.
 
-ghost use Rattle.std.specs.Prelude.{◌≡◌, ◌*◌, ◌⊎◌, None, IfOk, IfErr};
+ghost use Rattle.std.specs.Prelude.{◌≡◌, ◌*◌, ◌^◌, ◌⊎◌, Some, None, IfOk, IfErr};
+ghost use Rattle.aec_params.specs.declared.fault.Fault.TheVariants.{Memory};
 ghost use Rattle.aec_params.specs.Params.{IsAllowed, interval_len, storage_len};
 ghost use Rattle.aec_params.specs.Codewords.{bits_of_bytes};
+ghost use Rattle.aec_interval.specs.Reached.{count_refusal};
 ghost use Rattle.aec_c.specs.Calls.{settings_of, count_of};
 ghost use Rattle.aec_c.specs.HandleCalls.{OnHandle};
 ghost use Rattle.aec_c.specs.Standing.{standing_at};
-ghost use Rattle.aec_c.specs.Readers.{CannotOpen, OpensReader, ReadsNext, PutsNext, GoesTo};
+ghost use Rattle.aec_c.specs.Readers.{OpensReader, ReadsNext, PutsNext, GoesTo};
 
 use crate::answers::params_of;
 use crate::handle_edits::not_open;
@@ -27,7 +29,8 @@ fn fresh_reader(
 ) -> Result<Box<OpenReader>, Fault>
     ensures ok { IfOk result (λ made. made.value.reader
         ≡ standing_at params count (bits_of_bytes coded.now) 0 0 0) }
-    ensures refuses { IfErr result (CannotOpen params count) }
+    ensures refuses { IfErr result
+        (λ fault. (fault ≡ Memory) ⊎ (count_refusal (2 ^ 32) count ≡ Some fault)) }
 {
     let reader = HeldReader::new(alloc, params, count, coded)?;
     let samples = Vec::with_capacity(alloc, params.interval_len() as usize)?;

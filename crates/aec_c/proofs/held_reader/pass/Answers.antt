@@ -1,15 +1,15 @@
 use Rattle.std.proofs.Common.{◌-◌, arith, refl, sym, subst}
 use Rattle.std.proofs.lemmas.Result.{err_from_is_err_and}
 use Rattle.aec_params.specs.Params.{IsAllowed}
-use Rattle.aec_engine.proofs.ReadTwiceLemmas.{some_interval, counts_interval, counts_within, counts_wrong}
-use Rattle.aec_c.proofs.StandingLemmas.{way_on}
+use Rattle.aec_engine.proofs.ReadTwiceLemmas.{some_interval, counts_interval, counts_within}
+use Rattle.aec_c.proofs.StandingLemmas.{way_on, wrong_on_way}
 use Rattle.aec_c.proofs.held_reader.pass.Goals as goal
 
 pub returns-in_err-len-clause-refuses : goal.returns-in_err-len-clause-refuses
 returns-in_err-len-clause-refuses c =
     let exit = err_from_is_err_and c.from_residual.result c.from_residual.ensures.1 in
-    counts_wrong _ _ _ c.args.reader.now c.loop-left.reader c.loop-left.total (subst IsAllowed (sym c.requires.settings) c.interval_len-len.ensures.allowed)
-    exit.1 exit.2 c.loop-left.invariant.counts c.in_err-len.ensures.refuses
+    wrong_on_way _ _ _ c.args.reader.now c.loop-left.reader c.args.intervals c.loop-left.left c.loop-left.total exit.1 exit.2
+    (omega (arith, c.loop-left-test.true)) c.loop-left.invariant.way c.loop-left.invariant.counts c.in_err-len.ensures.refuses
 
 pub overflow_add-total : goal.overflow_add-total
 overflow_add-total c =

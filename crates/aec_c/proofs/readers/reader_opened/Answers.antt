@@ -1,14 +1,15 @@
-use Rattle.std.proofs.Common.{◌*◌, sym, refl, inl, inr, ap, ap₂, ◌∙◌, subst}
+use Rattle.std.proofs.Common.{◌≡◌, ◌*◌, ◌^◌, sym, refl, ◌⊎◌, inl, inr, Some, ap, ap₂, ◌∙◌, subst}
+use Rattle.aec_params.specs.declared.fault.Fault.TheVariants.{Memory}
 use Rattle.aec_params.specs.Params.{IsAllowed, interval_len, storage_len}
 use Rattle.aec_params.specs.Codewords.{bits_of_bytes}
-use Rattle.aec_c.specs.Calls.{count_of}
+use Rattle.aec_interval.specs.Reached.{count_refusal}
 use Rattle.aec_c.specs.Replies.{done}
 use Rattle.aec_c.specs.Standing.{standing_at}
-use Rattle.aec_c.specs.Readers.{CannotOpen, opened, not_opened}
+use Rattle.aec_c.specs.Readers.{opened, not_opened}
 use Rattle.aec_c.proofs.readers.reader_opened.Goals as goal
 
 pub returns-in-Err : goal.returns-in-Err
-returns-in-Err c = not_opened c.in-Err.fault (inr (inl (sym c.in-Err.ensures.refuses))) refl c.refused.ensures
+returns-in-Err c = not_opened c.in-Err.fault (inl (sym c.in-Err.ensures.refuses)) refl c.refused.ensures
 
 pub returns-in-Ok-fresh_reader : goal.returns-in-Ok-fresh_reader
 returns-in-Ok-fresh_reader c =
@@ -20,7 +21,5 @@ returns-in-Ok-fresh_reader c =
 pub returns-in-Err-fresh_reader : goal.returns-in-Err-fresh_reader
 returns-in-Err-fresh_reader c =
     let fault = c.in-Err-fresh_reader.fault in
-    not_opened fault
-    (subst (λ s. CannotOpen s (count_of c.args.count) fault) c.in-Ok.ensures.ok
-    (subst (λ n. CannotOpen c.in-Ok.params n fault) c.counted.ensures c.in-Err-fresh_reader.ensures.refuses))
-    refl c.refused-in-Err-fresh_reader.ensures
+    let why = subst (λ n. (fault ≡ Memory) ⊎ (count_refusal (2 ^ 32) n ≡ Some fault)) c.counted.ensures c.in-Err-fresh_reader.ensures.refuses in
+    not_opened fault (inr (subst IsAllowed c.in-Ok.ensures.ok c.in-Ok.ensures.allowed, why)) refl c.refused-in-Err-fresh_reader.ensures
