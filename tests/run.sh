@@ -89,7 +89,7 @@ part instructions on_program tests/instructions_bounded.py
 
 last=gate
 # Every part in the order above: the first that failed is explained.
-for name in pages definitions modules theorems man limits edits cited gate coded cuts damaged memory calls files small trips scripts \
+for name in pages definitions modules theorems man walk limits edits cited gate coded cuts damaged memory calls files small trips scripts \
     recipes installed worked pictures instructions; do
     if ! has_passed "$name"; then
         last=$name
