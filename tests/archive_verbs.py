@@ -152,9 +152,10 @@ def try_edits(tally, folder):
     tally.check("pixels: no table", command(place, "pixels", "--shape", "9x9", "-", given=b"1," + b"x" * 200000)[::2], (1, "aecp: -: it is no table of row, column and value\n"))
     tally.check("pixels: other ends of lines", command(place, "pixels", "--shape", "9x9", "-", given=b"0,1,5\r0,2,6\r\n")[1], "overwrite 1 5\noverwrite 2 6\n")
     tally.check("pixels: a shape", command(place, "pixels", "--shape", "1", "table.csv")[0], 2)
-    status, _, said = command(place, "pixels", "--shape", "10x20", "-", given=b"0,2,7\n0,2,8\n1,x,2\n")
-    wanted = "aecp: -: the table is refused:\n  line 2: row 0, column 2 has two values, 7 and 8\n  line 3: '1 x 2' is no row, column and value\n"
-    tally.check("pixels: two values", (status, said), (1, wanted))
+    row, column = 0, 2
+    status, _, said = command(place, "pixels", "--shape", "10x20", "-", given=f"{row},{column},7\n{row},{column},8\n1,x,2\n".encode())
+    faults = [f"line 2: row {row}, column {column} has two values, 7 and 8", "line 3: '1 x 2' is no row, column and value"]
+    tally.check("pixels: two values", (status, said), (1, "\n  ".join(["aecp: -: the table is refused:", *faults]) + "\n"))
     script = command(place, "pixels", "--shape", "10x20", "table.csv")[1]
     write(place, "script", script.encode())
     status, printed, _ = command(place, "edit", "a.aec", "script")
