@@ -62,7 +62,7 @@ enum {
     AECP_INTERVAL = 3,
     AECP_RESTRICTED_WIDTH = 4,
     AECP_SAMPLE_RANGE = 5,     /* place: index of the first sample that is out of range */
-    AECP_TRUNCATED = 6,        /* place: bit where the incomplete coded data set begins */
+    AECP_TRUNCATED = 6,        /* place: bit where the incomplete or missing coded data set begins */
     AECP_VALUE_TOO_LARGE = 7,  /* place: bit where the coded data set begins */
     AECP_RUN_TOO_LONG = 8,     /* place: bit where the coded data set begins */
     AECP_TOO_MANY_SAMPLES = 9, /* place: the greatest number, 2^32 */
@@ -79,7 +79,7 @@ enum {
 /* As a sample count: all samples that the stream decodes to, including the filler at its end. */
 #define AECP_ALL UINT64_MAX
 
-/* The calls that fill `out` return `reply->fault`. If it is 0, the result is the first `reply->len` bytes of `out`, and the bytes after
+/* The calls that fill `out`, except aecp_text, return `reply->fault`. If it is 0, the result is the first `reply->len` bytes of `out`, and the bytes after
  * it are unchanged. Otherwise all of `out` is unchanged, and the call may be repeated. Below, the faults 1 to 4 and 17 are 'options'. */
 
 /* Codes stored samples. Bytes at the end that don't fill a sample are dropped. Faults: options, SAMPLE_RANGE, TOO_MANY_SAMPLES,
@@ -87,7 +87,7 @@ enum {
 uint32_t aecp_encode(const aecp_options *options, const void *samples, size_t samples_len, uint8_t *out, size_t out_len,
                      aecp_reply *reply);
 
-/* Decodes the first `count` samples of a stream, or all with AECP_ALL. Bytes after them are not read. Faults: options, TRUNCATED,
+/* Decodes the first `count` samples of a stream, or all with AECP_ALL. Ignores bytes after them. Faults: options, TRUNCATED,
  * VALUE_TOO_LARGE, RUN_TOO_LONG, TOO_MANY_SAMPLES, STREAM_TOO_LONG, MEMORY, NO_ROOM. Allocates an interval of samples and its bytes,
  * 64 KiB, and the stream's first aecp_bound(options, count) bytes; the whole stream with AECP_ALL, or if it is damaged or another coder
  * wrote more; up to 16 MiB more if a block has at most 32 bytes. Trap: AECP_ALL decodes filler too, and accepts many cut streams; 1.5 MB
@@ -95,7 +95,7 @@ uint32_t aecp_encode(const aecp_options *options, const void *samples, size_t sa
 uint32_t aecp_decode(const aecp_options *options, uint64_t count, const uint8_t *coded, size_t coded_len, void *out,
                      size_t out_len, aecp_reply *reply);
 
-/* Decodes `len` of those samples, from place `first` on, counted from 0. Faults: those of aecp_decode, of the first `count` samples, and
+/* Decodes `len` of those samples, from sample `first` on, counted from 0. Faults: those of aecp_decode of all `count` samples, and
  * OUT_OF_RANGE. Allocates an interval of samples, at least 16 KiB, and of the stream as much as aecp_decode. Trap: `first` and `len` are
  * samples, `out_len` is bytes. */
 uint32_t aecp_range(const aecp_options *options, uint64_t count, uint64_t first, uint64_t len, const uint8_t *coded,
