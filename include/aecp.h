@@ -79,8 +79,9 @@ enum {
 /* As a sample count: all samples that the stream decodes to, including the filler at its end. */
 #define AECP_ALL UINT64_MAX
 
-/* The calls that fill `out`, except aecp_text, return `reply->fault`. If it is 0, the result is the first `reply->len` bytes of `out`, and the bytes after
- * it are unchanged. Otherwise all of `out` is unchanged, and the call may be repeated. Below, the faults 1 to 4 and 17 are 'options'. */
+/* The calls that fill `out`, except aecp_text, return `reply->fault`. If it is 0, the result is the first `reply->len` bytes of `out`,
+ * and the bytes after it are unchanged. Otherwise all of `out` is unchanged, and the call may be repeated. Below, the faults 1 to 4 and
+ * 17 are 'options'. */
 
 /* Codes stored samples. Bytes at the end that don't fill a sample are dropped. Faults: options, SAMPLE_RANGE, TOO_MANY_SAMPLES,
  * MEMORY, NO_ROOM. Allocates twice the code, and an interval of samples. Trap: keep the sample count, which decoding needs. */
