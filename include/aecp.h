@@ -24,10 +24,10 @@
 extern "C" {
 #endif
 
-/* The version of this header, 0.1.0: 10,000 times its first number, plus 100 times its second, plus its third. aecp_version returns that
- * of the library, which may differ; it allocates nothing. Trap: before 1.0 a new second number may change the structs below, although the
- * soname stays libaecp.so.0. So compare both versions before any other call. */
-#define AECP_VERSION 100
+/* The version of this header, 1.0.0: 10,000 times its first number, plus 100 times its second, plus its third. aecp_version returns that
+ * of the library, which may differ; it allocates nothing. The structs below change only with the first number, and then the soname
+ * changes too. The second number adds calls. */
+#define AECP_VERSION 10000
 uint32_t aecp_version(void);
 
 /* How samples are stored and coded. A stored sample of 1 to 8 bits takes one byte, of 9 to 16 two, else four (but see three_byte). */

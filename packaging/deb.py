@@ -133,9 +133,8 @@ def finish(top, root, folder, name, version, depends, moment):
 
 
 def next_of(version):
-    """The first version whose library may have other structs: before 1.0 the one with the next second number, else with the next first."""
-    first, second = map(int, version.split(".")[:2])
-    return f"0.{second + 1}~" if first == 0 else f"{first + 1}~"
+    """The first version whose library may have other structs: the one with the next first number."""
+    return f"{int(version.split('.')[0]) + 1}~"
 
 
 def libc_of(path):

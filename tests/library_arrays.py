@@ -119,11 +119,11 @@ def try_numcodecs(tally):
 def try_entry_point(tally):
     """The codec by its name alone, where the module is installed."""
     with tempfile.TemporaryDirectory() as folder:
-        place = os.path.join(folder, "aecp-0.1.0.dist-info")
+        place = os.path.join(folder, "aecp-1.2.3.dist-info")
         os.mkdir(place)
         shutil.copy(os.path.join(TOP, "python", "entry_points.txt"), place)
         with open(os.path.join(place, "METADATA"), "w", encoding="utf-8") as file:
-            file.write("Metadata-Version: 2.1\nName: aecp\nVersion: 0.1.0\n")
+            file.write("Metadata-Version: 2.1\nName: aecp\nVersion: 1.2.3\n")
         code = "import numcodecs; print(numcodecs.get_codec({'id': 'aecp', 'bits': 16}).decode(b'\\0\\0\\0\\0'))"
         paths = os.pathsep.join([folder, os.environ["PYTHONPATH"]])
         said = Program(sys.executable, folder).run("-c", code, env={**os.environ, "PYTHONPATH": paths})

@@ -15,7 +15,7 @@ Several threads may call at once, and their calls run in parallel. While a call 
 import os
 import sys
 
-__version__ = "0.1.0"
+__version__ = "1.0.0"
 
 try:
     from aecp.calls import decode, decode_bytes, decode_range, decode_range_bytes, encode

@@ -12,7 +12,7 @@ from aecp.options import FLAGS, NUMBERS, Options
 HERE = os.path.dirname(os.path.abspath(__file__))
 NAME = "libaecp.so"
 TEXT_BYTES = 200
-VERSION = 100  # 0.1.0, as AECP_VERSION of aecp.h
+VERSION = 10000  # 1.0.0, as AECP_VERSION of aecp.h
 
 
 class COptions(ctypes.Structure):
@@ -122,13 +122,14 @@ def load() -> ctypes.CDLL:
 
 
 def judge_version(library: ctypes.CDLL) -> None:
-    """OSError where a library says that it is of another version than the module. Before 1.0 the second number counts too."""
+    """OSError if the library's version has another first number than the module's, or an older second one."""
     call = getattr(library, "aecp_version", None)
     if call is not None:
         call.restype = ctypes.c_uint32
         number = int(call())
-        if number // 100 != VERSION // 100:
-            raise OSError(f"it has version {number // 10000}.{number // 100 % 100}.{number % 100}, and the module needs 0.{VERSION // 100}")
+        if number // 10000 != VERSION // 10000 or number // 100 < VERSION // 100:
+            needed = f"{VERSION // 10000}.{VERSION // 100 % 100}"
+            raise OSError(f"it has version {number // 10000}.{number // 100 % 100}.{number % 100}, and the module needs {needed}")
 
 
 LIBRARY = load()

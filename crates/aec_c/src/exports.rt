@@ -16,13 +16,13 @@ use crate::stream_edits::{EditReply, edited_stream, settle_edited};
 use crate::text::{put_text, text_of};
 use std::alloc::Global;
 
-/// Returns the version of the library, 0.1.0: 10,000 times its first number, plus 100 times its
-/// second, plus its third.
+/// Returns the version of the library: 10,000 times its first number, plus 100 times its second,
+/// plus its third.
 #[unsafe(no_mangle)]
 pub extern "C" fn aecp_version() -> u32
-    ensures { result ≡ 100 }
+    ensures { result ≡ 10000 }
 {
-    100
+    10000
 }
 
 /// Codes stored samples.

@@ -16,7 +16,7 @@ use clap::{Arg, ArgAction, ArgMatches, Command, Error};
 use std::alloc::{AllocError, Global};
 
 /// What `--version` prints after the name.
-const VERSION: &str = "0.1.0";
+const VERSION: &str = "1.0.0";
 
 /// Returns the command `aec`, which has no rules between its arguments. `Memory` is the only
 /// refusal.

@@ -5,7 +5,7 @@ use std::cell::UnsafeCell;
 use std::ffi::c_void;
 
 /// The version of the header that this file restates: 10,000, 100 and 1 times its three numbers.
-pub const VERSION: u32 = 100;
+pub const VERSION: u32 = 10000;
 
 pub const OK: u32 = 0;
 pub const NO_ROOM: u32 = 18;
@@ -127,9 +127,10 @@ pub fn version() -> u32 {
     unsafe { aecp_version() }
 }
 
-/// Fails if the linked library has another version than [`VERSION`], whose structures may differ.
+/// Fails if the linked library's structures may differ from those of [`VERSION`], or if it lacks calls of that version.
 fn assert_version() {
-    assert_eq!(version() / 100, VERSION / 100, "libaecp.a has another version than the crate aecp");
+    let fits = version() / 10_000 == VERSION / 10_000 && version() / 100 >= VERSION / 100;
+    assert!(fits, "libaecp.a has another version than the crate aecp");
 }
 
 /// Codes stored samples into `out`.
