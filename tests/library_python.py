@@ -277,10 +277,10 @@ def try_imports(tally, folder):
 
 
 def try_version(tally):
-    """A library that says another version is refused; one of the same first two numbers, or with none, isn't."""
+    """A library with another first number or an older second one is refused; a newer second one, or no version, isn't."""
     from aecp.library import judge_version
 
-    for number, is_right in ((100, True), (107, True), (200, False), (10000, False), (None, True)):
+    for number, is_right in ((10000, True), (10007, True), (10200, True), (9900, False), (100, False), (20000, False), (None, True)):
 
         call = type("Call", (), {"__call__": lambda _, it=number: it})
         library = type("Library", (), {} if number is None else {"aecp_version": call()})
