@@ -24,12 +24,10 @@ ghost use Rattle.aec_interval.specs.Pending.{segment_bits, IsKept, AreNext, Take
 use crate::block_sizes::by_block_size;
 use crate::interval::short_blocks::write_short;
 use crate::interval::zero_runs::{NO_RUN, Run, write_next};
+use crate::segment::SEGMENT_BLOCKS;
 use aec_bits::BitBuf;
 use aec_params::{Fault, Params};
 use std::alloc::Global;
-
-/// The blocks of a segment; the last of an interval may have fewer.
-pub(crate) const SEGMENT_BLOCKS: u32 = 64;
 
 /// How many samples each interval of a stream has; the last one may have fewer.
 fn interval_size(params: &Params) -> usize

@@ -8,6 +8,7 @@ mod interval;
 pub mod laws;
 mod reached_place;
 mod reading;
+mod segment;
 mod stream_coder;
 mod stream_reader;
 mod whole;

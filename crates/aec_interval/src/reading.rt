@@ -22,10 +22,10 @@ ghost use Rattle.aec_interval.specs.Pieces.{counted_from};
 ghost use Rattle.aec_interval.specs.Steps.{IsWantedNext, ComesNext, IsGoneOver};
 ghost use Rattle.aec_interval.specs.Reached.{AreFilled, IsReached, IsReadFrom, RefusesReading, RefusesUpTo};
 
-use crate::interval::SEGMENT_BLOCKS;
 use crate::reading::plain::read_plain_blocks;
 use crate::reading::samples::push_block;
 use crate::reading::zero_runs::push_zero_run;
+use crate::segment::SEGMENT_BLOCKS;
 use aec_bits::{BitBuf, BitReader};
 use aec_block::{Block, Found, RunLen, read_into};
 use aec_params::{Fault, Params};

@@ -14,7 +14,7 @@ ghost use Rattle.aec_interval.specs.Pending.{IsRun, AreNext, TakesBlock};
 
 use crate::interval::filled_blocks::reference_of;
 use crate::interval::zero_runs::{NO_RUN, Run};
-use crate::reading::samples::previous_of;
+use crate::segment::previous_of;
 use aec_bits::BitBuf;
 use aec_block::{Block, choose, map, write_block};
 use aec_params::{Fault, Params};

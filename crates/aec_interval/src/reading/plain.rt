@@ -13,7 +13,7 @@ ghost use Rattle.aec_interval.specs.PlainBlocks.{ReadsPlain, most_at_once};
 
 use crate::block_sizes::by_block_size;
 use crate::reading::Wanted;
-use crate::reading::samples::previous_of;
+use crate::segment::previous_of;
 use aec_bits::BitReader;
 use aec_block::{MOST_VALUES, comes_plain, read_plain, unmap_into};
 use aec_params::Params;

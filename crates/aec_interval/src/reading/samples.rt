@@ -4,17 +4,11 @@ ghost use Rattle.std.specs.Prelude.{◌≡◌, ◌+◌, ◌<◌, ◌≤◌, ◌^
 ghost use Rattle.std.specs.List.{AllByRecursion};
 ghost use Rattle.aec_params.specs.Params.{IsAllowed, IsHeld};
 ghost use Rattle.aec_block.specs.Unmapping.{Unmaps};
-ghost use Rattle.aec_interval.specs.NextBlock.{last_sample, IsNextBlock, FillsNext};
+ghost use Rattle.aec_interval.specs.NextBlock.{IsNextBlock, FillsNext};
 
+use crate::segment::previous_of;
 use aec_block::{Block, unmap_into};
 use aec_params::Params;
-
-/// The sample from which the next one is predicted: the last, or 0 where there is none.
-pub(crate) fn previous_of(samples: &[i64]) -> i64
-    ensures { result ≡ last_sample samples.now }
-{
-    samples.last().copied().unwrap_or(0)
-}
 
 /// Appends places for samples that are to come. Takes no memory.
 #[inline(always)]

@@ -7,7 +7,7 @@ ghost use Rattle.aec_params.specs.Places.{is_reference_block};
 ghost use Rattle.aec_interval.specs.NextBlock.{FillsNext, run_blocks, sample_of_zeros};
 ghost use Rattle.aec_interval.specs.Reached.{AreFilled};
 
-use crate::reading::samples::previous_of;
+use crate::segment::previous_of;
 use aec_params::Params;
 
 /// The sample that a zero block repeats after these: that of its reference, or else the

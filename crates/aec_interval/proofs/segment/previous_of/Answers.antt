@@ -1,7 +1,7 @@
 use Rattle.std.proofs.Common.{rules, w64, FitsSigned, ap, sym, ◌∙◌, pos, unwrap_or}
 use Rattle.std.proofs.lemmas.Int.{to_z-of_z}
 use Rattle.aec_interval.proofs.FillingLemmas.{last_or-read}
-use Rattle.aec_interval.proofs.reading.samples.previous_of.Goals as goal
+use Rattle.aec_interval.proofs.segment.previous_of.Goals as goal
 
 pub returns : goal.returns
 returns c =
