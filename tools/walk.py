@@ -35,7 +35,7 @@ LIBRARIES = ("aec_params", "aec_bits", "aec_block", "aec_interval", "aec_edit", 
 WAYS = [
     Way(
         "A coded sample, of a whole block that is split",
-        ["aec_engine::engine::coding::encode", "StreamCoder::feed", "pieces::join_good", "shortest::write_shortest_of", "writing::put_split",
+        ["aec_engine::engine::coding::encode", "StreamCoder::feed", "pieces::join_judged", "shortest::write_shortest_of", "writing::put_split",
          "packed::push_reserved_number"],
         32,
         14,

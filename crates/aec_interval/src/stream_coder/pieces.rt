@@ -43,7 +43,11 @@ fn are_complete(terms: &Terms, held: &HeldSamples) -> bool
 
 /// Appends the code of the samples that are held once they are those of whole intervals, and then
 /// none are held. `Memory` where a growth was refused; nothing is appended then.
-fn code_complete(terms: &Terms, held: &mut HeldSamples, out: &mut BitBuf) -> Result<(), Fault>
+fn code_whole_intervals(
+    terms: &Terms,
+    held: &mut HeldSamples,
+    out: &mut BitBuf,
+) -> Result<(), Fault>
     requires samples { AllByRecursion (IsHeld terms.now.params) held.old }
     requires whole { IsFewOrWhole (interval_len terms.now.params) (length held.old) }
     ensures { CodesWhole terms.now.params held.old
@@ -66,7 +70,7 @@ fn push_sample(terms: &Terms, held: &mut HeldSamples, x: i64, out: &mut BitBuf) 
         out.old.list result held.new out.new.list }
 {
     held.push(x)?;
-    code_complete(terms, held, out)
+    code_whole_intervals(terms, held, out)
 }
 
 /// The sample of the bytes of one, after `count` others. `TooManySamples` where the limit is
@@ -118,7 +122,7 @@ fn join_each(
 
 /// Takes the bytes of some samples, with those that are held no more than an interval has or those
 /// of whole intervals, of which none is refused. `Memory` where a growth was refused.
-fn join_good(
+fn join_judged(
     terms: &Terms,
     progress: &mut Progress,
     part: &[u8],
@@ -134,7 +138,7 @@ fn join_good(
     ensures progress { IsProgress terms.now progress.new }
 {
     progress.held.push_stored(&terms.params, part)?;
-    code_complete(terms, &mut progress.held, out)?;
+    code_whole_intervals(terms, &mut progress.held, out)?;
     progress.count += (part.len() / terms.params.storage()) as u64;
     Ok(())
 }
@@ -155,7 +159,7 @@ fn join_part(
 {
     let count = (part.len() / terms.params.storage()) as u64;
     if count <= terms.limit - progress.count && first_bad(&terms.params, part).is_none() {
-        join_good(terms, progress, part, out)
+        join_judged(terms, progress, part, out)
     } else {
         join_each(terms, progress, part, out)
     }

@@ -5,7 +5,7 @@ use Rattle.aec_params.proofs.SampleLaws.{interval_len-positive}
 use Rattle.aec_interval.specs.Progress.{AreHeldFew}
 use Rattle.aec_interval.proofs.PieceLemmas.{left_behind-few_all}
 use Rattle.aec_interval.proofs.JoiningLemmas.{no_bits, none_held, complete_bits}
-use Rattle.aec_interval.proofs.stream_coder.pieces.code_complete.Goals as goal
+use Rattle.aec_interval.proofs.stream_coder.pieces.code_whole_intervals.Goals as goal
 
 pub returns : goal.returns
 returns c =
