@@ -29,7 +29,6 @@ PLACES = [
     ("CITATION.cff", "\nversion: POINTS\n"),
     ("CHANGELOG.md", "needs no entry.\n\n## POINTS ("),
     ("man/aecp.3", '.TH AECP 3 "" "aecp POINTS"\n'),
-    ("docs/DECISIONS.md", "print `aec POINTS`"),
 ]
 
 
