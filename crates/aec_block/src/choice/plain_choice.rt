@@ -3,27 +3,15 @@
 
 ghost use Rattle.std.specs.Prelude.{◌≡◌, ◌*◌, ◌^◌, ◌<◌, ◌≤◌, length};
 ghost use Rattle.aec_block.specs.BlockShape.{most_values};
-ghost use Rattle.aec_block.specs.Lengths.{sum_of_shifted, split_values_length, IsBestSplit};
+ghost use Rattle.aec_block.specs.Lengths.{split_values_length, IsBestSplit};
 ghost use Rattle.aec_block.specs.Choices.{IsFull, IsChoice};
 
 use crate::block::Block;
 use crate::choice::lengths::uncompressed_len;
 use crate::choice::splitting::{Splitting, is_shorter_next, with_k};
-use crate::choice::sums::{rest_of_lanes, sum_by_eights, sum_one_by_one};
+use crate::choice::sums::shifted_sum;
 use crate::choice::{Choice, Coding, shorter_of_pairs, shorter_of_split, split_options};
 use aec_params::Params;
-
-/// Adds up the values without their `k` low bits: eight at a time in eight lanes of 64 bits, and
-/// the rest one by one.
-#[tactic(auto, using(crate::proofs::LanesLemmas::joined_sums))]
-fn sum_in_lanes(values: &[u32], k: u32) -> u64
-    requires k { k < 32 }
-    requires len { length values.now ≤ most_values }
-    ensures sum { result ≡ sum_of_shifted k values.now }
-    ensures bound { result ≤ 2 * (most_values * 2 ^ 32) }
-{
-    sum_by_eights(values, k) + sum_one_by_one(rest_of_lanes(values), k)
-}
 
 /// Returns the k below `options` with which the values have the fewest bits, and of equal ones the
 /// least. k rises from 0 and stops at the first k whose successor isn't shorter. One more low bit
@@ -37,9 +25,9 @@ fn first_best(values: &[u32], options: u32) -> Splitting
     ensures bound { result.bits ≤ 2 ^ 40 }
 {
     let last = options - 1;
-    let mut sum = sum_in_lanes(values, 0);
+    let mut sum = shifted_sum(values, 0);
     for k in 0..last {
-        let next = sum_in_lanes(values, k + 1);
+        let next = shifted_sum(values, k + 1);
         if !is_shorter_next(sum, next, values.len() as u64) {
             return with_k(sum, values.len(), k);
         }

@@ -81,7 +81,8 @@ pub(crate) fn sum_one_by_one(values: &[u32], k: u32) -> u64
     sum
 }
 
-/// The values without their `k` low bits, added up.
+/// Adds up the values without their `k` low bits: eight at a time in eight lanes of 64 bits, and
+/// the rest one by one.
 #[inline(always)]
 #[tactic(auto, using(crate::proofs::LanesLemmas::joined_sums))]
 pub(crate) fn shifted_sum(values: &[u32], k: u32) -> u64
