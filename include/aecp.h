@@ -2,16 +2,16 @@
  *
  * A coded stream contains neither its options nor its sample count. Keep both with the stream: no call can tell that they are wrong.
  *
- * Every caller must ensure, since no call can check: no pointer is NULL, except to an empty buffer; lengths are true; `out` and `reply`
- * overlap nothing else that is passed; a bool is 0 or 1; malloc, realloc and free belong to one allocator. Make no call in a signal
- * handler, or in a forked child of a process with threads.
+ * Every caller must ensure, since no call can check: no pointer is NULL, except to an empty buffer; each length is its buffer's; `out` and
+ * `reply` overlap nothing else that is passed; a bool is 0 or 1; if you replace malloc, replace realloc and free too. Make no call in a
+ * signal handler, or in a forked child of a process with threads.
  *
  * Between calls the library keeps only what handles, coders and readers hold. Every buffer stays the caller's. A call frees what it
  * allocates before it returns, except what an open handle, coder or reader holds. Several threads may call at once, each with an `out`, a
- * `reply`, and a handle, coder or reader of its own.
+ * `reply`, and a handle, coder or reader of its own. They may share inputs.
  *
- * The least stack of a thread, as the tests measure it: 32 KiB for aecp_encode and aecp_edit; 16 KiB for the others. At least 4 KiB are
- * left then, and the thread itself takes some 8 KiB.
+ * The least stack of a thread, as the tests measure it: 32 KiB for aecp_encode and aecp_edit; 16 KiB for the others. This includes some
+ * 8 KiB that the thread itself takes, and at least 4 KiB to spare.
  */
 #ifndef AECP_H
 #define AECP_H
@@ -24,9 +24,9 @@
 extern "C" {
 #endif
 
-/* The version of this header, 1.0.0: 10,000 times its first number, plus 100 times its second, plus its third. aecp_version returns that
- * of the library, which may differ; it allocates nothing. The structs below change only with the first number, and then the soname
- * changes too. The second number adds calls. */
+/* The version of this header, 1.0.0: 10,000 times its first number, plus 100 times its second, plus its third. aecp_version returns that of
+ * the library, which may differ; it allocates nothing. The structs below change only with the first number, and then the soname changes
+ * too. A greater second number means more calls. */
 #define AECP_VERSION 10000
 uint32_t aecp_version(void);
 
@@ -48,7 +48,7 @@ typedef struct {
 #define AECP_OPTIONS(n) {(n), 16, 128, false, false, false, true, false, false, false}
 
 /* How a call ended. If `fault` is 0, `len` is the length of the result, in bytes unless the call says otherwise. If `fault` is
- * AECP_NO_ROOM, `len` is the length that the result needs. If it is another number below, `place` is what its comment names, else 0. */
+ * AECP_NO_ROOM, `len` is the length that the result needs. For other faults `place` is what the fault's comment says, or 0. */
 typedef struct {
     uint32_t fault;
     uint64_t place;
@@ -61,44 +61,49 @@ enum {
     AECP_BLOCK_SIZE = 2,
     AECP_INTERVAL = 3,
     AECP_RESTRICTED_WIDTH = 4,
-    AECP_SAMPLE_RANGE = 5,     /* place: index of the first sample that is out of range */
+    AECP_SAMPLE_RANGE = 5,     /* place: index of the first sample that is out of range; in append, overwrite, insert and a script's line
+                                * it counts within the values of that call or line, in feed from the first of all samples */
     AECP_TRUNCATED = 6,        /* place: bit where the incomplete or missing coded data set begins */
     AECP_VALUE_TOO_LARGE = 7,  /* place: bit where the coded data set begins */
     AECP_RUN_TOO_LONG = 8,     /* place: bit where the coded data set begins */
     AECP_TOO_MANY_SAMPLES = 9, /* place: the greatest number, 2^32 */
     AECP_OUT_OF_RANGE = 10,    /* place: the number of samples */
-    AECP_SPENT = 11,           /* the coder of a workspace has been called 2^64 - 1 times */
+    AECP_SPENT = 11,           /* the edit needs more coder calls than are left of a workspace's 2^64 - 1 */
     AECP_MEMORY = 12,
     AECP_SCRIPT = 15,          /* place: the first line that isn't an edit, counted from 1 */
     AECP_STREAM_TOO_LONG = 16, /* place: the greatest length in bytes, 2^40; the command aec allows 2^35 */
     AECP_EVEN_BLOCK_SIZE = 17,
-    AECP_NO_ROOM = 18,         /* len: the bytes, or samples, that the answer takes */
+    AECP_NO_ROOM = 18,         /* len: the bytes, or samples, that the result needs */
     AECP_NOT_OPEN = 19         /* the handle holds no workspace, the coder or reader isn't open */
 };
 
 /* As a sample count: all samples that the stream decodes to, including the filler at its end. */
 #define AECP_ALL UINT64_MAX
 
-/* The calls that fill `out`, except aecp_text, return `reply->fault`. If it is 0, the result is the first `reply->len` bytes of `out`,
- * and the bytes after it are unchanged. Otherwise all of `out` is unchanged, and the call may be repeated. Below, the faults 1 to 4 and
- * 17 are 'options'. */
+/* The calls that fill `out`, except aecp_text, return `reply->fault`. If it is 0, the result is the first `reply->len` bytes of `out`, and
+ * the bytes after it are unchanged. Otherwise all of `out` is unchanged, and the call may be repeated. NO_ROOM is returned only if there is
+ * no other fault. To learn the length, pass an empty `out`, even NULL: the call still does its whole work. Below, 'options' means the
+ * faults 1 to 4 and 17. */
 
-/* Codes stored samples. Bytes at the end that don't fill a sample are dropped. Faults: options, SAMPLE_RANGE, TOO_MANY_SAMPLES,
- * MEMORY, NO_ROOM. Allocates twice the code, and an interval of samples. Trap: keep the sample count, which decoding needs. */
+/* Codes stored samples. Bytes at the end that don't fill a sample are dropped. Faults: options, SAMPLE_RANGE, TOO_MANY_SAMPLES, MEMORY,
+ * NO_ROOM. Allocates twice the code's length, and an interval of samples. Trap: keep the sample count, which decoding needs. */
 uint32_t aecp_encode(const aecp_options *options, const void *samples, size_t samples_len, uint8_t *out, size_t out_len,
                      aecp_reply *reply);
 
-/* Decodes the first `count` samples of a stream, or all with AECP_ALL. Ignores bytes after them. Faults: options, TRUNCATED,
- * VALUE_TOO_LARGE, RUN_TOO_LONG, TOO_MANY_SAMPLES, STREAM_TOO_LONG, MEMORY, NO_ROOM. Allocates an interval of samples and its bytes,
- * 64 KiB, and the stream's first aecp_bound(options, count) bytes; the whole stream with AECP_ALL, or if it is damaged or another coder
- * wrote more; up to 16 MiB more if a block has at most 32 bytes. Trap: AECP_ALL decodes filler too, and accepts many cut streams; 1.5 MB
- * can decode to 2^32 samples. */
+/* Decodes the first `count` samples of a stream, or all with AECP_ALL. The result has 1, 2, 3 or 4 bytes for each sample. Ignores bytes of
+ * the stream after these samples. Faults: options, TRUNCATED, VALUE_TOO_LARGE, RUN_TOO_LONG, TOO_MANY_SAMPLES, STREAM_TOO_LONG, MEMORY,
+ * NO_ROOM. Allocates:
+ * - the samples of an interval, and their bytes;
+ * - 64 KiB;
+ * - the first aecp_bound(options, count) bytes of the stream, or all of it with AECP_ALL, if it is damaged, or if another coder wrote more;
+ * - up to 16 MiB, if a block has at most 32 bytes.
+ * Trap: AECP_ALL decodes filler too, and accepts many cut streams; 1.5 MB can decode to 2^32 samples. */
 uint32_t aecp_decode(const aecp_options *options, uint64_t count, const uint8_t *coded, size_t coded_len, void *out,
                      size_t out_len, aecp_reply *reply);
 
-/* Decodes `len` of those samples, from sample `first` on, counted from 0. Faults: those of aecp_decode of all `count` samples, and
- * OUT_OF_RANGE. Allocates an interval of samples, at least 16 KiB, and of the stream as much as aecp_decode. Trap: `first` and `len` are
- * samples, `out_len` is bytes. */
+/* Decodes `len` of the first `count` samples, from sample `first` on, counted from 0. Faults: those of aecp_decode of all `count` samples,
+ * and OUT_OF_RANGE. Allocates an interval of samples, at least 16 KiB, and as much of the stream as aecp_decode. Trap: `first` and `len`
+ * are samples, `out_len` is bytes. */
 uint32_t aecp_range(const aecp_options *options, uint64_t count, uint64_t first, uint64_t len, const uint8_t *coded,
                     size_t coded_len, void *out, size_t out_len, aecp_reply *reply);
 
@@ -111,9 +116,9 @@ typedef struct {
 } aecp_edit_reply;
 
 /* Applies a script of edits, as docs/COMMAND.md describes it, to the first `count` samples of a stream, or to all with AECP_ALL, and writes
- * the edited stream to `out`. All lines apply, or none. Returns `reply->reply.fault`. Faults: options; SCRIPT; those of aecp_decode; then
- * of one edit, with its line: OUT_OF_RANGE, SAMPLE_RANGE, TOO_MANY_SAMPLES, SPENT, MEMORY. Allocates up to three times the stream, and the
- * script. Trap: keep `samples` with the edited stream. With AECP_ALL the filler of the last block becomes samples. */
+ * the edited stream to `out`. All lines apply, or none. Returns `reply->reply.fault`. Faults, in this order: options; SCRIPT; those of
+ * aecp_decode; those of one edit, with its line: OUT_OF_RANGE, SAMPLE_RANGE, TOO_MANY_SAMPLES, SPENT, MEMORY. Allocates up to three times
+ * the stream, and the script. Trap: keep `samples` with the edited stream. With AECP_ALL the filler of the last block becomes samples. */
 uint32_t aecp_edit(const aecp_options *options, uint64_t count, const void *script, size_t script_len, const uint8_t *coded,
                    size_t coded_len, uint8_t *out, size_t out_len, aecp_edit_reply *reply);
 
@@ -121,13 +126,13 @@ uint32_t aecp_edit(const aecp_options *options, uint64_t count, const void *scri
  * more than 2^32 samples. Allocates nothing. Trap: it takes a number of samples, not of bytes, and also returns 0 for no samples. */
 uint64_t aecp_bound(const aecp_options *options, uint64_t samples);
 
-/* Writes the message of a reply to `out`, as much of it as fits before a zero byte, and the zero byte. Returns the length of the whole
- * message without the zero byte. Allocates; if that fails, the message is "out of memory". Trap: with `out_len` 0 no zero is written. */
+/* Writes the message of a reply to `out`, cut to `out_len` - 1 bytes, and a zero byte. Returns the length of the whole message without the
+ * zero byte. Allocates; if that fails, the message is "out of memory". Trap: with `out_len` 0 no zero is written. */
 size_t aecp_text(const aecp_reply *reply, char *out, size_t out_len);
 
-/* A handle, whose members only the library uses. It begins as AECP_HANDLE or as zeros. From aecp_open or aecp_load to aecp_close it holds a
- * workspace: a list of samples that is kept as its code. Don't copy a handle that holds one. One thread at a time may use a handle. In the
- * calls below samples are numbers, not stored bytes, and a refused edit changes no sample. */
+/* A handle, whose members only the library uses. Initialize it with AECP_HANDLE or zeros. From aecp_open or aecp_load to aecp_close it
+ * holds a workspace: a list of samples in coded form. Don't copy a handle that holds one. One thread at a time may use a handle. In calls
+ * with a handle samples are numbers, not stored bytes, and a refused edit changes no sample. */
 typedef struct {
     void *at;
     bool full;
@@ -136,32 +141,31 @@ typedef struct {
 #define AECP_HANDLE {0, false}
 
 /* Opens an empty workspace of at most 2^32 samples. On success the workspace that the handle held is freed; after a fault the handle is
- * unchanged. Faults: options, MEMORY. aecp_close frees what it allocates. Trap: a handle that didn't begin as zeros frees arbitrary
- * memory. */
+ * unchanged. Faults: options, MEMORY. aecp_close frees what it allocates. Trap: with an uninitialized handle it frees arbitrary memory. */
 uint32_t aecp_open(const aecp_options *options, aecp_handle *handle, aecp_reply *reply);
 
-/* Opens, as aecp_open does, a workspace with the first `count` samples of a stream, or all with AECP_ALL. `reply->len` is their number,
- * and each of their intervals was coded once. Faults: those of aecp_decode except NO_ROOM and STREAM_TOO_LONG.
- * Until it returns it also allocates the stream and eight bytes a sample.
- * Trap: the samples are coded anew, so aecp_write may return other bytes than another coder wrote. */
+/* Opens, as aecp_open does, a workspace with the first `count` samples of a stream, or all with AECP_ALL. `reply->len` is their number, and
+ * aecp_calls counts each of their intervals once. Faults: those of aecp_decode except NO_ROOM and STREAM_TOO_LONG. During the call it also
+ * holds the stream and eight bytes a sample. Trap: the samples are coded anew, so aecp_write may return other bytes than another coder
+ * wrote. */
 uint32_t aecp_load(const aecp_options *options, uint64_t count, const uint8_t *coded, size_t coded_len, aecp_handle *handle,
                    aecp_reply *reply);
 
-/* Frees the workspace. Allowed if there is none, and twice. Trap: a handle that is dropped without it leaks its memory. */
+/* Frees the workspace. Does nothing if none is open. Trap: a handle that is dropped without it leaks its memory. */
 void aecp_close(aecp_handle *handle);
 
-/* The five edits. Each returns `reply->fault`, and `reply->len` is the number of intervals that it coded. An edit refused for MEMORY
- * changes no sample, but may have coded intervals, and aecp_calls counts these.
- * Appends samples. Faults: SAMPLE_RANGE, TOO_MANY_SAMPLES, SPENT, MEMORY, NOT_OPEN. Allocates their code.
- * Trap: each call codes the last interval anew, so one call with many samples is faster than many calls with one. */
+/* The five edits. Each returns `reply->fault`, and `reply->len` is the number of intervals that it coded: those that it touches, and those
+ * that a trap below names. An edit refused for MEMORY changes no sample, but may have coded intervals, and aecp_calls counts these.
+ * Appends samples. Faults: SAMPLE_RANGE, TOO_MANY_SAMPLES, SPENT, MEMORY, NOT_OPEN. Allocates their code. Trap: each call codes the last
+ * interval again if that isn't full, so one call with many samples is faster than many calls with one. */
 uint32_t aecp_append(aecp_handle *handle, const int64_t *values, size_t values_len, aecp_reply *reply);
 
-/* Keeps the first `count` samples. Faults: OUT_OF_RANGE, SPENT, MEMORY, NOT_OPEN. Trap: truncating can fail with MEMORY, since an
- * interval that is kept in part is coded anew. */
+/* Keeps the first `count` samples. Faults: OUT_OF_RANGE, SPENT, MEMORY, NOT_OPEN. Trap: truncating can fail with MEMORY, since an interval
+ * that is kept in part is coded again. */
 uint32_t aecp_truncate(aecp_handle *handle, uint64_t count, aecp_reply *reply);
 
-/* Removes `len` samples, from sample `first` on. Faults: OUT_OF_RANGE, SPENT, MEMORY, NOT_OPEN. Trap: all intervals after them are coded
- * anew if `len` isn't a multiple of an interval's samples, as in aecp_insert. */
+/* Removes `len` samples, from sample `first` on. Faults: OUT_OF_RANGE, SPENT, MEMORY, NOT_OPEN. Trap: if `len` isn't whole intervals, all
+ * later intervals are coded again; so with aecp_insert. */
 uint32_t aecp_remove(aecp_handle *handle, uint64_t first, uint64_t len, aecp_reply *reply);
 
 /* Replaces `values_len` samples by the values, from sample `first` on. Faults: OUT_OF_RANGE, SAMPLE_RANGE, SPENT, MEMORY, NOT_OPEN.
@@ -172,22 +176,22 @@ uint32_t aecp_overwrite(aecp_handle *handle, uint64_t first, const int64_t *valu
  * OUT_OF_RANGE. Allocates a copy of the values. Trap: `first` can't be greater than the number of samples. */
 uint32_t aecp_insert(aecp_handle *handle, uint64_t first, const int64_t *values, size_t values_len, aecp_reply *reply);
 
-/* Writes `len` samples, from sample `first` on, to `out`, as the calls above fill it. Faults: OUT_OF_RANGE, MEMORY, NO_ROOM, NOT_OPEN.
- * Allocates the intervals that contain them. Trap: `out_len` and `reply->len` are numbers of samples, not of bytes. */
+/* Writes `len` samples, from sample `first` on, to `out`. Faults: OUT_OF_RANGE, MEMORY, NO_ROOM, NOT_OPEN. Allocates the intervals that
+ * contain them. Trap: `out_len` and `reply->len` are numbers of samples, not of bytes. */
 uint32_t aecp_read(aecp_handle *handle, uint64_t first, uint64_t len, int64_t *out, size_t out_len, aecp_reply *reply);
 
-/* Writes the stream of all samples to `out`, as the calls above fill it. aecp_decode reads the stream with the number of samples.
- * Faults: MEMORY, NO_ROOM, NOT_OPEN. Allocates the code. Trap: keep the result of aecp_size with the stream. */
+/* Writes the stream of all samples to `out`. aecp_decode reads the stream with the number of samples. Faults: MEMORY, NO_ROOM, NOT_OPEN.
+ * Allocates the code. Trap: keep the result of aecp_size with the stream. */
 uint32_t aecp_write(aecp_handle *handle, uint8_t *out, size_t out_len, aecp_reply *reply);
 
-/* Return the number of samples, and the number of intervals that were coded since the workspace was opened, also by edits refused for
- * MEMORY. Allocate nothing. Trap: both are 0 if the handle holds no workspace. */
+/* aecp_size returns the number of samples. aecp_calls returns the number of intervals coded since the workspace was opened, also by edits
+ * refused for MEMORY. They allocate nothing. Trap: both are 0 if the handle holds no workspace. */
 uint64_t aecp_size(aecp_handle *handle);
 uint64_t aecp_calls(aecp_handle *handle);
 
-/* A coder that takes samples in pieces. Only the library uses its members. It begins as AECP_CODER or as zeros, and is open from
- * aecp_coder_open to aecp_coder_close. Don't copy an open coder. One thread at a time may use a coder. However the samples are cut
- * into pieces, all bytes that are taken, in their order, are those of one aecp_encode of all samples. */
+/* A coder that takes samples in pieces. Only the library uses its members. Initialize it with AECP_CODER or zeros. It is open from
+ * aecp_coder_open to aecp_coder_close. Don't copy an open coder. One thread at a time may use a coder. The bytes taken are those of one
+ * aecp_encode of all samples, wherever the pieces were cut. */
 typedef struct {
     void *at;
     bool full;
@@ -196,28 +200,30 @@ typedef struct {
 #define AECP_CODER {0, false}
 
 /* Opens a coder of at most 2^32 samples. On success the coder that `coder` held is freed; after a fault it is unchanged. Faults: options,
- * MEMORY. Trap: a coder that didn't begin as zeros frees arbitrary memory. */
+ * MEMORY. Trap: with an uninitialized coder it frees arbitrary memory. */
 uint32_t aecp_coder_open(const aecp_options *options, aecp_coder *coder, aecp_reply *reply);
 
-/* Codes more stored samples; a sample may be cut in two. `reply->len` is the number of bytes left to take. Faults: SAMPLE_RANGE, whose
- * place counts from the first of all samples, TOO_MANY_SAMPLES, MEMORY, NOT_OPEN. Each later feed returns the first fault again. Keeps
- * the code until it is taken, and less than an interval of samples. Trap: bytes come interval by interval, so a call may yield none. */
+/* Codes more stored samples; a sample may be cut in two. `reply->len` is the number of bytes left to take. Faults: SAMPLE_RANGE,
+ * TOO_MANY_SAMPLES, MEMORY, NOT_OPEN. Each later feed returns the first fault again. Keeps the code until it is taken, and less than an
+ * interval of samples. Trap: bytes come interval by interval, so a call may yield none. */
 uint32_t aecp_coder_feed(aecp_coder *coder, const void *samples, size_t samples_len, aecp_reply *reply);
 
-/* Ends the stream. An incomplete sample is dropped. `reply->len` is the number of bytes left to take, the last of the stream.
- * Faults: that of an earlier feed, MEMORY, NOT_OPEN. Trap: after it, even after a fault, the coder takes no more samples: NOT_OPEN. */
+/* Ends the stream. An incomplete sample is dropped. `reply->len` is the number of bytes left to take, the last of the stream. Faults: that
+ * of an earlier feed, MEMORY, NOT_OPEN. Trap: afterwards feed and finish return NOT_OPEN, even after a fault. If finish fails, the samples
+ * of the last interval are lost. */
 uint32_t aecp_coder_finish(aecp_coder *coder, aecp_reply *reply);
 
-/* Moves all bytes that are left to take to `out`, as the calls above fill it. Faults: MEMORY,
- * NO_ROOM, NOT_OPEN. Allocates as much as it writes. Trap: after a fault of feed, take nothing: the stream is incomplete. */
+/* Moves all bytes that are left to take to `out`. Faults: MEMORY, NO_ROOM, NOT_OPEN. Allocates as much as it writes. Trap: after a fault of
+ * feed, take nothing: the stream is incomplete. */
 uint32_t aecp_coder_take(aecp_coder *coder, uint8_t *out, size_t out_len, aecp_reply *reply);
 
-/* Frees the coder. Allowed where none is open, and twice. */
+/* Frees the coder. Does nothing if none is open. */
 void aecp_coder_close(aecp_coder *coder);
 
-/* A reader returns the samples of a stream interval by interval, and keeps a copy of the stream. Only the library uses its members. It
- * begins as AECP_READER or as zeros, and is open from aecp_reader_open to aecp_reader_close. Don't copy an open reader. One thread at a
- * time may use a reader. The bytes of all intervals are, one after the other, those of one aecp_decode. */
+/* A reader returns the samples of a stream interval by interval, and keeps a copy of the stream. Only the library uses its members.
+ * Initialize it with AECP_READER or zeros. It is open from aecp_reader_open to aecp_reader_close. Don't copy an open reader. One thread at
+ * a time may use a reader. The bytes of all intervals, joined, are those of one aecp_decode. This loop reads them:
+ * while (!aecp_reader_next(&reader, out, out_len, &reply) && reply.len) fwrite(out, 1, reply.len, file); */
 typedef struct {
     void *at;
     bool full;
@@ -227,22 +233,22 @@ typedef struct {
 
 /* Opens a reader of a stream's first `count` samples, or of all with AECP_ALL, at sample 0. `reply->len` is the length in bytes of the
  * samples of a whole interval. On success the reader that `reader` held is freed; after a fault it is unchanged. Faults: options,
- * TOO_MANY_SAMPLES, MEMORY. Allocates the length of the stream, and eight bytes a sample of an interval. Traps: it reads no sample yet,
- * so a bad stream opens too; a reader that didn't begin as zeros frees arbitrary memory. */
+ * TOO_MANY_SAMPLES, MEMORY. Allocates the length of the stream, and eight bytes a sample of an interval. Traps: it reads no sample yet, so
+ * a bad stream opens too; with an uninitialized reader it frees arbitrary memory. */
 uint32_t aecp_reader_open(const aecp_options *options, uint64_t count, const uint8_t *coded, size_t coded_len, aecp_reader *reader,
                           aecp_reply *reply);
 
-/* Writes the stored samples of the next interval to `out`, as the calls above do. `reply->len` is 0 if all samples were
- * read. Faults: TRUNCATED, VALUE_TOO_LARGE, RUN_TOO_LONG, TOO_MANY_SAMPLES, MEMORY, NO_ROOM, NOT_OPEN. After a fault the reader is where
- * it was. Trap: a fault comes only where its interval is read, so earlier samples may be those of a bad stream. */
+/* Writes the stored samples of the next interval to `out`. `reply->len` is 0 if all samples were read. Faults: TRUNCATED, VALUE_TOO_LARGE,
+ * RUN_TOO_LONG, TOO_MANY_SAMPLES, MEMORY, NO_ROOM, NOT_OPEN. After a fault the reader is where it was. Trap: a fault comes only where its
+ * interval is read, so earlier samples may be those of a bad stream. */
 uint32_t aecp_reader_next(aecp_reader *reader, void *out, size_t out_len, aecp_reply *reply);
 
-/* Goes to the start of `interval`, counted from 0, or to the end if the stream has fewer intervals. `reply->len` is the number
- * of samples before there; interval UINT64_MAX counts all samples. Faults: TRUNCATED, VALUE_TOO_LARGE, RUN_TOO_LONG, TOO_MANY_SAMPLES,
- * NOT_OPEN. After a fault the reader is where it was. Trap: it passes over all intervals between, and going back starts at the first. */
+/* Goes to the start of `interval`, counted from 0, or to the end if the stream has fewer intervals. `reply->len` is the number of samples
+ * before that place; UINT64_MAX goes to the end. Faults: TRUNCATED, VALUE_TOO_LARGE, RUN_TOO_LONG, TOO_MANY_SAMPLES, NOT_OPEN. After a
+ * fault the reader is where it was. Trap: it reads all intervals between; to go back, all from the first. */
 uint32_t aecp_reader_go_to(aecp_reader *reader, uint64_t interval, aecp_reply *reply);
 
-/* Frees the reader. Allowed where none is open, and twice. */
+/* Frees the reader. Does nothing if none is open. */
 void aecp_reader_close(aecp_reader *reader);
 
 #ifdef __cplusplus

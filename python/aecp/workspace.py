@@ -19,7 +19,7 @@ FIRST_ROOM = 1 << 16  # bytes for a stream whose length isn't known yet
 
 
 class Workspace(MutableSequence[int]):
-    """Samples, kept as their code. Each edit codes as few intervals anew as it can, and one that is refused changes nothing.
+    """Samples in coded form. Each edit codes as few intervals as it can, and one that is refused changes nothing.
 
         with aecp.Workspace(options, range(100)) as work:
             work[10:13] = [7, 8, 9]

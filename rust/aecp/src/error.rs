@@ -34,7 +34,7 @@ pub enum Error {
         /// The greatest number of them.
         limit: u64,
     },
-    /// The coder of a workspace has been called 2^64 - 1 times.
+    /// The edit needs more coder calls than are left of a workspace's 2^64 - 1.
     Spent,
     /// An allocation failed.
     Memory,

@@ -1,7 +1,7 @@
 use crate::{filled, number_of, raw, zeros, Error, Options};
 use std::fmt;
 
-/// A list of samples that is kept as its code, for repeated edits.
+/// A list of samples in coded form, for repeated edits.
 ///
 /// ```
 /// use aecp::{decode, Error, Options, Workspace};
