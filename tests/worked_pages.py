@@ -17,7 +17,7 @@ sys.path.insert(0, os.path.dirname(os.path.abspath(__file__)))
 from program import Program, Tally
 
 TOP = os.path.join(os.path.dirname(os.path.abspath(__file__)), "..")
-EXAMPLE = re.compile(r"^- (?:none|`(-[^`]*)`)(?: with `([^`]*)`)?: `([0-9A-F ]+)` becomes `([0-9A-F ]+)`\.$", re.M)
+EXAMPLE = re.compile(r"^- (?:without options|`(-[^`]*)`)(?: with `([^`]*)`)?: `([0-9A-F ]+)` becomes `([0-9A-F ]+)`\.$", re.M)
 
 
 def part_of(page, heading):

@@ -28,8 +28,8 @@ HEAD = """<!-- Written by `make pages` from the sentences over the definitions. 
 
 For whoever checks that the proofs speak of the right thing: each definition of `crates/*/specs` with its sentence. Ask
 of each whether it says what its sentence says. A sentence that is a rule of the format names its section of
-[FORMAT.md](FORMAT.md) (§), or its part of [COMMAND.md](COMMAND.md). In brackets also stands what sets a definition apart
-from the code, since one that is the program again would prove nothing.
+[FORMAT.md](FORMAT.md) (§), or its part of [COMMAND.md](COMMAND.md). Brackets also say how a definition differs from the
+code: a copy of the program would prove nothing.
 
 The definitions are lists, tables and relations over whole numbers without bound (ℕ, ℤ). `s` is the settings.
 [CHECK.md](CHECK.md) says what stands against a wrong one: worked values (`Worked..` in `proofs/`, `..Examples` in

@@ -2,8 +2,9 @@
 """Writes docs/PROOFS.md: pages.py [--check]
 
 The claims of a crate stand in its claims.txt, in parts with an empty line between. A part is a
-heading (`== NAME`), text that goes into the page as it is, or a claim: its sentences, and below
-them, indented by four, what it has of these lines, each of which may go on below its text:
+heading (`== NAME`), text that goes into the page as it is, or a claim: its sentences, of which a
+line with `- ` in front begins an item of a list, and below them, indented by four, what it has of
+these lines, each of which may go on below its text:
 
     given  the premise, in words
     by     what carries it: functions and their clauses, as `Params::new: ok refuses; first_bad`.
@@ -14,7 +15,8 @@ them, indented by four, what it has of these lines, each of which may go on belo
     test   tests of the trial crates, as `builds_and_edits` or `skipping::*`, or scripts of tests/
     bare   in place of all these: public functions with no wrong body in the gate; the sentences say why
 
-docs/claims.txt has what stands around the claims; its line `@crates` gives way to them.
+docs/claims.txt has what stands around the claims; its line `@crates` gives way to them, its words
+`@gate` and `@others` to how many must-fail edits the gate tries and leaves out.
 
 Fails where a name is none; where an ensures clause of a public function (of no crate of tests), its premise, a must-fail
 edit, a test or a script of tests/ that make runs stands in no claim; where a public function that is no law stands
@@ -63,11 +65,11 @@ def claim_of(part, wrongs):
             lines[kind] = named[2]
         elif kind and line.startswith(" " * 11):
             lines[kind] += " " + line.strip()
-        elif not kind and not line.startswith(" "):
-            words.append(line)
+        elif not kind and not line.startswith("    "):
+            words.append(f"\n  {line}" if line.startswith("- ") else line.strip())
         else:
             wrongs.append(f"no line of a claim: {line}")
-    return Claim(" ".join(words), lines)
+    return Claim(" ".join(words).replace(" \n", "\n"), lines)
 
 
 def parts_of(path, wrongs):
@@ -216,7 +218,7 @@ def edits_text(line, gate):
     tried = [name for name in names if name in gate]
     others = [name for name in names if name not in gate]
     if not tried:
-        return f"none in the gate; {listed(line)}"
+        return f"the gate tries none; `make wrong-bodies` tries {listed(line)}"
     more = f"; besides {listed(' '.join(others))}" if others else ""
     return f"in the gate {listed(' '.join(tried))}{more}"
 
@@ -278,6 +280,12 @@ def counts_of(crate, parts):
     return f"{claims} claims, {public} public functions, {edits}."
 
 
+def with_counts(text, names):
+    gate = sum(map(len, names.gate.values()))
+    others = sum(map(len, names.edits.values())) - gate
+    return text.replace("@gate", str(gate)).replace("@others", str(others))
+
+
 def written_page(names):
     frame, pages = read_claims(FRAME, None, names), []
     for crate in names.crates.values():
@@ -286,7 +294,8 @@ def written_page(names):
             parts = read_claims(path, crate, names)
             text = page_of(parts, gate=names.gate[crate.name])
             pages.append(f"## {crate.name}\n\n{counts_of(crate, parts)}\n\n{text}")
-    return NOTE + page_of(frame, "## ").replace("@crates", "\n\n".join(pages)) + "\n"
+    page = with_counts(page_of(frame, "## "), names)
+    return NOTE + page.replace("@crates", "\n\n".join(pages)) + "\n"
 
 
 def main():

@@ -263,8 +263,8 @@ def listed(names):
 def counts_of(contract, cited):
     lines = [line for item in cited for line in item.words + item.lines]
     sentences = sum(line.strip().startswith(("--", "///")) for line in lines)
-    statements = f"{len(contract.lines)} lines of contract; {len(cited)} definitions"
-    return f"{statements} of {len(lines) - sentences} lines, with {sentences} lines of sentences"
+    definitions = f"{len(lines) - sentences} lines of definitions, {sentences} lines of comments on them"
+    return f"{len(contract.lines)} lines of contract, {definitions}"
 
 
 def page_of(crate, name, clauses, title):
@@ -278,11 +278,11 @@ def page_of(crate, name, clauses, title):
     names = [f"`{new}` stands for `{true}`" for new, true in library.renamed([contract, *cited])]
     page = [
         f"# {title}",
-        f"{what}. A reader has to believe what stands here: {counts}, and {sum(map(len, words.values()))} words of "
-        "the standard library, which stand at the end.",
+        f"{what}. A reader has to believe what this page shows: {counts}, and {sum(map(len, words.values()))} library "
+        "words, listed at the end.",
         "## The contract",
         *sections_of([contract]),
-        "## What it cites\n\nWhat is cited stands before what cites it."
+        "## What it cites\n\nEach definition stands after those that it cites. Brackets in comments say how the code differs."
         + (f" Other names: {', '.join(names)}." if names else ""),
         *sections_of(cited),
         "## Words of the standard library\n\n" + LIBRARY + (f" {UNKNOWN}" if KNOWN_BYTES in words else ""),

@@ -3,8 +3,8 @@ use Rattle.std.specs.Prelude.{◌≡◌, ℕ, ◌+◌, ◌-◌, ◌^◌, min, Li
 use Rattle.std.specs.Io.KnownBytes.{Appends}
 use Rattle.aec_params.specs.declared.fault.Fault.{Fault}
 
--- A call fails with the device's fault exactly if the device has failed by the call's end. The
--- count of failures, 0 or 1, was 0 before a call that succeeds, and stays so.
+-- A call fails with the device's fault exactly if the device has failed before the call ends: the
+-- count of failures is then 1. If a call succeeds, the count was 0 and is 0.
 abbrev pub FailsOnce : {X : Type 0} → Fault → ℕ → ℕ → Result X Fault → Type 0
 FailsOnce fault old new result = MatchResult result (λ _. (old ≡ 0) × (new ≡ 0)) (λ e. (e ≡ fault) × (new ≡ 1))
 
@@ -12,6 +12,6 @@ FailsOnce fault old new result = MatchResult result (λ _. (old ≡ 0) × (new �
 abbrev pub counted : ℕ → ℕ
 counted n = min (n + 1) (2 ^ 64 - 1)
 
--- known bytes grow by a front of bs, of any length
+-- if the bytes are known, some first part of bs is appended
 abbrev pub AppendsFront : Option (List ℕ) → Option (List ℕ) → List ℕ → Type 0
 AppendsFront old new bs = (n : ℕ) × Appends old new (take n bs)

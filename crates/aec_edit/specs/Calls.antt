@@ -9,7 +9,7 @@ use Rattle.aec_params.specs.Edits.{needed_calls, opened_intervals}
 use Rattle.aec_bits.specs.Codec.{Format}
 use Rattle.aec_bits.specs.Refusals.{refusal_of}
 
--- after so many calls, fewer are left of 2^64 - 1 than are needed
+-- `Spent` if the edit needs more calls than are left of 2^64 - 1
 abbrev pub want_of_calls : ℕ → ℕ → Option Fault
 want_of_calls calls needed = if nat_lt (2 ^ 64 - 1 - calls) needed then Some Spent else None
 

@@ -16,16 +16,16 @@ pub record IsAccepted (f : Format) (limit : ℕ) (s : List ℤ) (calls : ℕ) (e
   pub coded_is : coded ≡ needed_calls f.most (length s) e
   pub calls_are : after ≡ calls + coded
 
--- want of memory at an edit: it codes some interval, and the coder may have been called for it
--- (that the edit fits stands in `IsRefused`)
+-- memory lacked: the edit codes at least one interval, and some calls may be made already
+-- (`IsRefused` says that the edit fits)
 pub record LacksMemory (needed calls : ℕ) (fault : Fault) (after : ℕ) : Type 0 where
   pub fault_is : fault ≡ Memory
   pub some : 0 < needed
   pub stays : calls ≤ after
   pub few : after ≤ calls + needed
 
--- an edit of the samples s that is refused: for what is due, with no call, or else for want of
--- memory
+-- an edit of the samples s that is refused: if a refusal is due, for that and without a call; if
+-- none is due, for lack of memory
 abbrev pub IsRefused : Format → ℕ → List ℤ → ℕ → Edit → Fault → ℕ → Type 0
 IsRefused f limit s calls e fault after =
     MatchOption (due_refusal f limit s calls e)

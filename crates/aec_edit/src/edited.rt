@@ -33,10 +33,9 @@ pub struct Edited {
 ///
 /// Each edit has the outcome that is defined for the samples and calls that earlier edits left.
 /// What is written is, bit for bit, the code of the samples that the accepted edits leave; read
-/// with its count it gives these samples and no others. Fails with `Memory` if there is no room for
-/// the outcomes or for the samples read, never without edits; nothing was written then. Fails with
-/// `Write` if the sink fails, which has then taken a front of the stream. Of a sink whose bytes are
-/// unknown nothing is said of what is written.
+/// with its count it gives these samples and no others. May fail with `Memory`, but never without
+/// edits; nothing was written then. Fails with `Write` if the sink fails, which has then taken a
+/// front of the stream. If the sink's bytes are unknown, nothing is said about what is written.
 pub fn write_edited<C: Codec + Drop, W: Sink>(
     alloc: Global,
     codec: C,

@@ -15,8 +15,8 @@ pub fn overwrites_code_what_they_touch()
     ensures { OverwritesCodeWhatTheyTouch }
 {}
 
-/// A refused edit leaves the samples unchanged, and with them their code; and unless it is refused
-/// with `Memory` the calls.
+/// By the definition of outcomes a refused edit leaves the samples unchanged, and also the calls,
+/// unless it is refused with `Memory`.
 pub fn refused_edits_change_nothing()
     ensures { RefusedEditsChangeNothing }
 {}

@@ -44,8 +44,8 @@ fn code_intervals(alloc: Global, params: &Params, samples: &[i64]) -> Result<Bit
 /// taken; then `Memory` where a growth was refused.
 ///
 /// Without padding no coded data sets for the same blocks are shorter: take for each interval any
-/// bits that the standard reads as its blocks, the filler of the last one included, by any options
-/// and any runs. Joined they have at least as many bits.
+/// bits that the definitions read as its blocks, including the filler of the last block, by any
+/// options and any runs. Together these bits are at least as many as ours.
 pub fn encode_all(alloc: Global, params: &Params, samples: &[i64]) -> Result<BitBuf, Fault>
     ensures ok { IfOk result (λ b. b.list ≡ stream_of params.now samples.now) }
     ensures shortest { params.now.pad ≡ false → IfOk result (λ b. (codes : List (List Bool))

@@ -23,8 +23,8 @@ pub record Stretch : Type 0 where
   pub first : ℕ
   pub stop : ℕ
 
--- the numbers of the intervals of n samples from that of the first of some places on that begin
--- before their end
+-- the numbers of the intervals of n samples from that of the first place, up to the last that
+-- begins before the end of the places
 abbrev pub reached_intervals : ℕ → Stretch → List ℕ
 reached_intervals n places = range_with_len (places.first / n) (div_ceil places.stop n - places.first / n)
 

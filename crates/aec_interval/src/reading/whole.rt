@@ -27,7 +27,7 @@ pub(crate) fn judge_count(count: Option<u64>, limit: u64) -> Result<(), Fault>
 /// a rest of zero bits. `TooManySamples` first where a given count is above `limit`; then at each
 /// coded data set in turn `Truncated`, `ValueTooLarge`, `RunTooLong` with the bit where it begins,
 /// `TooManySamples` without a count where the samples with it pass the limit, and `Memory`. So
-/// memory is refused only after a coded data set that was read and that no fault refuses.
+/// `Memory` comes only after at least one coded data set was read without a fault.
 pub fn decode_all(
     alloc: Global,
     params: &Params,
