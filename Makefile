@@ -1,7 +1,7 @@
 # What a user, a packager and a developer run. Building needs the kit's command `rt` and python3; the library also cc, ld, objcopy and
 # ar. Installing needs python3. `make dist` needs objdump, dpkg-deb, and git or the variable SOURCE_DATE_EPOCH.
 #
-# Variables: PREFIX; DESTDIR, a folder to install into in place of the root; PROGRAM, the program's installed name; BUILT, a program to
+# Variables: PREFIX; DESTDIR, a folder that replaces / as the root; PROGRAM, the program's installed name; BUILT, a program to
 # install in place of bin/aec; LIBDIR and PYTHON_DIR, where the library and the Python module go; PC_PREFIX, the prefix in aecp.pc.
 PREFIX ?= /usr/local
 
@@ -10,7 +10,7 @@ PYTHON ?= python3
 
 .PHONY: all try example sizes test pages man version theorem wrong-bodies install uninstall bench pictures clean
 
-# Proves the program and everything that it stands on, builds it, and leaves it in bin/aec.
+# Proves the program and the crates that it uses, and builds bin/aec.
 all: bin/aec
 
 bin/aec: FORCE
@@ -18,7 +18,7 @@ bin/aec: FORCE
 
 FORCE:
 
-# Four small jobs by the program as it is written, before anything is proved. Leaves that program in bin/aec-unproved.
+# Builds bin/aec-unproved without proofs, and runs four small jobs with it.
 try:
 	@sh try.sh
 
@@ -32,7 +32,7 @@ OPTIONS ?= -n 16
 sizes:
 	@PYTHONPATH=python python3 -m aecp fit $(FILE) $(OPTIONS)
 
-# What is generated of the pages, the gate, then the tests of the program that it has built.
+# Checks the generated pages, runs the gate (`rt ci`), then tests the program that the gate has built.
 test:
 	sh tests/run.sh
 
@@ -56,16 +56,16 @@ version:
 theorem:
 	@python3 tools/theorem.py $(OF)
 
-# The calls and files that a sample passes on its way, and how many clauses a function has.
+# Prints the calls and files that a sample passes, and how many clauses a function has.
 .PHONY: walk
 walk:
 	@python3 tools/walk.py
 
-# The wrong bodies that the gate leaves out: each must be refused.
+# Tries the wrong bodies that the gate leaves out. The checker must refuse each.
 wrong-bodies: bin/aec
 	python3 tests/wrong_bodies.py
 
-# Time and memory beside the client of libaec, and what edits cost, as tables; no test.
+# Prints tables of time and memory beside libaec's client, and of what edits cost. Tests nothing.
 bench: bin/aec
 	python3 bench/bench.py bin/aec
 	python3 bench/instructions.py bin/aec
@@ -75,7 +75,7 @@ bench: bin/aec
 pictures:
 	python3 bench/pictures.py
 
-# Installs what `make` has built. It needs python3, but no rt. If libaec's client is to stay `aec`, give another name as PROGRAM.
+# Installs what `make` has built. It needs python3, but no rt. To keep libaec's client as `aec`, give another name as PROGRAM.
 PROGRAM ?= aec
 BUILT ?= bin/aec
 share = $(DESTDIR)$(PREFIX)/share
@@ -90,6 +90,7 @@ install:
 
 # Removes what `make install` has installed below the same PREFIX under the same PROGRAM.
 uninstall:
+	@test -e $(share)/doc/$(PROGRAM)/README.md || { echo "below $(PREFIX) nothing was installed as $(PROGRAM): give its name as PROGRAM" >&2; exit 1; }
 	rm -f $(DESTDIR)$(PREFIX)/bin/$(PROGRAM) $(share)/man/man1/$(PROGRAM).1
 	rm -f $(share)/bash-completion/completions/$(PROGRAM) $(share)/zsh/site-functions/_$(PROGRAM)
 	rm -rf $(share)/doc/$(PROGRAM)
@@ -97,19 +98,19 @@ uninstall:
 clean:
 	rm -rf bin dist crates/*/out
 
-# The library for C and the Python module over it: bin/libaecp.a and bin/libaecp.so, proved.
+# Proves the library for C, and builds bin/libaecp.a and bin/libaecp.so. The Python module needs the latter.
 .PHONY: library test-library install-library install-c install-python uninstall-library
 library:
 	@at=$$($(PYTHON) packaging/proved.py commit) && sh library.sh && $(PYTHON) packaging/proved.py record "$$at" bin/libaecp.a bin/libaecp.so
 
-# The tests of the library in bin/, beside the program that the gate has built.
+# Tests the library in bin/ against the program that the gate has built.
 test-library:
 	python3 tests/library.py crates/aec/out/aec bin
 	python3 tests/library_arrays.py crates/aec/out/aec bin
 	python3 tests/library_python.py bin
 	python3 tests/archive.py bin
 
-# Header, libraries, pkg-config file and Python module. The module goes where `python3` looks for modules, with a library of its own.
+# Header, libraries, pkg-config file and Python module. The module goes where `python3` looks for modules, with its own copy of the library.
 PYTHON_DIR ?= $(shell $(PYTHON) -c 'import sysconfig; print(sysconfig.get_path("purelib"))')
 LIBDIR ?= $(PREFIX)/lib
 PC_PREFIX ?= $(PREFIX)
@@ -148,8 +149,8 @@ uninstall-library:
 	rm -rf $(DESTDIR)$(LIBDIR)/cmake/aecp $(DESTDIR)$(PYTHON_DIR)/aecp $(info)
 	-rmdir $(DESTDIR)$(LIBDIR)/cmake 2> /dev/null
 
-# Packages of what `make` and `make library` have built, in dist/: a tarball, Debian packages and a wheel. UNPROVED=1 packs files that
-# these two haven't built, for a try; the packages then say that nothing is proved.
+# Packages of what `make` and `make library` have built, in dist/: a tarball, Debian packages and a wheel. UNPROVED=1 packs other
+# files, for a try; then the file PROVED of each package says that nothing is proved.
 .PHONY: dist test-packages
 UNPROVED ?=
 dist:

@@ -13,7 +13,7 @@ import stage
 ARCH, TRIPLET = "amd64", "x86_64-linux-gnu"
 LIB = f"lib/{TRIPLET}"
 MAINTAINER = "The maintainers of aec <maintainers@users.noreply.citruslapis.example>"
-# The fields of each control file, besides those that all have.
+# The fields in which the control files differ.
 PACKAGES = {
     "aec-proved": {
         "Section": "utils",
@@ -26,8 +26,8 @@ PACKAGES = {
  A checker has proved that every function of the program keeps its contract.
  It needs a processor with SSE4.2 (x86-64-v2).
  .
- The program is aec-proved, and aec by the alternatives system. It can be
- installed beside libaec-tools, whose program is then aec.""",
+ The program is /usr/bin/aec-proved; the alternatives system adds the name
+ aec. If libaec-tools is installed too, aec is libaec's program.""",
     },
     "libaecp0": {
         "Section": "libs",
@@ -38,7 +38,7 @@ PACKAGES = {
  .
  A checker has proved that every function of the library keeps its contract.
  It needs a processor with SSE4.2 (x86-64-v2).
- Its names begin with aecp_, so a program can also use libaec.""",
+ Its symbols begin with aecp_, so a program can also link libaec.""",
     },
     "libaecp-dev": {
         "Section": "libdevel",
@@ -133,7 +133,7 @@ def finish(top, root, folder, name, version, depends, moment):
 
 
 def next_of(version):
-    """The first version whose library may have other structs: the one with the next first number."""
+    """The least version with the next first number: its structs may differ."""
     return f"{int(version.split('.')[0]) + 1}~"
 
 

@@ -1,11 +1,11 @@
 #!/usr/bin/env python3
 """Packs what `make` and `make library` have built into dist/: dist.py [--unproved]
 
-A tarball, the Debian packages and the wheel. Two runs at one commit write the same bytes, in whatever folder they run: dates are that
-of the commit (or SOURCE_DATE_EPOCH), names are sorted, and no path of this machine goes in.
+A tarball, the Debian packages and the wheel. Two runs at one commit write the same bytes, in whatever folder they run: each date is
+the commit's (or SOURCE_DATE_EPOCH), names are sorted, and no path of this machine goes in.
 
-Fails if a binary isn't what a proving build has left at this commit. With --unproved such binaries are packed for a try, and PROVED
-says so.
+Fails unless each binary was proved and built at this commit. With --unproved, other binaries are packed too, for a try, and the file
+PROVED says so.
 """
 
 import os
@@ -32,7 +32,7 @@ def version():
 
 
 def moment():
-    """The seconds that every date in a package is: those of SOURCE_DATE_EPOCH, else of the commit."""
+    """The date of every file, in seconds: SOURCE_DATE_EPOCH, else the commit's."""
     given = os.environ.get("SOURCE_DATE_EPOCH") or proved.git("log", "-1", "--format=%ct")
     if not given:
         raise proved.NotProved("there is no commit to take a date from: set SOURCE_DATE_EPOCH")
@@ -40,7 +40,7 @@ def moment():
 
 
 def texts(is_proved):
-    """A function of the binaries' places in a package, which returns the text of PROVED."""
+    """Returns a function from the binaries' paths in a package to the text of PROVED."""
     start = proved.head(version(), list(BINARIES.values()), is_proved)
     sums = {name: proved.sum_of(os.path.join(proved.TOP, path)) for name, path in BINARIES.items()}
 

@@ -4,8 +4,8 @@
 #     sh install.sh PREFIX
 #     sh install.sh uninstall PREFIX
 #
-# The files are those of the folders bin, lib, include and share beside this script. The program is bin/aec. With PROGRAM=aec-proved
-# in the environment it gets this name, for a machine where libaec's client is `aec`.
+# The files are those of the folders bin, lib, include and share beside this script. The program is bin/aec. If libaec's client is
+# already `aec`, set PROGRAM=aec-proved in the environment: the program gets this name. Set it for `uninstall` too.
 set -eu
 umask 022
 from=$(cd "$(dirname "$0")" && pwd)
@@ -57,7 +57,15 @@ install_file() {
     chmod $mode "$to"
 }
 
-# Removes the folders of the files, from the deepest up, if they are empty. PREFIX, and the folders that every PREFIX has, stay.
+# Ends if no program of this name was installed below PREFIX by this script: bin/aec may then be libaec's.
+check_installed() {
+    if [ ! -e "$prefix/share/doc/$program/README.md" ]; then
+        echo "nothing was removed: below $prefix this script hasn't installed the program as $program; set PROGRAM to its name" >&2
+        exit 1
+    fi
+}
+
+# Removes the folders of the files, from the deepest up, if they are empty. PREFIX and its usual folders stay.
 remove_folders() {
     files | while IFS= read -r file; do
         folder=$(dirname "$(place "$file")")
@@ -87,8 +95,9 @@ esac
 
 if [ $action = install ]; then
     files | while IFS= read -r file; do install_file "$file"; done
-    echo "installed in $prefix: bin/$program, lib/libaecp.a, lib/libaecp.so.0. If the loader searches $prefix/lib, run ldconfig."
+    echo "installed in $prefix: bin/$program, lib/libaecp.a, lib/libaecp.so.0. If $prefix/lib is on the loader's path, run ldconfig."
 else
+    check_installed
     files | while IFS= read -r file; do rm -f "$prefix/$(place "$file")"; done
     remove_folders
     echo "removed from $prefix"

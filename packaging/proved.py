@@ -3,7 +3,7 @@
 
 commit: prints the commit of the checkout, before a build begins.
 record: after `make` or `make library` has proved and built FILE, writes FILE.proved beside it: the file's SHA-256, the commit and the
-kit. `make dist` packs a file only if these are still true. It writes them into the file PROVED of each package.
+kit. `make dist` packs a file only if sum, commit and kit still match. It writes them into the file PROVED of each package.
 gate: after `make test` has run the gate, writes the commit and the last line of the gate's LOG to bin/gate.
 """
 
@@ -22,7 +22,7 @@ kit     {kit}
 commit  {commit}
 gate    {gate}
 
-SHA-256 of each binary. `grep '^[0-9a-f]' PROVED | sha256sum -c` compares them.
+SHA-256 of each binary. `grep -E '^[0-9a-f]{{64}} ' PROVED | sha256sum -c` compares them, in the folder of their paths.
 """
 UNPROVED = """aec {version} for Linux on x86-64. NOTHING IS PROVED of these binaries. They were built for trying the packages.
 
@@ -33,7 +33,7 @@ SHA-256 of each binary.
 
 
 class NotProved(Exception):
-    """A file that is to be packed isn't what a proving build has left."""
+    """A file to be packed wasn't proved and built here."""
 
 
 def told(*words):
@@ -45,7 +45,7 @@ def told(*words):
 
 
 def git(*words):
-    """What git prints of the checkout, whoever owns it."""
+    """What git prints in the checkout, even if another user owns the checkout."""
     return told("git", "-c", "safe.directory=*", *words)
 
 
@@ -64,7 +64,7 @@ def sum_of(path):
 
 
 def record(at, path):
-    """Writes what is true of a file that has just been proved and built at a commit."""
+    """Writes sum, commit and kit of a file that was just proved and built."""
     with open(path + ".proved", "w", encoding="utf-8") as file:
         file.write(f"{sum_of(path)}\n{at}\n{told('rt', 'version')}\n")
 

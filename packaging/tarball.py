@@ -1,4 +1,4 @@
-"""The tarball: program, library and pages below a folder that is like PREFIX, and a script that installs them."""
+"""The tarball: program, library and pages in a folder with PREFIX's layout, and a script that installs them."""
 
 import gzip
 import os
@@ -11,7 +11,7 @@ PLACES = {"aec": "bin/aec", "libaecp.a": "lib/libaecp.a", "libaecp.so": "lib/lib
 
 
 def add(archive, path, name, moment):
-    """Adds a file, a link or a folder with nothing of this machine: no owner, no date of its own."""
+    """Adds a file, a link or a folder, with owner root and the date of the commit."""
     info = archive.gettarinfo(path, name)
     info.uid = info.gid = 0
     info.uname = info.gname = "root"
@@ -42,10 +42,10 @@ README = """aec {version} for Linux on x86-64-v2 (SSE4.2), glibc 2.34 or newer.
 
     sh install.sh PREFIX              installs, for example below /usr/local or $HOME/.local
     sh install.sh uninstall PREFIX    removes what was installed
-    PROGRAM=aec-proved sh install.sh PREFIX    installs the program as aec-proved, beside libaec's aec
+    PROGRAM=aec-proved sh install.sh PREFIX    installs the program as aec-proved, beside libaec's aec; uninstall with it too
 
-bin/aec also runs in this folder. share/doc/aec/README.md is the first page. PROVED says what was proved of which files. LICENSE
-is the licence, and NOTICES has the licence of crates whose code is in the binaries.
+bin/aec also runs in this folder. share/doc/aec/README.md is the first page. PROVED lists the binaries and says what was proved.
+LICENSE is the licence, and NOTICES has the licence of crates whose code is in the binaries.
 """
 
 

@@ -21,7 +21,7 @@ License: BSD-2-Clause
 License-File: LICENSE
 License-File: NOTICES
 Keywords: ccsds,compression,szip,grib,hdf5,zarr,lossless
-Classifier: Development Status :: 4 - Beta
+Classifier: Development Status :: 5 - Production/Stable
 Classifier: Intended Audience :: Science/Research
 Classifier: License :: OSI Approved :: BSD License
 Classifier: Operating System :: POSIX :: Linux
@@ -44,7 +44,7 @@ Tag: {tag}
 
 
 class Unfit(Exception):
-    """The library isn't one that the tag promises."""
+    """The library needs more than the tag allows."""
 
 
 def check_library(path):

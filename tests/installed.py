@@ -94,6 +94,9 @@ def try_install(program, name, tally):
         tally.check(f"bash completes {name}", (said.returncode, said.stdout), (0, f"complete -F _aec {name}\n"))
         with open(os.path.join(folder, "usr", "share", "zsh", "site-functions", "_" + name), encoding="utf-8") as file:
             tally.check(f"zsh completes {name}", file.readline(), f"#compdef {name}\n")
+        if name != "aec":
+            left = files_below(folder)
+            tally.check(f"uninstall aec where {name} is installed", (made("uninstall", folder)[0], files_below(folder)), (2, left))
         tally.check(f"uninstall {name}", made("uninstall", folder, *words), (0, ""))
         tally.check(f"what uninstall leaves of {name}", files_below(folder), [])
 

@@ -37,6 +37,8 @@ from program import Tally
 
 DIST = os.path.join(TOP, "dist")
 LIB = "usr/lib/x86_64-linux-gnu"
+# The command that a file PROVED names; --strict so that a line in another form fails.
+SUMS = "grep -E '^[0-9a-f]{{64}} ' {} | sha256sum --strict -c"
 
 
 class Checks(Tally):
@@ -175,7 +177,7 @@ def try_tarball(made, root, folder, tally):
     subprocess.run(["tar", "-C", folder, "-xzf", made[name + ".tar.gz"]], check=True)
     root.copy(os.path.join(folder, name), f"/tmp/{name}")
     place, prefix = (f"/tmp/{name}", "/opt/aec") if root.words else (root.inside(f"/tmp/{name}"), root.inside("/opt/aec"))
-    for words, script in (("sums", f"cd {place}; grep '^[0-9a-f]' PROVED | sha256sum -c"), ("install", f"sh {place}/install.sh {prefix}")):
+    for words, script in (("sums", f"cd {place}; {SUMS.format('PROVED')}"), ("install", f"sh {place}/install.sh {prefix}")):
         status, said = root.run(script)
         tally.holds(status == 0, f"the tarball's {words}: {said}")
     tally.check("the tarball's program", root.run(f"{prefix}/bin/aec --version"), (0, f"aec {version()}\n"))
@@ -186,6 +188,8 @@ def try_tarball(made, root, folder, tally):
     tally.check("what the tarball leaves", sorted(root.files() - before), [])
     status, said = root.run(f"PROGRAM=aec-proved sh {place}/install.sh {prefix} && {prefix}/bin/aec-proved --version")
     tally.holds(status == 0 and not os.path.exists(root.inside("/opt/aec/bin/aec")), f"the tarball under another name: {said}")
+    status, said = root.run(f"sh {place}/install.sh uninstall {prefix}")
+    tally.holds(status == 1 and os.path.exists(root.inside("/opt/aec/lib/libaecp.a")), f"uninstall of a name that isn't installed: {said}")
     root.run(f"PROGRAM=aec-proved sh {place}/install.sh uninstall {prefix}")
     tally.check("what the tarball leaves under another name", sorted(root.files() - before), [])
 
@@ -239,7 +243,7 @@ def try_debs(made, root, folder, tally):
         status, said = root.run(f"cd /tmp && dpkg -i {debs[0]} {debs[1]} && dpkg -i --force-depends {debs[2]}")
         tally.holds(status == 0, f"dpkg -i: {said}")
         tally.check("aec-proved --version", root.run("aec-proved --version"), (0, f"aec {version()}\n"))
-        status, said = root.run("for name in /usr/share/doc/*/PROVED; do grep '^[0-9a-f]' $name; done | sha256sum -c")
+        status, said = root.run(f"for name in /usr/share/doc/*/PROVED; do {SUMS.format('$name')}; done")
         tally.holds(status == 0 and said.count(": OK") >= 3, f"the sums of PROVED: {said}")
         if has_other:
             tally.check("a file of another package", data_of(other), b"libaec's client\n")
