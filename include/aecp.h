@@ -82,11 +82,12 @@ enum {
 
 /* The calls that fill `out`, except aecp_text, return `reply->fault`. If it is 0, the result is the first `reply->len` bytes of `out`, and
  * the bytes after it are unchanged. Otherwise all of `out` is unchanged, and the call may be repeated. NO_ROOM is returned only if there is
- * no other fault. To learn the length, pass an empty `out`, even NULL: the call still does its whole work. Below, 'options' means the
- * faults 1 to 4 and 17. */
+ * no other fault. To learn the length, pass an empty `out`, even NULL: the call still does its whole work. The length of a buffer is its
+ * number of bytes, but that of a buffer of int64_t is its number of samples. Below, 'options' means the faults 1 to 4 and 17. */
 
 /* Codes stored samples. Bytes at the end that don't fill a sample are dropped. Faults: options, SAMPLE_RANGE, TOO_MANY_SAMPLES, MEMORY,
- * NO_ROOM. Allocates twice the code's length, and an interval of samples. Trap: keep the sample count, which decoding needs. */
+ * NO_ROOM. Allocates twice the code's length, and an interval of samples. Traps: `samples_len` is bytes, but aecp_bound takes samples; keep
+ * the sample count, which decoding needs. */
 uint32_t aecp_encode(const aecp_options *options, const void *samples, size_t samples_len, uint8_t *out, size_t out_len,
                      aecp_reply *reply);
 

@@ -105,6 +105,32 @@ def try_keep(tally, folder):
     tally.check("names after options", command(place, "keep", "d", "-n", "16", "b.raw")[:2], (0, "2 kept already\n"))
 
 
+def try_lone_notes(tally, folder):
+    """A file with the name of a note, and no stream beside it: it stays, unless it says just what the new note says."""
+    place = tempfile.mkdtemp(dir=folder)
+    note, stream = os.path.join(place, "d.aec.json"), os.path.join(place, "d.aec")
+    refused = (1, "1 refused\n", "aecp: d: d.aec.json exists, has no stream, and isn't just this file's note: move it away\n")
+
+    def try_lone(what, wanted):
+        before = read(note)
+        tally.check(f"a lone note, {what}", command(place, "keep", "d", "-n", "16"), wanted)
+        tally.check(f"a lone note, {what}: it stays", read(note) == before, wanted is refused)
+
+    write(place, "d", USUAL.stored(walk(random.Random(4), 500)))
+    write(place, "d.aec.json", b'{"mine": 1}')
+    try_lone("of another program", refused)
+    os.unlink(note)
+    command(place, "keep", "d", "-n", "16", "-j", "8")
+    os.unlink(stream)
+    try_lone("of other options", refused)
+    os.unlink(note)
+    command(place, "keep", "d", "-n", "16")
+    command(place, "edit", "d.aec", "-", given=b"append 1\n")
+    command(place, "undo", "d.aec")
+    os.unlink(stream)
+    try_lone("with edits", refused)
+
+
 def try_back(tally, folder):
     place = tempfile.mkdtemp(dir=folder)
     samples = walk(random.Random(6), 900)
@@ -268,4 +294,4 @@ def try_usage(tally, folder):
     tally.check("a pair of that name", Pair(os.path.join(place, "f.aec")).is_kept(), False)
 
 
-PARTS = (try_names, try_keep, try_back, try_edits, try_view, try_fit, try_usage)
+PARTS = (try_names, try_keep, try_lone_notes, try_back, try_edits, try_view, try_fit, try_usage)

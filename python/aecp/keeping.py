@@ -16,7 +16,7 @@ from typing import Any, Callable, NamedTuple, Optional, TypeVar, Union
 
 from aecp.calls import decode_bytes, encode
 from aecp.faults import Fault, OptionsRefused, SampleRefused
-from aecp.notes import WRITER, Note, Sum, now, sha256_of, words_of
+from aecp.notes import WRITER, BadNote, Note, Sum, note_of, now, sha256_of, words_of
 from aecp.options import Options
 from aecp.pairs import NOTE, OLD_NOTE, STREAM, Damaged, Pair, Refused, read_if_there, shown
 from aecp.writing import sync_folder
@@ -201,10 +201,22 @@ def keep_locked(keeping: Keeping, file: Found, pair: Pair) -> Outcome:
             raise Refused(f"{shown(pair.name)} exists, has no note, and isn't this file's code with {words_of(note.options)}: move it away")
         mended = "its stream had no note"
     if os.path.lexists(pair.note_path):
+        judge_lone_note(pair, note)
         os.unlink(pair.note_path)
         mended = "its note had no stream, and is written anew"
     pair.create(note, stream)
     return Outcome(file.path, "kept", mended or "", len(data), len(stream))
+
+
+def judge_lone_note(pair: Pair, note: Note) -> None:
+    """Refuses to replace a file that has the name of a note, has no stream beside it, and says anything else than the note to be written:
+    a note with edits, that of other samples or options, or no note at all."""
+    try:
+        lone = note_of(read_if_there(pair.note_path) or b"")
+    except BadNote:
+        lone = None
+    if lone is None or (lone.options, lone.samples) != (note.options, note.samples) or len(lone.history) > 1:
+        raise Refused(f"{shown(os.path.basename(pair.note_path))} exists, has no stream, and isn't just this file's note: move it away")
 
 
 def coded(keeping: Keeping, data: bytes, status: os.stat_result) -> tuple[Note, bytes]:
