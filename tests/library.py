@@ -10,7 +10,7 @@ FOLDER has libaecp.a and libaecp.so. In turn, by the C program library_calls.c a
   - eight threads at once; NULL for a buffer of no bytes; a run under valgrind, where it is installed, that loses no memory;
   - samples and coded bytes in each kind of buffer that Python has (library_buffers.py);
   - streams edited by scripts by chance, beside a model (library_edits.py);
-  - the program in C of docs/LIBRARY.md, and one that is C and C++ (library_types.py);
+  - the C of docs/LIBRARY.md and README.md, and a program that is C and C++ (library_types.py);
   - lists by chance with settings by chance: beside the plain coder, the program at PATH_OF_AEC, and libaec's client.
 And the names that the shared library defines and needs.
 
@@ -32,7 +32,7 @@ from damaged_cases import some_samples, some_settings
 from library_buffers import try_buffers
 from library_edits import try_scripts
 from library_memory import try_freed, try_refusals, try_stacks
-from library_types import try_types, try_version
+from library_types import try_readme, try_types, try_version
 from program import Program, Tally
 from refusing import build, has_compiler, print_skipped
 from settings import STANDARD_BLOCK_SIZES, Settings
@@ -355,6 +355,7 @@ def try_in_c(asked, folder, aecp, tally):
     include, said = os.path.join(TOP, "include"), Program(asked.program, folder).run("--version")[1]
     try_version(include, said.split()[-1], tally)
     try_types(include, os.path.join(asked.library, "libaecp.a"), folder, tally)
+    try_readme(include, os.path.join(asked.library, "libaecp.a"), folder, tally)
     try_rows(in_c, aecp, tally)
     try_rooms(in_c, tally)
     rows = [(call, Answer(0, 0, len(wanted), wanted, "no fault")) for call, wanted in [*ROWS, EDITED, SCRIPTED]]

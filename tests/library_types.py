@@ -1,4 +1,5 @@
-"""The header aecp.h as compilers read it, for library.py: a program that is C and C++ at once, over samples of 16 bits, without a warning."""
+"""The header aecp.h as compilers read it, for library.py: a program that is C and C++ at once, over samples of 16 bits, without a warning;
+and README's C, over 4,096 samples of 16 bits."""
 
 import os
 import re
@@ -6,6 +7,8 @@ import shutil
 import subprocess
 
 from program import Program
+
+TOP = os.path.join(os.path.dirname(os.path.abspath(__file__)), "..")
 
 PROGRAM = """
 #include <aecp.h>
@@ -31,6 +34,34 @@ int main(void) {
     return 0;
 }
 """
+
+README = """
+#include <stdio.h>
+#include <stdlib.h>
+#include <string.h>
+%s
+int main(void) {
+    static uint16_t samples[4096], back[4096];
+    for (int i = 0; i < 4096; i++) samples[i] = (uint16_t)(1000 + i %% 99);
+%s
+    size_t len = (size_t)reply.len;
+    if (aecp_decode(&options, 4096, coded, len, back, sizeof back, &reply) || memcmp(samples, back, sizeof back)) return 1;
+    free(coded);
+    return 0;
+}
+"""
+
+
+def try_readme(include, archive, folder, tally):
+    """README's C: it codes all samples of the list that its number of samples is about."""
+    with open(os.path.join(TOP, "README.md"), encoding="utf-8") as file:
+        head, code = re.search(r"```c\n(#include <aecp.h>\n)(.*?)```", file.read(), re.S).groups()
+    source, path = os.path.join(folder, "readme.c"), os.path.join(folder, "readme")
+    with open(source, "w", encoding="utf-8") as file:
+        file.write(README % (head, code))
+    ended = subprocess.run(["cc", "-Wall", "-Werror", "-I", include, "-o", path, source, archive], capture_output=True, text=True)
+    tally.check(f"README's C: {ended.stderr[-500:]}", ended.returncode, 0)
+    tally.check("README's C: its samples come back", Program(path, folder).run(), (0, ""))
 
 
 def try_version(include, version, tally):
