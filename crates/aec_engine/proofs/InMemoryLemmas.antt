@@ -54,7 +54,7 @@ as_refusal P fault f memory (inl same) (inr (inr holds)) = inr (subst P (sym sam
 
 -- ---- coding
 
-code_of : (s : Settings) (caps : Caps) (bytes coded : List ℕ) (answer : Result (List ℕ) Fault) → answer ≡ Ok coded
+pub code_of : (s : Settings) (caps : Caps) (bytes coded : List ℕ) (answer : Result (List ℕ) Fault) → answer ≡ Ok coded
     → IsEncoded s caps (input_of bytes false) answer → IsCodeOf s caps.samples bytes coded
 code_of s caps bytes coded answer is (not_coded fault why) = absurd (cc)
 code_of s caps bytes coded answer is (encoded samples sound read) = record {
@@ -77,7 +77,7 @@ only_refusal : (o : Option Fault) (fault : Fault) → option_or o None ≡ Some 
 only_refusal None fault e = e
 only_refusal (Some f) fault e = e
 
-code_refusal : (s : Settings) (caps : Caps) (bytes : List ℕ) (answer : Result (List ℕ) Fault) (fault : Fault) → answer ≡ Err fault
+pub code_refusal : (s : Settings) (caps : Caps) (bytes : List ℕ) (answer : Result (List ℕ) Fault) (fault : Fault) → answer ≡ Err fault
     → IsEncoded s caps (input_of bytes false) answer
     → bytes_refusal s caps.samples bytes ≡ Some fault
 code_refusal s caps bytes answer fault is (not_coded f why) =
