@@ -84,7 +84,8 @@ enum {
  * 17 are 'options'. */
 
 /* Codes stored samples. Bytes at the end that don't fill a sample are dropped. Faults: options, SAMPLE_RANGE, TOO_MANY_SAMPLES,
- * MEMORY, NO_ROOM. Allocates twice the code, and an interval of samples. Trap: keep the sample count, which decoding needs. */
+ * MEMORY, NO_ROOM. Allocates up to twice the code and 72 KiB, and an interval of samples, at most 32 KiB for short ones. Trap: keep the
+ * sample count, which decoding needs. */
 uint32_t aecp_encode(const aecp_options *options, const void *samples, size_t samples_len, uint8_t *out, size_t out_len,
                      aecp_reply *reply);
 
@@ -233,8 +234,8 @@ uint32_t aecp_reader_open(const aecp_options *options, uint64_t count, const uin
                           aecp_reply *reply);
 
 /* Writes the stored samples of the next interval to `out`, as the calls above do. `reply->len` is 0 if all samples were
- * read. Faults: TRUNCATED, VALUE_TOO_LARGE, RUN_TOO_LONG, TOO_MANY_SAMPLES, MEMORY, NO_ROOM, NOT_OPEN. After a fault the reader is where
- * it was. Trap: a fault comes only where its interval is read, so earlier samples may be those of a bad stream. */
+ * read. Faults: TRUNCATED, VALUE_TOO_LARGE, RUN_TOO_LONG, TOO_MANY_SAMPLES, NO_ROOM, NOT_OPEN. Allocates nothing. After a fault the
+ * reader is where it was. Trap: a fault comes only where its interval is read, so earlier samples may be those of a bad stream. */
 uint32_t aecp_reader_next(aecp_reader *reader, void *out, size_t out_len, aecp_reply *reply);
 
 /* Goes to the start of `interval`, counted from 0, or to the end if the stream has fewer intervals. `reply->len` is the number

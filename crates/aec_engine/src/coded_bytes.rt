@@ -30,12 +30,7 @@ fn roomy_bits(alloc: Global, len: usize) -> BitBuf
 }
 
 /// Returns the code of stored samples.
-fn coded_bits(
-    alloc: Global,
-    params: &Params,
-    limits: Limits,
-    bytes: &[u8],
-) -> Result<BitBuf, Fault>
+fn coded_bits(alloc: Global, params: &Params, limits: Limits, bytes: &[u8]) -> Result<BitBuf, Fault>
     ensures { OrMemory (IsEncoded params.now limits (input_of bytes.now false))
         (answer_by (λ bits. bytes_of bits.list) result) }
 {

@@ -33,7 +33,7 @@ use Rattle.std.specs.contracts.alloc.Global as heap
 use Rattle.std.proofs.alloc.Global.TheLaws as heap_laws
 use Rattle.aec_c.specs.Handles.{reader_owns}
 use Rattle.aec_c.specs.declared.reader_handle.ReaderHandle.{ReaderHandle}
-use Rattle.aec_c.specs.contracts.reader_handle.OpenReader as work
+use Rattle.aec_c.specs.contracts.open_reader.OpenReader as work
 use Rattle.aec_c.specs.contracts.reader_handle.ReaderHandle as handle
 use Rattle.aec_c.specs.contracts.reader_handle.ReaderHandle.into_loose as f
 use Rattle.aec_c.proofs.reader_handle.ReaderHandle.TheLaws.{lowers}
