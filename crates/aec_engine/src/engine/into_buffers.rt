@@ -2,7 +2,7 @@
 //! puts the rest into the buffer when reading again. The buffer can't be a `Sink`: contracts say
 //! what the sink that an engine hands back has taken, and not that it still holds the same buffer.
 
-ghost use Rattle.std.specs.Prelude.{◌≡◌, ℕ, ◌+◌, ◌*◌, ◌<◌, ◌≤◌, ◌^◌, ◌++◌, List, [], ℤ, Some, Ok, false, length, take, drop, vec_len, vec_capacity, IsOk, IfOk, IfErr, OnOk};
+ghost use Rattle.std.specs.Prelude.{◌≡◌, ℕ, ◌+◌, ◌*◌, ◌<◌, ◌≤◌, ◌^◌, ◌++◌, List, [], ℤ, Some, Ok, false, length, take, drop, max, vec_len, vec_capacity, IsOk, IfOk, IfErr, OnOk};
 ghost use Rattle.std.specs.List.{AllByRecursion};
 ghost use Rattle.aec_params.specs.declared.fault.Fault.TheVariants.{Memory};
 ghost use Rattle.aec_params.specs.Params.{IsHeld, interval_len, storage_len};
@@ -151,12 +151,15 @@ fn put_kept(
     Ok(size as u64)
 }
 
-/// Returns how many samples are read at once at first: as many as are asked for, but at most
-/// `AT_ONCE`.
-fn first_samples(count: Option<u64>) -> usize
-    ensures { result ≤ 2048 }
+/// Returns for how many samples room is made at first: for the blocks of those that are asked for,
+/// but at most for `AT_ONCE` samples, or an interval if it is longer.
+fn first_samples(params: &Params, count: Option<u64>) -> usize
+    ensures { result ≤ max 2048 (interval_len params.now) }
 {
-    count.unwrap_or(AT_ONCE as u64).min(AT_ONCE as u64) as usize
+    let most = params.interval_len().max(AT_ONCE as u64);
+    let asked = count.unwrap_or(most).min(most);
+    let blocks = asked.div_ceil(u64::from(params.block_size()));
+    (blocks * u64::from(params.block_size())).min(most) as usize
 }
 
 /// Returns room for the samples that are read at once at first, and room for their bytes with those
@@ -170,7 +173,7 @@ fn first_buffers(
     ensures empty { IfOk result (λ made. vec_len made.1 ≡ 0) }
     ensures fault { IfErr result (λ e. e ≡ Memory) }
 {
-    let most = first_samples(count);
+    let most = first_samples(params, count);
     let samples = Vec::with_capacity(alloc, most)?;
     let kept = if most < AT_ONCE { 4 * most } else { WAITING };
     let bytes = Vec::with_capacity(alloc, kept + 4 * params.interval_len() as usize)?;
