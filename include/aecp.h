@@ -10,7 +10,7 @@
  * allocates before it returns, except what an open handle, coder or reader holds. Several threads may call at once, each with an `out`, a
  * `reply`, and a handle, coder or reader of its own.
  *
- * The least stack of a thread, as the tests measure it: 32 KiB for aecp_encode and aecp_edit; 16 KiB for the others. At least 4 KiB are
+ * The least stack of a thread, as the tests measure it: 32 KiB for aecp_edit; 16 KiB for the others. At least 4 KiB are
  * left then, and the thread itself takes some 8 KiB.
  */
 #ifndef AECP_H
@@ -84,8 +84,8 @@ enum {
  * 17 are 'options'. */
 
 /* Codes stored samples. Bytes at the end that don't fill a sample are dropped. Faults: options, SAMPLE_RANGE, TOO_MANY_SAMPLES,
- * MEMORY, NO_ROOM. Allocates up to twice the code and 72 KiB, and an interval of samples, at most 32 KiB for short ones. Trap: keep the
- * sample count, which decoding needs. */
+ * MEMORY, NO_ROOM. Allocates up to twice the code and 72 KiB, and eight bytes for each of 4,096 samples, or of an interval that is longer.
+ * Trap: keep the sample count, which decoding needs. */
 uint32_t aecp_encode(const aecp_options *options, const void *samples, size_t samples_len, uint8_t *out, size_t out_len,
                      aecp_reply *reply);
 
