@@ -8,7 +8,6 @@ use Rattle.aec_params.specs.declared.settings.Settings.{Settings}
 use Rattle.aec_params.specs.declared.fault.Fault.{Fault}
 use Rattle.aec_params.specs.declared.fault.Fault.TheVariants.{Memory, Write, StreamTooLong, TooManySamples}
 use Rattle.aec_params.specs.Limits.{Caps}
-use Rattle.aec_params.specs.Params.{IsAllowed}
 use Rattle.aec_interval.specs.Taking.{judged_samples}
 use Rattle.aec_engine.specs.Transfers.{Input, input_of, are_past, Taking, Putting, Leaves, written, refused, no_answer, not_written}
 use Rattle.aec_engine.specs.Output as output
@@ -16,7 +15,7 @@ use Rattle.aec_engine.specs.Output.{IsEncoded, are_refused, coding_refusal, not_
 use Rattle.aec_engine.specs.Buffers.{OrMemory}
 use Rattle.aec_engine.specs.Laws.{IsJudgedWhole}
 use Rattle.aec_engine.specs.InMemory.{IsCodeOf, bytes_refusal, IsStoredReadingOf, RefusesCoded, too_many_bytes, not_counted, faulty}
-use Rattle.aec_engine.proofs.FrontLemmas.{coding-whole, decoding-whole}
+use Rattle.aec_engine.proofs.FrontLemmas.{decoding-whole}
 
 -- ---- any engine
 
