@@ -37,7 +37,8 @@ use Rattle.aec_c.specs.contracts.open_reader.OpenReader as work
 use Rattle.aec_c.specs.contracts.reader_handle.ReaderHandle as handle
 use Rattle.aec_c.specs.contracts.reader_handle.ReaderHandle.into_loose as f
 use Rattle.aec_c.proofs.reader_handle.ReaderHandle.TheLaws.{lowers}
-use Rattle.aec_c.proofs.ReaderHandleSteps.{word, ptr_good, word_good, handle_out}
+use Rattle.aec_c.proofs.HandleSteps.{word, ptr_good, word_good}
+use Rattle.aec_c.proofs.ReaderHandleSteps.{handle_out}
 use Rattle.aec_c.proofs.BoxedReader.{E, LooseWork}
 use Rattle.aec_c.proofs.reader_handle.ReaderHandle.into_loose.Statement.{statement}
 use Rattle.aec_c.proofs.reader_handle.ReaderHandle.into_loose.Code as code
