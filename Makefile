@@ -108,6 +108,7 @@ test-library:
 	python3 tests/library.py crates/aec/out/aec bin
 	python3 tests/library_arrays.py crates/aec/out/aec bin
 	python3 tests/library_python.py bin
+	python3 tests/library_builds.py
 	python3 tests/archive.py bin
 
 # Header, libraries, pkg-config file and Python module. The module goes where `python3` looks for modules, with its own copy of the library.

@@ -10,8 +10,8 @@
  * allocates before it returns, except what an open handle, coder or reader holds. Several threads may call at once, each with an `out`, a
  * `reply`, and a handle, coder or reader of its own. They may share inputs.
  *
- * The least stack of a thread, as the tests measure it: 32 KiB for aecp_encode and aecp_edit; 16 KiB for the others. This includes some
- * 8 KiB that the thread itself takes, and at least 4 KiB to spare.
+ * The least stack of a thread, as the tests measure it: 32 KiB for aecp_edit; 16 KiB for the others. This includes some 8 KiB that the
+ * thread itself takes, and at least 4 KiB to spare.
  */
 #ifndef AECP_H
 #define AECP_H
@@ -86,7 +86,8 @@ enum {
  * number of bytes, but that of a buffer of int64_t is its number of samples. Below, 'options' means the faults 1 to 4 and 17. */
 
 /* Codes stored samples. Bytes at the end that don't fill a sample are dropped. Faults: options, SAMPLE_RANGE, TOO_MANY_SAMPLES, MEMORY,
- * NO_ROOM. Allocates twice the code's length, and an interval of samples. Traps: `samples_len` is bytes, but aecp_bound takes samples; keep
+ * NO_ROOM. Allocates up to twice the code's length and 72 KiB, and eight bytes for each of 4,096
+ * samples, or of an interval that is longer. Traps: `samples_len` is bytes, but aecp_bound takes samples; keep
  * the sample count, which decoding needs. */
 uint32_t aecp_encode(const aecp_options *options, const void *samples, size_t samples_len, uint8_t *out, size_t out_len,
                      aecp_reply *reply);
@@ -240,8 +241,8 @@ uint32_t aecp_reader_open(const aecp_options *options, uint64_t count, const uin
                           aecp_reply *reply);
 
 /* Writes the stored samples of the next interval to `out`. `reply->len` is 0 if all samples were read. Faults: TRUNCATED, VALUE_TOO_LARGE,
- * RUN_TOO_LONG, TOO_MANY_SAMPLES, MEMORY, NO_ROOM, NOT_OPEN. After a fault the reader is where it was. Trap: a fault comes only where its
- * interval is read, so earlier samples may be those of a bad stream. */
+ * RUN_TOO_LONG, TOO_MANY_SAMPLES, NO_ROOM, NOT_OPEN. Allocates nothing. After a fault the reader is where it was. Trap: a fault comes only
+ * where its interval is read, so earlier samples may be those of a bad stream. */
 uint32_t aecp_reader_next(aecp_reader *reader, void *out, size_t out_len, aecp_reply *reply);
 
 /* Goes to the start of `interval`, counted from 0, or to the end if the stream has fewer intervals. `reply->len` is the number of samples

@@ -29,7 +29,10 @@ def encode(samples: Any, options: Options) -> bytes:
 
 def native(samples: Any, options: Options) -> Any:
     """Samples as encode takes them, in memory as the options store them."""
-    if not isinstance(samples, numpy_type("ndarray")):
+    array = numpy_type("ndarray")
+    if type(samples) is array and samples.ndim and samples.flags.c_contiguous and samples.dtype.str == options.dtype:
+        return samples
+    if not isinstance(samples, array):
         return samples
     numpy = numpy_if_there()
     if isinstance(samples, numpy.ma.MaskedArray):

@@ -60,9 +60,10 @@ class Options:
     @property
     def dtype(self) -> str:
         """The numpy dtype of stored samples, as a text such as '<u2'. ValueError for three bytes."""
-        if self.storage == 3:
+        storage = self.storage
+        if storage == 3:
             raise ValueError("numpy has no integers of three bytes: use bytes")
-        return f"{'>' if self.msb_first else '<'}{'i' if self.signed else 'u'}{self.storage}"
+        return f"{'>' if self.msb_first else '<'}{'i' if self.signed else 'u'}{storage}"
 
     @property
     def least(self) -> int:

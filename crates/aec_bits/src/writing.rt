@@ -1,4 +1,4 @@
-//! The bytes that a list of bits fills, written to a sink.
+//! The bytes that a list of bits fills, written to a sink or put into a buffer.
 
 ghost use Rattle.std.specs.Prelude.{◌≡◌, ◌+◌, ◌-◌, ◌/◌, ◌%◌, ◌<◌, ◌≤◌, min, length, take, drop, OnOk, OnErr, IfErr};
 ghost use Rattle.std.specs.Io.KnownBytes.{Appends};
@@ -38,6 +38,15 @@ impl BitBuf {
             done += count as u64;
         }
         Ok(())
+    }
+
+    /// Replaces all bytes of a buffer of the right length by those that the bits fill; zeros fill
+    /// the last one.
+    pub fn put_bytes(&self, out: &mut [u8])
+        requires { length out.old ≡ length (bytes_of self.now.list) }
+        ensures { out.new ≡ bytes_of self.now.list }
+    {
+        let _all = fill(self, 0, out);
     }
 }
 

@@ -1,17 +1,14 @@
 -- What coding and decoding answer, from what the calls of the engine say of their parameters t and
 -- limits.
-use Rattle.std.proofs.Common.{◌≡◌, ℕ, false, Option, Some, Result, Ok, Err, List, ◌⊎◌, inl, inr, refl, sym, subst}
-use Rattle.std.specs.Prelude.{IfOk, IfErr}
+use Rattle.std.proofs.Common.{◌≡◌, ℕ, false, Option, Result, Ok, Err, List, inl, inr, refl, sym, subst}
 use Rattle.aec_params.specs.declared.settings.Settings.{Settings}
 use Rattle.aec_params.specs.declared.fault.Fault.{Fault}
-use Rattle.aec_params.specs.declared.fault.Fault.TheVariants.{Memory}
 use Rattle.aec_params.specs.Limits.{Caps}
 use Rattle.aec_params.specs.Params.{IsAllowed}
 use Rattle.aec_engine.specs.Transfers.{input_of}
-use Rattle.aec_engine.specs.Output.{IsDecoded, IsRanged}
-use Rattle.aec_engine.specs.InMemory.{IsCodeOf, bytes_refusal}
+use Rattle.aec_engine.specs.Output.{IsEncoded, IsDecoded, IsRanged}
 use Rattle.aec_engine.specs.Buffers.{FillsOne, OrMemory}
-use Rattle.aec_engine.proofs.InMemoryLemmas.{reading_of, refusal_of}
+use Rattle.aec_engine.proofs.InMemoryLemmas.{code_of, code_refusal, reading_of, refusal_of}
 use Rattle.aec_engine.proofs.BufferLemmas.{fills_map}
 use Rattle.aec_c.specs.Calls.{most, IsCoding, coded, not_coded, lacks_memory, IsDecoding, decoded, not_decoded, no_memory, IsRanging, ranged, no_room}
 
@@ -21,23 +18,18 @@ at_most P s t caps same greatest holds = subst (λ t. P t most) same (subst (λ 
 
 -- ---- coding
 
-pub coding_ok : {X : Type 0} (s t : Settings) (caps : Caps) (samples : List ℕ) (view : X → List ℕ) (r : Result X Fault) → t ≡ s → caps ≡ most
-    → IsAllowed t → IfOk r (λ x. IsCodeOf t caps.samples samples (view x)) → IfOk r (λ x. IsCoding s samples (Ok (view x)))
-coding_ok s t caps samples view (Ok x) same greatest allowed is =
-    coded (view x) (subst IsAllowed same allowed) (at_most (λ s caps. IsCodeOf s caps.samples samples (view x)) s t caps same greatest is)
-coding_ok s t caps samples view (Err fault) same greatest allowed is = is
+coding : (s : Settings) (samples : List ℕ) (answer : Result (List ℕ) Fault) → IsAllowed s
+    → OrMemory (IsEncoded s most (input_of samples false)) answer → IsCoding s samples answer
+coding s samples answer allowed (inl lacks) = subst (IsCoding s samples) (sym lacks) (lacks_memory allowed)
+coding s samples (Ok bytes) allowed (inr answered) = coded bytes allowed (code_of s most samples bytes (Ok bytes) refl answered)
+coding s samples (Err fault) allowed (inr answered) = not_coded fault allowed (code_refusal s most samples (Err fault) fault refl answered)
 
-code_refused : (s : Settings) (samples : List ℕ) (fault : Fault) → IsAllowed s
-    → (fault ≡ Memory) ⊎ (bytes_refusal s most.samples samples ≡ Some fault) → IsCoding s samples (Err fault)
-code_refused s samples fault allowed (inl lacks) = subst (λ f. IsCoding s samples (Err f)) (sym lacks) (lacks_memory allowed)
-code_refused s samples fault allowed (inr why) = not_coded fault allowed why
-
-pub coding_err : {X : Type 0} (s t : Settings) (caps : Caps) (samples : List ℕ) (r : Result X Fault) → t ≡ s → caps ≡ most → IsAllowed t
-    → IfErr r (λ fault. (fault ≡ Memory) ⊎ (bytes_refusal t caps.samples samples ≡ Some fault)) → IfErr r (λ fault. IsCoding s samples (Err fault))
-coding_err s t caps samples (Ok x) same greatest allowed is = is
-coding_err s t caps samples (Err fault) same greatest allowed is =
-    code_refused s samples fault (subst IsAllowed same allowed)
-    (at_most (λ s caps. (fault ≡ Memory) ⊎ (bytes_refusal s caps.samples samples ≡ Some fault)) s t caps same greatest is)
+pub coding_into : (s t : Settings) (caps : Caps) (samples before after : List ℕ) (r : Result ℕ Fault) → t ≡ s → caps ≡ most → IsAllowed t
+    → FillsOne (OrMemory (IsEncoded t caps (input_of samples false))) before after r → FillsOne (IsCoding s samples) before after r
+coding_into s t caps samples before after r same greatest allowed one =
+    fills_map (OrMemory (IsEncoded t caps (input_of samples false))) (IsCoding s samples) before after r
+    (λ answer answered. coding s samples answer (subst IsAllowed same allowed)
+    (at_most (λ s caps. OrMemory (IsEncoded s caps (input_of samples false)) answer) s t caps same greatest answered)) one
 
 -- ---- decoding
 

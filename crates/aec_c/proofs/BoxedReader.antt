@@ -6,8 +6,8 @@ use Rattle.std.proofs.BoxSteps.Form.{Bx}
 use Rattle.std.specs.contracts.alloc.Global as heap
 use Rattle.std.specs.contracts.impls.GlobalAllocator.TheImpl.{ghosts, dict}
 use Rattle.std.proofs.alloc.Global.TheLaws as heap_laws
-use Rattle.aec_c.specs.contracts.reader_handle.OpenReader as work
-use Rattle.aec_c.proofs.reader_handle.OpenReader.TheLaws as work_laws
+use Rattle.aec_c.specs.contracts.open_reader.OpenReader as work
+use Rattle.aec_c.proofs.open_reader.OpenReader.TheLaws as work_laws
 use Rattle.aec_c.specs.contracts.handle.loose.Loose as loose
 use denote.RattleType.{RattleType}
 

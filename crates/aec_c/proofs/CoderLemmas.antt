@@ -14,11 +14,6 @@ use Rattle.aec_c.specs.declared.reply.Reply.{Reply}
 use Rattle.aec_c.specs.Replies.{reply_to}
 use Rattle.aec_c.specs.Coders.{ready_bytes, TakesBytes, taken, no_room}
 
--- what is taken out is what was held
-pub was_in : {H X : Type 0} (value : H → Option X) (handle held : H) (inside before : X) → held ≡ handle → value held ≡ Some inside → before ≡ inside
-    → value handle ≡ Some before
-was_in value handle held inside before same is seen = ap value (sym same) ∙ (is ∙ ap Some (sym seen))
-
 -- a refusal of a coder: its own, or that of the call
 refused_by : {U : Type 0} (Q : Type 0) (o : Option Fault) (r : Result U Fault) (fault : Fault) (Stops : Fault → Type 0) → r ≡ Err fault
     → MatchOption o (IfErr r Stops) (λ was. (r ≡ Err was) × Q) → MatchOption o (Stops fault) (λ was. (fault ≡ was) × Q)

@@ -1,5 +1,5 @@
 -- What a handle holds, from what taking it out and putting it back say.
-use Rattle.std.proofs.Common.{◌≡◌, ℕ, None, Some, Result, Ok, Err, List, length, take, drop, ap, sym, ◌∙◌}
+use Rattle.std.proofs.Common.{◌≡◌, ℕ, Option, None, Some, Result, Ok, Err, List, length, take, drop, ap, sym, ◌∙◌}
 use Rattle.std.specs.Prelude.{ℤ, IfOk, IfErr, OnOk}
 use Rattle.aec_params.specs.declared.fault.Fault.{Fault}
 use Rattle.aec_params.specs.declared.fault.Fault.TheVariants.{Memory}
@@ -10,12 +10,11 @@ use Rattle.aec_engine.specs.Transfers.{answer_by}
 use Rattle.aec_c.specs.HandleCalls.{format_of}
 use Rattle.aec_c.specs.HandleReads.{IsCodeOf, IsRangeOf}
 use Rattle.aec_c.specs.declared.handle.OpenWorkspace.{OpenWorkspace}
-use Rattle.aec_c.specs.declared.handle.Handle.{Handle}
 
--- what is taken out is what was held
-pub was_held : (handle taken : Handle) (inside before : OpenWorkspace) → taken ≡ handle → taken.value ≡ Some inside → before ≡ inside
-    → handle.value ≡ Some before
-was_held handle taken inside before same is seen = ap (λ h. h.value) (sym same) ∙ (is ∙ ap Some (sym seen))
+-- what is taken out of a handle is what was held
+pub was_in : {H X : Type 0} (value : H → Option X) (handle held : H) (inside before : X) → held ≡ handle → value held ≡ Some inside → before ≡ inside
+    → value handle ≡ Some before
+was_in value handle held inside before same is seen = ap value (sym same) ∙ (is ∙ ap Some (sym seen))
 
 -- what coding answers
 pub code_answer : {X : Type 0} (w : OpenWorkspace) (view : X → List ℕ) (r : Result X Fault)

@@ -1,35 +1,22 @@
 -- The machine value of a handle, and what it owns, put beside it and taken from it. Assumes
 -- `Logic`.
-use Rattle.std.proofs.Common.{Bool, List, [], ◌∷◌, refl, lit<}
-use lib.Dec.{T}
+use Rattle.std.proofs.Common.{List, [], ◌∷◌, refl}
 use seplogic.Ra.Ura.{Ura}
-use mir.Syntax.{ty_ptr}
-use mir.Val.{Val, vstruct, vbool, vcons, vnil, has_ty, WT}
+use mir.Val.{Val}
 use base.Logic.{ent}
 use types.Logic.{Logic, sem}
 use types.Kit.{‵, ◌$◌, ◌∵◌, !, qed, drop, fsplit, fjoin, fpack, feq_i, done}
 use denote.RattleType.{Valss}
 use denote.Builtin.{bool}
-use denote.Param.{layout}
 use denote.Plain.{bool_vals}
-use denote.RawPtr.{Ptr, RawPtr, block_ptr, null_ptr, ptr_val}
+use denote.RawPtr.{RawPtr, ptr_val}
 use denote.Steps.{nothing}
 use denote.Struct.Struct.{within}
 use denote.Struct.Owning.{shape}
+use Rattle.aec_c.proofs.HandleSteps.{word}
 use Rattle.aec_c.specs.Handles.{reader_owns}
 use Rattle.aec_c.specs.declared.reader_handle.ReaderHandle.{ReaderHandle}
 use Rattle.aec_c.specs.contracts.reader_handle.ReaderHandle as handle
-
-abbrev pub word : Ptr → Bool → Val
-word p full = vstruct (vcons (ptr_val p) (vcons (vbool full) vnil))
-
-pub ptr_good : (p : Ptr) → T (has_ty ty_ptr (ptr_val p)) × WT (ptr_val p)
-ptr_good (block_ptr b o) = (tt, tt)
-ptr_good null_ptr = (tt, record { fits = lit< tt })
-
-pub word_good : (p : Ptr) (full : Bool) → T (has_ty (layout handle.the_row) (word p full)) × WT (word p full)
-word_good (block_ptr b o) full = (tt, (tt, (tt, tt)))
-word_good null_ptr full = (tt, (record { fits = lit< tt }, (tt, tt)))
 
 module _ {M : Type 1} {𝓤 : Ura M} (𝓛 : Logic 𝓤) (d : ReaderHandle) where
   pub handle_in : ent 𝓤 (sem 𝓛 (reader_owns d.full d.at d.value)) (sem 𝓛 ((handle.the_row).own_val d (word d.at d.full ∷ [])))

@@ -4,14 +4,19 @@ use Rattle.std.specs.Prelude.{nat_le, IfSome}
 use Rattle.std.proofs.Math.Nat.{mul-le-mul_left, mul-le-mul_right}
 use Rattle.std.proofs.lemmas.Bool.{and_parts, leb-true, cond-true, cond-false, le-leb, lt-leb}
 use Rattle.aec_params.specs.declared.settings.Settings.{Settings}
+use Rattle.aec_params.specs.declared.fault.Fault.{Fault}
+use Rattle.aec_params.specs.declared.fault.Fault.TheVariants.{Memory}
 use Rattle.aec_params.specs.Params.{IsAllowed, interval_len, storage_len}
 use Rattle.aec_params.proofs.SettingLaws.{block_size-most}
 use Rattle.aec_params.proofs.StoredLemmas.{storage-most}
-use Rattle.aec_interval.specs.Pieces.{Place, ReadsInterval}
+use Rattle.aec_interval.specs.Pieces.{Place, ReadsInterval, RefusesAt}
+use Rattle.aec_interval.specs.Reached as reached
+use Rattle.aec_interval.specs.Reached.{wrong_before}
+use Rattle.aec_interval.specs.Skipping.{IsFaultAt}
 use Rattle.aec_engine.specs.Output.{all_stored}
 use Rattle.aec_engine.specs.Buffers.{left_of}
 use Rattle.aec_engine.proofs.FillLemmas.{length-all_stored}
-use Rattle.aec_c.specs.declared.reader_handle.OpenReader.{OpenReader}
+use Rattle.aec_c.specs.declared.open_reader.OpenReader.{OpenReader}
 use Rattle.aec_c.specs.declared.reply.Reply.{Reply}
 use Rattle.aec_c.specs.Replies.{done, wants_room, reply_to}
 use Rattle.aec_c.specs.Readers.{ReadsNext, next, no_room}
@@ -69,3 +74,9 @@ bytes-most s n w a len width =
 
 pub if_some : {X : Type 0} (P : X → Type 0) (o : Option X) (x : X) → o ≡ Some x → IfSome o P → P x
 if_some P o x is holds = subst (λ o. IfSome o P) is holds
+
+-- with room for an interval there is no want of memory
+pub fault_at : (p : Place) (fault : Fault) (room : ℕ) → RefusesAt p fault → (fault ≡ Memory → room < interval_len p.settings)
+    → interval_len p.settings ≤ room → IsFaultAt p fault
+fault_at p fault room (reached.no_room h within) full roomy = absurd (omega (arith, full refl, roomy))
+fault_at p fault room (wrong_before f h before) full roomy = record { wrong = h; before = before }

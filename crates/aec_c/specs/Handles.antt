@@ -7,7 +7,7 @@ use Rattle.std.specs.Global.{Global}
 use Rattle.std.specs.Box.Ownership.{box_owns}
 use Rattle.aec_c.specs.contracts.handle.OpenWorkspace.{the_row}
 use Rattle.aec_c.specs.contracts.coder_handle.OpenCoder as coder
-use Rattle.aec_c.specs.contracts.reader_handle.OpenReader as reader
+use Rattle.aec_c.specs.contracts.open_reader.OpenReader as reader
 
 -- the allocator of all programs, which has no data
 abbrev pub heap : Global

@@ -6,10 +6,11 @@ use Rattle.aec_params.specs.declared.fault.Fault.TheVariants.{Memory}
 use Rattle.aec_params.specs.Params.{IsAllowed, settings_fault, interval_len, storage_len}
 use Rattle.aec_params.specs.Codewords.{bits_of_bytes}
 use Rattle.aec_interval.specs.Reached.{count_refusal}
-use Rattle.aec_interval.specs.Pieces.{Place, is_wanted_at, HasRead, ReadsInterval, RefusesAt}
+use Rattle.aec_interval.specs.Pieces.{Place, is_wanted_at, HasRead, ReadsInterval}
+use Rattle.aec_interval.specs.Skipping.{IsFaultAt}
 use Rattle.aec_engine.specs.Output.{all_stored}
 use Rattle.aec_engine.specs.Buffers.{left_of}
-use Rattle.aec_c.specs.declared.reader_handle.OpenReader.{OpenReader}
+use Rattle.aec_c.specs.declared.open_reader.OpenReader.{OpenReader}
 use Rattle.aec_c.specs.declared.reply.Reply.{Reply}
 use Rattle.aec_c.specs.Replies.{done, refused_for, reply_to}
 use Rattle.aec_c.specs.HandleCalls.{not_open}
@@ -29,7 +30,8 @@ pub data OpensReader (s : Settings) (count : Option ℕ) (bytes : List ℕ) (old
   not_opened : (fault : Fault) → CannotOpen s count fault → new ≡ old → reply ≡ refused_for fault → OpensReader s count bytes old new reply
 
 -- the stored samples of the next interval put into a buffer, where there is room for all of them,
--- and the reader behind them; no bytes where all samples were read
+-- and the reader behind them; no bytes where all samples were read; or the fault in that interval,
+-- and never want of memory
 pub data ReadsNext (before after : OpenReader) (old new : List ℕ) (reply : Reply) : Type 0 where
   next : (samples : List ℤ) → ReadsInterval before.reader.place samples after.reader.place
       → length (all_stored before.reader.place.settings samples) ≤ length old
@@ -39,7 +41,7 @@ pub data ReadsNext (before after : OpenReader) (old new : List ℕ) (reply : Rep
       → length old < length (all_stored before.reader.place.settings samples) → after.reader ≡ before.reader → new ≡ old
       → reply ≡ reply_to (Ok (all_stored before.reader.place.settings samples)) (length old) → ReadsNext before after old new reply
   at_end : is_wanted_at before.reader.place ≡ false → after.reader ≡ before.reader → new ≡ old → reply ≡ done 0 → ReadsNext before after old new reply
-  not_read : (fault : Fault) → RefusesAt before.reader.place fault → after.reader ≡ before.reader → new ≡ old → reply ≡ refused_for fault
+  not_read : (fault : Fault) → IsFaultAt before.reader.place fault → after.reader ≡ before.reader → new ≡ old → reply ≡ refused_for fault
       → ReadsNext before after old new reply
 
 -- the same for what a handle holds: nothing is put where it holds no reader

@@ -10,7 +10,7 @@ ghost use Rattle.aec_c.specs.Calls.{settings_of, count_of, most, IsCoding, IsDec
 
 use crate::bound::bound;
 use crate::options::{Options, asked, counted};
-use aec_engine::{decode_into, encode_bytes, range_into};
+use aec_engine::{decode_into, encode_into, range_into};
 use aec_params::{Fault, Limits, Params};
 use std::alloc::Global;
 
@@ -30,15 +30,18 @@ pub(crate) fn params_of(options: &Options) -> Result<Params, Fault>
     Params::new(asked(options))
 }
 
-/// The code of stored samples.
-pub(crate) fn coded(alloc: Global, options: &Options, samples: &[u8]) -> Result<Vec<u8>, Fault>
-    ensures ok { IfOk result (λ bytes. IsCoding (settings_of options.now) samples.now
-        (Ok bytes.items)) }
-    ensures refuses { IfErr result
-        (λ fault. IsCoding (settings_of options.now) samples.now (Err fault)) }
+/// Puts the code of stored samples into a buffer, where there is room for all of it. How many bytes
+/// it is.
+pub(crate) fn coded(
+    alloc: Global,
+    options: &Options,
+    samples: &[u8],
+    out: &mut [u8],
+) -> Result<u64, Fault>
+    ensures { FillsOne (IsCoding (settings_of options.now) samples.now) out.old out.new result }
 {
     match params_of(options) {
-        Ok(params) => encode_bytes(alloc, &params, limits(), samples),
+        Ok(params) => encode_into(alloc, &params, limits(), samples, out),
         Err(fault) => Err(fault),
     }
 }

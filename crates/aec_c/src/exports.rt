@@ -11,7 +11,6 @@ use crate::answers::{coded, decoded, ranged};
 use crate::bound::bound;
 use crate::options::Options;
 use crate::reply::{Reply, told};
-use crate::settling::settle;
 use crate::stream_edits::{EditReply, edited_stream, settle_edited};
 use crate::text::{put_text, text_of};
 use std::alloc::Global;
@@ -26,6 +25,7 @@ pub extern "C" fn aecp_version() -> u32
 }
 
 /// Codes stored samples.
+#[tactic(auto, using(crate::proofs::ReplyLemmas::replied))]
 #[unsafe(no_mangle)]
 pub extern "C" fn aecp_encode(
     alloc: Global,
@@ -38,8 +38,9 @@ pub extern "C" fn aecp_encode(
         reply.new }
     ensures number { result ≡ reply.new.fault }
 {
-    let answer = coded(alloc, options, samples);
-    *reply = settle(answer, out);
+    let room = out.len();
+    let answer = coded(alloc, options, samples, out);
+    *reply = told(answer, room);
     reply.fault
 }
 

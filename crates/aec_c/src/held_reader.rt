@@ -74,10 +74,10 @@ fn pass(
 }
 
 impl HeldReader {
-    ghost use Rattle.std.specs.Prelude.{◌≡◌, ◌+◌, ◌^◌, ◌⊎◌, List, ℤ, Some, IfOk, IfErr, IfSome, IsOk, OnOk, OnErr, length};
+    ghost use Rattle.std.specs.Prelude.{◌≡◌, ◌<◌, ◌≤◌, ◌+◌, ◌^◌, ◌⊎◌, List, ℤ, vec_capacity, Some, IfOk, IfErr, IfSome, IsOk, OnOk, OnErr, length};
     ghost use Rattle.std.specs.Option.{is_some};
     ghost use Rattle.aec_params.specs.declared.fault.Fault.TheVariants.{Memory};
-    ghost use Rattle.aec_params.specs.Params.{IsAllowed};
+    ghost use Rattle.aec_params.specs.Params.{IsAllowed, interval_len};
     ghost use Rattle.aec_params.specs.Codewords.{bits_of_bytes};
     ghost use Rattle.aec_interval.specs.Reached.{count_refusal};
     ghost use Rattle.aec_interval.specs.Pieces.{is_wanted_at, IsPlace, ReadsInterval, RefusesAt};
@@ -128,7 +128,7 @@ impl HeldReader {
     }
 
     /// Reads the samples of the next interval, and stays. Where the interval ends; `None` where all
-    /// samples were read.
+    /// samples were read. `Memory` comes only if `samples` has no room for a whole interval.
     pub(crate) fn peek(
         &self,
         alloc: Global,
@@ -140,6 +140,9 @@ impl HeldReader {
         ensures reached { IfOk result (λ end. IfSome end
             (λ end. IsPlace (place_in self.now.place end.block end.bit))) }
         ensures refuses { IfErr result (RefusesAt self.now.place) }
+        ensures full { IfErr result (λ fault. fault ≡ Memory
+            → vec_capacity samples.old < interval_len self.now.place.settings) }
+        ensures capacity { vec_capacity samples.old ≤ vec_capacity samples.new }
     {
         let mut reader = self.reader(alloc, self.at.place)?;
         if reader.next(samples)? {

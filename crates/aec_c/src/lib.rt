@@ -15,6 +15,7 @@ mod handle_loads;
 mod handle_reads;
 mod held_reader;
 pub mod laws;
+mod open_reader;
 mod options;
 mod reader_calls;
 mod reader_handle;

@@ -3,20 +3,13 @@
 ghost use Rattle.std.specs.Prelude.{◌≡◌, Option, None, Some};
 ghost use Rattle.std.specs.Option.{option_map};
 ghost use Rattle.aec_c.specs.Handles.{reader_owns};
-ghost use Rattle.aec_c.specs.declared.reader_handle.OpenReader.{OpenReader};
+ghost use Rattle.aec_c.specs.declared.open_reader.OpenReader.{OpenReader};
 
 use crate::handle::loose::Loose;
-use crate::held_reader::HeldReader;
+use crate::open_reader::OpenReader;
 use std::alloc::Global;
 use std::marker::Model;
 use std::ptr;
-
-/// A reader, and room for the samples of an interval.
-#[derive(Drop)]
-pub struct OpenReader {
-    pub reader: HeldReader,
-    pub samples: Vec<i64>,
-}
 
 /// A pointer to a reader, whose type C doesn't see. Zeros are a handle that holds none.
 #[repr(C)]

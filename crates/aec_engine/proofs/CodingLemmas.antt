@@ -1,5 +1,5 @@
 -- What feeding a source to a coder gives, step by step, and the answers of coding.
-use Rattle.std.proofs.Common.{◌≡◌, ℕ, ◌+◌, ◌-◌, ◌*◌, ◌/◌, ◌<◌, ◌≤◌, Bool, true, false, Option, Some, None, Result, Ok, Err, IfErr, List, [], ◌∷◌, ◌++◌, length, refl, sym, ap, ◌∙◌, subst, arith, append-nil}
+use Rattle.std.proofs.Common.{◌≡◌, ℕ, ◌+◌, ◌-◌, ◌*◌, ◌/◌, ◌<◌, ◌≤◌, Bool, true, false, Option, Some, None, Result, Ok, Err, IfErr, List, [], ◌∷◌, ◌++◌, length, refl, sym, ap, ◌∙◌, subst, inl, inr, arith, append-nil}
 use Rattle.std.specs.Prelude.{is_some, MatchOption}
 use Rattle.std.specs.Option.{option_or}
 use Rattle.std.specs.Io.KnownBytes.{Consumes, Keeps}
@@ -21,8 +21,9 @@ use Rattle.aec_interval.specs.Feeding.{Coder, fresh_coder, Feeds, StopsFeeding}
 use Rattle.aec_interval.specs.CutLaws.{IsStreamSoFar}
 use Rattle.aec_interval.proofs.CutLemmas.{cuts_make_no_difference}
 use Rattle.aec_interval.proofs.FeedingLemmas.{stops_later}
-use Rattle.aec_engine.specs.Transfers.{input_of, Taking, GivesAnswer, given, lacks_memory}
+use Rattle.aec_engine.specs.Transfers.{input_of, answer_by, Taking, GivesAnswer, given, lacks_memory}
 use Rattle.aec_engine.specs.Output.{IsEncoded, are_refused, not_coded, encoded}
+use Rattle.aec_engine.specs.Buffers.{OrMemory}
 use Rattle.aec_engine.specs.CodingSteps.{IsFedSoFar, IsFed, StopsCoding, no_memory, refused, bytes_left}
 use Rattle.aec_engine.proofs.OutputLemmas.{taking}
 use Rattle.aec_interval.proofs.TakingLemmas.{length-samples_of_bytes}
@@ -180,3 +181,34 @@ coded_answer s caps limit source bits all coder a counted fed_all is =
     subst (λ all. GivesAnswer (IsEncoded s caps) source (are_refused s caps.samples) (Ok (bytes_of all))) (sym code)
     (given (input_of fed.bytes false) (Ok (bytes_of (stream_of s so.samples))) fed.gave
     (encoded so.samples (ap (λ o. option_or o None) (judged_so_far s caps.samples fed.bytes bits coder a fed.feeds)) so.taken))
+
+-- ---- bytes in memory, fed in one piece
+
+stopped_whole : (s : Settings) (caps : Caps) (bytes : List ℕ) (before more : List Bool) (fault : Fault) → IsAllowed s
+    → StopsFeeding (fresh_coder s caps.samples) bytes before more fault → OrMemory (IsEncoded s caps (input_of bytes false)) (Err fault)
+stopped_whole s caps bytes before more fault a (feeding.refused f refusal e) =
+    let judged : judged_samples caps.samples (samples_of_bytes s bytes) ≡ Some f = sym ((cuts_make_no_difference s caps.samples a).judged bytes) ∙ refusal in
+    inr (not_coded f (ap (λ o. option_or o None) judged))
+stopped_whole s caps bytes before more fault a (feeding.no_memory k front behind cut whole left some e) = inl refl
+
+pub stopped_at_once : {X : Type 0} (view : X → List ℕ) (r : Result X Fault) (out fault : Fault) (s : Settings) (caps : Caps) (limit : ℕ) (bytes : List ℕ)
+    (before more : List Bool) (start : Coder) (Q : Fault → Type 0) → r ≡ Err out → out ≡ fault → IsAllowed s → limit ≡ caps.samples
+    → start ≡ fresh_coder s limit → MatchOption start.refusal (StopsFeeding start bytes before more fault) Q
+    → OrMemory (IsEncoded s caps (input_of bytes false)) (answer_by view r)
+stopped_at_once view r out fault s caps limit bytes before more start Q is same a counted new stops =
+    subst (λ r. OrMemory (IsEncoded s caps (input_of bytes false)) (answer_by view r)) (sym (is ∙ ap Err same))
+    (stopped_whole s caps bytes before more fault a
+    (subst (λ c. StopsFeeding c bytes before more fault) (new ∙ ap (fresh_coder s) counted)
+    (unless_refused start.refusal (StopsFeeding start bytes before more fault) Q (ap (λ (c : Coder). c.refusal) new) stops)))
+
+pub coded_at_once : (s : Settings) (caps : Caps) (limit : ℕ) (bytes : List ℕ) (none bits all : List Bool) (start coder : Coder) → IsAllowed s
+    → limit ≡ caps.samples → none ≡ [] → start ≡ fresh_coder s limit → Feeds start bytes none bits coder
+    → all ≡ bits ++ stream_of coder.settings coder.held → OrMemory (IsEncoded s caps (input_of bytes false)) (Ok (bytes_of all))
+coded_at_once s caps limit bytes none bits all start coder a counted empty new fed_all is =
+    let feeds : Feeds (fresh_coder s caps.samples) bytes [] bits coder =
+    subst (λ c. Feeds c bytes [] bits coder) (new ∙ ap (fresh_coder s) counted) (subst (λ l. Feeds start bytes l bits coder) empty fed_all) in
+    let so = stream_so_far s caps.samples bytes bits coder a feeds in
+    let same : coder.settings ≡ s = ap (λ (c : Coder). c.settings) feeds.coder in
+    let code : all ≡ stream_of s so.samples = is ∙ ap (λ t. bits ++ stream_of t coder.held) same ∙ so.bits in
+    subst (λ all. OrMemory (IsEncoded s caps (input_of bytes false)) (Ok (bytes_of all))) (sym code)
+    (inr (encoded so.samples (ap (λ o. option_or o None) (judged_so_far s caps.samples bytes bits coder a feeds)) so.taken))

@@ -1,5 +1,6 @@
 -- What the engines leave where source and sink are bytes in memory.
 use Rattle.std.proofs.Common.{◌≡◌, ℕ, ◌≤◌, Bool, true, false, nat_lt, if◌then◌else◌, Option, Some, None, Result, Ok, Err, List, [], length, refl, sym, ap, ◌∙◌, ◌⊎◌, inl, inr, subst}
+use Rattle.std.specs.Prelude.{IfOk, IfErr}
 use Rattle.std.specs.Io.KnownBytes.{Appends}
 use Rattle.std.specs.Option.{option_or}
 use Rattle.std.proofs.lemmas.Bool.{ltb-false, ltb-true}
@@ -7,14 +8,14 @@ use Rattle.aec_params.specs.declared.settings.Settings.{Settings}
 use Rattle.aec_params.specs.declared.fault.Fault.{Fault}
 use Rattle.aec_params.specs.declared.fault.Fault.TheVariants.{Memory, Write, StreamTooLong, TooManySamples}
 use Rattle.aec_params.specs.Limits.{Caps}
-use Rattle.aec_params.specs.Params.{IsAllowed}
 use Rattle.aec_interval.specs.Taking.{judged_samples}
 use Rattle.aec_engine.specs.Transfers.{Input, input_of, are_past, Taking, Putting, Leaves, written, refused, no_answer, not_written}
 use Rattle.aec_engine.specs.Output as output
 use Rattle.aec_engine.specs.Output.{IsEncoded, are_refused, coding_refusal, not_coded, encoded, IsDecoded, intake_refusal, not_taken, decoded}
+use Rattle.aec_engine.specs.Buffers.{OrMemory}
 use Rattle.aec_engine.specs.Laws.{IsJudgedWhole}
 use Rattle.aec_engine.specs.InMemory.{IsCodeOf, bytes_refusal, IsStoredReadingOf, RefusesCoded, too_many_bytes, not_counted, faulty}
-use Rattle.aec_engine.proofs.FrontLemmas.{coding-whole, decoding-whole}
+use Rattle.aec_engine.proofs.FrontLemmas.{decoding-whole}
 
 -- ---- any engine
 
@@ -52,7 +53,7 @@ as_refusal P fault f memory (inl same) (inr (inr holds)) = inr (subst P (sym sam
 
 -- ---- coding
 
-code_of : (s : Settings) (caps : Caps) (bytes coded : List ℕ) (answer : Result (List ℕ) Fault) → answer ≡ Ok coded
+pub code_of : (s : Settings) (caps : Caps) (bytes coded : List ℕ) (answer : Result (List ℕ) Fault) → answer ≡ Ok coded
     → IsEncoded s caps (input_of bytes false) answer → IsCodeOf s caps.samples bytes coded
 code_of s caps bytes coded answer is (not_coded fault why) = absurd (cc)
 code_of s caps bytes coded answer is (encoded samples sound read) = record {
@@ -75,31 +76,32 @@ only_refusal : (o : Option Fault) (fault : Fault) → option_or o None ≡ Some 
 only_refusal None fault e = e
 only_refusal (Some f) fault e = e
 
-code_refusal : (s : Settings) (caps : Caps) (bytes : List ℕ) (answer : Result (List ℕ) Fault) (fault : Fault) → answer ≡ Err fault
+pub code_refusal : (s : Settings) (caps : Caps) (bytes : List ℕ) (answer : Result (List ℕ) Fault) (fault : Fault) → answer ≡ Err fault
     → IsEncoded s caps (input_of bytes false) answer
     → bytes_refusal s caps.samples bytes ≡ Some fault
 code_refusal s caps bytes answer fault is (not_coded f why) =
     let same : f ≡ fault = cc in only_refusal (bytes_refusal s caps.samples bytes) fault (why ∙ ap Some same)
 code_refusal s caps bytes answer fault is (encoded samples sound read) = absurd (cc)
 
-pub coded_in_memory : (s : Settings) (caps : Caps) (source : Taking) (sink : Putting) (bytes held : List ℕ)
-    → IsAllowed s → source.before ≡ Some bytes → source.failures ≡ 0 → sink.before ≡ Some [] → sink.after ≡ Some held
-    → Leaves (IsEncoded s caps) source (are_refused s caps.samples) sink (Ok tt) → IsCodeOf s caps.samples bytes held
-coded_in_memory s caps source sink bytes held allowed before sound empty holds leaves =
-    code_of s caps bytes held (Ok held) refl
-    (answered_ok (IsEncoded s caps) (are_refused s caps.samples) source sink bytes held (Ok tt)
-    (coding-whole s caps allowed) before sound empty holds leaves refl)
+-- bytes that were made of a code
+pub code_ok_bytes : {X : Type 0} (s : Settings) (caps : Caps) (bytes coded : List ℕ) (view : X → List ℕ) (r : Result X Fault)
+    → OrMemory (IsEncoded s caps (input_of bytes false)) (Ok coded) → IfOk r (λ x. view x ≡ coded) → IfOk r (λ x. IsCodeOf s caps.samples bytes (view x))
+code_ok_bytes s caps bytes coded view r (inl lacks) made = absurd (cc)
+code_ok_bytes s caps bytes coded view (Ok x) (inr answered) made =
+    subst (IsCodeOf s caps.samples bytes) (sym made) (code_of s caps bytes coded (Ok coded) refl answered)
+code_ok_bytes s caps bytes coded view (Err fault) (inr answered) made = made
 
-pub refused_in_memory : (s : Settings) (caps : Caps) (source : Taking) (sink : Putting) (bytes : List ℕ) (fault f : Fault)
-    → IsAllowed s → source.before ≡ Some bytes → source.failures ≡ 0 → (fault ≡ Write → f ≡ Memory) → (f ≡ fault) ⊎ (f ≡ Memory)
-    → Leaves (IsEncoded s caps) source (are_refused s caps.samples) sink (Err fault) → (f ≡ Memory) ⊎ (bytes_refusal s caps.samples bytes ≡ Some f)
-refused_in_memory s caps source sink bytes fault f allowed before sound memory other leaves =
-    by_answer (as_refusal (λ f. IsEncoded s caps (input_of bytes false) (Err f)) fault f memory other
-    (answered_err (IsEncoded s caps) (are_refused s caps.samples) source sink bytes (Err fault) fault (coding-whole s caps allowed) before sound leaves refl))
-  where
-    by_answer : (f ≡ Memory) ⊎ IsEncoded s caps (input_of bytes false) (Err f) → (f ≡ Memory) ⊎ (bytes_refusal s caps.samples bytes ≡ Some f)
-    by_answer (inl lacks) = inl lacks
-    by_answer (inr answered) = inr (code_refusal s caps bytes (Err f) f refl answered)
+code_err : (s : Settings) (caps : Caps) (bytes : List ℕ) (fault : Fault) → OrMemory (IsEncoded s caps (input_of bytes false)) (Err fault)
+    → (fault ≡ Memory) ⊎ (bytes_refusal s caps.samples bytes ≡ Some fault)
+code_err s caps bytes fault (inl lacks) = let same : fault ≡ Memory = cc in inl same
+code_err s caps bytes fault (inr answered) = inr (code_refusal s caps bytes (Err fault) fault refl answered)
+
+-- a refusal that is handed on
+pub code_err_out : {X : Type 0} (s : Settings) (caps : Caps) (bytes : List ℕ) (r : Result X Fault) (out fault : Fault) → r ≡ Err out → out ≡ fault
+    → OrMemory (IsEncoded s caps (input_of bytes false)) (Err fault) → IfErr r (λ fault. (fault ≡ Memory) ⊎ (bytes_refusal s caps.samples bytes ≡ Some fault))
+code_err_out {X} s caps bytes r out fault is same answered =
+    let P : Result X Fault → Type 0 = λ r. IfErr r (λ fault. (fault ≡ Memory) ⊎ (bytes_refusal s caps.samples bytes ≡ Some fault)) in
+    subst P (sym (is ∙ ap Err same)) (code_err s caps bytes fault answered)
 
 -- ---- decoding
 
@@ -157,5 +159,3 @@ undecoded_in_memory s caps count source sink coded fault f before sound memory o
     by_answer : (f ≡ Memory) ⊎ IsDecoded s caps count (input_of coded false) (Err f) → (f ≡ Memory) ⊎ RefusesCoded s caps count coded f
     by_answer (inl lacks) = inl lacks
     by_answer (inr answered) = inr (refusal_of s caps count coded (Err f) f refl answered)
-
-pub ruleset coded = (coded_in_memory)

@@ -1,10 +1,10 @@
-//! Coding and decoding of bytes in memory.
+//! Bytes in memory as a source, and their decoding.
 
 ghost use Rattle.std.specs.Prelude.{◌≡◌, ◌⊎◌, Some, IfOk, IfErr};
 ghost use Rattle.aec_params.specs.declared.fault.Fault.TheVariants.{Memory, Write as WriteFault};
-ghost use Rattle.aec_engine.specs.InMemory.{IsCodeOf, bytes_refusal, IsStoredReadingOf, RefusesCoded};
+ghost use Rattle.aec_engine.specs.InMemory.{IsStoredReadingOf, RefusesCoded};
 
-use crate::engine::{decode, encode};
+use crate::engine::decode;
 use aec_bits::{Source, WriteSink};
 use aec_params::{Fault, Limits, Params};
 use std::alloc::Global;
@@ -46,30 +46,6 @@ pub(crate) fn refusal(fault: Fault) -> Fault
     match fault {
         Fault::Write => Fault::Memory,
         other => other,
-    }
-}
-
-/// Returns the bytes of the code of stored samples. The refusals in their order: at each sample
-/// `TooManySamples`, then `SampleRange`. `Memory` can come at any time. `limits.bytes` is not used.
-#[tactic(auto, using(crate::proofs::InMemoryLemmas::coded))]
-pub fn encode_bytes(
-    alloc: Global,
-    params: &Params,
-    limits: Limits,
-    bytes: &[u8],
-) -> Result<Vec<u8>, Fault>
-    ensures ok { IfOk result (λ coded. IsCodeOf params.now limits.samples bytes.now coded.items) }
-    ensures refuses { IfErr result
-        (λ fault. (fault ≡ Memory)
-        ⊎ (bytes_refusal params.now limits.samples bytes.now ≡ Some fault)) }
-{
-    // What the parameters promise is told by their calls.
-    prove!(params.storage() > 0);
-    let mut source = SliceSource::new(bytes);
-    let mut sink = WriteSink::new(Vec::new(alloc));
-    match encode(alloc, params, limits, &mut source, &mut sink) {
-        Ok(()) => Ok(sink.into_inner()),
-        Err(fault) => Err(refusal(fault)),
     }
 }
 

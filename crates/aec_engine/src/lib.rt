@@ -4,6 +4,7 @@
 #![tactic(auto)]
 
 mod bytes_range;
+mod coded_bytes;
 mod edited_streams;
 mod engine;
 mod in_memory;
@@ -17,9 +18,10 @@ mod script_words;
 mod scripts;
 
 pub use bytes_range::range_bytes;
+pub use coded_bytes::{encode_bytes, encode_into};
 pub use edited_streams::{Decoded, decode_edited};
 pub use engine::{carry_out, decode, decode_into, edit, edit_over, encode, range, range_into};
-pub use in_memory::{decode_bytes, encode_bytes};
+pub use in_memory::decode_bytes;
 pub use numerals::range_in;
 pub use script_reading::script;
 pub use scripts::{EditFault, Script};

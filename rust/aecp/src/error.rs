@@ -38,6 +38,11 @@ pub enum Error {
     Spent,
     /// An allocation failed.
     Memory,
+    /// A line of a script isn't an edit.
+    Script {
+        /// The first such line, counted from 1.
+        line: u64,
+    },
     /// The type of the elements isn't that of the stored samples. See [`Sample`](crate::Sample).
     ElementType,
 }
@@ -54,17 +59,19 @@ impl Error {
             Error::Range { .. } => 10,
             Error::Spent => 11,
             Error::Memory => 12,
+            Error::Script { .. } => 15,
             Error::ElementType => raw::OK,
         }
     }
 
-    /// Returns the bit, index, count or limit that the fault names, or 0 if it names none.
+    /// Returns the bit, index, count, line or limit that the fault names, or 0 if it names none.
     pub fn place(&self) -> u64 {
         match *self {
             Error::Sample { index } => index,
             Error::Stream { bit, .. } => bit,
             Error::Range { count } => count,
             Error::Limit { limit, .. } => limit,
+            Error::Script { line } => line,
             _ => 0,
         }
     }
@@ -80,6 +87,7 @@ impl Error {
             10 => Error::Range { count: place },
             11 => Error::Spent,
             12 => Error::Memory,
+            15 => Error::Script { line: place },
             _ => panic!("libaecp.a returned the fault {number}, which the crate aecp doesn't know"),
         }
     }

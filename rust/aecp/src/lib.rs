@@ -16,6 +16,8 @@
 //! # Ok::<(), aecp::Error>(())
 //! ```
 //!
+//! [`Encoder`] and [`Decoder`] code and decode in pieces, [`Workspace`] and [`edit`] edit a stream.
+//!
 //! **A stream contains neither its options nor its sample count.** Keep both with the stream: no
 //! call can tell that they are wrong.
 //!
@@ -23,16 +25,20 @@
 //! needs at least 32 KiB of stack.
 #![warn(missing_docs)]
 
+mod editing;
 mod error;
 mod options;
 #[allow(missing_docs)]
 mod raw;
 mod sample;
+mod streams;
 mod workspace;
 
+pub use editing::{edit, EditError};
 pub use error::Error;
 pub use options::Options;
 pub use sample::Sample;
+pub use streams::{Decoder, Encoder};
 pub use workspace::Workspace;
 
 /// More samples than a byte of a stream can contain. At most, each 7 bits are a run of 64 blocks of
@@ -133,6 +139,15 @@ pub(crate) fn filled<T: Sample>(
             raw::NO_ROOM if reply.len > room => room = reply.len,
             _ => return Err(Error::of(reply)),
         }
+    }
+}
+
+/// Returns the length that a reply has, or its error.
+pub(crate) fn checked(reply: raw::Reply) -> Result<u64, Error> {
+    if reply.fault == raw::OK {
+        Ok(reply.len)
+    } else {
+        Err(Error::of(reply))
     }
 }
 

@@ -38,10 +38,27 @@ pub struct Reply {
     pub len: u64,
 }
 
+/// `aecp_edit_reply`.
+#[repr(C)]
+#[derive(Clone, Copy, Debug, Default, PartialEq, Eq)]
+pub struct EditReply {
+    pub reply: Reply,
+    pub line: u64,
+    pub samples: u64,
+}
+
+/// `aecp_handle`, and also `aecp_coder` and `aecp_reader`, which have the same members.
 #[repr(C)]
 struct CHandle {
     at: *mut c_void,
     full: bool,
+}
+
+impl CHandle {
+    /// `AECP_HANDLE`, `AECP_CODER`, `AECP_READER`.
+    fn empty() -> CHandle {
+        CHandle { at: std::ptr::null_mut(), full: false }
+    }
 }
 
 extern "C" {
@@ -119,6 +136,44 @@ extern "C" {
     fn aecp_write(handle: *mut CHandle, out: *mut u8, out_len: usize, reply: *mut Reply) -> u32;
     fn aecp_size(handle: *mut CHandle) -> u64;
     fn aecp_calls(handle: *mut CHandle) -> u64;
+    fn aecp_edit(
+        options: *const Options,
+        count: u64,
+        script: *const c_void,
+        script_len: usize,
+        coded: *const u8,
+        coded_len: usize,
+        out: *mut u8,
+        out_len: usize,
+        reply: *mut EditReply,
+    ) -> u32;
+    fn aecp_coder_open(options: *const Options, coder: *mut CHandle, reply: *mut Reply) -> u32;
+    fn aecp_coder_feed(
+        coder: *mut CHandle,
+        samples: *const c_void,
+        samples_len: usize,
+        reply: *mut Reply,
+    ) -> u32;
+    fn aecp_coder_finish(coder: *mut CHandle, reply: *mut Reply) -> u32;
+    fn aecp_coder_take(coder: *mut CHandle, out: *mut u8, out_len: usize, reply: *mut Reply)
+        -> u32;
+    fn aecp_coder_close(coder: *mut CHandle);
+    fn aecp_reader_open(
+        options: *const Options,
+        count: u64,
+        coded: *const u8,
+        coded_len: usize,
+        reader: *mut CHandle,
+        reply: *mut Reply,
+    ) -> u32;
+    fn aecp_reader_next(
+        reader: *mut CHandle,
+        out: *mut c_void,
+        out_len: usize,
+        reply: *mut Reply,
+    ) -> u32;
+    fn aecp_reader_go_to(reader: *mut CHandle, interval: u64, reply: *mut Reply) -> u32;
+    fn aecp_reader_close(reader: *mut CHandle);
 }
 
 /// The version of the linked library.
@@ -190,6 +245,33 @@ pub fn range(
     reply
 }
 
+/// Applies a script of edits to the first `count` samples, and writes the edited stream into `out`.
+pub fn edit(
+    options: &Options,
+    count: u64,
+    script: &[u8],
+    coded: &[u8],
+    out: &mut [u8],
+) -> EditReply {
+    assert_version();
+    let mut reply = EditReply::default();
+    // SAFETY: as in `encode`.
+    unsafe {
+        aecp_edit(
+            options,
+            count,
+            script.as_ptr().cast(),
+            script.len(),
+            coded.as_ptr(),
+            coded.len(),
+            out.as_mut_ptr(),
+            out.len(),
+            &mut reply,
+        );
+    }
+    reply
+}
+
 /// A length in bytes that suffices for the code of so many samples. 0 if the options are refused.
 pub fn bound(options: &Options, samples: u64) -> u64 {
     assert_version();
@@ -238,7 +320,7 @@ impl Drop for Handle {
 impl Handle {
     /// A handle that holds no workspace.
     fn empty() -> Handle {
-        Handle(UnsafeCell::new(CHandle { at: std::ptr::null_mut(), full: false }))
+        Handle(UnsafeCell::new(CHandle::empty()))
     }
 
     /// Makes one call with the handle.
@@ -329,5 +411,108 @@ impl Handle {
     pub fn calls(&self) -> u64 {
         // SAFETY: as in `append`.
         unsafe { aecp_calls(self.0.get()) }
+    }
+}
+
+/// A coder that takes samples in pieces.
+pub struct Coder(CHandle);
+
+// SAFETY: as for `Handle`.
+unsafe impl Send for Coder {}
+
+impl Drop for Coder {
+    fn drop(&mut self) {
+        // SAFETY: as in the `drop` of `Handle`.
+        unsafe { aecp_coder_close(&mut self.0) }
+    }
+}
+
+impl Coder {
+    /// An open coder, or one that isn't open if the reply has a fault.
+    pub fn open(options: &Options) -> (Coder, Reply) {
+        assert_version();
+        let mut coder = Coder(CHandle::empty());
+        let mut reply = Reply::default();
+        // SAFETY: the coder is AECP_CODER, and no other thread has it.
+        unsafe {
+            aecp_coder_open(options, &mut coder.0, &mut reply);
+        }
+        (coder, reply)
+    }
+
+    pub fn feed(&mut self, samples: &[u8]) -> Reply {
+        let mut reply = Reply::default();
+        // SAFETY: the coder is the library's own since `open`, and is borrowed exclusively; pointer
+        // and length are those of a live slice.
+        unsafe {
+            aecp_coder_feed(&mut self.0, samples.as_ptr().cast(), samples.len(), &mut reply);
+        }
+        reply
+    }
+
+    pub fn finish(&mut self) -> Reply {
+        let mut reply = Reply::default();
+        // SAFETY: as in `feed`.
+        unsafe {
+            aecp_coder_finish(&mut self.0, &mut reply);
+        }
+        reply
+    }
+
+    pub fn take(&mut self, out: &mut [u8]) -> Reply {
+        let mut reply = Reply::default();
+        // SAFETY: as in `feed`; `out` is an exclusive borrow.
+        unsafe {
+            aecp_coder_take(&mut self.0, out.as_mut_ptr(), out.len(), &mut reply);
+        }
+        reply
+    }
+}
+
+/// A reader of a stream, interval by interval.
+pub struct Reader(CHandle);
+
+// SAFETY: as for `Handle`.
+unsafe impl Send for Reader {}
+
+impl Drop for Reader {
+    fn drop(&mut self) {
+        // SAFETY: as in the `drop` of `Handle`.
+        unsafe { aecp_reader_close(&mut self.0) }
+    }
+}
+
+impl Reader {
+    /// An open reader, or one that isn't open if the reply has a fault.
+    pub fn open(options: &Options, count: u64, coded: &[u8]) -> (Reader, Reply) {
+        assert_version();
+        let mut reader = Reader(CHandle::empty());
+        let mut reply = Reply::default();
+        let (at, len) = (coded.as_ptr(), coded.len());
+        // SAFETY: the reader is AECP_READER, and no other thread has it; pointer and length are
+        // those of a live slice, of which the library keeps a copy.
+        unsafe {
+            aecp_reader_open(options, count, at, len, &mut reader.0, &mut reply);
+        }
+        (reader, reply)
+    }
+
+    pub fn next(&mut self, out: &mut [u8]) -> Reply {
+        let mut reply = Reply::default();
+        // SAFETY: the reader is the library's own since `open`, and is borrowed exclusively, as
+        // `out` is.
+        unsafe {
+            aecp_reader_next(&mut self.0, out.as_mut_ptr().cast(), out.len(), &mut reply);
+        }
+        reply
+    }
+
+    pub fn go_to(&mut self, interval: u64) -> Reply {
+        let mut reply = Reply::default();
+        // SAFETY: as in `next`.
+        unsafe {
+            aecp_reader_go_to(&mut self.0, interval, &mut reply);
+        }
+        reply
     }
 }

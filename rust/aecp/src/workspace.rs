@@ -1,4 +1,4 @@
-use crate::{filled, number_of, raw, zeros, Error, Options};
+use crate::{checked, filled, number_of, raw, zeros, Error, Options};
 use std::fmt;
 
 /// A list of samples in coded form, for repeated edits.
@@ -166,14 +166,5 @@ impl fmt::Debug for Workspace {
             .field("options", &self.options)
             .field("len", &self.len())
             .finish()
-    }
-}
-
-/// The length that a reply has, or its error.
-fn checked(reply: raw::Reply) -> Result<u64, Error> {
-    if reply.fault == raw::OK {
-        Ok(reply.len)
-    } else {
-        Err(Error::of(reply))
     }
 }

@@ -1,6 +1,8 @@
 //! The calls of the crate over the linked library.
 
-use aecp::{decode, decode_range, encode, Error, Options, Workspace};
+use aecp::{
+    decode, decode_range, edit, encode, Decoder, EditError, Encoder, Error, Options, Workspace,
+};
 
 /// A walk of samples of `bits` bits.
 fn walk(len: usize, bits: u32) -> Vec<u32> {
@@ -155,4 +157,84 @@ fn threads_pass_a_workspace_on() {
         .unwrap();
     }
     assert_eq!(work.read(0, 4).unwrap(), [0, 1, 2, 3]);
+}
+
+#[test]
+fn pieces_are_coded_as_one_list() {
+    let samples = walk(3000, 16);
+    let options = Options::new(16).block_size(8).interval(4);
+    let stored: Vec<u8> = samples.iter().flat_map(|it| it.to_le_bytes()[..2].to_vec()).collect();
+    let whole = encode(&stored, &options).unwrap();
+    for len in [1, 3, 64, 1000, 6000] {
+        let mut encoder = Encoder::new(&options).unwrap();
+        let mut coded = Vec::new();
+        for piece in stored.chunks(len) {
+            coded.extend(encoder.feed(piece).unwrap());
+        }
+        coded.extend(encoder.finish().unwrap());
+        assert_eq!(coded, whole, "{len}");
+    }
+}
+
+#[test]
+fn a_refused_piece_is_refused_again() {
+    assert_eq!(Encoder::new(&Options::new(0)).unwrap_err(), Error::Options { number: 1 });
+    let mut encoder = Encoder::new(&Options::new(3)).unwrap();
+    assert_eq!(encoder.feed(&[0u8, 1]).unwrap(), []);
+    assert_eq!(encoder.feed(&[1u16]), Err(Error::ElementType));
+    assert_eq!(encoder.feed(&[2u8, 9]), Err(Error::Sample { index: 3 }));
+    assert_eq!(encoder.feed(&[0u8]), Err(Error::Sample { index: 3 }));
+    assert_eq!(encoder.finish(), Err(Error::Sample { index: 3 }));
+}
+
+#[test]
+fn intervals_are_decoded_in_turn() {
+    let samples: Vec<i32> = walk(1000, 32).iter().map(|&it| it as i32).collect();
+    let options = Options::new(32).signed(true).block_size(8).interval(8);
+    let coded = encode(&samples, &options).unwrap();
+    let mut decoder = Decoder::<i32>::new(&coded, Some(1000), &options).unwrap();
+    let read: Vec<Vec<i32>> = decoder.by_ref().map(Result::unwrap).collect();
+    assert_eq!(read.len(), 16);
+    assert_eq!(read.concat(), samples);
+    assert!(decoder.next().is_none());
+    assert_eq!(decoder.go_to(15), Ok(960));
+    assert_eq!(decoder.next(), Some(Ok(samples[960..].to_vec())));
+    assert_eq!(decoder.go_to(u64::MAX), Ok(1000));
+    assert!(decoder.next().is_none());
+}
+
+#[test]
+fn a_cut_stream_ends_with_its_fault() {
+    let options = Options::new(8).block_size(8).interval(2);
+    let coded = encode(&(0..64).map(|it| it * 3).collect::<Vec<u8>>(), &options).unwrap();
+    let cut = &coded[..coded.len() / 2];
+    let whole = decode::<u8>(cut, Some(64), &options).unwrap_err();
+    let mut decoder = Decoder::<u8>::new(cut, Some(64), &options).unwrap();
+    let last = decoder.by_ref().last().unwrap();
+    assert_eq!(last, Err(whole));
+    assert!(decoder.next().is_none());
+    assert_eq!(decoder.go_to(u64::MAX), Err(whole));
+    assert_eq!(decoder.go_to(0), Ok(0));
+    assert!(decoder.next().unwrap().is_ok());
+    assert_eq!(Decoder::<u16>::new(&coded, None, &options).unwrap_err(), Error::ElementType);
+}
+
+#[test]
+fn scripts_are_applied_whole_or_not() {
+    let options = Options::new(16).block_size(8).interval(2);
+    let samples: Vec<u16> = walk(100, 16).iter().map(|&it| it as u16).collect();
+    let coded = encode(&samples, &options).unwrap();
+    let script = "truncate 4\ninsert 0 5 6\n";
+    let (edited, count) = edit(&coded, Some(100), script, &options).unwrap();
+    assert_eq!(count, 6);
+    let back: Vec<u16> = decode(&edited, Some(count), &options).unwrap();
+    assert_eq!(back, [&[5, 6], &samples[..4]].concat());
+    let long = format!("append{}", " 65535 0".repeat(5000));
+    assert_eq!(edit(&coded, Some(100), long, &options).unwrap().1, 10100);
+    let refused = edit(&coded, Some(100), "append 1\nturn 7\n", &options).unwrap_err();
+    assert_eq!(refused, EditError { line: None, error: Error::Script { line: 2 } });
+    assert!(refused.to_string().contains('2'));
+    let refused = edit(&coded, Some(100), "append 1\nappend 65536\n", &options).unwrap_err();
+    assert_eq!(refused, EditError { line: Some(2), error: Error::Sample { index: 0 } });
+    assert!(refused.to_string().starts_with("line 2: "));
 }

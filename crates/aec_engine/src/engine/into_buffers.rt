@@ -2,8 +2,9 @@
 //! puts the rest into the buffer when reading again. The buffer can't be a `Sink`: contracts say
 //! what the sink that an engine hands back has taken, and not that it still holds the same buffer.
 
-ghost use Rattle.std.specs.Prelude.{◌≡◌, ℕ, ◌+◌, ◌*◌, ◌≤◌, ◌^◌, ◌++◌, List, [], ℤ, Some, Ok, false, length, take, drop, vec_capacity, IsOk, IfOk, IfErr};
+ghost use Rattle.std.specs.Prelude.{◌≡◌, ℕ, ◌+◌, ◌*◌, ◌<◌, ◌≤◌, ◌^◌, ◌++◌, List, [], ℤ, Some, Ok, false, length, take, drop, max, vec_len, vec_capacity, IsOk, IfOk, IfErr, OnOk};
 ghost use Rattle.std.specs.List.{AllByRecursion};
+ghost use Rattle.aec_params.specs.declared.fault.Fault.TheVariants.{Memory};
 ghost use Rattle.aec_params.specs.Params.{IsHeld, interval_len, storage_len};
 ghost use Rattle.aec_engine.specs.Transfers.{input_of, RefusesIntake};
 ghost use Rattle.aec_engine.specs.Output.{all_stored, samples_from, IsDecoded, IsRanged};
@@ -12,7 +13,9 @@ ghost use Rattle.aec_engine.specs.Buffers.{FillsOne, OrMemory};
 
 use crate::engine::keeping::keep_front;
 use crate::engine::ranging::judge_range;
-use crate::engine::two_readings::{buffers, judge_from, judge_samples, part_of, room_at_once};
+use crate::engine::two_readings::{
+    AT_ONCE, WAITING, judge_from, judge_samples, part_of, room_at_once,
+};
 use aec_bits::BitBuf;
 use aec_interval::StreamReader;
 use aec_params::{Fault, Limits, Params, put_samples};
@@ -59,7 +62,7 @@ fn fill_range(
     requires read { (xs : List ℤ) × AreSamplesOf reader.old xs
         × (length out.old ≡ storage_len params.now * length (samples_from first len xs)) }
     requires begun { IsBegun reader.old before first }
-    requires room { interval_len params.now ≤ vec_capacity samples.old }
+    requires room { 0 < len → interval_len params.now ≤ vec_capacity samples.old }
     ensures sound { IsOk result }
     ensures filled { (xs : List ℤ) → AreSamplesOf reader.old xs
         → out.new ≡ all_stored params.now (samples_from first len xs) }
@@ -126,7 +129,7 @@ fn put_kept(
         × (length (samples_from kept left xs) ≡ left) }
     requires few { left ≤ 2 ^ 32 }
     requires begun { IsBegun reader.old before kept }
-    requires room { interval_len params.now ≤ vec_capacity samples.old }
+    requires room { 0 < left → interval_len params.now ≤ vec_capacity samples.old }
     ensures { (xs : List ℤ) → AreSamplesOf reader.old xs
         → FillsOne (λ answer. answer ≡ Ok (bytes.now
         ++ all_stored params.now (samples_from kept left xs))) out.old out.new result }
@@ -148,6 +151,46 @@ fn put_kept(
     Ok(size as u64)
 }
 
+/// Returns for how many samples room is made at first: for the blocks of those that are asked for,
+/// but at most for `AT_ONCE` samples, or an interval if it is longer.
+fn first_samples(params: &Params, count: Option<u64>) -> usize
+    ensures { result ≤ max 2048 (interval_len params.now) }
+{
+    let most = params.interval_len().max(AT_ONCE as u64);
+    let asked = count.unwrap_or(most).min(most);
+    let blocks = asked.div_ceil(u64::from(params.block_size()));
+    (blocks * u64::from(params.block_size())).min(most) as usize
+}
+
+/// Returns room for the samples that are read at once at first, and room for their bytes with those
+/// of an interval, or for the bytes of an interval after a piece of `WAITING` bytes. So a short
+/// answer takes little memory.
+fn first_buffers(
+    alloc: Global,
+    params: &Params,
+    count: Option<u64>,
+) -> Result<(Vec<i64>, Vec<u8>), Fault>
+    ensures empty { IfOk result (λ made. vec_len made.1 ≡ 0) }
+    ensures fault { IfErr result (λ e. e ≡ Memory) }
+{
+    let most = first_samples(params, count);
+    let samples = Vec::with_capacity(alloc, most)?;
+    let kept = if most < AT_ONCE { 4 * most } else { WAITING };
+    let bytes = Vec::with_capacity(alloc, kept + 4 * params.interval_len() as usize)?;
+    Ok((samples, bytes))
+}
+
+/// Makes room for the samples of an interval if `left` samples have to be read again.
+fn room_for_rest(params: &Params, left: u64, samples: &mut Vec<i64>) -> Result<(), Fault>
+    ensures room { OnOk result (0 < left → interval_len params.now ≤ vec_capacity samples.new) }
+    ensures fault { IfErr result (λ e. e ≡ Memory) }
+{
+    if left > 0 {
+        samples.reserve(params.interval_len() as usize)?;
+    }
+    Ok(())
+}
+
 /// Judges coded bits and keeps the bytes of the samples in front, then puts these to the front of a
 /// buffer, where there is room, and behind them the bytes of the rest, read again.
 fn decode_bits_into(
@@ -164,10 +207,11 @@ fn decode_bits_into(
     // What the parameters promise is told by their calls.
     let _len = params.interval_len();
     let mut reader = StreamReader::new(alloc, *params, bits, count, limits.samples())?;
-    let (mut samples, mut bytes) = buffers(alloc, params)?;
+    let (mut samples, mut bytes) = first_buffers(alloc, params, count)?;
     let kept = keep_front(params, &mut reader, &mut samples, &mut bytes)?;
     let judged = judge_from(params, &mut reader, kept, kept)?;
     let left = judged.total.saturating_sub(kept);
+    room_for_rest(params, left, &mut samples)?;
     put_kept(
         params,
         &mut reader,
@@ -184,9 +228,9 @@ fn decode_bits_into(
 /// where there is room for all of them, and leaves the rest of it; else leaves all of it. How many
 /// bytes they are. The refusals are those of `decode_bytes`; the buffer is as it was then.
 ///
-/// Memory is taken for the coded bytes, for an interval of samples, at least 2,048, and their
-/// bytes, and for 64 KiB of bytes that are kept while the coded bytes are judged. Of short blocks
-/// up to 16 MiB are kept, where there is memory. What lies behind is read twice.
+/// Memory is taken for the coded bytes, for an interval of samples, or more but at most 2,048, and
+/// their bytes, and for up to 64 KiB of bytes that are kept while the coded bytes are judged. Of
+/// short blocks up to 16 MiB are kept, where there is memory. What lies behind is read twice.
 pub fn decode_into(
     alloc: Global,
     params: &Params,

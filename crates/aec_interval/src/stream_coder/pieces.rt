@@ -15,7 +15,9 @@ use crate::stream_coder::rest::Rest;
 use aec_bits::BitBuf;
 use aec_params::{Fault, Params, first_bad, sample_of};
 
-/// The most samples that are joined at once, where an interval has no more.
+/// The bounds of how many samples are joined at once, where an interval has no more.
+const FEWEST_AT_ONCE: usize = 256;
+
 const MOST_AT_ONCE: usize = 4096;
 
 /// What samples are joined under: how they are coded, and how many of them there may be.
@@ -165,9 +167,15 @@ fn join_part(
     }
 }
 
+/// How many of so many samples are joined at once, where an interval has no more: a sixteenth of
+/// them, since their places are cleared before they are first filled.
+fn most_at_once(samples: usize) -> usize {
+    (samples / 16).clamp(FEWEST_AT_ONCE, MOST_AT_ONCE)
+}
+
 /// How many samples are joined at once to those that are held: as many as the interval has places
-/// for; where none are held, those of as many whole intervals as are there, up to some thousand
-/// samples and at least one interval.
+/// for; where none are held, those of whole intervals: at least one interval, and no more than are
+/// there.
 fn part_samples(interval: usize, held: usize, samples: usize) -> usize
     requires few { held < interval }
     requires some { 0 < samples }
@@ -181,7 +189,7 @@ fn part_samples(interval: usize, held: usize, samples: usize) -> usize
     if held > 0 {
         return interval - held;
     }
-    let most = samples.min(MOST_AT_ONCE.max(interval));
+    let most = samples.min(most_at_once(samples).max(interval));
     most - most % interval
 }
 

@@ -1,5 +1,5 @@
 use Rattle.aec_c.specs.Coders.{taken_out}
-use Rattle.aec_c.proofs.CoderLemmas.{was_in}
+use Rattle.aec_c.proofs.HandleLemmas.{was_in}
 use Rattle.aec_c.proofs.coders.taken.Goals as goal
 
 pub returns-in-Some : goal.returns-in-Some

@@ -1,11 +1,11 @@
 use Rattle.aec_c.specs.HandleCalls.{held}
-use Rattle.aec_c.proofs.HandleLemmas.{was_held}
+use Rattle.aec_c.proofs.HandleLemmas.{was_in}
 use Rattle.aec_c.proofs.handle_edits.appended.Goals as goal
 
 pub returns-in-Some : goal.returns-in-Some
 returns-in-Some c =
     held c.deref_mut.result.now (record { workspace = c.append-answer.new.self })
-    (was_held _ c.replace.result c.in-Some.work.value c.deref_mut.result.now c.replace.ensures.value c.in-Some.ensures c.deref_mut.ensures.value)
+    (was_in (λ h. h.value) _ c.replace.result c.in-Some.work.value c.deref_mut.result.now c.replace.ensures.value c.in-Some.ensures c.deref_mut.ensures.value)
     c.of.ensures (record {
       answer = c.append-answer.result;
       replied = c.edit_reply.ensures;

@@ -3,11 +3,13 @@ use Rattle.aec_params.specs.Params.{storage_len, interval_len}
 use Rattle.aec_engine.specs.Output.{all_stored}
 use Rattle.aec_c.specs.Standing.{Standing}
 use Rattle.aec_c.specs.Readers.{not_read}
-use Rattle.aec_c.proofs.ReaderLemmas.{bytes-most, if_some, lacks_room, puts_next}
+use Rattle.aec_c.proofs.ReaderLemmas.{fault_at, bytes-most, if_some, lacks_room, puts_next}
 use Rattle.aec_c.proofs.readers.next_open.Goals as goal
 
 pub returns-in-Err : goal.returns-in-Err
-returns-in-Err c = not_read c.in-Err.fault c.in-Err.ensures.refuses refl refl c.refused.ensures
+returns-in-Err c =
+    not_read c.in-Err.fault (fault_at _ c.in-Err.fault _ c.in-Err.ensures.refuses c.in-Err.ensures.full c.args.made.now.has_room)
+    refl refl c.refused.ensures
 
 pub overflow_mul-size : goal.overflow_mul-size
 overflow_mul-size c =

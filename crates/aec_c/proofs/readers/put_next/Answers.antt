@@ -1,5 +1,5 @@
 use Rattle.aec_c.specs.Readers.{put}
-use Rattle.aec_c.proofs.CoderLemmas.{was_in}
+use Rattle.aec_c.proofs.HandleLemmas.{was_in}
 use Rattle.aec_c.proofs.readers.put_next.Goals as goal
 
 pub returns-in-Some : goal.returns-in-Some

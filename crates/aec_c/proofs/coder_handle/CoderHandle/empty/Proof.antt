@@ -14,7 +14,8 @@ use Rattle.std.proofs.raw_atomic.Walks.{proved}
 use Rattle.aec_c.specs.declared.coder_handle.CoderHandle.{CoderHandle}
 use Rattle.aec_c.specs.contracts.coder_handle.CoderHandle as handle
 use Rattle.aec_c.specs.contracts.coder_handle.CoderHandle.empty as f
-use Rattle.aec_c.proofs.CoderHandleSteps.{word, word_good, handle_in}
+use Rattle.aec_c.proofs.HandleSteps.{word, word_good}
+use Rattle.aec_c.proofs.CoderHandleSteps.{handle_in}
 use Rattle.aec_c.proofs.coder_handle.CoderHandle.empty.Statement.{statement}
 use Rattle.aec_c.proofs.coder_handle.CoderHandle.empty.Code as code
 

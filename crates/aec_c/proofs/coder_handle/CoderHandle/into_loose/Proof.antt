@@ -37,7 +37,8 @@ use Rattle.aec_c.specs.contracts.coder_handle.OpenCoder as work
 use Rattle.aec_c.specs.contracts.coder_handle.CoderHandle as handle
 use Rattle.aec_c.specs.contracts.coder_handle.CoderHandle.into_loose as f
 use Rattle.aec_c.proofs.coder_handle.CoderHandle.TheLaws.{lowers}
-use Rattle.aec_c.proofs.CoderHandleSteps.{word, ptr_good, word_good, handle_out}
+use Rattle.aec_c.proofs.HandleSteps.{word, ptr_good, word_good}
+use Rattle.aec_c.proofs.CoderHandleSteps.{handle_out}
 use Rattle.aec_c.proofs.BoxedCoder.{E, LooseWork}
 use Rattle.aec_c.proofs.coder_handle.CoderHandle.into_loose.Statement.{statement}
 use Rattle.aec_c.proofs.coder_handle.CoderHandle.into_loose.Code as code

@@ -21,7 +21,8 @@ use Rattle.aec_c.specs.Handles.{coder_owns}
 use Rattle.aec_c.specs.declared.coder_handle.CoderHandle.{CoderHandle}
 use Rattle.aec_c.specs.contracts.coder_handle.CoderHandle as handle
 use Rattle.aec_c.specs.contracts.coder_handle.CoderHandle.of_loose as f
-use Rattle.aec_c.proofs.CoderHandleSteps.{word, word_good, handle_in}
+use Rattle.aec_c.proofs.HandleSteps.{word, word_good}
+use Rattle.aec_c.proofs.CoderHandleSteps.{handle_in}
 use Rattle.aec_c.proofs.BoxedCoder.{E, FromLoose}
 use Rattle.aec_c.proofs.coder_handle.CoderHandle.of_loose.Statement.{statement}
 use Rattle.aec_c.proofs.coder_handle.CoderHandle.of_loose.Code as code

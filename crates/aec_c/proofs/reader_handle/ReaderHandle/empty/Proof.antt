@@ -14,7 +14,8 @@ use Rattle.std.proofs.raw_atomic.Walks.{proved}
 use Rattle.aec_c.specs.declared.reader_handle.ReaderHandle.{ReaderHandle}
 use Rattle.aec_c.specs.contracts.reader_handle.ReaderHandle as handle
 use Rattle.aec_c.specs.contracts.reader_handle.ReaderHandle.empty as f
-use Rattle.aec_c.proofs.ReaderHandleSteps.{word, word_good, handle_in}
+use Rattle.aec_c.proofs.HandleSteps.{word, word_good}
+use Rattle.aec_c.proofs.ReaderHandleSteps.{handle_in}
 use Rattle.aec_c.proofs.reader_handle.ReaderHandle.empty.Statement.{statement}
 use Rattle.aec_c.proofs.reader_handle.ReaderHandle.empty.Code as code
 

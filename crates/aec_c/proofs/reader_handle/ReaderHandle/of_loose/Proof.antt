@@ -21,7 +21,8 @@ use Rattle.aec_c.specs.Handles.{reader_owns}
 use Rattle.aec_c.specs.declared.reader_handle.ReaderHandle.{ReaderHandle}
 use Rattle.aec_c.specs.contracts.reader_handle.ReaderHandle as handle
 use Rattle.aec_c.specs.contracts.reader_handle.ReaderHandle.of_loose as f
-use Rattle.aec_c.proofs.ReaderHandleSteps.{word, word_good, handle_in}
+use Rattle.aec_c.proofs.HandleSteps.{word, word_good}
+use Rattle.aec_c.proofs.ReaderHandleSteps.{handle_in}
 use Rattle.aec_c.proofs.BoxedReader.{E, FromLoose}
 use Rattle.aec_c.proofs.reader_handle.ReaderHandle.of_loose.Statement.{statement}
 use Rattle.aec_c.proofs.reader_handle.ReaderHandle.of_loose.Code as code

@@ -63,3 +63,8 @@ returns c =
     → FillsOne (IsOnly (l ++ all_stored c.args.params.now (samples_from c.in_ok-kept.kept c.saturating_sub-left.result xs))) c.args.out.now
     c.put_kept.new.out c.put_kept.result)
     c.deref.ensures.value c.put_kept.ensures)
+
+pub returns-in_err-room_for_rest : goal.returns-in_err-room_for_rest
+returns-in_err-room_for_rest c =
+    let exit = err_from_is_err_and c.from_residual-in_err-room_for_rest.result c.from_residual-in_err-room_for_rest.ensures.1 in
+    fills_refusal _ c.args.out.now _ exit.0 Memory exit.1 (exit.2 ∙ c.in_err-room_for_rest.ensures.fault) no_memory

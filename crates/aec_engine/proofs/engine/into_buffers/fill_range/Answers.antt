@@ -11,6 +11,7 @@ loop-left-init c = record {
       (taken_none c.args.out.now) refl refl c.requires.begun;
   within = omega arith;
   whole = refl;
+  few = omega arith;
   room = c.requires.room;
 }
 
@@ -18,13 +19,15 @@ pub returns-in_err-next_few-clause-sound : goal.returns-in_err-next_few-clause-s
 returns-in_err-next_few-clause-sound c =
     not_refused c.args.reader.now c.loop-left.reader _ _ _ _ _ _ _ _ _ c.in_err-next_few.field-0.0
     (subst IsAllowed (sym c.requires.settings) c.interval_len-len.ensures.allowed) c.loop-left.invariant.puts (c.requires.read.0, c.requires.read.1)
-    c.in_err-next_few.ensures.refuses c.in_err-next_few.ensures.full (omega (arith, c.loop-left.invariant.room, ap interval_len c.requires.settings))
+    c.in_err-next_few.ensures.refuses c.in_err-next_few.ensures.full
+    (omega (arith, c.loop-left.invariant.room (omega (arith, c.loop-left-test.true, c.loop-left.invariant.few)), ap interval_len c.requires.settings))
 
 pub returns-in_err-next_few-clause-filled : goal.returns-in_err-next_few-clause-filled
 returns-in_err-next_few-clause-filled c =
     not_refused c.args.reader.now c.loop-left.reader _ _ _ _ _ _ _ _ _ c.in_err-next_few.field-0.0
     (subst IsAllowed (sym c.requires.settings) c.interval_len-len.ensures.allowed) c.loop-left.invariant.puts (c.requires.read.0, c.requires.read.1)
-    c.in_err-next_few.ensures.refuses c.in_err-next_few.ensures.full (omega (arith, c.loop-left.invariant.room, ap interval_len c.requires.settings))
+    c.in_err-next_few.ensures.refuses c.in_err-next_few.ensures.full
+    (omega (arith, c.loop-left.invariant.room (omega (arith, c.loop-left-test.true, c.loop-left.invariant.few)), ap interval_len c.requires.settings))
 
 pub put_behind-at-requires-clause-held : goal.put_behind-at-requires-clause-held
 put_behind-at-requires-clause-held c =
@@ -42,8 +45,7 @@ put_behind-at-requires-clause-room c =
 pub loop-left-preserved : goal.loop-left-preserved
 loop-left-preserved c =
     let is = c.part_of-part.ensures ∙ ap (samples_from _ _) c.deref.ensures.value in
-    let a = subst IsAllowed (sym c.requires.settings) c.interval_len-len.ensures.allowed in
-    let step = c.in_ok-next_few.ensures.read c.if-branch.true in
+    let a = subst IsAllowed (sym c.requires.settings) c.interval_len-len.ensures.allowed in let step = c.in_ok-next_few.ensures.read c.if-branch.true in
     let room = part_fits c.args.reader.now c.loop-left.reader c.args.params.now c.args.first c.args.len c.loop-left.skip c.loop-left.left c.loop-left.at
     c.loop-left.out a c.loop-left.invariant.puts c.loop-left.invariant.within
     (c.requires.read.0, c.requires.read.1, c.loop-left.invariant.whole ∙ c.requires.read.2) c.next_few.new.self c.next_few.new.samples.items
@@ -57,7 +59,8 @@ loop-left-preserved c =
           c.loop-left.invariant.within c.put_behind-at.ensures.bytes c.put_behind-at.ensures.end) (omega arith) refl;
       within = omega (arith, c.put_behind-at.ensures.end, room, long);
       whole = long ∙ c.loop-left.invariant.whole;
-      room = omega (arith, c.loop-left.invariant.room, c.next_few.ensures.capacity);
+      few = omega (arith, c.loop-left.invariant.few);
+      room = λ some. omega (arith, c.loop-left.invariant.room some, c.next_few.ensures.capacity);
     }
 
 pub returns-else-branch-clause-filled : goal.returns-else-branch-clause-filled

@@ -1,4 +1,4 @@
-use Rattle.std.proofs.Common.{◌≡◌, ◌-◌, ◌≤◌, ◌^◌, Some, [], length, take, vec_capacity}
+use Rattle.std.proofs.Common.{◌≡◌, ◌-◌, ◌<◌, ◌≤◌, ◌^◌, Some, [], length, take, vec_capacity}
 use Rattle.aec_params.specs.Params.{interval_len}
 use Rattle.aec_engine.proofs.PutRangeLemmas.{PutsSoFar}
 use Rattle.aec_engine.proofs.engine.into_buffers.fill_range.Given as goal
@@ -8,7 +8,8 @@ invariant-loop-left l = record {
   puts : PutsSoFar l.fn.reader l.reader l.params l.first l.len l.skip l.left (Some []) (Some (take l.at l.out)) [];
   within : l.at ≤ length l.out;
   whole : length l.out ≡ length l.fn.out;
-  room : interval_len l.params ≤ vec_capacity l.samples;
+  few : l.left ≤ l.len;
+  room : 0 < l.len → interval_len l.params ≤ vec_capacity l.samples;
 }
 
 abbrev pub decreases-loop-left : goal.decreases-loop-left

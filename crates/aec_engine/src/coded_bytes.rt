@@ -1,0 +1,105 @@
+//! Coding of stored samples in memory, with no source and no sink between.
+
+ghost use Rattle.std.specs.Prelude.{◌≡◌, ◌⊎◌, [], Some, Ok, false, length, IfOk, IfErr};
+ghost use Rattle.aec_params.specs.declared.fault.Fault.TheVariants.{Memory};
+ghost use Rattle.aec_params.specs.Codewords.{bytes_of};
+ghost use Rattle.aec_engine.specs.Transfers.{input_of, answer_by};
+ghost use Rattle.aec_engine.specs.Output.{IsEncoded};
+ghost use Rattle.aec_engine.specs.InMemory.{IsCodeOf, bytes_refusal};
+ghost use Rattle.aec_engine.specs.Buffers.{left_of, FillsOne, OrMemory};
+
+use aec_bits::BitBuf;
+use aec_interval::StreamCoder;
+use aec_params::{Fault, Limits, Params};
+use std::alloc::Global;
+
+/// For at most so many bytes of samples room is made before they are coded. Longer code grows as
+/// it is made.
+const SHORT: usize = 65536;
+
+/// Returns an empty list, with room for the code of `len` bytes of samples if they are at most
+/// `SHORT`: code has seldom more than nine bits for each byte. Without memory it has no room.
+fn roomy_bits(alloc: Global, len: usize) -> BitBuf
+    ensures { result.list ≡ [] }
+{
+    let mut bits = BitBuf::new(alloc);
+    match bits.reserve(9 * len.min(SHORT) as u64 + 64) {
+        Ok(()) => bits,
+        Err(_refused) => bits,
+    }
+}
+
+/// Returns the code of stored samples.
+fn coded_bits(alloc: Global, params: &Params, limits: Limits, bytes: &[u8]) -> Result<BitBuf, Fault>
+    ensures { OrMemory (IsEncoded params.now limits (input_of bytes.now false))
+        (answer_by (λ bits. bytes_of bits.list) result) }
+{
+    // What the parameters promise is told by their calls.
+    let _len = params.interval_len();
+    let mut coder = StreamCoder::new(alloc, *params, limits.samples());
+    let mut bits = roomy_bits(alloc, bytes.len());
+    coder.feed(bytes, &mut bits)?;
+    coder.finish(&mut bits)?;
+    Ok(bits)
+}
+
+/// Returns the bytes that bits fill.
+fn bytes_in(alloc: Global, bits: &BitBuf) -> Result<Vec<u8>, Fault>
+    ensures ok { IfOk result (λ bytes. bytes.items ≡ bytes_of bits.now.list) }
+    ensures fault { IfErr result (λ e. e ≡ Memory) }
+{
+    let mut bytes = vec![in alloc; 0u8; bits.byte_len() as usize]?;
+    bits.put_bytes(&mut bytes);
+    Ok(bytes)
+}
+
+/// Returns the bytes of the code of stored samples. The refusals in their order: at each sample
+/// `TooManySamples`, then `SampleRange`. `Memory` can come at any time. `limits.bytes` is not used.
+pub fn encode_bytes(
+    alloc: Global,
+    params: &Params,
+    limits: Limits,
+    bytes: &[u8],
+) -> Result<Vec<u8>, Fault>
+    ensures ok { IfOk result (λ coded. IsCodeOf params.now limits.samples bytes.now coded.items) }
+    ensures refuses { IfErr result
+        (λ fault. (fault ≡ Memory)
+        ⊎ (bytes_refusal params.now limits.samples bytes.now ≡ Some fault)) }
+{
+    let bits = coded_bits(alloc, params, limits, bytes)?;
+    bytes_in(alloc, &bits)
+}
+
+/// Puts the bytes that bits fill to the front of a buffer, if there is room for all of them.
+/// Returns how many bytes they are.
+fn put_front(bits: &BitBuf, out: &mut [u8]) -> u64
+    ensures len { result ≡ length (bytes_of bits.now.list) }
+    ensures left { out.new ≡ left_of (Ok (bytes_of bits.now.list)) out.old }
+{
+    let len = bits.byte_len();
+    if len <= out.len() as u64 {
+        bits.put_bytes(&mut out[..len as usize]);
+    }
+    len
+}
+
+/// Puts the bytes of the code of stored samples to the front of a buffer, if there is room for all
+/// of them, and leaves the rest of it; else leaves all of it. Returns how many bytes they are. The
+/// refusals are those of `encode_bytes`; the buffer is then as it was.
+///
+/// Memory is taken for the code, and for 4,096 samples or those of a longer interval.
+pub fn encode_into(
+    alloc: Global,
+    params: &Params,
+    limits: Limits,
+    bytes: &[u8],
+    out: &mut [u8],
+) -> Result<u64, Fault>
+    ensures { FillsOne (OrMemory (IsEncoded params.now limits (input_of bytes.now false)))
+        out.old out.new result }
+{
+    match coded_bits(alloc, params, limits, bytes) {
+        Ok(bits) => Ok(put_front(&bits, out)),
+        Err(fault) => Err(fault),
+    }
+}

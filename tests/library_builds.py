@@ -1,0 +1,121 @@
+#!/usr/bin/env python3
+"""The installed library, as other projects build with it: library_builds.py
+
+Installs bin/libaecp.a, bin/libaecp.so and the header by `make install-c`, once into lib and once into a folder below lib, and builds a
+small program with what is there: by CMake's `find_package`, and by the words of pkg-config. The program has to code and decode a sample.
+A version that isn't there is refused by both. Then `make uninstall-library` has to leave no file. Ends with 1 where a check failed.
+"""
+
+import os
+import shutil
+import subprocess
+import sys
+import tempfile
+
+from program import Tally
+
+TOP = os.path.join(os.path.dirname(os.path.abspath(__file__)), "..")
+
+PROGRAM = """
+#include <aecp.h>
+#include <string.h>
+
+int main(void) {
+    uint8_t samples[] = {0, 1, 2, 3, 4, 5, 6, 7}, back[8], coded[64];
+    aecp_options options = AECP_OPTIONS(8);
+    aecp_reply reply;
+    if (aecp_encode(&options, samples, 8, coded, sizeof coded, &reply)) return 1;
+    return aecp_decode(&options, 8, coded, reply.len, back, 8, &reply) || memcmp(samples, back, 8);
+}
+"""
+
+PROJECT = """
+cmake_minimum_required(VERSION 3.10)
+project(uses_aecp C)
+find_package(aecp {asked} CONFIG REQUIRED)
+add_executable(uses_aecp main.c)
+target_link_libraries(uses_aecp aecp::aecp)
+"""
+
+
+def ran(*words, **more):
+    """The status of a command, and all that it prints."""
+    ended = subprocess.run(words, capture_output=True, text=True, **more)
+    return ended.returncode, ended.stdout + ended.stderr
+
+
+def has(command, what):
+    """Whether there is a command. If not, says that what needs it is skipped."""
+    if not shutil.which(command):
+        print(f"skipped, since there is no command {command}: {what}")
+    return bool(shutil.which(command))
+
+
+def later(version):
+    """The version after this one that may break its callers."""
+    major, minor, _ = map(int, version.split("."))
+    return f"{major}.{minor + 1}"
+
+
+def try_cmake(prefix, version, folder, tally):
+    """A project that asks for the version by `find_package`, and one that asks for a later one."""
+    source, built = os.path.join(folder, "source"), os.path.join(folder, "cmake")
+    os.makedirs(source)
+    for asked, is_there in ((version, True), (later(version), False)):
+        with open(os.path.join(source, "CMakeLists.txt"), "w", encoding="utf-8") as file:
+            file.write(PROJECT.format(asked=asked))
+        with open(os.path.join(source, "main.c"), "w", encoding="utf-8") as file:
+            file.write(PROGRAM)
+        shutil.rmtree(built, ignore_errors=True)
+        status, said = ran("cmake", "-S", source, "-B", built, f"-DCMAKE_PREFIX_PATH={prefix}")
+        tally.holds((status == 0) == is_there, f"find_package(aecp {asked}): {said[-800:]}")
+        if is_there:
+            status, said = ran("cmake", "--build", built)
+            tally.holds(status == 0, f"cmake --build: {said[-800:]}")
+            tally.check("the program that CMake builds", ran(os.path.join(built, "uses_aecp")), (0, ""))
+
+
+def try_pkg_config(libdir, version, folder, tally):
+    """The program by the words of pkg-config, linked with the shared library and with the archive."""
+    source, built = os.path.join(folder, "main.c"), os.path.join(folder, "by_pkg_config")
+    with open(source, "w", encoding="utf-8") as file:
+        file.write(PROGRAM)
+    paths = {**os.environ, "PKG_CONFIG_PATH": os.path.join(libdir, "pkgconfig"), "LD_LIBRARY_PATH": libdir}
+    for asked, is_there in ((f"aecp >= {version}", True), (f"aecp >= {later(version)}", False)):
+        tally.check(f"pkg-config --exists {asked}", ran("pkg-config", "--exists", asked, env=paths)[0] == 0, is_there)
+    words = ran("pkg-config", "--cflags", "--libs", "aecp", env=paths)[1].split()
+    for linked in (words, ["-l:libaecp.a" if word == "-laecp" else word for word in words]):
+        status, said = ran("cc", "-o", built, source, *linked)
+        tally.holds(status == 0, f"cc with {linked}: {said}")
+        tally.check("the program that pkg-config builds", ran(built, env=paths), (0, ""))
+
+
+def try_install(lib, version, tally):
+    """An installation with its libraries in this folder of the prefix."""
+    with tempfile.TemporaryDirectory() as folder:
+        prefix = os.path.join(folder, "prefix")
+        places = [f"PREFIX={prefix}", f"LIBDIR={prefix}/{lib}", f"PYTHON_DIR={prefix}/python"]
+        status, said = ran("make", "-s", "-C", TOP, "install-c", *places)
+        tally.holds(status == 0, f"make install-c into {lib}: {said}")
+        if has("cmake", "find_package"):
+            try_cmake(prefix, version, folder, tally)
+        if has("pkg-config", "aecp.pc"):
+            try_pkg_config(os.path.join(prefix, lib), version, folder, tally)
+        status, said = ran("make", "-s", "-C", TOP, "uninstall-library", *places)
+        left = [os.path.join(at, name) for at, _, names in os.walk(prefix) for name in names]
+        tally.check(f"what uninstall-library leaves of {lib}: {said}", left, [])
+
+
+def main():
+    with open(os.path.join(TOP, "VERSION"), encoding="utf-8") as file:
+        version = file.read().strip()
+    tally = Tally()
+    if has("cc", "the installed library"):
+        for lib in ("lib", "lib/x86_64-linux-gnu"):
+            try_install(lib, version, tally)
+    tally.print()
+    sys.exit(1 if tally.failed else 0)
+
+
+if __name__ == "__main__":
+    main()
