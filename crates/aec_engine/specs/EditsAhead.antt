@@ -39,6 +39,11 @@ no_edits = record { edits = []; lines = []; bad = None }
 abbrev pub IsReady : EditsAhead → Type 0
 IsReady ahead = MatchOption ahead.next (behind ahead ≡ no_edits) (λ next. ⊤)
 
+-- the edits that are left can be made: their lines are known, and the next one is ready
+pub record AreAhead (ahead : EditsAhead) : Type 0 where
+  pub known : AreKnown ahead
+  pub ready : IsReady ahead
+
 -- how many planned overwrites and bytes are not read again yet
 abbrev pub unread : EditsAhead → ℕ
 unread ahead = (length ahead.window.now - ahead.taken) + text_left (text_behind ahead)
