@@ -109,6 +109,12 @@ pub record HaveSamples (p : Place) (total : ℕ) : Type 0 where
   pub reading : IsReading p.settings p.count p.limit p.bits samples
   pub counted : length samples ≡ total
 
+-- all samples were judged, and the reader is where it was: where all is read, and how many they are
+pub record Judges (old new : Place) (end total : ℕ) : Type 0 where
+  pub have : HaveSamples old total
+  pub ends : EndsAt old end
+  pub same : new ≡ old
+
 -- the bytes of a part of samples, or want of memory
 pub data StoresPart (s : Settings) (first len : ℕ) (samples : List ℤ) : Result (List ℕ) Fault → Type 0 where
   stored : StoresPart s first len samples (Ok (all_stored s (samples_from first len samples)))

@@ -11,7 +11,7 @@ ghost use Rattle.aec_engine.specs.ReadingTwice.{AreFewKept, GrowsForFew, IsAtSta
 
 use crate::engine::bit_intake::read_bits;
 use crate::engine::two_readings::{
-    WAITING, append_stored, buffers, deliver_range, judge_all, judge_from, samples_within,
+    Part, WAITING, append_stored, buffers, deliver_range, judge_all, judge_from, samples_within,
 };
 use aec_bits::{Sink, Source};
 use aec_interval::StreamReader;
@@ -161,15 +161,10 @@ pub fn decode<R: Source, W: Sink>(
     };
     let kept = keep_front(params, &mut reader, &mut samples, &mut bytes)?;
     let judged = judge_from(params, &mut reader, kept, kept)?;
-    let left = judged.total.saturating_sub(kept);
-    deliver_range(
-        params,
-        &mut reader,
-        judged.before,
-        kept,
-        left,
-        &mut samples,
-        &mut bytes,
-        sink,
-    )
+    let part = Part {
+        before: judged.before,
+        first: kept,
+        len: judged.total.saturating_sub(kept),
+    };
+    deliver_range(params, &mut reader, part, &mut samples, &mut bytes, sink)
 }

@@ -6,7 +6,7 @@ ghost use Rattle.aec_engine.specs.Transfers.{are_past, Taking, taking_of, Puttin
 ghost use Rattle.aec_engine.specs.Output.{IsRanged};
 
 use crate::engine::bit_intake::read_bits;
-use crate::engine::two_readings::{judge_samples, write_range};
+use crate::engine::two_readings::{Part, judge_samples, write_range};
 use aec_bits::{Sink, Source};
 use aec_interval::StreamReader;
 use aec_params::{Fault, Limits, Params};
@@ -49,5 +49,10 @@ pub fn range<R: Source, W: Sink>(
     let mut reader = StreamReader::new(alloc, *params, &bits, count, limits.samples())?;
     let judged = judge_samples(params, &mut reader, first)?;
     judge_range(first, len, judged.total)?;
-    write_range(alloc, params, &mut reader, judged.before, first, len, sink)
+    let part = Part {
+        before: judged.before,
+        first,
+        len,
+    };
+    write_range(alloc, params, &mut reader, part, sink)
 }

@@ -10,7 +10,7 @@ ghost use Rattle.aec_interval.specs.Reached.{RefusesReading};
 ghost use Rattle.aec_interval.specs.Pieces.{IsPlace, place_at};
 ghost use Rattle.aec_engine.specs.Output.{all_stored, samples_from};
 ghost use Rattle.aec_engine.specs.Transfers.{Putting, putting_of};
-ghost use Rattle.aec_engine.specs.ReadingTwice.{AreSamplesOf, EndsAt, HasSpare, HaveSamples, IsAtStart, IsBegun, IsReadyAt, SettlesOne, StoresPart};
+ghost use Rattle.aec_engine.specs.ReadingTwice.{AreSamplesOf, EndsAt, HasSpare, HaveSamples, IsAtStart, IsBegun, IsReadyAt, Judges, SettlesOne, StoresPart};
 ghost use Rattle.aec_engine.specs.Delivering.{Delivers, HaveRoom, PutsAllOrFront, PutsPart, SinkState, StaysBegun, sink_state};
 
 use aec_bits::{Sink, put_all};
@@ -120,16 +120,23 @@ pub(crate) fn judge_samples(
 /// Goes over all samples from the first bit on, and back to it. Takes no memory.
 pub(crate) fn judge_all(params: &Params, reader: &mut StreamReader) -> Result<Judged, Fault>
     requires start { IsAtStart reader.old params.now }
-    ensures ok { IfOk result (λ judged. HaveSamples reader.old judged.total) }
-    ensures bits { IfOk result (λ judged. EndsAt reader.old judged.bits) }
+    ensures ok { IfOk result (λ judged. Judges reader.old reader.new judged.bits judged.total) }
     ensures refuses { IfErr result
         (λ fault. RefusesReading reader.old.settings reader.old.count reader.old.limit
         reader.old.bits 0 0 fault) }
-    ensures same { OnOk result (reader.new ≡ reader.old) }
 {
     let judged = judge_samples(params, reader, 0)?;
     reader.restart();
     Ok(judged)
+}
+
+/// A part of the samples, `len` of them from place `first` on, and how many lie before the reader
+/// that is to read it.
+#[derive(Clone, Copy)]
+pub(crate) struct Part {
+    pub(crate) before: u64,
+    pub(crate) first: u64,
+    pub(crate) len: u64,
 }
 
 /// Of samples those after the first `skip`, at most `left` of them.
@@ -226,33 +233,31 @@ fn put_part<W: Sink>(
     Ok(())
 }
 
-/// Reads the samples from where the reader is, after `before` samples, up to the last that is asked
-/// for, and puts the bytes of `len` of them from place `first` on. Never fails with `Memory`.
+/// Reads the samples from where the reader is up to the last of a part, and puts the bytes of the
+/// part. Never fails with `Memory`.
 fn put_range<W: Sink>(
     params: &Params,
     reader: &mut StreamReader,
-    before: u64,
-    first: u64,
-    len: u64,
+    part: Part,
     samples: &mut Vec<i64>,
     bytes: &mut Vec<u8>,
     sink: &mut W,
 ) -> Result<(), Fault>
-    requires ready { IsReadyAt reader.old params.now before first }
+    requires ready { IsReadyAt reader.old params.now part.before part.first }
     requires room { HaveRoom params.now (vec_capacity samples.old) (vec_capacity bytes.old) }
     requires empty { vec_len bytes.old ≡ 0 }
     ensures puts { (xs : List ℤ) → AreSamplesOf reader.old xs
         → PutsAllOrFront (W.taken sink.old) (W.taken sink.new)
-        (all_stored params.now (samples_from first len xs)) result }
+        (all_stored params.now (samples_from part.first part.len xs)) result }
     ensures stays { let state : W → SinkState = sink_state W.begun W.mark W.failed in
         StaysBegun (state sink.old) (state sink.new) result }
 {
-    let mut skip = first - before;
-    let mut left = len;
+    let mut skip = part.first - part.before;
+    let mut left = part.len;
     while left > 0 && reader.next_few(samples_within(bytes.capacity() - bytes.len()), samples)? {
-        let part = part_of(samples, skip, left);
-        left -= part.len() as u64;
-        put_part(params, part, bytes, sink)?;
+        let wanted = part_of(samples, skip, left);
+        left -= wanted.len() as u64;
+        put_part(params, wanted, bytes, sink)?;
         skip = skip.saturating_sub(samples.len() as u64);
     }
     put_all(sink, bytes)
@@ -271,29 +276,27 @@ fn begin_with<W: Sink>(bytes: &mut Vec<u8>, sink: &mut W) -> Result<(), Fault>
     put_waiting(bytes, sink)
 }
 
-/// Begins, puts all bytes that wait, and then a range of the samples, read again. `Write` where the
+/// Begins, puts all bytes that wait, and then a part of the samples, read again. `Write` where the
 /// sink fails.
 #[tactic(auto, using(crate::proofs::PutRangeLemmas::puts_behind, crate::proofs::PutRangeLemmas::front_behind))]
 pub(crate) fn deliver_range<W: Sink>(
     params: &Params,
     reader: &mut StreamReader,
-    before: u64,
-    first: u64,
-    len: u64,
+    part: Part,
     samples: &mut Vec<i64>,
     bytes: &mut Vec<u8>,
     sink: &mut W,
 ) -> Result<(), Fault>
-    requires ready { IsReadyAt reader.old params.now before first }
+    requires ready { IsReadyAt reader.old params.now part.before part.first }
     requires room { HaveRoom params.now (vec_capacity samples.old) (vec_capacity bytes.old) }
     ensures delivers { let put : Putting
         = putting_of W.taken W.begun W.mark W.failed sink.old sink.new in
         (xs : List ℤ) → AreSamplesOf reader.old xs
-        → Delivers (bytes.old.items ++ all_stored params.now (samples_from first len xs)) put
-        result }
+        → Delivers (bytes.old.items ++ all_stored params.now (samples_from part.first part.len xs))
+        put result }
 {
     begin_with(bytes, sink)?;
-    put_range(params, reader, before, first, len, samples, bytes, sink)
+    put_range(params, reader, part, samples, bytes, sink)
 }
 
 /// Returns room for `AT_ONCE` samples, or for those of an interval if they are more.
@@ -324,31 +327,20 @@ pub(crate) fn buffers(alloc: Global, params: &Params) -> Result<(Vec<i64>, Vec<u
     Ok((samples, bytes))
 }
 
-/// Makes room, begins, and writes the bytes of `len` samples from place `first` on; the reader is
-/// after `before` samples. `Memory` where the room is refused; nothing was begun then.
+/// Makes room, begins, and writes the bytes of a part of the samples. `Memory` where the room is
+/// refused; nothing was begun then.
 pub(crate) fn write_range<W: Sink>(
     alloc: Global,
     params: &Params,
     reader: &mut StreamReader,
-    before: u64,
-    first: u64,
-    len: u64,
+    part: Part,
     sink: &mut W,
 ) -> Result<(), Fault>
-    requires ready { IsReadyAt reader.old params.now before first }
+    requires ready { IsReadyAt reader.old params.now part.before part.first }
     ensures { let put : Putting = putting_of W.taken W.begun W.mark W.failed sink.old sink.new in
         (xs : List ℤ) → AreSamplesOf reader.old xs
-        → SettlesOne (StoresPart params.now first len xs) put result }
+        → SettlesOne (StoresPart params.now part.first part.len xs) put result }
 {
     let (mut samples, mut bytes) = buffers(alloc, params)?;
-    deliver_range(
-        params,
-        reader,
-        before,
-        first,
-        len,
-        &mut samples,
-        &mut bytes,
-        sink,
-    )
+    deliver_range(params, reader, part, &mut samples, &mut bytes, sink)
 }
