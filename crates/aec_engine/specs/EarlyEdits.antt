@@ -16,7 +16,7 @@ use Rattle.aec_engine.specs.declared.scripts.EditFault.{EditFault}
 use Rattle.aec_engine.specs.declared.scripts.EditFault.TheVariants.{Plain}
 use Rattle.aec_engine.specs.ReadingTwice.{AreSamplesOf}
 use Rattle.aec_engine.specs.Scripts.{Listing}
-use Rattle.aec_engine.specs.Editing.{Left, left_of, edits_left, first_calls, LacksMemoryOn, Recoded}
+use Rattle.aec_engine.specs.Editing.{Left, left_with, edits_left, first_calls, LacksMemoryOn, Recoded}
 use Rattle.aec_engine.specs.EditingSteps.{StopsEditing, recoded_of}
 
 -- Edits lead to others, which are made on what is left then: what the former leave is what the
@@ -36,7 +36,7 @@ pub record CarriesEarly (f : Format) (limit : ℕ) (script : Listing) (s : List 
   pub few : (made ≡ 0) ⊎ (calls_after ≤ 2 ^ 62 + 2 ^ 32)
   pub len : length left ≡ length s
   pub leads : (rest : List ℤ) (due : ℕ) → due ≤ 2 ^ 63
-      → LeadsToEdits f limit (left_of (s ++ rest) due) script (left_of (left ++ rest) (due + made)) ahead
+      → LeadsToEdits f limit (left_with (s ++ rest) due) script (left_with (left ++ rest) (due + made)) ahead
 
 -- one of the edits was refused, whatever samples stand after those that are there
 abbrev pub StopsEarly : Format → ℕ → Listing → List ℤ → EditFault → Type 0
@@ -58,7 +58,7 @@ pub record IsEmptyFor (start : Place) (f : Format) (limit : ℕ) (samples : List
 -- are made early)
 abbrev pub LoadsAll : Format → ℕ → Listing → Place → Listing → List ℤ → ℕ → Type 0
 LoadsAll f limit script start ahead left calls =
-    (xs : List ℤ) → AreSamplesOf start xs → LeadsToEdits f limit (left_of xs (first_calls f xs)) script (left_of left calls) ahead
+    (xs : List ℤ) → AreSamplesOf start xs → LeadsToEdits f limit (left_with xs (first_calls f xs)) script (left_with left calls) ahead
 
 -- samples were not all taken over: there was no memory, or an edit was refused
 abbrev pub StopsLoading : Format → ℕ → Listing → Place → EditFault → Type 0

@@ -9,7 +9,7 @@ ghost use Rattle.aec_interval.specs.IntervalFormat.{interval_format};
 ghost use Rattle.aec_engine.specs.declared.scripts.EditFault.TheVariants.{Plain};
 ghost use Rattle.aec_engine.specs.Transfers.{Taking, taking_of, Putting, putting_of, answer_by};
 ghost use Rattle.aec_engine.specs.Scripts.{listing_of};
-ghost use Rattle.aec_engine.specs.Editing.{edits_left, left_of, LeavesRecoded, LeavesEdited};
+ghost use Rattle.aec_engine.specs.Editing.{edits_left, left_with, LeavesRecoded, LeavesEdited};
 ghost use Rattle.aec_engine.specs.EditingSteps.{CarriesOut, GaveScript, RefusesScript, StopsEditing, recoded_of};
 ghost use Rattle.aec_engine.specs.EarlyEdits.{EditsBits};
 ghost use Rattle.aec_engine.specs.EditsAhead.{AreAhead, left_in};
@@ -52,7 +52,7 @@ fn carry_rest<C: Codec>(
     ensures ok { OnOk result (edits_left (C.format workspace.old.codec) workspace.old.limit
         (C.called workspace.old.codec) workspace.old.samples
         (left_in ahead.old).edits (left_in ahead.old).lines
-        ≡ Ok (left_of workspace.new.samples (C.called workspace.new.codec))) }
+        ≡ Ok (left_with workspace.new.samples (C.called workspace.new.codec))) }
     ensures refuses { IfErr result (λ fault. (fault ≡ Plain Memory)
         ⊎ StopsEditing (C.format workspace.old.codec) workspace.old.limit
         (C.called workspace.old.codec) workspace.old.samples
@@ -198,7 +198,7 @@ pub fn carry_out<C: Codec>(workspace: &mut Workspace<C>, script: &Script) -> Res
     ensures ok { OnOk result (edits_left (C.format workspace.old.codec) workspace.old.limit
         (C.called workspace.old.codec) workspace.old.samples
         script.now.edits.items script.now.lines.items
-        ≡ Ok (left_of workspace.new.samples (C.called workspace.new.codec))) }
+        ≡ Ok (left_with workspace.new.samples (C.called workspace.new.codec))) }
     ensures refuses { IfErr result
         (λ fault. StopsEditing (C.format workspace.old.codec) workspace.old.limit
         (C.called workspace.old.codec)
