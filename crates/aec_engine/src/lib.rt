@@ -7,6 +7,7 @@ mod bytes_range;
 mod edited_streams;
 mod engine;
 mod in_memory;
+mod known;
 pub mod laws;
 mod numerals;
 mod script_edits;

@@ -8,6 +8,7 @@ ghost use Rattle.aec_engine.specs.CodingSteps.{IsFed, StopsCoding};
 ghost use Rattle.aec_engine.specs.Delivering.{Delivers};
 
 use crate::engine::intake::PIECE;
+use crate::known::known_allowed;
 use aec_bits::{BitBuf, Sink, Source};
 use aec_interval::StreamCoder;
 use aec_params::{Fault, Limits, Params};
@@ -27,8 +28,7 @@ fn fed<R: Source>(
     ensures refuses { let took : Taking = taking_of R.left R.failed source.old source.new in
         IfErr result (λ fault. StopsCoding params.now limit took fault) }
 {
-    // What the parameters promise is told by their calls.
-    let _len = params.interval_len();
+    known_allowed(params);
     let mut coder = StreamCoder::new(alloc, *params, limit);
     let mut bits = BitBuf::new(alloc);
     let mut piece = [0u8; PIECE];

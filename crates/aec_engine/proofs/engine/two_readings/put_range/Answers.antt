@@ -49,8 +49,8 @@ returns-in_err-put_part-clause-puts g c =
 
 pub loop-left-preserved : goal.loop-left-preserved
 loop-left-preserved g c = record {
-  puts = puts_more c.args.reader.now c.loop-left.reader c.next_few.new.self c.args.params.now c.args.part.first c.args.part.len c.loop-left.skip c.loop-left.left _ _
-      _ _ _ c.loop-left.bytes.items c.put_part.new.bytes.items c.next_few.new.samples.items c.part_of-wanted.result.now
+  puts = puts_more c.args.reader.now c.loop-left.reader c.next_few.new.self c.args.params.now c.args.part.first c.args.part.len c.loop-left.skip
+      c.loop-left.left _ _ _ _ _ c.loop-left.bytes.items c.put_part.new.bytes.items c.next_few.new.samples.items c.part_of-wanted.result.now
       (subst IsAllowed (sym c.requires.ready.settings) c.requires.room.allowed) c.loop-left.invariant.puts (c.in_ok-next_few.ensures.read c.if-branch.true)
       c.next_few.ensures.few c.next_few.ensures.ends (c.part_of-wanted.ensures ∙ ap (samples_from _ _) c.deref.ensures.value) c.in_ok-put_part.ensures.ok
       (omega arith) refl;
