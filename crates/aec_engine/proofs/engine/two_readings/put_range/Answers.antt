@@ -11,8 +11,8 @@ use Rattle.aec_engine.proofs.engine.two_readings.put_range.Goals.{then-loop-left
 
 pub loop-left-init : goal.loop-left-init
 loop-left-init g c = record {
-  puts = puts_none c.args.reader.now c.args.params.now c.args.part.before c.args.part.first c.args.part.len _ (g.W.Sink.taken c.args.sink.now) (g.W.Sink.taken c.args.sink.now)
-      c.args.bytes.now.items (Keeps-same _)
+  puts = puts_none c.args.reader.now c.args.params.now c.args.part.before c.args.part.first c.args.part.len _
+      (g.W.Sink.taken c.args.sink.now) (g.W.Sink.taken c.args.sink.now) c.args.bytes.now.items (Keeps-same _)
       (nil_from_length c.args.bytes.now.items (omega (arith, c.args.bytes.now.ok, c.requires.empty))) refl c.requires.ready.begun;
   begun = refl;
   order = refl;
@@ -42,8 +42,8 @@ put_part-requires-clause-held g c =
 pub returns-in_err-put_part-clause-puts : goal.returns-in_err-put_part-clause-puts
 returns-in_err-put_part-clause-puts g c =
     let exit = err_from_is_err_and c.from_residual-in_err-put_part.result c.from_residual-in_err-put_part.ensures.1 in
-    puts_front_err _ exit.0 c.args.reader.now c.loop-left.reader c.next_few.new.self c.args.params.now c.args.part.first c.args.part.len c.loop-left.skip c.loop-left.left
-    _ _ _ c.loop-left.bytes.items c.next_few.new.samples.items c.part_of-wanted.result.now exit.1
+    puts_front_err _ exit.0 c.args.reader.now c.loop-left.reader c.next_few.new.self c.args.params.now c.args.part.first c.args.part.len c.loop-left.skip
+    c.loop-left.left _ _ _ c.loop-left.bytes.items c.next_few.new.samples.items c.part_of-wanted.result.now exit.1
     (subst IsAllowed (sym c.requires.ready.settings) c.requires.room.allowed) c.loop-left.invariant.puts (c.in_ok-next_few.ensures.read c.if-branch.true)
     c.next_few.ensures.ends (c.part_of-wanted.ensures ∙ ap (samples_from _ _) c.deref.ensures.value) c.in_err-put_part.ensures.front
 
