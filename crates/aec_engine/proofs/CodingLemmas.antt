@@ -23,7 +23,7 @@ use Rattle.aec_interval.proofs.CutLemmas.{cuts_make_no_difference}
 use Rattle.aec_interval.proofs.FeedingLemmas.{stops_later}
 use Rattle.aec_engine.specs.Transfers.{input_of, Taking, GivesAnswer, given, lacks_memory}
 use Rattle.aec_engine.specs.Output.{IsEncoded, are_refused, not_coded, encoded}
-use Rattle.aec_engine.specs.CodingSteps.{IsFedSoFar, IsFed, StopsCoding, no_memory, refused, bytes_to_limit}
+use Rattle.aec_engine.specs.CodingSteps.{IsFedSoFar, IsFed, StopsCoding, no_memory, refused, bytes_left}
 use Rattle.aec_engine.proofs.OutputLemmas.{taking}
 use Rattle.aec_interval.proofs.TakingLemmas.{length-samples_of_bytes}
 
@@ -93,7 +93,7 @@ unrefused_so_far s limit before after bits coder so = ap (λ (c : Coder). c.refu
 
 -- fewer bytes are left to be taken
 pub fewer_left : (s : Settings) (limit : ℕ) (before after : Option (List ℕ)) (bits more : List Bool) (coder next : Coder) (piece : List ℕ)
-    → IsFedSoFar s limit before after bits coder → Feeds coder piece bits more next → 0 < length piece → bytes_to_limit next < bytes_to_limit coder
+    → IsFedSoFar s limit before after bits coder → Feeds coder piece bits more next → 0 < length piece → bytes_left next < bytes_left coder
 fewer_left s limit before after bits more coder next piece so feeds some =
     let n : ℕ = storage_len s in
     let bytes : List ℕ = so.bytes ++ piece in
@@ -103,9 +103,9 @@ fewer_left s limit before after bits more coder next piece so feeds some =
     let new = counted_so_far s limit bytes more next so.allowed all_fed in
     let most = within_so_far s limit bytes more next so.allowed all_fed in
     let all : length bytes ≡ length so.bytes + length piece = length-append so.bytes piece in
-    let old_left : bytes_to_limit coder ≡ (limit + 1) * n - (coder.count * n + length coder.rest) =
+    let old_left : bytes_left coder ≡ (limit + 1) * n - (coder.count * n + length coder.rest) =
     ap (λ (c : Coder). (c.limit + 1) * storage_len c.settings - (coder.count * storage_len c.settings + length coder.rest)) so.feeds.coder in
-    let new_left : bytes_to_limit next ≡ (limit + 1) * n - (next.count * n + length next.rest) =
+    let new_left : bytes_left next ≡ (limit + 1) * n - (next.count * n + length next.rest) =
     ap (λ (c : Coder). (c.limit + 1) * storage_len c.settings - (next.count * storage_len c.settings + length next.rest)) all_fed.coder in
     omega (arith, old, new, most, all, old_left, new_left, some)
 

@@ -32,5 +32,5 @@ pub data StopsCoding (s : Settings) (limit : ℕ) (source : Taking) : Fault → 
       → StopsCoding s limit source fault
 
 -- how many bytes more a coder takes at most before one sample is too many
-abbrev pub bytes_to_limit : Coder → ℕ
-bytes_to_limit c = (c.limit + 1) * storage_len c.settings - (c.count * storage_len c.settings + length c.rest)
+abbrev pub bytes_left : Coder → ℕ
+bytes_left c = (c.limit + 1) * storage_len c.settings - (c.count * storage_len c.settings + length c.rest)
