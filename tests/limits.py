@@ -116,7 +116,7 @@ def long_parts(path, lines, most, what):
         word = re.match(r"(?:abbrev |pub |def |record |data |unfoldable )*(\S+)", line)
         same = starts and word and word.group(1) == name
         if starts and not same:
-            if begun and name != "use" and last - begun + 1 > most:
+            if begun and name not in ("use", "mod") and last - begun + 1 > most:
                 yield Place(path, begun, f"{what} of {last - begun + 1} lines", name)
             begun, name = number, word.group(1) if word else ""
         if line.strip() and not line.startswith("--"):

@@ -3,8 +3,9 @@
 
 Each definition of crates/*/specs with the sentence over it, by crate and file, in the order of the
 crate's specs/Lib.antt. First come those that the contract of a public function, type or trait
-cites, itself or by another definition; then those that serve proofs alone. A sentence's `§7` is a
-section of docs/FORMAT.md, its `COMMAND: Edits` a part of docs/COMMAND.md: both become links.
+cites, itself or by another definition; then those that only the public functions of `laws` cite;
+then those that serve proofs alone. A sentence's `§7` is a section of docs/FORMAT.md, its
+`COMMAND: Edits` a part of docs/COMMAND.md: both become links.
 
 A file whose definitions all serve proofs alone begins with the line MARK.
 
@@ -37,8 +38,12 @@ The definitions are lists, tables and relations over whole numbers without bound
 """
 PUBLIC = """## What public contracts cite
 
-A reader of the contracts needs these, and no others. Read them from the lowest crate upwards, the files of a crate in
+A reader of the contracts of calls and types needs these, and no others. Read them from the lowest crate upwards, the files of a crate in
 this order: what is cited mostly stands before what cites it."""
+LAWS = """## What laws alone cite
+
+The laws of the `laws.rt` of each crate need these besides. No call of a crate promises them: skip them if you read the
+contracts of calls."""
 PRIVATE = """## What serves proofs alone
 
 Contracts of private functions, proofs, examples and tests use these. No public contract cites them, so no promise
@@ -86,13 +91,13 @@ def contract_lines(lines, start):
     return lines[start:]
 
 
-def public_roots(library, crates):
-    """Pairs of a file and lines of it: what is public of each crate, but for crates of tests."""
+def public_roots(library, crates, with_laws):
+    """Pairs of a file and lines of it: what is public of each crate, but for crates of tests, with its laws or without."""
     for crate in crates.values():
         if crate.name.endswith("_tests"):
             continue
         for one in crate.functions:
-            if one.is_public:
+            if one.is_public and (with_laws or not one.file.endswith("/laws.rt")):
                 file = library.file(one.file)
                 yield file, contract_lines(file.text.split("\n"), one.at)
         for path in files_below(f"crates/{crate.name}/src", ".rt"):
@@ -173,18 +178,20 @@ def marked_wrongly(library, crates, public):
 
 
 def written_page():
-    """The page, what is wrong, and how many definitions are public and how many aren't."""
+    """The page, what is wrong, and how many definitions calls cite, how many laws alone, and how many neither."""
     library, links, crates = Library(), Links(), all_crates()
-    public = cited_by(library, public_roots(library, crates))
-    first, many = part_of(library, crates, lambda item: item.key() in public, links)
-    second, few = part_of(library, crates, lambda item: item.key() not in public, links)
+    called = cited_by(library, public_roots(library, crates, with_laws=False))
+    public = cited_by(library, public_roots(library, crates, with_laws=True))
+    first, many = part_of(library, crates, lambda item: item.key() in called, links)
+    second, some = part_of(library, crates, lambda item: item.key() in public - called, links)
+    third, few = part_of(library, crates, lambda item: item.key() not in public, links)
     wrongs = links.wrongs + list(marked_wrongly(library, crates, public))
     for path, file in sorted(library.files.items()):
         items = file.items.values() if "/specs/" in path else ()
         silent = {it.at: it.name for it in items if it.key() in public and not it.words}
         wrongs += [f"{path}: {name} has no sentence" for name in silent.values()]
-    page = "\n\n".join([HEAD.strip(), PUBLIC, first, PRIVATE, second])
-    return page + "\n", wrongs, (many, few)
+    page = "\n\n".join([HEAD.strip(), PUBLIC, first, LAWS, second, PRIVATE, third])
+    return page + "\n", wrongs, (many, some, few)
 
 
 def main():
@@ -195,7 +202,7 @@ def main():
     else:
         with open(os.path.join(TOP, PAGE), "w", encoding="utf-8") as file:
             file.write(page)
-        print(f"{PAGE}: {counts[0]} definitions that public contracts cite, {counts[1]} others")
+        print(f"{PAGE}: {counts[0]} definitions that public contracts cite, {counts[1]} that laws alone cite, {counts[2]} others")
     print("".join(f"FAILED: {wrong}\n" for wrong in wrongs), end="")
     print(f"{sum(counts)} passed, {len(wrongs)} failed")
     return 1 if wrongs else 0

@@ -1,10 +1,14 @@
 -- A run that is done has begun its sink.
-use Rattle.std.proofs.Common.{◌≡◌, ◌<◌, ℕ, Bool, List, Option, Result, IfOk, sym, subst, arith}
+use Rattle.std.proofs.Common.{◌≡◌, ◌<◌, ℕ, Bool, List, Option, Result, Ok, Err, IfOk, sym, subst, arith}
+use Rattle.std.specs.Prelude.{MatchResult, is_ok}
 use Rattle.aec_params.specs.declared.settings.Settings.{Settings}
 use Rattle.aec_params.specs.declared.fault.Fault.{Fault}
 use Rattle.aec_params.specs.Limits.{Caps}
 use Rattle.aec_bits.specs.Devices.{counted}
 use Rattle.aec_engine.specs.declared.scripts.EditFault.{EditFault}
+use Rattle.aec_cli.specs.declared.done.Done.{Done}
+use Rattle.aec_cli.specs.declared.failure.Failure.{Failure}
+use Rattle.aec_cli.specs.Ends.{HasSynced}
 use Rattle.aec_engine.specs.Transfers.{Input, Taking, Putting, answer_by, Leaves, written, refused, no_answer, not_written}
 use Rattle.aec_engine.specs.Editing as editing
 use Rattle.aec_engine.specs.Editing.{LeavesRecoded, LeavesEdited}
@@ -33,4 +37,15 @@ begun-LeavesEdited s caps count from source sink r leaves =
     subst (λ r. IfOk r (λ _. 0 < sink.begun_after)) (sym leaves.uncounted)
     (begun-LeavesRecoded s caps count from source sink leaves.counted leaves.leaves)
 
-pub ruleset begun_where_done = (begun-Leaves, begun-LeavesEdited)
+-- a call that succeeds, whose error would be passed on as another
+pub begun_mapped : {E F : Type 0} (r : Result (Unit {0}) E) (mapped : Result (Unit {0}) F) (u : Unit {0}) (n : ℕ) → is_ok mapped ≡ is_ok r
+    → mapped ≡ Ok u → IfOk r (λ _. 0 < n) → 0 < n
+begun_mapped (Ok x) mapped u n same is begun = begun
+begun_mapped (Err e) mapped u n same is begun = absurd (cc)
+
+-- the end of a sink, whose error is passed on as another
+pub synced_mapped : (r : Result Done Fault) (mapped : Result Done Failure) (P : Fault → Type 0) → MatchResult r (λ done. mapped ≡ Ok done) P
+    → is_ok mapped ≡ is_ok r → IfOk r (λ done. HasSynced done) → IfOk mapped (λ done. HasSynced done)
+synced_mapped (Ok done) mapped P is same synced = subst (λ m. IfOk m (λ done. HasSynced done)) (sym is) synced
+synced_mapped (Err e) (Ok done) P is same synced = absurd (cc)
+synced_mapped (Err e) (Err failure) P is same synced = tt

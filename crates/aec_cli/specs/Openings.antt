@@ -67,8 +67,8 @@ is_closed reading.Failed = false
 
 -- the bytes that a source has left, where they are known: none of a closed file; of an open file
 -- `bytes` says it
-abbrev pub bytes_left : {T : Type 0} → (T → Option (List ℕ)) → Reading T → Option (List ℕ)
-bytes_left bytes reading.Unopened = None
-bytes_left bytes (reading.Open file) = bytes file
-bytes_left bytes reading.Closed = Some []
-bytes_left bytes reading.Failed = None
+abbrev pub bytes_unread : {T : Type 0} → (T → Option (List ℕ)) → Reading T → Option (List ℕ)
+bytes_unread bytes reading.Unopened = None
+bytes_unread bytes (reading.Open file) = bytes file
+bytes_unread bytes reading.Closed = Some []
+bytes_unread bytes reading.Failed = None

@@ -77,9 +77,9 @@ impl<'a, F: Files> FileSource<'a, F> {
 }
 
 impl<'a, F: Files> Source for FileSource<'a, F> {
-    ghost use Rattle.aec_cli.specs.Openings.{bytes_left, failures_read};
+    ghost use Rattle.aec_cli.specs.Openings.{bytes_unread, failures_read};
 
-    ghost left = { λ s. bytes_left ⟦<ReadSource<Again<F::File>> as Source>⟧.left s.file };
+    ghost left = { λ s. bytes_unread ⟦<ReadSource<Again<F::File>> as Source>⟧.left s.file };
 
     ghost failed = { λ s. failures_read ⟦<ReadSource<Again<F::File>> as Source>⟧.failed s.file };
 

@@ -112,30 +112,8 @@ fn act_by_script<Q: Source, R: Source, W: Sink>(
     edit(alloc, params, limits(), count, from, source, sink)
 }
 
-// Does with a source what is asked for, by the script too that the action names, within the limits
-// of the program. Where that is done the sink was begun.
-#[tactic(auto, using(crate::proofs::EndLemmas::begun_where_done))]
-fn act_with_files<F: Files, R: Source, W: Sink>(
-    rt: &F,
-    alloc: Global,
-    params: &Params,
-    action: Action,
-    source: &mut R,
-    sink: &mut W,
-) -> Result<(), Failure>
-    ensures begun { IfOk result (λ _. 0 < W.begun sink.new) }
-    ensures fault { IfErr result (λ failure. status_of failure ≡ 1) }
-{
-    match action {
-        Action::Edit { script, count } => {
-            let mut from = FileSource::new(rt, script);
-            act_by_script(alloc, params, count, &mut from, source, sink).map_err(Failure::Edit)
-        }
-        action => act(alloc, params, action, source, sink).map_err(Failure::Fault),
-    }
-}
-
-// Does a job with its files. It is done once its DEST was begun and has ended well.
+// Does a job with its files, within the limits of the program. It is done once its DEST was begun
+// and has ended well.
 fn run<F: Files>(rt: &F, alloc: Global, job: Job) -> Result<Done, Failure>
     ensures done { IfOk result (λ done. HasSynced done) }
     ensures fault { IfErr result (λ failure. status_of failure ≡ 1) }
@@ -148,7 +126,15 @@ fn run<F: Files>(rt: &F, alloc: Global, job: Job) -> Result<Done, Failure>
     } = job;
     let mut source = FileSource::new(rt, source);
     let mut sink = DestSink::new(rt, dest);
-    act_with_files(rt, alloc, &params, action, &mut source, &mut sink)?;
+    match action {
+        Action::Edit { script, count } => {
+            let mut from = FileSource::new(rt, script);
+            act_by_script(alloc, &params, count, &mut from, &mut source, &mut sink).map_err(
+                Failure::Edit,
+            )?;
+        }
+        action => act(alloc, &params, action, &mut source, &mut sink).map_err(Failure::Fault)?,
+    }
     sink.finish().map_err(Failure::Fault)
 }
 

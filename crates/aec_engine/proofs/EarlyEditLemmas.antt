@@ -17,7 +17,7 @@ use Rattle.aec_edit.proofs.EarlyLemmas.{samples_after-inside, length-inside, nee
 use Rattle.aec_engine.specs.declared.scripts.EditFault.{EditFault}
 use Rattle.aec_engine.specs.declared.scripts.EditFault.TheVariants.{Line}
 use Rattle.aec_engine.specs.Scripts.{change, Listing, listed}
-use Rattle.aec_engine.specs.Editing.{Left, left_of}
+use Rattle.aec_engine.specs.Editing.{Left, left_with}
 use Rattle.aec_engine.specs.EditingSteps as steps
 use Rattle.aec_engine.specs.EditingSteps.{StopsEditing, misfit}
 use Rattle.aec_engine.specs.EarlyEdits.{LeadsToEdits, CarriesEarly, StopsEarly}
@@ -38,7 +38,7 @@ leads-on f limit a b c es gs hs first second = record {
 
 -- an edit that is made leads to those behind it
 leads-made : (f : Format) (limit calls : ℕ) (s : List ℤ) (e : Edit) (n : ℕ) (rest : Listing) → due_refusal f limit s calls e ≡ None
-    → LeadsToEdits f limit (left_of s calls) (listed n (change e) rest) (left_of (samples_after s e) (calls + needed_calls f.most (length s) e)) rest
+    → LeadsToEdits f limit (left_with s calls) (listed n (change e) rest) (left_with (samples_after s e) (calls + needed_calls f.most (length s) e)) rest
 leads-made f limit calls s e n rest fits = record {
   same = edits_left-made f limit calls s e n rest.edits rest.lines fits;
   lacks = λ line at. (fits, inr at);
@@ -87,7 +87,7 @@ early-made f g limit most script ahead rest s reached left before calls coded af
   counted = omega (arith, accepted.calls_are, accepted.coded_is, so_far.counted);
   few = inr (omega (arith, accepted.calls_are, accepted.coded_is, far, few));
   len = ap length is ∙ length-inside reached e inside ∙ so_far.len;
-  leads = λ more due low. leads-on f limit (left_of (s ++ more) due) (left_of (reached ++ more) (due + so_far.made)) _ script ahead rest
+  leads = λ more due low. leads-on f limit (left_with (s ++ more) due) (left_with (reached ++ more) (due + so_far.made)) _ script ahead rest
       (so_far.leads more due low) (one more (due + so_far.made) _ (omega (arith, low, far, so_far.counted, few)) (omega arith));
 }
   where
@@ -105,11 +105,11 @@ early-made f g limit most script ahead rest s reached left before calls coded af
     fits = sym (due-here f limit calls reached e (omega (arith, far, few))) ∙ accepted.fits
 
     one : (more : List ℤ) (at k : ℕ) → at + needed ≤ 2 ^ 64 - 1 → at + needed ≡ k
-        → LeadsToEdits f limit (left_of (reached ++ more) at) ahead (left_of (left ++ more) k) rest
+        → LeadsToEdits f limit (left_with (reached ++ more) at) ahead (left_with (left ++ more) k) rest
     one more at k room reaches =
-        subst (λ script. LeadsToEdits f limit (left_of (reached ++ more) at) script (left_of (left ++ more) k) rest) (sym next)
-        (subst (λ to. LeadsToEdits f limit (left_of (reached ++ more) at) (listed n (change e) rest) to rest)
-        (ap₂ left_of (samples_after-inside reached more e inside ∙ ap (λ l. l ++ more) (sym is))
+        subst (λ script. LeadsToEdits f limit (left_with (reached ++ more) at) script (left_with (left ++ more) k) rest) (sym next)
+        (subst (λ to. LeadsToEdits f limit (left_with (reached ++ more) at) (listed n (change e) rest) to rest)
+        (ap₂ left_with (samples_after-inside reached more e inside ∙ ap (λ l. l ++ more) (sym is))
         (ap (λ n. at + n) (needed_calls-inside f.most (length reached) (length (reached ++ more)) e inside) ∙ reaches))
         (leads-made f limit at (reached ++ more) e n rest (due-inside f limit at reached more e inside room ∙ fits)))
 
@@ -119,7 +119,7 @@ pub early-stops : (f g : Format) (limit most : ℕ) (script ahead rest : Listing
     → length s ≤ 2 ^ 32 → IsInside (length reached) e → IsRefused g most reached calls e fault after
     → CarriesEarly f limit script s before ahead reached calls → StopsEarly f limit script s (Line n fault)
 early-stops f g limit most script ahead rest s reached before calls after e n fault format limited next some far small inside not_made so_far more due low =
-    leads-stop f limit (left_of (s ++ more) due) (left_of (reached ++ more) at) script ahead (Line n fault) (so_far.leads more due low)
+    leads-stop f limit (left_with (s ++ more) due) (left_with (reached ++ more) at) script ahead (Line n fault) (so_far.leads more due low)
     (subst (λ script. StopsEditing f limit at (reached ++ more) script.edits script.lines (Line n fault)) (sym next)
     (next_stops f limit at at (reached ++ more) e n fault rest.edits rest.lines behind))
   where
@@ -157,13 +157,13 @@ early-stops f g limit most script ahead rest s reached before calls after e n fa
 -- one more was made
 pub rest-made : (f g : Format) (limit most : ℕ) (script ahead rest : Listing) (s reached left : List ℤ) (before calls coded after : ℕ)
     (e : Edit) (n : ℕ) → g ≡ f → most ≡ limit → ahead ≡ listed n (change e) rest → IsAccepted g most reached calls e coded after
-    → left ≡ samples_after reached e → LeadsToEdits f limit (left_of s before) script (left_of reached calls) ahead
-    → LeadsToEdits f limit (left_of s before) script (left_of left after) rest
+    → left ≡ samples_after reached e → LeadsToEdits f limit (left_with s before) script (left_with reached calls) ahead
+    → LeadsToEdits f limit (left_with s before) script (left_with left after) rest
 rest-made f g limit most script ahead rest s reached left before calls coded after e n format limited next made is so_far =
-    leads-on f limit (left_of s before) (left_of reached calls) (left_of left after) script ahead rest so_far
-    (subst (λ script. LeadsToEdits f limit (left_of reached calls) script (left_of left after) rest) (sym next)
-    (subst (λ to. LeadsToEdits f limit (left_of reached calls) (listed n (change e) rest) to rest)
-    (ap₂ left_of (sym is) (omega (arith, accepted.calls_are, accepted.coded_is)))
+    leads-on f limit (left_with s before) (left_with reached calls) (left_with left after) script ahead rest so_far
+    (subst (λ script. LeadsToEdits f limit (left_with reached calls) script (left_with left after) rest) (sym next)
+    (subst (λ to. LeadsToEdits f limit (left_with reached calls) (listed n (change e) rest) to rest)
+    (ap₂ left_with (sym is) (omega (arith, accepted.calls_are, accepted.coded_is)))
     (leads-made f limit calls reached e n rest accepted.fits)))
   where
     accepted : IsAccepted f limit reached calls e coded after
@@ -173,10 +173,10 @@ rest-made f g limit most script ahead rest s reached left before calls coded aft
 -- the next was refused
 pub rest-stops : (f g : Format) (limit most : ℕ) (script ahead rest : Listing) (s reached : List ℤ) (before calls after : ℕ)
     (e : Edit) (n : ℕ) (fault : Fault) → g ≡ f → most ≡ limit → ahead ≡ listed n (change e) rest
-    → IsRefused g most reached calls e fault after → LeadsToEdits f limit (left_of s before) script (left_of reached calls) ahead
+    → IsRefused g most reached calls e fault after → LeadsToEdits f limit (left_with s before) script (left_with reached calls) ahead
     → StopsEditing f limit before s script.edits script.lines (Line n fault)
 rest-stops f g limit most script ahead rest s reached before calls after e n fault format limited next refused so_far =
-    leads-stop f limit (left_of s before) (left_of reached calls) script ahead (Line n fault) so_far
+    leads-stop f limit (left_with s before) (left_with reached calls) script ahead (Line n fault) so_far
     (subst (λ script. StopsEditing f limit calls reached script.edits script.lines (Line n fault)) (sym next)
     (next_stops f limit calls after reached e n fault rest.edits rest.lines
     (subst (λ limit. IsRefused f limit reached calls e fault after) limited

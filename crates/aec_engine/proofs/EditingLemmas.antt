@@ -16,7 +16,7 @@ use Rattle.aec_edit.specs.Runs.{AnswersAll, all_left}
 use Rattle.aec_edit.specs.Stops.{AreDone, StopsAtRefusal, all_made, stopped}
 use Rattle.aec_engine.specs.declared.scripts.EditFault.{EditFault}
 use Rattle.aec_engine.specs.declared.scripts.EditFault.TheVariants.{Line}
-use Rattle.aec_engine.specs.Editing.{left_of, edits_left, LacksMemoryOn}
+use Rattle.aec_engine.specs.Editing.{left_with, edits_left, LacksMemoryOn}
 use Rattle.aec_engine.specs.EditingSteps as steps
 use Rattle.aec_engine.specs.EditingSteps.{StopsEditing, misfit, CarriesOut, named_by}
 
@@ -32,8 +32,8 @@ edits_left-made f limit calls s e n edits lines fits =
 -- all edits were made
 edits_left-all : (f : Format) (limit calls after : ℕ) (s : List ℤ) (edits : List Edit) (done : List Outcome) (lines : List ℕ)
     → AreDone done → AnswersAll f limit s calls edits done after → length edits ≤ length lines
-    → edits_left f limit calls s edits lines ≡ Ok (left_of (all_left s edits done) after)
-edits_left-all f limit calls after s [] [] lines made answers enough = ap (λ k. Ok (left_of s k)) (sym answers)
+    → edits_left f limit calls s edits lines ≡ Ok (left_with (all_left s edits done) after)
+edits_left-all f limit calls after s [] [] lines made answers enough = ap (λ k. Ok (left_with s k)) (sym answers)
 edits_left-all f limit calls after s [] (outcome ∷ done) lines made answers enough = absurd answers
 edits_left-all f limit calls after s (e ∷ edits) [] lines made answers enough = absurd answers
 edits_left-all f limit calls after s (e ∷ edits) (Refused fault ∷ done) lines made answers enough = absurd made
@@ -96,11 +96,11 @@ stops-after f limit calls after s (d ∷ before) e behind (Done coded ∷ done) 
 
 pub carried-all : (f : Format) (limit calls reads after reads_after : ℕ) (s left : List ℤ) (given edits : List Edit) (lines : List ℕ)
     (r : Result (Unit {0}) Stop) (u : Unit {0}) → r ≡ Ok u → given ≡ edits → StopsAtRefusal f limit s calls reads given r left after reads_after
-    → length edits ≤ length lines → edits_left f limit calls s edits lines ≡ Ok (left_of left after)
+    → length edits ≤ length lines → edits_left f limit calls s edits lines ≡ Ok (left_with left after)
 carried-all f limit calls reads after reads_after s left given edits lines r u is same (all_made done l last reads_last made run) enough =
-    subst (λ es. edits_left f limit calls s es lines ≡ Ok (left_of left after)) same
+    subst (λ es. edits_left f limit calls s es lines ≡ Ok (left_with left after)) same
     (edits_left-all f limit calls after s given done lines made run.answers (omega (arith, ap length same, enough))
-    ∙ ap (λ l. Ok (left_of l after)) (sym run.samples))
+    ∙ ap (λ l. Ok (left_with l after)) (sym run.samples))
 carried-all f limit calls reads after reads_after s left given edits lines r u is same
     (stopped before e behind done fault l last reads_last split made run) enough = absurd (cc)
 

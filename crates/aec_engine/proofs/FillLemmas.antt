@@ -13,7 +13,8 @@ use Rattle.aec_interval.specs.Pieces.{Place, is_wanted_at, ReadsIntervals, HasRe
 use Rattle.aec_interval.proofs.ReadingLemmas.{bits_are_read_in_one_way}
 use Rattle.aec_interval.proofs.PieceReadingLemmas.{has_read_several, has_read_front}
 use Rattle.aec_engine.specs.Output.{all_stored, samples_from}
-use Rattle.aec_engine.specs.ReadingTwice.{AreSamplesOf, PutsPart}
+use Rattle.aec_engine.specs.ReadingTwice.{AreSamplesOf}
+use Rattle.aec_engine.specs.Delivering.{PutsPart}
 use Rattle.aec_engine.proofs.ReadTwiceLemmas.{place_from, settings-same, same_next}
 use Rattle.aec_engine.proofs.PutRangeLemmas.{PutsSoFar, samples_from-append, puts_rest}
 

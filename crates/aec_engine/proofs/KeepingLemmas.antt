@@ -1,24 +1,23 @@
 -- The front of a stream whose bytes are kept, and the rest of it that is put behind them.
-use Rattle.std.proofs.Common.{◌≡◌, ℕ, ◌+◌, ◌*◌, ◌-◌, ◌%◌, ◌<◌, ◌≤◌, ◌^◌, max, true, Option, None, Result, Err, OnOk, IfErr, ℤ, List, [], ◌++◌, length, take, drop, refl, sym, ap, ap₂, ◌∙◌, subst, arith}
+use Rattle.std.proofs.Common.{◌≡◌, ℕ, ◌+◌, ◌*◌, ◌-◌, ◌%◌, ◌<◌, ◌≤◌, ◌^◌, max, Bool, true, Option, None, Result, ℤ, List, [], ◌++◌, length, take, drop, refl, sym, ap, ap₂, ◌∙◌, subst, arith}
 use Rattle.std.proofs.Math.Nat.{zero-mod}
 use Rattle.std.proofs.lemmas.List.{length-append, take_all}
 use Rattle.aec_params.specs.declared.settings.Settings.{Settings}
 use Rattle.aec_params.specs.declared.fault.Fault.{Fault}
-use Rattle.aec_params.specs.declared.fault.Fault.TheVariants.{Write}
 use Rattle.aec_params.specs.Params.{IsAllowed, interval_len}
 use Rattle.aec_params.specs.Reading.{IsReading}
-use Rattle.aec_interval.specs.Reached.{count_refusal, RefusesReading}
-use Rattle.aec_interval.specs.Reached as reached
-use Rattle.aec_interval.specs.Pieces.{Place, IsPlace, is_wanted_at, ReadsIntervals}
+use Rattle.aec_interval.specs.Reached.{count_refusal, RefusesReading, RefusesDecoding}
+use Rattle.aec_interval.specs.Pieces.{Place, IsPlace, place_at, is_wanted_at, ReadsIntervals}
 use Rattle.aec_interval.proofs.PieceReadingLemmas.{has_read_nothing, has_read_several, has_read_front}
 use Rattle.aec_interval.proofs.ReachedPlaceLemmas.{place-within}
 use Rattle.aec_engine.specs.Output.{all_stored, samples_from}
-use Rattle.aec_engine.specs.ReadingTwice.{AreFewKept, AreSamplesOf, HaveSamples, KeepsFront, DecodesBits, SettlesOne, PutsAllOrFront}
+use Rattle.aec_engine.specs.ReadingTwice.{AreFewKept, AreSamplesOf, HaveSamples, KeepsFront, DecodesBits, SettlesOne}
+use Rattle.aec_engine.specs.Delivering.{Delivers}
 use Rattle.aec_engine.specs.ReadingTwice as twice
-use Rattle.aec_engine.specs.Transfers.{Putting, IsBegunFirst}
+use Rattle.aec_engine.specs.Transfers.{Putting}
 use Rattle.aec_engine.proofs.PutRangeLemmas.{all_stored-append, samples_from-append, samples_from-before}
 use Rattle.aec_engine.proofs.ReadTwiceLemmas.{place_from, settings-same, CountsSoFar}
-use Rattle.aec_engine.proofs.SettlingLemmas.{settles_refusal, settles_written}
+use Rattle.aec_engine.proofs.SettlingLemmas.{settles_written, refuses_reading}
 
 -- ---- what was kept so far
 
@@ -115,39 +114,37 @@ kept_and_rest p s before total bytes xs a keeps reading counted =
 
 -- ---- answers
 
-pub settles_unread : (start p : Place) (s : Settings) (r : Result (Unit {0}) Fault) (fault f : Fault) (before mark : Option (List ℕ)) (begun failures : ℕ)
-    → p ≡ place_from start p.block p.bit → start.settings ≡ s → count_refusal start.limit start.count ≡ None → r ≡ Err fault → fault ≡ f
-    → RefusesReading p.settings p.count p.limit p.bits 0 0 f → SettlesOne (DecodesBits s start.count start.limit start.bits)
-    (record { before = before; after = before; begun_before = begun; begun_after = begun; mark = mark; failures = failures }) r
-settles_unread start p s r fault f before mark begun failures same settings none is same_fault refuses =
-    settles_refusal (DecodesBits s start.count start.limit start.bits) r fault f before mark begun failures is same_fault
-    (twice.unread f (reached.unread f none (subst (λ s. RefusesReading s start.count start.limit start.bits 0 0 f) settings
-    (subst (λ (p : Place). RefusesReading p.settings p.count p.limit p.bits 0 0 f) same refuses))))
+-- a refusal behind what was kept
+pub refuses_behind : (s : Settings) (count : Option ℕ) (limit : ℕ) (bits : List Bool) (start p : Place) (fault : Fault)
+    → start ≡ place_at s count limit bits 0 0 → p ≡ place_from start p.block p.bit → None ≡ count_refusal limit count
+    → RefusesReading p.settings p.count p.limit p.bits 0 0 fault → RefusesDecoding s count limit bits fault
+refuses_behind s count limit bits start p fault is same none refuses =
+    refuses_reading s count limit bits start fault is none
+    (subst (λ (p : Place). RefusesReading p.settings p.count p.limit p.bits 0 0 fault) same refuses)
 
 -- all is written once the kept bytes are, and behind them those of the rest
-pub settles_kept : (start p q : Place) (s : Settings) (before total left : ℕ) (bytes : List ℕ) (sink : Putting) (r : Result (Unit {0}) Fault) → IsAllowed s
-    → p ≡ place_from start p.block p.bit → q ≡ place_from p q.block q.bit → start.settings ≡ s → count_refusal start.limit start.count ≡ None
-    → KeepsFront p s before bytes → HaveSamples p total → left ≡ total - before
-    → ((xs : List ℤ) → AreSamplesOf q xs → PutsAllOrFront sink.before sink.after (bytes ++ all_stored s (samples_from before left xs)) r)
-    → IsBegunFirst sink → IfErr r (λ e. (e ≡ Write) × (sink.failures ≡ 1)) → OnOk r (sink.failures ≡ 0)
-    → SettlesOne (DecodesBits s start.count start.limit start.bits) sink r
-settles_kept start p q s before total left bytes sink r a same there settings none keeps have rest puts begun fault sound =
-    settles_written (DecodesBits s start.count start.limit start.bits) r (all_stored s xs) sink (twice.read xs none reading) all_put begun fault sound
+pub settles_kept : (s : Settings) (count : Option ℕ) (limit : ℕ) (bits : List Bool) (start p q : Place) (before total left : ℕ) (bytes : List ℕ)
+    (sink : Putting) (r : Result (Unit {0}) Fault) → IsAllowed s → start ≡ place_at s count limit bits 0 0 → None ≡ count_refusal limit count
+    → p ≡ place_from start p.block p.bit → q ≡ place_from p q.block q.bit → KeepsFront p s before bytes → HaveSamples p total → left ≡ total - before
+    → ((xs : List ℤ) → AreSamplesOf q xs → Delivers (bytes ++ all_stored s (samples_from before left xs)) sink r)
+    → SettlesOne (DecodesBits s count limit bits) sink r
+settles_kept s count limit bits start p q before total left bytes sink r a is none same there keeps have rest delivers =
+    settles_written (DecodesBits s count limit bits) r (all_stored s xs) sink (twice.read xs (sym none) reading) all_put
   where
     xs : List ℤ
     xs = have.samples
 
-    reading : IsReading s start.count start.limit start.bits xs
-    reading = subst (λ s. IsReading s start.count start.limit start.bits xs) settings
+    reading : IsReading s count limit bits xs
+    reading = subst (λ (p : Place). IsReading p.settings p.count p.limit p.bits xs) is
         (subst (λ (p : Place). IsReading p.settings p.count p.limit p.bits xs) same have.reading)
 
     allowed : IsAllowed p.settings
-    allowed = subst IsAllowed (sym (settings-same start p same ∙ settings)) a
+    allowed = subst IsAllowed (sym (settings-same start p same ∙ ap (λ (p : Place). p.settings) is)) a
 
     given : AreSamplesOf q xs
     given = record { reading = subst (λ (p : Place). IsReading p.settings p.count p.limit p.bits xs) (sym there) have.reading }
 
-    all_put : PutsAllOrFront sink.before sink.after (all_stored s xs) r
-    all_put = subst (λ l. PutsAllOrFront sink.before sink.after l r)
+    all_put : Delivers (all_stored s xs) sink r
+    all_put = subst (λ l. Delivers l sink r)
         (ap (λ n. bytes ++ all_stored s (samples_from before n xs)) rest ∙ kept_and_rest p s before total bytes xs allowed keeps have.reading have.counted)
-        (puts xs given)
+        (delivers xs given)

@@ -29,7 +29,7 @@ use Rattle.aec_engine.specs.declared.scripts.EditFault.{EditFault}
 use Rattle.aec_engine.specs.declared.scripts.EditFault.TheVariants.{Plain}
 use Rattle.aec_engine.specs.Transfers.{answer_by}
 use Rattle.aec_engine.specs.Scripts.{Listing}
-use Rattle.aec_engine.specs.Editing.{left_of, edits_left, first_calls, Recoded}
+use Rattle.aec_engine.specs.Editing.{left_with, edits_left, first_calls, Recoded}
 use Rattle.aec_engine.specs.EditingSteps.{StopsEditing, recoded_of}
 use Rattle.aec_engine.specs.EarlyEdits as early
 use Rattle.aec_engine.specs.EarlyEdits.{LeadsToEdits, CarriesEarly, StopsEarly, LoadsAll, StopsLoading, EditsSamples, no_room, makes, EditsBits, not_read, lacks_room, stopped}
@@ -85,7 +85,7 @@ pub record LoadsSoFar (start p : Place) (f : Format) (limit : ℕ) (script ahead
   pub counted : called ≡ first_calls f front + made
   pub spare : made ≤ 2 ^ 62 + 2 ^ 32
   pub leads : (xs rest : List ℤ) → xs ≡ front ++ rest → first_calls f xs ≤ 2 ^ 32
-      → LeadsToEdits f limit (left_of xs (first_calls f xs)) script (left_of (w ++ rest) (first_calls f xs + made)) ahead
+      → LeadsToEdits f limit (left_with xs (first_calls f xs)) script (left_with (w ++ rest) (first_calls f xs + made)) ahead
 
 pub loads_none : (start : Place) (f : Format) (limit : ℕ) (script : Listing) (w : List ℤ) (called : ℕ) → w ≡ [] → called ≡ 0
     → start.block ≡ 0 → start.bit ≡ 0 → LoadsSoFar start start f limit script script w called
@@ -99,8 +99,8 @@ loads_none start f limit script w called none uncalled block bit = record {
   len = ap length none;
   counted = uncalled;
   spare = omega arith;
-  leads = λ xs rest is low. subst (λ to. LeadsToEdits f limit (left_of xs (first_calls f xs)) script to script)
-      (ap₂ left_of (is ∙ ap (λ w. w ++ rest) (sym none)) (omega arith)) (leads-nowhere f limit (left_of xs (first_calls f xs)) script);
+  leads = λ xs rest is low. subst (λ to. LeadsToEdits f limit (left_with xs (first_calls f xs)) script to script)
+      (ap₂ left_with (is ∙ ap (λ w. w ++ rest) (sym none)) (omega arith)) (leads-nowhere f limit (left_with xs (first_calls f xs)) script);
 }
   where
     at_start : start ≡ place_from start 0 0
@@ -133,11 +133,11 @@ loads_more start p q f g h limit most more script ahead last w ys zs mid left ca
       counted = omega (arith, carried.counted, taken);
       spare = spare carried.few;
       leads = λ xs rest split low.
-          leads-on f limit (left_of xs (first_calls f xs)) (left_of (mid ++ rest) (first_calls f xs + so_far.made)) _ script ahead last
-          (subst (λ s. LeadsToEdits f limit (left_of xs (first_calls f xs)) script (left_of s (first_calls f xs + so_far.made)) ahead) (behind rest)
+          leads-on f limit (left_with xs (first_calls f xs)) (left_with (mid ++ rest) (first_calls f xs + so_far.made)) _ script ahead last
+          (subst (λ s. LeadsToEdits f limit (left_with xs (first_calls f xs)) script (left_with s (first_calls f xs + so_far.made)) ahead) (behind rest)
           (so_far.leads xs (ys ++ rest) (split ∙ append_assoc so_far.front ys rest) low))
-          (subst (λ k. LeadsToEdits f limit (left_of (mid ++ rest) (first_calls f xs + so_far.made)) ahead
-          (left_of (left ++ rest) k) last) (omega arith)
+          (subst (λ k. LeadsToEdits f limit (left_with (mid ++ rest) (first_calls f xs + so_far.made)) ahead
+          (left_with (left ++ rest) k) last) (omega arith)
           (carried.leads rest (first_calls f xs + so_far.made) (omega (arith, low, so_far.spare))));
     }
   where
@@ -185,8 +185,8 @@ pub loads_all : (start p : Place) (f : Format) (limit : ℕ) (script ahead : Lis
     → IsAllowed start.settings → 0 < f.most → count_refusal start.limit start.count ≡ None → start.limit ≤ 2 ^ 32
     → LoadsSoFar start p f limit script ahead w called → is_wanted_at p ≡ false → LoadsAll f limit script start ahead w called
 loads_all start p f limit script ahead w called a some counted low so_far done xs given =
-    subst (λ to. LeadsToEdits f limit (left_of xs (first_calls f xs)) script to ahead)
-    (ap₂ left_of (append-nil w) (ap (λ xs. first_calls f xs + so_far.made) is ∙ sym so_far.counted))
+    subst (λ to. LeadsToEdits f limit (left_with xs (first_calls f xs)) script to ahead)
+    (ap₂ left_with (append-nil w) (ap (λ xs. first_calls f xs + so_far.made) is ∙ sym so_far.counted))
     (so_far.leads xs [] (is ∙ sym (append-nil so_far.front)) (omega (arith, append_calls-le f.most 0 xs some, few, low)))
   where
     allowed : IsAllowed p.settings
@@ -208,7 +208,7 @@ pub loads_stops : (start p q : Place) (f g h : Format) (limit more : ℕ) (scrip
     → StopsEditing f limit (first_calls f xs) xs script.edits script.lines fault
 loads_stops start p q f g h limit more script ahead w ys zs mid xs called fault a format still limited some counted low so_far step begins same
     appended stops given =
-    leads-stop f limit (left_of xs (first_calls f xs)) (left_of (w ++ (ys ++ rest.0)) (first_calls f xs + so_far.made)) script ahead
+    leads-stop f limit (left_with xs (first_calls f xs)) (left_with (w ++ (ys ++ rest.0)) (first_calls f xs + so_far.made)) script ahead
     fault (so_far.leads xs (ys ++ rest.0) (rest.1 ∙ append_assoc so_far.front ys rest.0) few)
     (subst (λ s. StopsEditing f limit (first_calls f xs + so_far.made) s ahead.edits ahead.lines fault) (sym behind)
     (refused rest.0 (first_calls f xs + so_far.made) (omega (arith, few, so_far.spare))))
@@ -352,7 +352,7 @@ rest_err view r e fault s f g limit most more start given script ahead left call
     by_why : (fault ≡ Plain Memory) ⊎ StopsEditing g more calls left ahead.edits ahead.lines fault → EditsSamples s limit start script (Err fault)
     by_why (inl memory) = subst (λ fault. EditsSamples s limit start script (Err fault)) (sym memory) no_room
     by_why (inr stops) = early.stops fault (λ xs at.
-        leads-stop (interval_format s) limit (left_of xs (first_calls (interval_format s) xs)) (left_of left calls) script ahead fault
+        leads-stop (interval_format s) limit (left_with xs (first_calls (interval_format s) xs)) (left_with left calls) script ahead fault
         (same_loads s f limit most start given script ahead left calls format limited read loads xs at)
         (subst (λ limit. StopsEditing (interval_format s) limit calls left ahead.edits ahead.lines fault) (kept ∙ limited)
         (subst (λ f. StopsEditing f more calls left ahead.edits ahead.lines fault) (still ∙ format) stops)))
@@ -360,13 +360,13 @@ rest_err view r e fault s f g limit most more start given script ahead left call
 -- or all edits were made
 pub rest_made : (s : Settings) (f g h : Format) (limit most more : ℕ) (start : Place) (given script ahead : Listing) (left last : List ℤ)
     (calls after : ℕ) → f ≡ interval_format s → g ≡ f → h ≡ g → most ≡ limit → more ≡ most → given ≡ script
-    → LoadsAll f most given start ahead left calls → edits_left g more calls left ahead.edits ahead.lines ≡ Ok (left_of last after)
+    → LoadsAll f most given start ahead left calls → edits_left g more calls left ahead.edits ahead.lines ≡ Ok (left_with last after)
     → EditsSamples s limit start script (Ok (recoded_of h last after))
 rest_made s f g h limit most more start given script ahead left last calls after format still again limited kept read loads is =
     subst (λ h. EditsSamples s limit start script (Ok (recoded_of h last after))) (sym (again ∙ still ∙ format))
-    (makes (left_of last after) (λ xs at. (same_loads s f limit most start given script ahead left calls format limited read loads xs at).same
-    ∙ subst (λ limit. edits_left (interval_format s) limit calls left ahead.edits ahead.lines ≡ Ok (left_of last after)) (kept ∙ limited)
-    (subst (λ f. edits_left f more calls left ahead.edits ahead.lines ≡ Ok (left_of last after)) (still ∙ format) is)))
+    (makes (left_with last after) (λ xs at. (same_loads s f limit most start given script ahead left calls format limited read loads xs at).same
+    ∙ subst (λ limit. edits_left (interval_format s) limit calls left ahead.edits ahead.lines ≡ Ok (left_with last after)) (kept ∙ limited)
+    (subst (λ f. edits_left f more calls left ahead.edits ahead.lines ≡ Ok (left_with last after)) (still ∙ format) is)))
 
 -- ---- what comes of edits on bits
 

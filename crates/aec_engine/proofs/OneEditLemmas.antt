@@ -17,7 +17,7 @@ use Rattle.aec_engine.specs.declared.scripts.EditFault.TheVariants.{Plain}
 use Rattle.aec_engine.specs.Transfers.{Input}
 use Rattle.aec_engine.specs.Output.{IsRead, IsDecoded, not_taken, not_counted, decoded, faulty}
 use Rattle.aec_engine.specs.Scripts.{listing_of}
-use Rattle.aec_engine.specs.Editing.{script_refusal, Left, left_of, edits_left, first_calls, script_left, Recoded, IsEdited, no_script, not_decoded, not_edited, edited}
+use Rattle.aec_engine.specs.Editing.{script_refusal, Left, left_with, edits_left, first_calls, script_left, Recoded, IsEdited, no_script, not_decoded, not_edited, edited}
 use Rattle.aec_engine.specs.Laws.{HasOneAnswer}
 use Rattle.aec_engine.proofs.AnswerLemmas.{decoding_has_one_answer}
 use Rattle.aec_engine.proofs.RangeAnswerLemmas.{one_read, not_both}
@@ -117,7 +117,7 @@ pub no_edits_code : (s : Settings) (caps : Caps) (count : Option ℕ) (script in
 no_edits_code s caps count script input samples sound none read =
     let f : Format = interval_format s in
     let lines : List ℕ = (listing_of script.bytes).lines in
-    let left : Left = left_of samples (div_ceil (length samples) f.most) in
+    let left : Left = left_with samples (div_ceil (length samples) f.most) in
     edited samples left sound read
     (ap (λ edits. edits_left f caps.samples (first_calls f samples) samples edits lines) none
-    ∙ ap (λ calls. Ok (left_of samples calls)) (first_calls-each f samples))
+    ∙ ap (λ calls. Ok (left_with samples calls)) (first_calls-each f samples))

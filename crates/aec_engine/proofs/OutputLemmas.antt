@@ -1,5 +1,5 @@
 -- Answers of the engines from what their parts answer.
-use Rattle.std.proofs.Common.{◌≡◌, ◌⊎◌, inl, inr, ⊎_elim, ℕ, ◌≤◌, Bool, true, false, if◌then◌else◌, Option, Some, None, Result, Ok, Err, IfErr, ℤ, List, length, refl, sym, ap, ◌∙◌, subst, arith}
+use Rattle.std.proofs.Common.{◌≡◌, ◌⊎◌, inl, inr, ⊎_elim, ℕ, ◌≤◌, Bool, true, false, if◌then◌else◌, Option, Some, None, Result, Ok, Err, IfErr, ℤ, List, length, refl, sym, ap, subst, arith}
 use Rattle.std.proofs.lemmas.Bool.{lt-ltb, le-ltb, ltb-false}
 use Rattle.std.specs.Io.KnownBytes.{Keeps, Appends}
 use Rattle.std.proofs.Common.{OnOk, OnErr}
@@ -94,32 +94,6 @@ read_samples s caps count before after failures bytes samples taken within readi
 abbrev pub taking : Option (List ℕ) → Option (List ℕ) → ℕ → Taking
 taking before after failures = record { before = before; after = after; failures = failures }
 
-pub answers_err : {X : Type 0} (r : Result X Fault) (fault f : Fault) (answers : Input → Result (List ℕ) Fault → Type 0) (source : Taking)
-    (enough : List ℕ → Bool)
-    → r ≡ Err fault → fault ≡ f
-    → GivesAnswer answers source enough (Err f) → IfErr r (λ e. GivesAnswer answers source enough (Err e))
-answers_err {X} r fault f answers source enough is same gives =
-    let P : Result X Fault → Type 0 = λ r. IfErr r (λ e. GivesAnswer answers source enough (Err e)) in subst P (sym (is ∙ ap Err same)) gives
-
-pub answers_memory : {X : Type 0} (r : Result X Fault) (fault f : Fault) (answers : Input → Result (List ℕ) Fault → Type 0) (source : Taking)
-    (enough : List ℕ → Bool)
-    → r ≡ Err fault → fault ≡ f → f ≡ Memory
-    → IfErr r (λ e. GivesAnswer answers source enough (Err e))
-answers_memory r fault f answers source enough is same memory = answers_err r fault Memory answers source enough is (same ∙ memory) lacks_memory
-
-pub decoded_refused : {X : Type 0} (view : X → List ℕ) (r : Result X Fault) (fault f : Fault) (answers : Input → Result (List ℕ) Fault → Type 0)
-    (source : Taking) (enough : List ℕ → Bool) → r ≡ Err fault → fault ≡ f → GivesAnswer answers source enough (Err f)
-    → GivesAnswer answers source enough (answer_by view r)
-decoded_refused {X} view r fault f answers source enough is same gives =
-    subst (λ r. GivesAnswer answers source enough (answer_by view r)) (sym (is ∙ ap Err same)) gives
-
--- a refused answer
-pub refused_answer : {X : Type 0} (view : X → List ℕ) (r : Result X Fault) (fault : Fault) (answers : Input → Result (List ℕ) Fault → Type 0)
-    (source : Taking) (enough : List ℕ → Bool) → r ≡ Err fault → IfErr r (λ e. GivesAnswer answers source enough (Err e))
-    → GivesAnswer answers source enough (answer_by view r)
-refused_answer view (Ok x) fault answers source enough is refuses = absurd (cc)
-refused_answer view (Err e) fault answers source enough is refuses = refuses
-
 -- ---- what is left in the sink
 
 pub Keeps-same : (bytes : Option (List ℕ)) → Keeps bytes bytes
@@ -152,25 +126,9 @@ leaves_settled answers source enough sink answer r gives (stopped bytes front be
     let answered = answered_ok answers source enough answer bytes refl gives in
     not_written answered.0 bytes answered.1 answered.2 front begun failed
 
-pub settles_refused : {X : Type 0} (view : X → List ℕ) (answer : Result X Fault) (r : Result (Unit {0}) Fault) (fault f : Fault) (before mark : Option (List ℕ))
-    (begun failures : ℕ) → answer ≡ Err f → r ≡ Err fault → fault ≡ f
-    → Settles (record { before = before; after = before; begun_before = begun; begun_after = begun; mark = mark; failures = failures })
-    (answer_by view answer) r
-settles_refused {X} view answer r fault f before mark begun failures was is same =
-    let sink : Putting = record { before = before; after = before; begun_before = begun; begun_after = begun; mark = mark; failures = failures } in
-    let refusal : Settles sink (Err f) (Err f) = not_begun f (record { kept = Keeps-same before; begun = refl }) in
-    subst (λ r. Settles sink (answer_by view answer) r) (sym (is ∙ ap Err same))
-    (subst (λ answer. Settles sink (answer_by view answer) (Err f)) (sym was) refusal)
-
-pub settles_delivered : {X : Type 0} (view : X → List ℕ) (answer : Result X Fault) (r : Result (Unit {0}) Fault) (x : X) (written_bytes : List ℕ)
-    (sink : Putting) → answer ≡ Ok x → written_bytes ≡ view x → OnOk r (Appends sink.before sink.after written_bytes)
+pub settles_delivered : (r : Result (Unit {0}) Fault) (written_bytes : List ℕ) (sink : Putting) → OnOk r (Appends sink.before sink.after written_bytes)
     → OnErr r (AppendsFront sink.before sink.after written_bytes) → IsBegunFirst sink
-    → IfErr r (λ e. (e ≡ Write) × (sink.failures ≡ 1)) → OnOk r (sink.failures ≡ 0) → Settles sink (answer_by view answer) r
-settles_delivered {X} view answer r x written_bytes sink was same ok front begun fault sound =
-    subst (λ answer. Settles sink (answer_by view answer) r) (sym was) (subst (λ bytes. Settles sink (Ok bytes) r) same (by_result r ok front fault sound))
-  where
-    by_result : (r : Result (Unit {0}) Fault) → OnOk r (Appends sink.before sink.after written_bytes)
-        → OnErr r (AppendsFront sink.before sink.after written_bytes) → IfErr r (λ e. (e ≡ Write) × (sink.failures ≡ 1)) → OnOk r (sink.failures ≡ 0)
-        → Settles sink (Ok written_bytes) r
-    by_result (Ok done) ok front fault sound = settled written_bytes ok begun sound
-    by_result (Err e) ok front fault sound = subst (λ e. Settles sink (Ok written_bytes) (Err e)) (sym fault.0) (stopped written_bytes front begun fault.1)
+    → IfErr r (λ e. (e ≡ Write) × (sink.failures ≡ 1)) → OnOk r (sink.failures ≡ 0) → Settles sink (Ok written_bytes) r
+settles_delivered (Ok done) written_bytes sink ok front begun fault sound = settled written_bytes ok begun sound
+settles_delivered (Err e) written_bytes sink ok front begun fault sound =
+    subst (λ e. Settles sink (Ok written_bytes) (Err e)) (sym fault.0) (stopped written_bytes front begun fault.1)

@@ -17,8 +17,10 @@ use Rattle.aec_interval.specs.Pieces.{Place, is_wanted_at, ReadsPiece, ReadsInte
 use Rattle.aec_interval.proofs.ReadingLemmas.{bits_are_read_in_one_way}
 use Rattle.aec_interval.proofs.PieceReadingLemmas.{has_read_several, has_read_all, has_read_front, lacks_memory_only, piece_is_held}
 use Rattle.aec_interval.proofs.BlockLemmas.{all_left, all_right}
+use Rattle.aec_engine.specs.Transfers.{Putting}
 use Rattle.aec_engine.specs.Output.{all_stored, samples_from}
-use Rattle.aec_engine.specs.ReadingTwice.{AreSamplesOf, IsBegun, PutsPart, PutsAllOrFront}
+use Rattle.aec_engine.specs.ReadingTwice.{AreSamplesOf, IsBegun}
+use Rattle.aec_engine.specs.Delivering.{Delivers, PutsAllOrFront, PutsPart}
 use Rattle.aec_engine.proofs.ReadTwiceLemmas.{place_from, settings-same, same_next}
 
 -- ---- parts of lists
@@ -188,9 +190,9 @@ front_behind before after first more front =
     front_more before before after [] first more (first ++ more) (Appends-nil before) front refl
 
 -- none had waited
-pub none_waited : {X : Type 0} (r : Result X Fault) (before after : Option (List ℕ)) (waiting more : List ℕ) → waiting ≡ []
-    → PutsAllOrFront before after (waiting ++ more) r → PutsAllOrFront before after more r
-none_waited r before after waiting more none puts = subst (λ l. PutsAllOrFront before after (l ++ more) r) none puts
+pub none_waited : (r : Result (Unit {0}) Fault) (sink : Putting) (waiting more : List ℕ) → waiting ≡ [] → Delivers (waiting ++ more) sink r
+    → Delivers more sink r
+none_waited r sink waiting more none delivers = subst (λ l. Delivers (l ++ more) sink r) none delivers
 
 pub puts_front : (start p q : Place) (s : Settings) (first len skip left : ℕ) (before mid after : Option (List ℕ)) (waiting : List ℕ) (ys part xs : List ℤ)
     → IsAllowed start.settings → PutsSoFar start p s first len skip left before mid waiting → ReadsIntervals p ys q

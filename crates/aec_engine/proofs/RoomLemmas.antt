@@ -4,7 +4,8 @@ use Rattle.std.specs.Int.{div_ceil}
 use Rattle.aec_params.specs.declared.settings.Settings.{Settings}
 use Rattle.aec_params.specs.Params.{interval_len}
 use Rattle.aec_interval.specs.Pieces.{Place}
-use Rattle.aec_engine.specs.ReadingTwice.{EndsAt, HaveSamples, HasRoomOfRead, AsksForRead}
+use Rattle.aec_engine.specs.ReadingTwice.{EndsAt, HaveSamples}
+use Rattle.aec_engine.specs.Judging.{AsksForRead, HasRoomOfRead}
 
 -- the room that is asked for is that of what judging has told
 pub room_judged : (p : Place) (s : Settings) (end total bits intervals : ℕ) → EndsAt p end → HaveSamples p total → p.settings ≡ s → end ≤ bits

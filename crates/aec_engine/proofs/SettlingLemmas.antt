@@ -1,9 +1,9 @@
 -- Answers that are written or refused, by what stands for them before they are stored.
-use Rattle.std.proofs.Common.{◌≡◌, ℕ, ◌+◌, ◌<◌, ◌≤◌, Bool, Option, None, Some, Result, Ok, Err, OnOk, OnErr, IfErr, ℤ, List, length, refl, sym, ap, ◌∙◌, subst, arith}
+use Rattle.std.proofs.Common.{◌≡◌, ℕ, ◌+◌, ◌<◌, ◌≤◌, Bool, Option, None, Some, Result, Ok, Err, OnOk, OnErr, ℤ, List, length, refl, sym, ap, ◌∙◌, subst, arith}
 use Rattle.std.specs.Io.KnownBytes.{Appends}
 use Rattle.aec_params.specs.declared.settings.Settings.{Settings}
 use Rattle.aec_params.specs.declared.fault.Fault.{Fault}
-use Rattle.aec_params.specs.declared.fault.Fault.TheVariants.{Write, OutOfRange}
+use Rattle.aec_params.specs.declared.fault.Fault.TheVariants.{Memory, OutOfRange}
 use Rattle.aec_params.specs.Limits.{Caps}
 use Rattle.aec_params.specs.Codewords.{bits_of_bytes}
 use Rattle.aec_params.specs.Reading.{IsReading}
@@ -14,7 +14,8 @@ use Rattle.aec_engine.specs.Output.{IsDecoded, decoded, IsRanged, outside, cut_o
 use Rattle.aec_engine.specs.Transfers.{Input, Taking, are_past, Putting, IsBegunFirst, RefusesIntake, IsTakenWhole, GivesAnswer, given, Settles, not_begun, Leaves}
 use Rattle.aec_engine.specs.ReadingTwice as twice
 use Rattle.aec_engine.specs.Transfers as transfers
-use Rattle.aec_engine.specs.ReadingTwice.{GaveWhole, AreSamplesOf, HaveSamples, StoresPart, DecodesBits, CutsBits, SettlesOne, PutsAllOrFront}
+use Rattle.aec_engine.specs.ReadingTwice.{GaveWhole, AreSamplesOf, HaveSamples, StoresPart, DecodesBits, CutsBits, SettlesOne}
+use Rattle.aec_engine.specs.Delivering.{Delivers, PutsAllOrFront}
 use Rattle.aec_engine.proofs.ReadTwiceLemmas.{place_from}
 use Rattle.aec_engine.proofs.RangingLemmas.{refused_as_decoding}
 use Rattle.aec_engine.proofs.OutputLemmas.{Keeps-same, settles_delivered, leaves_settled, refused_intake, refused_decoding, read_samples}
@@ -31,12 +32,11 @@ settles_refusal answers r fault f before mark begun failures is same answered =
 
 -- bytes that are written
 pub settles_written : (answers : Result (List ℕ) Fault → Type 0) (r : Result (Unit {0}) Fault) (bytes : List ℕ) (sink : Putting) → answers (Ok bytes)
-    → PutsAllOrFront sink.before sink.after bytes r → IsBegunFirst sink
-    → IfErr r (λ e. (e ≡ Write) × (sink.failures ≡ 1)) → OnOk r (sink.failures ≡ 0) → SettlesOne answers sink r
-settles_written answers r bytes sink answered puts begun fault sound = record {
+    → Delivers bytes sink r → SettlesOne answers sink r
+settles_written answers r bytes sink answered delivers = record {
   answer = Ok bytes;
   answered = answered;
-  settles = settles_delivered {X = List ℕ} (λ b. b) (Ok bytes) r bytes bytes sink refl refl (all_put r puts) (front_put r puts) begun fault sound;
+  settles = settles_delivered r bytes sink (all_put r delivers.puts) (front_put r delivers.puts) delivers.begun delivers.fault delivers.sound;
 }
   where
     all_put : (r : Result (Unit {0}) Fault) → PutsAllOrFront sink.before sink.after bytes r → OnOk r (Appends sink.before sink.after bytes)
@@ -99,13 +99,27 @@ cuts_past s count limit first len bits p total fault is none have past =
 
 -- ---- sources
 
-pub leaves_refused_intake : (answers : Input → Result (List ℕ) Fault → Type 0) (caps : Caps) (source : Taking) (r : Result (Unit {0}) Fault) (fault f : Fault)
-    (before mark : Option (List ℕ)) (begun failures : ℕ) → r ≡ Err fault → fault ≡ f → GivesAnswer answers source (are_past caps.bytes) (Err f)
-    → Leaves answers source (are_past caps.bytes)
+pub leaves_refusal : (answers : Input → Result (List ℕ) Fault → Type 0) (source : Taking) (enough : List ℕ → Bool) (r : Result (Unit {0}) Fault)
+    (fault f : Fault) (before mark : Option (List ℕ)) (begun failures : ℕ) → r ≡ Err fault → fault ≡ f → GivesAnswer answers source enough (Err f)
+    → Leaves answers source enough
     (record { before = before; after = before; begun_before = begun; begun_after = begun; mark = mark; failures = failures }) r
-leaves_refused_intake answers caps source r fault f before mark begun failures is same gives =
-    let one = settles_refusal (λ a. GivesAnswer answers source (are_past caps.bytes) a) r fault f before mark begun failures is same gives in
-    leaves_settled answers source (are_past caps.bytes) _ one.answer r one.answered one.settles
+leaves_refusal answers source enough r fault f before mark begun failures is same gives =
+    let one = settles_refusal (λ a. GivesAnswer answers source enough a) r fault f before mark begun failures is same gives in
+    leaves_settled answers source enough _ one.answer r one.answered one.settles
+
+pub leaves_memory : (answers : Input → Result (List ℕ) Fault → Type 0) (source : Taking) (enough : List ℕ → Bool) (r : Result (Unit {0}) Fault)
+    (fault f : Fault) (before mark : Option (List ℕ)) (begun failures : ℕ) → r ≡ Err fault → fault ≡ f → f ≡ Memory
+    → Leaves answers source enough
+    (record { before = before; after = before; begun_before = begun; begun_after = begun; mark = mark; failures = failures }) r
+leaves_memory answers source enough r fault f before mark begun failures is same memory =
+    leaves_refusal answers source enough r fault Memory before mark begun failures is (same ∙ memory) transfers.lacks_memory
+
+pub leaves_delivered : (answers : Input → Result (List ℕ) Fault → Type 0) (source : Taking) (enough : List ℕ → Bool) (sink : Putting)
+    (r : Result (Unit {0}) Fault) (bytes : List ℕ) → GivesAnswer answers source enough (Ok bytes) → Delivers bytes sink r
+    → Leaves answers source enough sink r
+leaves_delivered answers source enough sink r bytes gives delivers =
+    let one = settles_written (λ a. GivesAnswer answers source enough a) r bytes sink gives delivers in
+    leaves_settled answers source enough sink one.answer r one.answered one.settles
 
 pub gives_decoded : (s : Settings) (caps : Caps) (count : Option ℕ) (before after : Option (List ℕ)) (failures : ℕ) (bytes : List ℕ)
     (answer : Result (List ℕ) Fault)

@@ -20,6 +20,7 @@ pub record IsFedSoFar (s : Settings) (limit : ℕ) (before after : Option (List 
 
 -- it was fed all that a source gave
 pub record IsFed (s : Settings) (limit : ℕ) (source : Taking) (bits : List Bool) (coder : Coder) : Type 0 where
+  pub allowed : IsAllowed s
   pub bytes : List ℕ
   pub gave : Gave source (are_refused s limit) (input_of bytes false)
   pub feeds : Feeds (fresh_coder s limit) bytes [] bits coder

@@ -1,12 +1,14 @@
 -- For proofs alone: no public contract cites this file.
 -- Edits of a script that are made before all samples are there.
-use Rattle.std.specs.Prelude.{◌≡◌, ℕ, ◌+◌, ◌^◌, ◌≤◌, ◌⊎◌, Bool, Option, None, Result, Ok, Err, ℤ, List, ◌++◌, length}
+use Rattle.std.specs.Prelude.{◌≡◌, ℕ, ◌+◌, ◌^◌, ◌≤◌, ◌⊎◌, Bool, Option, None, Result, Ok, Err, ℤ, List, [], ◌++◌, length}
 use Rattle.aec_params.specs.declared.settings.Settings.{Settings}
 use Rattle.aec_params.specs.declared.fault.Fault.{Fault}
 use Rattle.aec_params.specs.declared.fault.Fault.TheVariants.{Memory}
 use Rattle.aec_params.specs.Limits.{Caps}
+use Rattle.aec_params.specs.Params.{IsAllowed}
 use Rattle.aec_params.specs.Reading.{IsReading}
 use Rattle.aec_bits.specs.Codec.{Format}
+use Rattle.aec_edit.specs.Workspace.{Contents}
 use Rattle.aec_interval.specs.Reached.{count_refusal, RefusesDecoding}
 use Rattle.aec_interval.specs.IntervalFormat.{interval_format}
 use Rattle.aec_interval.specs.Pieces.{Place}
@@ -14,7 +16,7 @@ use Rattle.aec_engine.specs.declared.scripts.EditFault.{EditFault}
 use Rattle.aec_engine.specs.declared.scripts.EditFault.TheVariants.{Plain}
 use Rattle.aec_engine.specs.ReadingTwice.{AreSamplesOf}
 use Rattle.aec_engine.specs.Scripts.{Listing}
-use Rattle.aec_engine.specs.Editing.{Left, left_of, edits_left, first_calls, LacksMemoryOn, Recoded}
+use Rattle.aec_engine.specs.Editing.{Left, left_with, edits_left, first_calls, LacksMemoryOn, Recoded}
 use Rattle.aec_engine.specs.EditingSteps.{StopsEditing, recoded_of}
 
 -- Edits lead to others, which are made on what is left then: what the former leave is what the
@@ -34,19 +36,29 @@ pub record CarriesEarly (f : Format) (limit : ℕ) (script : Listing) (s : List 
   pub few : (made ≡ 0) ⊎ (calls_after ≤ 2 ^ 62 + 2 ^ 32)
   pub len : length left ≡ length s
   pub leads : (rest : List ℤ) (due : ℕ) → due ≤ 2 ^ 63
-      → LeadsToEdits f limit (left_of (s ++ rest) due) script (left_of (left ++ rest) (due + made)) ahead
+      → LeadsToEdits f limit (left_with (s ++ rest) due) script (left_with (left ++ rest) (due + made)) ahead
 
 -- one of the edits was refused, whatever samples stand after those that are there
 abbrev pub StopsEarly : Format → ℕ → Listing → List ℤ → EditFault → Type 0
 StopsEarly f limit script s fault =
     (rest : List ℤ) (due : ℕ) → due ≤ 2 ^ 63 → StopsEditing f limit due (s ++ rest) script.edits script.lines fault
 
+-- a workspace without samples, over a codec that has coded nothing, for the samples that a reader
+-- gives
+pub record IsEmptyFor (start : Place) (f : Format) (limit : ℕ) (samples : List ℤ) (called : ℕ) : Type 0 where
+  pub allowed : IsAllowed start.settings
+  pub format : f ≡ interval_format start.settings
+  pub limit_is : limit ≡ start.limit
+  pub bound : limit ≤ 2 ^ 32
+  pub empty : samples ≡ []
+  pub fresh : called ≡ 0
+
 -- all samples that bits are read as were taken over, and the edits up to those ahead were made
 -- meanwhile (the code takes them over by whole intervals; `IsInside` of aec_edit says which edits
 -- are made early)
 abbrev pub LoadsAll : Format → ℕ → Listing → Place → Listing → List ℤ → ℕ → Type 0
 LoadsAll f limit script start ahead left calls =
-    (xs : List ℤ) → AreSamplesOf start xs → LeadsToEdits f limit (left_of xs (first_calls f xs)) script (left_of left calls) ahead
+    (xs : List ℤ) → AreSamplesOf start xs → LeadsToEdits f limit (left_with xs (first_calls f xs)) script (left_with left calls) ahead
 
 -- samples were not all taken over: there was no memory, or an edit was refused
 abbrev pub StopsLoading : Format → ℕ → Listing → Place → EditFault → Type 0
@@ -74,3 +86,9 @@ pub data EditsBits (s : Settings) (caps : Caps) (count : Option ℕ) (bits : Lis
   made : (samples : List ℤ) (left : Left) → count_refusal caps.samples count ≡ None → IsReading s count caps.samples bits samples
       → edits_left (interval_format s) caps.samples (first_calls (interval_format s) samples) samples script.edits script.lines ≡ Ok left
       → EditsBits s caps count bits script (Ok (recoded_of (interval_format s) left.samples left.calls))
+
+-- a workspace without samples over a codec
+pub record IsEmptyOver {C : Type 0} (codec : C) (limit : ℕ) (workspace : Contents C) : Type 0 where
+  pub samples : workspace.samples ≡ []
+  pub limit_is : workspace.limit ≡ limit
+  pub codec_is : workspace.codec ≡ codec

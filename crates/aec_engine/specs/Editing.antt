@@ -32,8 +32,8 @@ pub record Left : Type 0 where
   pub calls : ℕ
 
 -- these samples, and so many calls of the coder
-abbrev pub left_of : List ℤ → ℕ → Left
-left_of samples calls = record { samples = samples; calls = calls }
+abbrev pub left_with : List ℤ → ℕ → Left
+left_with samples calls = record { samples = samples; calls = calls }
 
 -- What is left by edits of the samples s, made one after the other, of which each has its line,
 -- after so many calls of the coder: each calls it as often as it needs. Or why the first that is
@@ -43,7 +43,7 @@ abbrev pub edits_left : Format → ℕ → ℕ → List ℤ → List Edit → Li
 edits_left f limit calls s (e ∷ edits) (n ∷ lines) =
     option_map_or (λ fault. Err (Line n fault)) (due_refusal f limit s calls e)
     (edits_left f limit (calls + needed_calls f.most (length s) e) (samples_after s e) edits lines)
-edits_left f limit calls s edits lines = Ok (left_of s calls)
+edits_left f limit calls s edits lines = Ok (left_with s calls)
 
 -- how often the coder is called for the samples that a script is carried out on: as for an append
 -- of all of them to none

@@ -1,18 +1,16 @@
 -- What the private functions of the engine that carries out scripts give.
 use Rattle.std.specs.Prelude.{◌≡◌, ℕ, Some, None, Result, Ok, Err, ℤ, List, slice_index}
-use Rattle.std.specs.Io.KnownBytes.{Appends}
 use Rattle.aec_params.specs.declared.fault.Fault.{Fault}
-use Rattle.aec_params.specs.declared.fault.Fault.TheVariants.{Memory, Write}
+use Rattle.aec_params.specs.declared.fault.Fault.TheVariants.{Memory}
 use Rattle.aec_params.specs.declared.edit.Edit.{Edit}
 use Rattle.aec_params.specs.Codewords.{bytes_of}
 use Rattle.aec_bits.specs.Codec.{Format, code_of}
-use Rattle.aec_bits.specs.Devices.{AppendsFront}
 use Rattle.aec_edit.specs.declared.outcome.Stop.{Stop}
 use Rattle.aec_edit.specs.Stops.{StopsAtRefusal}
 use Rattle.aec_engine.specs.declared.scripts.EditFault.{EditFault}
-use Rattle.aec_engine.specs.declared.scripts.EditFault.TheVariants.{Plain, Line}
+use Rattle.aec_engine.specs.declared.scripts.EditFault.TheVariants.{Line}
 use Rattle.aec_engine.specs.Scripts.{Listing, listing_of}
-use Rattle.aec_engine.specs.Transfers.{Input, Taking, Putting, are_past, Gave, WroteNothing, IsBegunFirst}
+use Rattle.aec_engine.specs.Transfers.{Input, Taking, are_past, Gave}
 use Rattle.aec_engine.specs.Editing.{script_refusal, edits_left, LacksMemoryOn, Recoded}
 
 -- a source gave a script with this listing
@@ -49,12 +47,3 @@ pub record CarriesOut (f : Format) (limit : ℕ) (s : List ℤ) (calls reads : �
 -- what a workspace with these samples gives, whose codec was called so often
 abbrev pub recoded_of : Format → List ℤ → ℕ → Recoded
 recoded_of f samples calls = record { bytes = bytes_of (code_of f samples); calls = calls }
-
--- What writing an answer leaves: its bytes, begun once, and its number of calls; nothing for a
--- refusal; or a front of its bytes where the sink failed.
-pub data SettlesRecoded (sink : Putting) : Result Recoded EditFault → Result ℕ EditFault → Type 0 where
-  settled : (made : Recoded) → Appends sink.before sink.after made.bytes → IsBegunFirst sink → sink.failures ≡ 0
-      → SettlesRecoded sink (Ok made) (Ok made.calls)
-  not_begun : (fault : EditFault) → WroteNothing sink → SettlesRecoded sink (Err fault) (Err fault)
-  stopped : (made : Recoded) → AppendsFront sink.before sink.after made.bytes → IsBegunFirst sink → sink.failures ≡ 1
-      → SettlesRecoded sink (Ok made) (Err (Plain Write))

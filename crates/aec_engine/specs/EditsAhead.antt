@@ -10,12 +10,12 @@ use Rattle.aec_engine.specs.ScriptLines.{lines_left, text_left}
 use Rattle.aec_engine.specs.Planning.{planned_in}
 
 -- the text that is not read again yet
-abbrev pub text_behind : EditsAhead → Option Text
-text_behind ahead = option_map (λ text. text.now) ahead.rest
+abbrev pub text_ahead : EditsAhead → Option Text
+text_ahead ahead = option_map (λ text. text.now) ahead.rest
 
 -- the listing of the planned overwrites, and of its lines
 abbrev pub behind : EditsAhead → Listing
-behind ahead = planned_in (drop ahead.taken ahead.window.now) (listing_from (ahead.number + 1) (lines_left (text_behind ahead)))
+behind ahead = planned_in (drop ahead.taken ahead.window.now) (listing_from (ahead.number + 1) (lines_left (text_ahead ahead)))
 
 -- a listing, with an edit before it
 abbrev pub with_next : Option NextEdit → Listing → Listing
@@ -29,7 +29,7 @@ left_in ahead = with_next ahead.next (behind ahead)
 -- the lines that are not read again yet have been judged, and can be counted
 pub record AreKnown (ahead : EditsAhead) : Type 0 where
   pub sound : (behind ahead).bad ≡ None
-  pub few : ahead.number + text_left (text_behind ahead) ≤ 2 ^ 63
+  pub few : ahead.number + text_left (text_ahead ahead) ≤ 2 ^ 63
 
 -- a listing of nothing
 abbrev pub no_edits : Listing
@@ -39,9 +39,14 @@ no_edits = record { edits = []; lines = []; bad = None }
 abbrev pub IsReady : EditsAhead → Type 0
 IsReady ahead = MatchOption ahead.next (behind ahead ≡ no_edits) (λ next. ⊤)
 
+-- the edits that are left can be made: their lines are known, and the next one is ready
+pub record AreAhead (ahead : EditsAhead) : Type 0 where
+  pub known : AreKnown ahead
+  pub ready : IsReady ahead
+
 -- how many planned overwrites and bytes are not read again yet
 abbrev pub unread : EditsAhead → ℕ
-unread ahead = (length ahead.window.now - ahead.taken) + text_left (text_behind ahead)
+unread ahead = (length ahead.window.now - ahead.taken) + text_left (text_ahead ahead)
 
 -- no edit is left, or the next one is no overwrite inside so many samples, or so many calls of the
 -- coder are too many

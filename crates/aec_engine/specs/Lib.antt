@@ -8,6 +8,8 @@ pub mod Output
 pub mod OutputExamples
 pub mod CodingSteps
 pub mod ReadingTwice
+pub mod Delivering
+pub mod Judging
 pub mod Editing
 pub mod EditingSteps
 pub mod EarlyEdits

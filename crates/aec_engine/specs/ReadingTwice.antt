@@ -1,16 +1,13 @@
 -- For proofs alone: no public contract cites this file.
 -- What the parts of decoding give: the bits of a source, and what their two readings answer.
-use Rattle.std.specs.Prelude.{◌≡◌, ℕ, ◌+◌, ◌-◌, ◌*◌, ◌/◌, ◌%◌, ◌^◌, ◌<◌, ◌≤◌, ◌⊎◌, min, Bool, true, false, Option, None, Result, Ok, Err, MatchResult, ℤ, List, ◌++◌, length}
-use Rattle.std.specs.Int.{div_ceil}
+use Rattle.std.specs.Prelude.{◌≡◌, ℕ, ◌+◌, ◌*◌, ◌%◌, ◌^◌, ◌<◌, ◌≤◌, ◌⊎◌, Bool, true, false, Option, None, Result, Ok, Err, ℤ, List, Vec, ◌++◌, length, vec_len, vec_capacity}
 use Rattle.std.specs.List.{AllByRecursion}
-use Rattle.std.specs.Io.KnownBytes.{Appends}
 use Rattle.aec_params.specs.declared.settings.Settings.{Settings}
 use Rattle.aec_params.specs.declared.fault.Fault.{Fault}
 use Rattle.aec_params.specs.declared.fault.Fault.TheVariants.{OutOfRange, Memory}
-use Rattle.aec_params.specs.Params.{IsHeld, interval_len}
+use Rattle.aec_params.specs.Params.{IsHeld}
 use Rattle.aec_params.specs.Codewords.{bits_of_bytes}
 use Rattle.aec_params.specs.Reading.{IsReading}
-use Rattle.aec_bits.specs.Devices.{AppendsFront}
 use Rattle.aec_interval.specs.Reached.{count_refusal, RefusesDecoding}
 use Rattle.aec_interval.specs.Pieces.{Place, place_at, is_wanted_at, HasRead}
 use Rattle.aec_engine.specs.Transfers.{input_of, Taking, are_past, Gave, IsTakenWhole, Putting, Settles}
@@ -32,6 +29,12 @@ pub record GaveWhole (before after : Option (List ℕ)) (failures limit : ℕ) (
 -- bits are read as these samples
 pub record AreSamplesOf (p : Place) (samples : List ℤ) : Type 0 where
   pub reading : IsReading p.settings p.count p.limit p.bits samples
+
+-- a reader at the first bit
+pub record IsAtStart (p : Place) (s : Settings) : Type 0 where
+  pub settings : p.settings ≡ s
+  pub block : p.block ≡ 0
+  pub bit : p.bit ≡ 0
 
 -- At place p more is wanted and an interval begins. From there samples were read up to place q:
 -- whatever was read up to p, that and these samples are what is read up to q.
@@ -57,6 +60,12 @@ pub record IsBegun (p : Place) (before first : ℕ) : Type 0 where
   pub few : p.block < 2 ^ 34
   pub begins : is_wanted_at p ≡ true → p.block % p.settings.interval ≡ 0
 
+-- samples can be read from there, where a range begins that lies after so many samples
+pub record IsReadyAt (p : Place) (s : Settings) (before first : ℕ) : Type 0 where
+  pub settings : p.settings ≡ s
+  pub read : (xs : List ℤ) × AreSamplesOf p xs
+  pub begun : IsBegun p before first
+
 -- so many samples were read up to such a place, and these are their bytes
 pub record KeepsFront (p : Place) (s : Settings) (before : ℕ) (bytes : List ℕ) : Type 0 where
   pub samples : List ℤ
@@ -76,6 +85,17 @@ AreFewKept kept interval bits = 65536 + interval < kept → (kept ≤ 2 ^ 24) ×
 abbrev pub GrowsForFew : ℕ → ℕ → ℕ → ℕ → Type 0
 GrowsForFew before after interval most = (after ≡ before) ⊎ ((after ≤ 2 ^ 24) × (after ≤ 2 * most + interval))
 
+-- a vector's items are as they were, and no less room
+pub record KeepsItems {X Z : Type 0} (old new : Vec X Z) : Type 0 where
+  pub items : new.items ≡ old.items
+  pub len : vec_len new ≡ vec_len old
+  pub capacity : vec_capacity old ≤ vec_capacity new
+
+-- a vector has at most so many items more, and no less room
+pub record HasSpare {X Z : Type 0} (old new : Vec X Z) (more : ℕ) : Type 0 where
+  pub len : vec_len new ≤ vec_len old + more
+  pub capacity : vec_capacity old ≤ vec_capacity new
+
 -- all samples are read up to this bit, where no more is wanted
 pub record EndsAt (p : Place) (bit : ℕ) : Type 0 where
   pub block : ℕ
@@ -89,26 +109,11 @@ pub record HaveSamples (p : Place) (total : ℕ) : Type 0 where
   pub reading : IsReading p.settings p.count p.limit p.bits samples
   pub counted : length samples ≡ total
 
--- There is room for as many bits as the samples are read from, and for the starts of their
--- intervals. Their own code can be longer: it may have another filler, or be padded.
-pub record HasRoomOfRead (p : Place) (bits intervals : ℕ) : Type 0 where
-  pub end : ℕ
-  pub total : ℕ
-  pub ends : EndsAt p end
-  pub have : HaveSamples p total
-  pub bits_fit : end ≤ bits
-  pub intervals_fit : div_ceil total (interval_len p.settings) ≤ intervals
-
--- The room that an edit asks for: for the bits that the samples are read from and a sixteenth more,
--- but for at most 2^64 - 1 bits, and for the starts of their intervals.
-pub record AsksForRead (p : Place) (bits intervals : ℕ) : Type 0 where
-  pub end : ℕ
-  pub total : ℕ
-  pub ends : EndsAt p end
-  pub have : HaveSamples p total
-  pub bits_fit : end ≤ bits
-  pub bits_asked : bits ≡ min (end + end / 16) (2 ^ 64 - 1)
-  pub intervals_asked : intervals ≡ div_ceil total (interval_len p.settings)
+-- all samples were judged, and the reader is where it was: where all is read, and how many they are
+pub record Judges (old new : Place) (end total : ℕ) : Type 0 where
+  pub have : HaveSamples old total
+  pub ends : EndsAt old end
+  pub same : new ≡ old
 
 -- the bytes of a part of samples, or want of memory
 pub data StoresPart (s : Settings) (first len : ℕ) (samples : List ℤ) : Result (List ℕ) Fault → Type 0 where
@@ -136,13 +141,3 @@ pub record SettlesOne (answers : Result (List ℕ) Fault → Type 0) (sink : Put
   pub answer : Result (List ℕ) Fault
   pub answered : answers answer
   pub settles : Settles sink answer result
-
--- bytes that waited and more of them are put, up to those that wait then
-pub record PutsPart (before after : Option (List ℕ)) (waited more waiting : List ℕ) : Type 0 where
-  pub put : List ℕ
-  pub appended : Appends before after put
-  pub all : put ++ waiting ≡ waited ++ more
-
--- bytes are put to a sink, or where it failed a front of them
-abbrev pub PutsAllOrFront : {X : Type 0} → Option (List ℕ) → Option (List ℕ) → List ℕ → Result X Fault → Type 0
-PutsAllOrFront before after bytes result = MatchResult result (λ _. Appends before after bytes) (λ _. AppendsFront before after bytes)

@@ -1,21 +1,17 @@
 //! The engines: what is written is a stated function of the inputs.
 
 mod bit_intake;
-mod carrying;
 mod coding;
 mod decoding;
 mod editing;
 mod intake;
 mod into_buffers;
-mod keeping;
 mod loading;
-mod outlet;
 mod ranging;
 mod two_readings;
 
-pub use carrying::carry_out;
 pub use coding::encode;
 pub use decoding::decode;
-pub use editing::{edit, edit_over};
+pub use editing::{carry_out, edit, edit_over};
 pub use into_buffers::{decode_into, range_into};
 pub use ranging::range;

@@ -5,7 +5,7 @@ ghost use Rattle.aec_params.specs.declared.fault.Fault.TheVariants.{Memory, Scri
 ghost use Rattle.aec_engine.specs.Scripts.{listed, listing_of, meaning_of, unknown};
 ghost use Rattle.aec_engine.specs.ScriptLines.{text_left};
 ghost use Rattle.aec_engine.specs.Planning.{listing_in, text_behind};
-ghost use Rattle.aec_engine.specs.EditsAhead.{AreKnown, IsReady, behind, left_in, no_edits, unread};
+ghost use Rattle.aec_engine.specs.EditsAhead.{AreAhead, AreKnown, behind, left_in, no_edits, unread};
 
 use crate::script_lines::{Line, parsed_line};
 use crate::script_plan::{Plan, Planned};
@@ -55,22 +55,21 @@ pub(crate) struct NextEdit {
 /// how many lines were read of the text, and the text after these. So no more of a script is kept
 /// than its text, its plan and the values of one line.
 #[derive(Drop)]
-pub(crate) struct EditsAhead<'a> {
+pub(crate) struct EditsAhead<'p, 'a> {
     pub(crate) next: Option<NextEdit>,
-    window: &'a [Planned<'a>],
+    window: &'p [Planned<'a>],
     taken: usize,
     number: u64,
     rest: Option<&'a [u8]>,
 }
 
-impl<'a> EditsAhead<'a> {
+impl<'p, 'a> EditsAhead<'p, 'a> {
     /// All edits of a script.
-    pub(crate) fn new(alloc: Global, plan: &'a Plan<'a>) -> Result<EditsAhead<'a>, Fault>
+    pub(crate) fn new(alloc: Global, plan: &'p Plan<'a>) -> Result<EditsAhead<'p, 'a>, Fault>
         requires sound { (listing_in plan.now).bad ≡ None }
         requires few { plan.now.number + text_left (text_behind plan.now) ≤ 2 ^ 63 }
         ensures all { IfOk result (λ ahead. left_in ahead ≡ listing_in plan.now) }
-        ensures known { IfOk result (λ ahead. AreKnown ahead) }
-        ensures ready { IfOk result (λ ahead. IsReady ahead) }
+        ensures ahead { IfOk result (λ ahead. AreAhead ahead) }
         ensures fault { IfErr result (λ e. e ≡ Memory) }
     {
         let mut ahead = EditsAhead {
@@ -109,8 +108,7 @@ impl<'a> EditsAhead<'a> {
     pub(crate) fn advance(&mut self, alloc: Global) -> Result<(), Fault>
         requires known { AreKnown self.old }
         ensures ok { IfOk result (λ _. left_in self.new ≡ behind self.old) }
-        ensures known { IfOk result (λ _. AreKnown self.new) }
-        ensures ready { IfOk result (λ _. IsReady self.new) }
+        ensures ahead { IfOk result (λ _. AreAhead self.new) }
         ensures fault { IfErr result (λ e. e ≡ Memory) }
     {
         self.next = None;

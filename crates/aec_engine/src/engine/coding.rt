@@ -1,14 +1,14 @@
 //! Stored samples to coded data.
 
-ghost use Rattle.std.specs.Prelude.{ℕ, List, Bool, [], Result, IfOk, IfErr};
-ghost use Rattle.aec_params.specs.declared.fault.Fault.{Fault};
+ghost use Rattle.std.specs.Prelude.{ℕ, List, Bool, IfOk, IfErr};
 ghost use Rattle.aec_params.specs.Codewords.{bytes_of};
-ghost use Rattle.aec_engine.specs.Transfers.{Taking, taking_of, Putting, putting_of, answer_by, GivesAnswer, Leaves};
+ghost use Rattle.aec_engine.specs.Transfers.{Taking, taking_of, Putting, putting_of, Leaves};
 ghost use Rattle.aec_engine.specs.Output.{IsEncoded, are_refused};
 ghost use Rattle.aec_engine.specs.CodingSteps.{IsFed, StopsCoding};
+ghost use Rattle.aec_engine.specs.Delivering.{Delivers};
 
 use crate::engine::intake::PIECE;
-use crate::engine::outlet::settle_bits;
+use crate::known::known_allowed;
 use aec_bits::{BitBuf, Sink, Source};
 use aec_interval::StreamCoder;
 use aec_params::{Fault, Limits, Params};
@@ -28,8 +28,7 @@ fn fed<R: Source>(
     ensures refuses { let took : Taking = taking_of R.left R.failed source.old source.new in
         IfErr result (λ fault. StopsCoding params.now limit took fault) }
 {
-    // What the parameters promise is told by their calls.
-    let _len = params.interval_len();
+    known_allowed(params);
     let mut coder = StreamCoder::new(alloc, *params, limit);
     let mut bits = BitBuf::new(alloc);
     let mut piece = [0u8; PIECE];
@@ -42,23 +41,13 @@ fn fed<R: Source>(
     }
 }
 
-/// What coding a source answers: the code of its samples.
-fn encode_source<R: Source>(
-    alloc: Global,
-    params: &Params,
-    limits: Limits,
-    source: &mut R,
-) -> Result<BitBuf, Fault>
-    ensures { let took : Taking = taking_of R.left R.failed source.old source.new in
-        let enough : List ℕ → Bool = are_refused params.now limits.samples in
-        let answer : Result (List ℕ) Fault = answer_by (λ bits. bytes_of bits.list) result in
-        GivesAnswer (IsEncoded params.now limits) took enough answer }
+/// Begins, and writes the bytes that all bits fill. `Write` where the sink fails.
+fn deliver_bits<W: Sink>(bits: &BitBuf, sink: &mut W) -> Result<(), Fault>
+    ensures { let put : Putting = putting_of W.taken W.begun W.mark W.failed sink.old sink.new in
+        Delivers (bytes_of bits.now.list) put result }
 {
-    // What the parameters promise is told by their calls.
-    let _len = params.interval_len();
-    let (coder, mut bits) = fed(alloc, params, limits.samples(), source)?;
-    coder.finish(&mut bits)?;
-    Ok(bits)
+    sink.begin()?;
+    bits.write_to(sink)
 }
 
 /// Codes the stored samples of a source, each piece before the next is taken, to the source's end,
@@ -67,7 +56,6 @@ fn encode_source<R: Source>(
 /// `Read` where the source fails; `Memory`. Nothing has been written then and `begin` was not
 /// called. After `begin` only `Write` can come, and a front of the answer has been written.
 /// `limits.bytes` is not used.
-#[tactic(auto, using(crate::proofs::OutputLemmas::leaves_settled))]
 pub fn encode<R: Source, W: Sink>(
     alloc: Global,
     params: &Params,
@@ -80,6 +68,7 @@ pub fn encode<R: Source, W: Sink>(
         let enough : List ℕ → Bool = are_refused params.now limits.samples in
         Leaves (IsEncoded params.now limits) took enough put result }
 {
-    let answer = encode_source(alloc, params, limits, source);
-    settle_bits(answer, sink)
+    let (coder, mut bits) = fed(alloc, params, limits.samples(), source)?;
+    coder.finish(&mut bits)?;
+    deliver_bits(&bits, sink)
 }

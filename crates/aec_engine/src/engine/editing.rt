@@ -1,23 +1,28 @@
 //! Coded data edited by a script.
 
-ghost use Rattle.std.specs.Prelude.{◌≡◌, ◌<◌, ◌≤◌, length, None, Result, Ok, Err, IfOk, IfErr, OnOk, OnErr};
-ghost use Rattle.std.specs.Io.KnownBytes.{Appends, Keeps};
-ghost use Rattle.aec_params.specs.declared.fault.Fault.TheVariants.{Write as WriteFault};
+ghost use Rattle.std.specs.Prelude.{◌≡◌, ◌<◌, ◌≤◌, ◌⊎◌, length, slice_index, None, Ok, IfOk, IfErr, OnOk};
+ghost use Rattle.std.specs.Io.KnownBytes.{Appends};
+ghost use Rattle.aec_params.specs.declared.fault.Fault.TheVariants.{Memory};
 ghost use Rattle.aec_params.specs.Codewords.{bytes_of};
 ghost use Rattle.aec_bits.specs.Codec.{code_of};
-ghost use Rattle.aec_bits.specs.Devices.{counted, AppendsFront};
 ghost use Rattle.aec_interval.specs.IntervalFormat.{interval_format};
+ghost use Rattle.aec_engine.specs.declared.scripts.EditFault.TheVariants.{Plain};
 ghost use Rattle.aec_engine.specs.Transfers.{Taking, taking_of, Putting, putting_of, answer_by};
 ghost use Rattle.aec_engine.specs.Scripts.{listing_of};
-ghost use Rattle.aec_engine.specs.Editing.{GivesEdited, LeavesRecoded, LeavesEdited};
-ghost use Rattle.aec_engine.specs.EditingSteps.{GaveScript, RefusesScript, SettlesRecoded, recoded_of};
+ghost use Rattle.aec_engine.specs.Editing.{edits_left, left_with, LeavesRecoded, LeavesEdited};
+ghost use Rattle.aec_engine.specs.EditingSteps.{CarriesOut, GaveScript, RefusesScript, StopsEditing, recoded_of};
+ghost use Rattle.aec_engine.specs.EarlyEdits.{EditsBits};
+ghost use Rattle.aec_engine.specs.EditsAhead.{AreAhead, left_in};
+ghost use Rattle.aec_engine.specs.Delivering.{Delivers};
 
 use crate::engine::bit_intake::read_bits;
 use crate::engine::intake::read_whole;
-use crate::engine::loading::edit_bits;
-use crate::script_edits::judge_script;
-use crate::scripts::EditFault;
-use aec_bits::{Codec, Sink, Source};
+use crate::engine::loading::{Room, append_all, judged_reader, roomy_workspace};
+use crate::engine::two_readings::room_at_once;
+use crate::script_edits::{EditsAhead, judge_script};
+use crate::script_plan::plan_script;
+use crate::scripts::{EditFault, Script};
+use aec_bits::{BitBuf, Codec, Sink, Source};
 use aec_edit::Workspace;
 use aec_interval::AecCodec;
 use aec_params::{Fault, Limits, Params};
@@ -36,69 +41,87 @@ fn read_script<Q: Source>(alloc: Global, limits: Limits, from: &mut Q) -> Result
     Ok(text)
 }
 
-/// What carrying out a script answers: a workspace with the samples that its edits leave.
-fn edit_source<C: Codec + Drop, Q: Source, R: Source>(
+/// Makes the edits of a script that are ahead, up to the first that is refused: those before it are
+/// made, and it is named by its line. Want of memory for the values of the next one is plain.
+fn carry_rest<C: Codec>(
+    alloc: Global,
+    workspace: &mut Workspace<C>,
+    ahead: &mut EditsAhead,
+) -> Result<(), EditFault>
+    requires ahead { AreAhead ahead.old }
+    ensures ok { OnOk result (edits_left (C.format workspace.old.codec) workspace.old.limit
+        (C.called workspace.old.codec) workspace.old.samples
+        (left_in ahead.old).edits (left_in ahead.old).lines
+        ≡ Ok (left_with workspace.new.samples (C.called workspace.new.codec))) }
+    ensures refuses { IfErr result (λ fault. (fault ≡ Plain Memory)
+        ⊎ StopsEditing (C.format workspace.old.codec) workspace.old.limit
+        (C.called workspace.old.codec) workspace.old.samples
+        (left_in ahead.old).edits (left_in ahead.old).lines fault) }
+    ensures format { C.format workspace.new.codec ≡ C.format workspace.old.codec }
+{
+    while let Some(next) = &ahead.next {
+        if let Err(fault) = workspace.apply(&next.edit) {
+            return Err(EditFault::Line {
+                line: next.line,
+                fault,
+            });
+        }
+        ahead.advance(alloc)?;
+    }
+    Ok(())
+}
+
+/// A workspace with the samples that edits of a script leave of those that bits are read as, over a
+/// codec that has coded nothing. The bits are judged whole before memory is taken for samples, and
+/// before an edit is made. The lines of the script were judged.
+fn edit_bits<C: Codec + Drop>(
     alloc: Global,
     codec: C,
     params: &Params,
     limits: Limits,
     count: Option<u64>,
-    from: &mut Q,
-    source: &mut R,
+    bits: &BitBuf,
+    script: &[u8],
 ) -> Result<Workspace<C>, EditFault>
     requires format { C.format codec ≡ interval_format params.now }
     requires fresh { C.called codec ≡ 0 }
-    ensures gives { let read : Taking = taking_of Q.left Q.failed from.old from.new in
-        let took : Taking = taking_of R.left R.failed source.old source.new in
-        GivesEdited params.now limits count read took
+    requires known { (listing_of script.now).bad ≡ None }
+    ensures edits { EditsBits params.now limits count bits.now.list (listing_of script.now)
         (answer_by (λ w. recoded_of (C.format w.codec) w.samples (C.called w.codec)) result) }
     ensures format { IfOk result (λ w. C.format w.codec ≡ interval_format params.now) }
 {
-    let script = read_script(alloc, limits, from)?;
-    let bits = read_bits(alloc, source, limits.bytes())?;
-    edit_bits(alloc, codec, params, limits, count, &bits, &script)
+    let (mut reader, judged) = judged_reader(alloc, params, limits, count, bits)?;
+    let room = Room::of(params, judged);
+    let plan = plan_script(alloc, params, judged.total, script);
+    let mut samples = room_at_once(alloc, params)?;
+    let mut workspace = roomy_workspace(alloc, codec, limits, room)?;
+    let mut ahead = EditsAhead::new(alloc, &plan)?;
+    append_all(
+        alloc,
+        params,
+        &mut reader,
+        &mut samples,
+        &mut workspace,
+        &mut ahead,
+    )?;
+    carry_rest(alloc, &mut workspace, &mut ahead)?;
+    Ok(workspace)
 }
 
 /// Begins, and writes the bytes of the code of a workspace's samples. `Write` where the sink fails.
 fn deliver_code<C: Codec, W: Sink>(workspace: &Workspace<C>, sink: &mut W) -> Result<(), Fault>
-    ensures ok { OnOk result (Appends (W.taken sink.old) (W.taken sink.new)
-        (bytes_of (code_of (C.format workspace.now.codec) workspace.now.samples))) }
-    ensures front { OnErr result (AppendsFront (W.taken sink.old) (W.taken sink.new)
-        (bytes_of (code_of (C.format workspace.now.codec) workspace.now.samples))) }
-    ensures begun { W.begun sink.new ≡ counted (W.begun sink.old) }
-    ensures order { Keeps (W.mark sink.new) (W.taken sink.old) }
-    ensures fault { IfErr result (λ e. (e ≡ WriteFault) × (W.failed sink.new ≡ 1)) }
-    ensures sound { OnOk result (W.failed sink.new ≡ 0) }
+    ensures { let put : Putting = putting_of W.taken W.begun W.mark W.failed sink.old sink.new in
+        Delivers (bytes_of (code_of (C.format workspace.now.codec) workspace.now.samples)) put
+        result }
 {
     sink.begin()?;
     workspace.write_to(sink)
-}
-
-/// Begins, and writes the code of an answer that is ready; or answers its refusal.
-fn settle_code<C: Codec + Drop, W: Sink>(
-    answer: Result<Workspace<C>, EditFault>,
-    sink: &mut W,
-) -> Result<Workspace<C>, EditFault>
-    ensures settles { let put : Putting
-        = putting_of W.taken W.begun W.mark W.failed sink.old sink.new in
-        SettlesRecoded put (answer_by
-        (λ w. recoded_of (C.format w.codec) w.samples (C.called w.codec)) answer)
-        (answer_by (λ w. C.called w.codec) result) }
-    ensures stream { IfOk result
-        (λ w. Appends (W.taken sink.old) (W.taken sink.new)
-        (bytes_of (code_of (C.format w.codec) w.samples))) }
-    ensures same { IfOk result (λ w. answer ≡ Ok w) }
-{
-    let workspace = answer?;
-    deliver_code(&workspace, sink)?;
-    Ok(workspace)
 }
 
 /// Does what `edit` does over a codec of intervals that has coded nothing, and gives the workspace
 /// whose stream was written. This shows how often the codec was called: once for each interval of
 /// the source's samples, and once for each interval that an edit codes.
 /// The refusals are those of `edit`.
-#[tactic(auto, using(crate::proofs::EditAnswerLemmas::leaves_recoded))]
 pub fn edit_over<C: Codec + Drop, Q: Source, R: Source, W: Sink>(
     alloc: Global,
     codec: C,
@@ -121,8 +144,11 @@ pub fn edit_over<C: Codec + Drop, Q: Source, R: Source, W: Sink>(
         (bytes_of (code_of (C.format w.codec) w.samples))) }
     ensures format { IfOk result (λ w. C.format w.codec ≡ interval_format params.now) }
 {
-    let answer = edit_source(alloc, codec, params, limits, count, from, source);
-    settle_code(answer, sink)
+    let script = read_script(alloc, limits, from)?;
+    let bits = read_bits(alloc, source, limits.bytes())?;
+    let workspace = edit_bits(alloc, codec, params, limits, count, &bits, &script)?;
+    deliver_code(&workspace, sink)?;
+    Ok(workspace)
 }
 
 /// Reads a script whole, then the source, makes the edits of the script on the samples that the
@@ -154,5 +180,42 @@ pub fn edit<Q: Source, R: Source, W: Sink>(
     match edit_over(alloc, codec, params, limits, count, from, source, sink) {
         Ok(_workspace) => Ok(()),
         Err(fault) => Err(fault),
+    }
+}
+
+/// The line of the edit at a place of a script.
+fn line_of(script: &Script, place: usize) -> u64
+    requires { place < length script.now.lines.items }
+    ensures { result ≡ slice_index script.now.lines.items place }
+{
+    script.lines[place]
+}
+
+/// Makes the edits of a script, up to the first that is refused: those before it are made, and it
+/// is named by its line.
+pub fn carry_out<C: Codec>(workspace: &mut Workspace<C>, script: &Script) -> Result<(), EditFault>
+    requires lines { length script.now.edits.items ≤ length script.now.lines.items }
+    ensures ok { OnOk result (edits_left (C.format workspace.old.codec) workspace.old.limit
+        (C.called workspace.old.codec) workspace.old.samples
+        script.now.edits.items script.now.lines.items
+        ≡ Ok (left_with workspace.new.samples (C.called workspace.new.codec))) }
+    ensures refuses { IfErr result
+        (λ fault. StopsEditing (C.format workspace.old.codec) workspace.old.limit
+        (C.called workspace.old.codec)
+        workspace.old.samples script.now.edits.items script.now.lines.items fault) }
+    ensures carries { CarriesOut (C.format workspace.old.codec) workspace.old.limit
+        workspace.old.samples (C.called workspace.old.codec)
+        (C.read workspace.old.codec) script.now.edits.items script.now.lines.items result
+        workspace.new.samples
+        (C.called workspace.new.codec) (C.read workspace.new.codec) }
+    ensures limit { workspace.new.limit ≡ workspace.old.limit }
+    ensures format { C.format workspace.new.codec ≡ C.format workspace.old.codec }
+{
+    match workspace.run_until_refused(&script.edits) {
+        Ok(()) => Ok(()),
+        Err(stop) => Err(EditFault::Line {
+            line: line_of(script, stop.place as usize),
+            fault: stop.fault,
+        }),
     }
 }

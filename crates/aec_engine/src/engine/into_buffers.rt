@@ -11,7 +11,7 @@ ghost use Rattle.aec_engine.specs.Output.{all_stored, samples_from, IsDecoded, I
 ghost use Rattle.aec_engine.specs.ReadingTwice.{AreSamplesOf, GaveWhole, IsBegun, StoresPart, DecodesBits, CutsBits};
 ghost use Rattle.aec_engine.specs.Buffers.{FillsOne, OrMemory};
 
-use crate::engine::keeping::keep_front;
+use crate::engine::decoding::keep_front;
 use crate::engine::ranging::judge_range;
 use crate::engine::two_readings::{
     AT_ONCE, WAITING, judge_from, judge_samples, part_of, room_at_once,

@@ -4,11 +4,10 @@ ghost use Rattle.std.specs.Prelude.{◌≡◌, ◌+◌, ◌<◌, ◌≤◌, IfEr
 ghost use Rattle.aec_params.specs.declared.fault.Fault.TheVariants.{OutOfRange};
 ghost use Rattle.aec_engine.specs.Transfers.{are_past, Taking, taking_of, Putting, putting_of, Leaves};
 ghost use Rattle.aec_engine.specs.Output.{IsRanged};
-ghost use Rattle.aec_engine.specs.ReadingTwice.{CutsBits, SettlesOne};
 
 use crate::engine::bit_intake::read_bits;
-use crate::engine::two_readings::{judge_samples, write_range};
-use aec_bits::{BitBuf, Sink, Source};
+use crate::engine::two_readings::{Part, judge_samples, write_range};
+use aec_bits::{Sink, Source};
 use aec_interval::StreamReader;
 use aec_params::{Fault, Limits, Params};
 use std::alloc::Global;
@@ -22,28 +21,6 @@ pub(crate) fn judge_range(first: u64, len: u64, total: u64) -> Result<(), Fault>
         Some(end) if end <= total => Ok(()),
         _ => Err(Fault::OutOfRange { count: total }),
     }
-}
-
-/// Reads coded bits twice: judges them and the range first, then begins and writes the bytes of its
-/// samples, read from the last interval on that begins at or before it. The refusals are those of
-/// `decode_all`, `OutOfRange`, and `Memory`; nothing was begun then.
-fn range_bits<W: Sink>(
-    alloc: Global,
-    params: &Params,
-    limits: Limits,
-    count: Option<u64>,
-    first: u64,
-    len: u64,
-    bits: &BitBuf,
-    sink: &mut W,
-) -> Result<(), Fault>
-    ensures { let put : Putting = putting_of W.taken W.begun W.mark W.failed sink.old sink.new in
-        SettlesOne (CutsBits params.now count limits.samples first len bits.now.list) put result }
-{
-    let mut reader = StreamReader::new(alloc, *params, bits, count, limits.samples())?;
-    let judged = judge_samples(params, &mut reader, first)?;
-    judge_range(first, len, judged.total)?;
-    write_range(alloc, params, &mut reader, judged.before, first, len, sink)
 }
 
 /// Reads the source whole, and writes the bytes of `len` of the samples that it codes, from place
@@ -69,5 +46,13 @@ pub fn range<R: Source, W: Sink>(
         result }
 {
     let bits = read_bits(alloc, source, limits.bytes())?;
-    range_bits(alloc, params, limits, count, first, len, &bits, sink)
+    let mut reader = StreamReader::new(alloc, *params, &bits, count, limits.samples())?;
+    let judged = judge_samples(params, &mut reader, first)?;
+    judge_range(first, len, judged.total)?;
+    let part = Part {
+        before: judged.before,
+        first,
+        len,
+    };
+    write_range(alloc, params, &mut reader, part, sink)
 }

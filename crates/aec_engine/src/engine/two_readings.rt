@@ -10,8 +10,10 @@ ghost use Rattle.aec_interval.specs.Reached.{RefusesReading};
 ghost use Rattle.aec_interval.specs.Pieces.{IsPlace, place_at};
 ghost use Rattle.aec_engine.specs.Output.{all_stored, samples_from};
 ghost use Rattle.aec_engine.specs.Transfers.{Putting, putting_of};
-ghost use Rattle.aec_engine.specs.ReadingTwice.{AreSamplesOf, EndsAt, HaveSamples, IsBegun, PutsPart, PutsAllOrFront, SettlesOne, StoresPart};
+ghost use Rattle.aec_engine.specs.ReadingTwice.{AreSamplesOf, EndsAt, HasSpare, HaveSamples, IsAtStart, IsBegun, IsReadyAt, Judges, SettlesOne, StoresPart};
+ghost use Rattle.aec_engine.specs.Delivering.{Delivers, HaveRoom, PutsAllOrFront, PutsPart, SinkState, StaysBegun, sink_state};
 
+use crate::known::known_allowed;
 use aec_bits::{Sink, put_all};
 use aec_interval::{ReachedPlace, StreamReader};
 use aec_params::{Fault, Params, put_samples};
@@ -74,8 +76,7 @@ pub(crate) fn judge_from(
     ensures refuses { IfErr result (λ fault. let old = reader.old in
         RefusesReading old.settings old.count old.limit old.bits 0 0 fault) }
 {
-    // What the parameters promise is told by their calls.
-    let _len = params.interval_len();
+    known_allowed(params);
     let mut total = before;
     let mut begin = Begin {
         place: reader.place(),
@@ -103,9 +104,7 @@ pub(crate) fn judge_samples(
     reader: &mut StreamReader,
     first: u64,
 ) -> Result<Judged, Fault>
-    requires settings { reader.old.settings ≡ params.now }
-    requires block { reader.old.block ≡ 0 }
-    requires bit { reader.old.bit ≡ 0 }
+    requires start { IsAtStart reader.old params.now }
     ensures ok { IfOk result (λ judged. HaveSamples reader.old judged.total) }
     ensures bits { IfOk result (λ judged. EndsAt reader.old judged.bits) }
     ensures begun { IfOk result (λ judged. IsBegun reader.new judged.before first) }
@@ -120,19 +119,24 @@ pub(crate) fn judge_samples(
 
 /// Goes over all samples from the first bit on, and back to it. Takes no memory.
 pub(crate) fn judge_all(params: &Params, reader: &mut StreamReader) -> Result<Judged, Fault>
-    requires settings { reader.old.settings ≡ params.now }
-    requires block { reader.old.block ≡ 0 }
-    requires bit { reader.old.bit ≡ 0 }
-    ensures ok { IfOk result (λ judged. HaveSamples reader.old judged.total) }
-    ensures bits { IfOk result (λ judged. EndsAt reader.old judged.bits) }
+    requires start { IsAtStart reader.old params.now }
+    ensures ok { IfOk result (λ judged. Judges reader.old reader.new judged.bits judged.total) }
     ensures refuses { IfErr result
         (λ fault. RefusesReading reader.old.settings reader.old.count reader.old.limit
         reader.old.bits 0 0 fault) }
-    ensures same { OnOk result (reader.new ≡ reader.old) }
 {
     let judged = judge_samples(params, reader, 0)?;
     reader.restart();
     Ok(judged)
+}
+
+/// A part of the samples, `len` of them from place `first` on, and how many lie before the reader
+/// that is to read it.
+#[derive(Clone, Copy)]
+pub(crate) struct Part {
+    pub(crate) before: u64,
+    pub(crate) first: u64,
+    pub(crate) len: u64,
 }
 
 /// Of samples those after the first `skip`, at most `left` of them.
@@ -159,8 +163,7 @@ pub(crate) fn append_stored(params: &Params, samples: &[i64], bytes: &mut Vec<u8
     requires held { AllByRecursion (IsHeld params.now) samples.now }
     requires room { vec_len bytes.old + 4 * length samples.now ≤ vec_capacity bytes.old }
     ensures items { bytes.new.items ≡ bytes.old.items ++ all_stored params.now samples.now }
-    ensures len { vec_len bytes.new ≤ vec_len bytes.old + 4 * length samples.now }
-    ensures capacity { vec_capacity bytes.old ≤ vec_capacity bytes.new }
+    ensures spare { HasSpare bytes.old bytes.new (4 * length samples.now) }
 {
     let mut left = samples;
     while !left.is_empty() {
@@ -175,8 +178,7 @@ fn append_part(params: &Params, samples: &[i64], bytes: &mut Vec<u8>)
     requires held { AllByRecursion (IsHeld params.now) samples.now }
     requires room { vec_len bytes.old + 4 * length samples.now ≤ vec_capacity bytes.old }
     ensures items { bytes.new.items ≡ bytes.old.items ++ all_stored params.now samples.now }
-    ensures len { vec_len bytes.new ≤ vec_len bytes.old + 4 * length samples.now }
-    ensures capacity { vec_capacity bytes.old ≤ vec_capacity bytes.new }
+    ensures spare { HasSpare bytes.old bytes.new (4 * length samples.now) }
 {
     let start = bytes.len();
     bytes
@@ -193,14 +195,10 @@ pub(crate) const WAITING: usize = 65536;
 
 /// Puts all bytes that wait, and then none do.
 fn put_waiting<W: Sink>(bytes: &mut Vec<u8>, sink: &mut W) -> Result<(), Fault>
-    ensures ok { OnOk result (Appends (W.taken sink.old) (W.taken sink.new) bytes.old.items) }
-    ensures front { OnErr result
-        (AppendsFront (W.taken sink.old) (W.taken sink.new) bytes.old.items) }
+    ensures puts { PutsAllOrFront (W.taken sink.old) (W.taken sink.new) bytes.old.items result }
     ensures none { OnOk result (bytes.new.items ≡ []) }
-    ensures begun { W.begun sink.new ≡ W.begun sink.old }
-    ensures order { W.mark sink.new ≡ W.mark sink.old }
-    ensures fault { IfErr result (λ e. (e ≡ WriteFault) × (W.failed sink.new ≡ 1)) }
-    ensures failures { OnOk result (W.failed sink.new ≡ W.failed sink.old) }
+    ensures stays { let state : W → SinkState = sink_state W.begun W.mark W.failed in
+        StaysBegun (state sink.old) (state sink.new) result }
     ensures capacity { vec_capacity bytes.old ≤ vec_capacity bytes.new }
 {
     put_all(sink, bytes)?;
@@ -223,10 +221,8 @@ fn put_part<W: Sink>(
     ensures front { OnErr result
         (AppendsFront (W.taken sink.old) (W.taken sink.new)
         (bytes.old.items ++ all_stored params.now samples.now)) }
-    ensures begun { W.begun sink.new ≡ W.begun sink.old }
-    ensures order { W.mark sink.new ≡ W.mark sink.old }
-    ensures fault { IfErr result (λ e. (e ≡ WriteFault) × (W.failed sink.new ≡ 1)) }
-    ensures failures { OnOk result (W.failed sink.new ≡ W.failed sink.old) }
+    ensures stays { let state : W → SinkState = sink_state W.begun W.mark W.failed in
+        StaysBegun (state sink.old) (state sink.new) result }
     ensures few { OnOk result (vec_len bytes.new < 65536) }
     ensures capacity { vec_capacity bytes.old ≤ vec_capacity bytes.new }
 {
@@ -237,40 +233,31 @@ fn put_part<W: Sink>(
     Ok(())
 }
 
-/// Reads the samples from where the reader is, after `before` samples, up to the last that is asked
-/// for, and puts the bytes of `len` of them from place `first` on. Never fails with `Memory`.
+/// Reads the samples from where the reader is up to the last of a part, and puts the bytes of the
+/// part. Never fails with `Memory`.
 fn put_range<W: Sink>(
     params: &Params,
     reader: &mut StreamReader,
-    before: u64,
-    first: u64,
-    len: u64,
+    part: Part,
     samples: &mut Vec<i64>,
     bytes: &mut Vec<u8>,
     sink: &mut W,
 ) -> Result<(), Fault>
-    requires settings { reader.old.settings ≡ params.now }
-    requires read { (xs : List ℤ) × AreSamplesOf reader.old xs }
-    requires begun { IsBegun reader.old before first }
-    requires room { interval_len params.now ≤ vec_capacity samples.old }
+    requires ready { IsReadyAt reader.old params.now part.before part.first }
+    requires room { HaveRoom params.now (vec_capacity samples.old) (vec_capacity bytes.old) }
     requires empty { vec_len bytes.old ≡ 0 }
-    requires buffer { 65536 + 4 * interval_len params.now ≤ vec_capacity bytes.old }
     ensures puts { (xs : List ℤ) → AreSamplesOf reader.old xs
         → PutsAllOrFront (W.taken sink.old) (W.taken sink.new)
-        (all_stored params.now (samples_from first len xs)) result }
-    ensures begun { W.begun sink.new ≡ W.begun sink.old }
-    ensures order { W.mark sink.new ≡ W.mark sink.old }
-    ensures fault { IfErr result (λ e. (e ≡ WriteFault) × (W.failed sink.new ≡ 1)) }
-    ensures failures { OnOk result (W.failed sink.new ≡ W.failed sink.old) }
+        (all_stored params.now (samples_from part.first part.len xs)) result }
+    ensures stays { let state : W → SinkState = sink_state W.begun W.mark W.failed in
+        StaysBegun (state sink.old) (state sink.new) result }
 {
-    // What the parameters promise is told by their calls.
-    let _len = params.interval_len();
-    let mut skip = first - before;
-    let mut left = len;
+    let mut skip = part.first - part.before;
+    let mut left = part.len;
     while left > 0 && reader.next_few(samples_within(bytes.capacity() - bytes.len()), samples)? {
-        let part = part_of(samples, skip, left);
-        left -= part.len() as u64;
-        put_part(params, part, bytes, sink)?;
+        let wanted = part_of(samples, skip, left);
+        left -= wanted.len() as u64;
+        put_part(params, wanted, bytes, sink)?;
         skip = skip.saturating_sub(samples.len() as u64);
     }
     put_all(sink, bytes)
@@ -279,52 +266,42 @@ fn put_range<W: Sink>(
 /// Begins, and puts all bytes that wait. `Write` where the sink fails.
 #[tactic(auto, using(crate::proofs::PutRangeLemmas::begun_then, crate::proofs::PutRangeLemmas::begun_front, crate::proofs::PutRangeLemmas::front_none))]
 fn begin_with<W: Sink>(bytes: &mut Vec<u8>, sink: &mut W) -> Result<(), Fault>
-    ensures ok { OnOk result (Appends (W.taken sink.old) (W.taken sink.new) bytes.old.items) }
-    ensures front { OnErr result
-        (AppendsFront (W.taken sink.old) (W.taken sink.new) bytes.old.items) }
+    ensures delivers { let put : Putting
+        = putting_of W.taken W.begun W.mark W.failed sink.old sink.new in
+        Delivers bytes.old.items put result }
     ensures none { OnOk result (bytes.new.items ≡ []) }
-    ensures begun { W.begun sink.new ≡ counted (W.begun sink.old) }
-    ensures order { Keeps (W.mark sink.new) (W.taken sink.old) }
-    ensures fault { IfErr result (λ e. (e ≡ WriteFault) × (W.failed sink.new ≡ 1)) }
-    ensures sound { OnOk result (W.failed sink.new ≡ 0) }
     ensures capacity { vec_capacity bytes.old ≤ vec_capacity bytes.new }
 {
     sink.begin()?;
     put_waiting(bytes, sink)
 }
 
-/// Begins, puts all bytes that wait, and then a range of the samples, read again. `Write` where the
+/// Begins, puts all bytes that wait, and then a part of the samples, read again. `Write` where the
 /// sink fails.
 #[tactic(auto, using(crate::proofs::PutRangeLemmas::puts_behind, crate::proofs::PutRangeLemmas::front_behind))]
 pub(crate) fn deliver_range<W: Sink>(
     params: &Params,
     reader: &mut StreamReader,
-    before: u64,
-    first: u64,
-    len: u64,
+    part: Part,
     samples: &mut Vec<i64>,
     bytes: &mut Vec<u8>,
     sink: &mut W,
 ) -> Result<(), Fault>
-    requires settings { reader.old.settings ≡ params.now }
-    requires read { (xs : List ℤ) × AreSamplesOf reader.old xs }
-    requires begun { IsBegun reader.old before first }
-    requires room { interval_len params.now ≤ vec_capacity samples.old }
-    requires buffer { 65536 + 4 * interval_len params.now ≤ vec_capacity bytes.old }
-    ensures puts { (xs : List ℤ) → AreSamplesOf reader.old xs
-        → PutsAllOrFront (W.taken sink.old) (W.taken sink.new)
-        (bytes.old.items ++ all_stored params.now (samples_from first len xs)) result }
-    ensures begun { W.begun sink.new ≡ counted (W.begun sink.old) }
-    ensures order { Keeps (W.mark sink.new) (W.taken sink.old) }
-    ensures fault { IfErr result (λ e. (e ≡ WriteFault) × (W.failed sink.new ≡ 1)) }
-    ensures sound { OnOk result (W.failed sink.new ≡ 0) }
+    requires ready { IsReadyAt reader.old params.now part.before part.first }
+    requires room { HaveRoom params.now (vec_capacity samples.old) (vec_capacity bytes.old) }
+    ensures delivers { let put : Putting
+        = putting_of W.taken W.begun W.mark W.failed sink.old sink.new in
+        (xs : List ℤ) → AreSamplesOf reader.old xs
+        → Delivers (bytes.old.items ++ all_stored params.now (samples_from part.first part.len xs))
+        put result }
 {
     begin_with(bytes, sink)?;
-    put_range(params, reader, before, first, len, samples, bytes, sink)
+    put_range(params, reader, part, samples, bytes, sink)
 }
 
 /// Returns room for `AT_ONCE` samples, or for those of an interval if they are more.
 pub(crate) fn room_at_once(alloc: Global, params: &Params) -> Result<Vec<i64>, Fault>
+    ensures allowed { IsAllowed params.now }
     ensures room { IfOk result
         (λ samples. vec_capacity samples ≡ max 2048 (interval_len params.now)) }
     ensures fault { IfErr result (λ e. e ≡ Memory) }
@@ -336,6 +313,7 @@ pub(crate) fn room_at_once(alloc: Global, params: &Params) -> Result<Vec<i64>, F
 /// Returns room for the samples that are read at once, and room for the bytes of an interval after
 /// a piece of `WAITING` bytes, no more.
 pub(crate) fn buffers(alloc: Global, params: &Params) -> Result<(Vec<i64>, Vec<u8>), Fault>
+    ensures allowed { IsAllowed params.now }
     ensures room { IfOk result (λ made. interval_len params.now ≤ vec_capacity made.0) }
     ensures empty { IfOk result (λ made. vec_len made.1 ≡ 0) }
     ensures buffer { IfOk result
@@ -349,33 +327,20 @@ pub(crate) fn buffers(alloc: Global, params: &Params) -> Result<(Vec<i64>, Vec<u
     Ok((samples, bytes))
 }
 
-/// Makes room, begins, and writes the bytes of `len` samples from place `first` on; the reader is
-/// after `before` samples. `Memory` where the room is refused; nothing was begun then.
+/// Makes room, begins, and writes the bytes of a part of the samples. `Memory` where the room is
+/// refused; nothing was begun then.
 pub(crate) fn write_range<W: Sink>(
     alloc: Global,
     params: &Params,
     reader: &mut StreamReader,
-    before: u64,
-    first: u64,
-    len: u64,
+    part: Part,
     sink: &mut W,
 ) -> Result<(), Fault>
-    requires settings { reader.old.settings ≡ params.now }
-    requires read { (xs : List ℤ) × AreSamplesOf reader.old xs }
-    requires begun { IsBegun reader.old before first }
+    requires ready { IsReadyAt reader.old params.now part.before part.first }
     ensures { let put : Putting = putting_of W.taken W.begun W.mark W.failed sink.old sink.new in
         (xs : List ℤ) → AreSamplesOf reader.old xs
-        → SettlesOne (StoresPart params.now first len xs) put result }
+        → SettlesOne (StoresPart params.now part.first part.len xs) put result }
 {
     let (mut samples, mut bytes) = buffers(alloc, params)?;
-    deliver_range(
-        params,
-        reader,
-        before,
-        first,
-        len,
-        &mut samples,
-        &mut bytes,
-        sink,
-    )
+    deliver_range(params, reader, part, &mut samples, &mut bytes, sink)
 }

@@ -14,7 +14,7 @@ returns-clause-written c =
     let answers : AnswersAll (interval_format c.args.params.now) c.args.limit [] 0 c.args.edits.now edited.outcomes.items edited.calls =
     grind (arith, common_steps) in
     record {
-      allowed = c.interval_len-len.ensures.allowed;
+      allowed = c.known_allowed.ensures;
       answers = answers;
       bits_are = c.in_ok-bits.ensures.ok ∙ ap bits_of_bytes (c.deref.ensures.value ∙ streamed);
       count_is = omega (arith, edited.samples.ok.0, ap length c.in-Ok.ensures.samples);

@@ -7,7 +7,7 @@ use Rattle.aec_engine.proofs.engine.coding.fed.Goals as goal
 pub loop-bits-init : goal.loop-bits-init
 loop-bits-init g c =
     fed_begins c.args.params.now c.args.limit (g.R.Source.left c.args.source.now) c.new-bits.result.list c.new-coder.result
-    c.interval_len-len.ensures.allowed c.new-bits.ensures.list c.new-coder.ensures
+    c.known_allowed.ensures c.new-bits.ensures.list c.new-coder.ensures
 
 pub returns-in_err-count-clause-refuses : goal.returns-in_err-count-clause-refuses
 returns-in_err-count-clause-refuses g c =

@@ -1,5 +1,5 @@
 use Rattle.std.proofs.Common.{◌≡◌, ◌-◌, ◌^◌}
-use Rattle.aec_engine.specs.EditsAhead.{AreKnown, IsReady, left_in}
+use Rattle.aec_engine.specs.EditsAhead.{AreAhead, left_in}
 use Rattle.aec_engine.proofs.LoadingLemmas.{LoadsSoFar}
 use Rattle.aec_engine.proofs.engine.loading.append_all.Given as goal
 
@@ -9,8 +9,7 @@ invariant-loop-spare g l = record {
       l.workspace.samples (g.C.Codec.called l.workspace.codec);
   limit : l.workspace.limit ≡ l.fn.workspace.limit;
   format : g.C.Codec.format l.workspace.codec ≡ g.C.Codec.format l.fn.workspace.codec;
-  known : AreKnown l.ahead;
-  ready : IsReady l.ahead;
+  ahead : AreAhead l.ahead;
 }
 
 abbrev pub decreases-loop-spare : goal.decreases-loop-spare

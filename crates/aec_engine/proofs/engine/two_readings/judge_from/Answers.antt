@@ -20,20 +20,20 @@ loop-len-init c =
 pub returns-in_err-len-clause-refuses : goal.returns-in_err-len-clause-refuses
 returns-in_err-len-clause-refuses c =
     let exit = err_from_is_err_and c.from_residual.result c.from_residual.ensures.1 in
-    counts_wrong _ _ _ c.args.reader.now c.loop-len.reader c.loop-len.total (subst IsAllowed (sym c.requires.settings) c.interval_len-len.ensures.allowed)
+    counts_wrong _ _ _ c.args.reader.now c.loop-len.reader c.loop-len.total (subst IsAllowed (sym c.requires.settings) c.known_allowed.ensures)
     exit.1 exit.2 c.loop-len.invariant.counts c.in_err-len.ensures.refuses
 
 pub overflow_add-total : goal.overflow_add-total
 overflow_add-total c =
     let has = some_interval c.loop-len.reader c.skip.new.self _ c.in-Some.len c.in_ok-len.ensures.skipped c.in-Some.is in
     let most = counts_within c.args.reader.now c.loop-len.reader c.skip.new.self c.loop-len.total c.in-Some.len
-    (subst IsAllowed (sym c.requires.settings) c.interval_len-len.ensures.allowed) c.loop-len.invariant.counts has c.skip.ensures.few in
+    (subst IsAllowed (sym c.requires.settings) c.known_allowed.ensures) c.loop-len.invariant.counts has c.skip.ensures.few in
     omega (arith, most)
 
 pub loop-len-preserved : goal.loop-len-preserved
 loop-len-preserved c =
     let counts = counts_interval c.args.reader.now c.loop-len.reader c.skip.new.self c.loop-len.total _ c.in-Some.len
-    (subst IsAllowed (sym c.requires.settings) c.interval_len-len.ensures.allowed) c.loop-len.invariant.counts
+    (subst IsAllowed (sym c.requires.settings) c.known_allowed.ensures) c.loop-len.invariant.counts
     (some_interval c.loop-len.reader c.skip.new.self _ c.in-Some.len c.in_ok-len.ensures.skipped c.in-Some.is) refl c.skip.ensures.few in
     record {
       counts = counts;
@@ -51,7 +51,7 @@ come_back-bits-requires c = record {
 
 pub returns-clause-ok : goal.returns-clause-ok
 returns-clause-ok c =
-    counts_all c.args.reader.now c.loop-len.reader c.loop-len.total (subst IsAllowed (sym c.requires.settings) c.interval_len-len.ensures.allowed)
+    counts_all c.args.reader.now c.loop-len.reader c.loop-len.total (subst IsAllowed (sym c.requires.settings) c.known_allowed.ensures)
     c.loop-len.invariant.counts (sym c.in_ok-len.ensures.more ∙ ap is_some c.in_default.is)
 
 pub returns-clause-bits : goal.returns-clause-bits

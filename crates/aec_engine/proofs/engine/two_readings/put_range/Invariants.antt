@@ -5,7 +5,7 @@ use Rattle.aec_engine.proofs.engine.two_readings.put_range.Given as goal
 
 abbrev pub invariant-loop-left : goal.invariant-loop-left
 invariant-loop-left g l = record {
-  puts : PutsSoFar l.fn.reader l.reader l.params l.first l.len l.skip l.left (g.W.Sink.taken l.fn.sink) (g.W.Sink.taken l.sink) l.bytes.items;
+  puts : PutsSoFar l.fn.reader l.reader l.params l.fn.part.first l.fn.part.len l.skip l.left (g.W.Sink.taken l.fn.sink) (g.W.Sink.taken l.sink) l.bytes.items;
   begun : g.W.Sink.begun l.sink ≡ g.W.Sink.begun l.fn.sink;
   order : g.W.Sink.mark l.sink ≡ g.W.Sink.mark l.fn.sink;
   failures : g.W.Sink.failed l.sink ≡ g.W.Sink.failed l.fn.sink;

@@ -19,6 +19,5 @@ pub returns : goal.returns
 returns g c xs given =
     let made = c.in_ok-samples in
     let none : made.bytes.items ≡ [] = nil_from_length made.bytes.items (omega (arith, made.bytes.ok, made.ensures.empty)) in
-    settles_written _ c.deliver_range.result (all_stored c.args.params.now (samples_from c.args.first c.args.len xs)) _ stored
-    (none_waited _ _ _ made.bytes.items _ none (c.deliver_range.ensures.puts xs given))
-    (record { once = c.deliver_range.ensures.begun; first = c.deliver_range.ensures.order }) c.deliver_range.ensures.fault c.deliver_range.ensures.sound
+    settles_written _ c.deliver_range.result (all_stored c.args.params.now (samples_from c.args.part.first c.args.part.len xs)) _ stored
+    (none_waited _ _ made.bytes.items _ none (c.deliver_range.ensures.delivers xs given))

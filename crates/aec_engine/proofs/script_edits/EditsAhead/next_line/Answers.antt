@@ -1,7 +1,7 @@
 use Rattle.std.proofs.Common.{◌≡◌, ◌+◌, arith, ap, sym, ◌∙◌, option_map}
 use Rattle.aec_engine.specs.Scripts.{listed, listing_from, meaning_of}
 use Rattle.aec_engine.specs.ScriptLines.{lines_left, text_left}
-use Rattle.aec_engine.specs.EditsAhead.{behind, text_behind}
+use Rattle.aec_engine.specs.EditsAhead.{behind, text_ahead}
 use Rattle.aec_engine.proofs.ScriptLineLemmas.{listed_sound}
 use Rattle.aec_engine.proofs.PlanLemmas.{next-planned, none-planned}
 use Rattle.aec_engine.proofs.script_edits.EditsAhead.next_line.Goals as goal
@@ -11,7 +11,7 @@ returns-in-Some-clause-known c =
     let ahead = c.args.self.now in
     let p = c.in-Some.planned.now in
     let found = c.in-Some.ensures.lookup in
-    let cut = next-planned ahead.window.now ahead.taken p (listing_from (ahead.number + 1) (lines_left (text_behind ahead))) found.3.0 found.1 in
+    let cut = next-planned ahead.window.now ahead.taken p (listing_from (ahead.number + 1) (lines_left (text_ahead ahead))) found.3.0 found.1 in
     record { sound = listed_sound p.line (meaning_of p.text.now) _ (sym (ap (λ l. l.bad) cut) ∙ c.requires.sound); few = c.requires.few }
 
 pub returns-clause-known : goal.returns-clause-known
@@ -21,7 +21,7 @@ returns-clause-known c =
     let after = listing_from (n + 1) (lines_left (option_map (λ text. text.now) c.cut_line.result.1)) in
     let past = c.in_default.ensures.lookup.3 in
     let cut : behind ahead ≡ listed n (meaning_of c.cut_line.result.0.now) after =
-    none-planned ahead.window.now ahead.taken (listing_from n (lines_left (text_behind ahead))) past
+    none-planned ahead.window.now ahead.taken (listing_from n (lines_left (text_ahead ahead))) past
     ∙ (ap (λ rest. listing_from n (lines_left (option_map (λ text. text.now) rest))) c.in_ok-text.was
     ∙ ap (listing_from n) c.cut_line.ensures.lines) in
     record {

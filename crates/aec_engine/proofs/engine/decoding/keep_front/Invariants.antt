@@ -2,7 +2,7 @@ use Rattle.std.proofs.Common.{◌≡◌, ◌-◌, ◌≤◌, ◌*◌, ◌^◌, l
 use Rattle.aec_params.specs.Params.{interval_len}
 use Rattle.aec_engine.specs.ReadingTwice.{AreFewKept, KeepsFront}
 use Rattle.aec_engine.proofs.ReadTwiceLemmas.{place_from}
-use Rattle.aec_engine.proofs.engine.keeping.keep_front.Given as goal
+use Rattle.aec_engine.proofs.engine.decoding.keep_front.Given as goal
 
 abbrev pub invariant-loop-reader : goal.invariant-loop-reader
 invariant-loop-reader l = record {

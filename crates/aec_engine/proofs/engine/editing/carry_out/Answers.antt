@@ -1,7 +1,7 @@
 use Rattle.std.proofs.Common.{Ok, Err, length, arith, refl, ap}
 use Rattle.aec_engine.specs.declared.scripts.EditFault.TheVariants.{Line}
 use Rattle.aec_engine.proofs.EditingLemmas.{carried-all, carried-stops, carries, stop-within}
-use Rattle.aec_engine.proofs.engine.carrying.carry_out.Goals as goal
+use Rattle.aec_engine.proofs.engine.editing.carry_out.Goals as goal
 
 pub line_of-requires : goal.line_of-requires
 line_of-requires g c =

@@ -2,7 +2,7 @@ use Rattle.std.proofs.Common.{◌∙◌, ap, inr, sym}
 use Rattle.aec_engine.specs.Scripts.{change, listed}
 use Rattle.aec_engine.specs.EditsAhead.{behind, left_in, with_next}
 use Rattle.aec_engine.proofs.EarlyEditLemmas.{rest-made, rest-stops}
-use Rattle.aec_engine.proofs.engine.carrying.carry_rest.Goals as goal
+use Rattle.aec_engine.proofs.engine.editing.carry_rest.Goals as goal
 
 pub returns-in-Err-clause-refuses : goal.returns-in-Err-clause-refuses
 returns-in-Err-clause-refuses g c =
@@ -23,6 +23,5 @@ loop-ahead-preserved g c =
           c.in_default-apply.ensures.answer c.in_default-apply.ensures.samples so_far.leads;
       limit = c.apply.ensures.rules.limit ∙ so_far.limit;
       format = c.apply.ensures.rules.format ∙ so_far.format;
-      known = c.in_ok-advance.ensures.known;
-      ready = c.in_ok-advance.ensures.ready;
+      ahead = c.in_ok-advance.ensures.ahead;
     }

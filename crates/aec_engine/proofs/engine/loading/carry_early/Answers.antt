@@ -3,7 +3,7 @@ use Rattle.aec_edit.specs.Early.{IsInside}
 use Rattle.aec_engine.specs.Scripts.{change, listed}
 use Rattle.aec_engine.specs.EditsAhead.{behind, left_in, with_next}
 use Rattle.aec_engine.proofs.EarlyEditLemmas.{early-made, early-stops}
-use Rattle.aec_engine.proofs.engine.carrying.carry_early.Goals as goal
+use Rattle.aec_engine.proofs.engine.loading.carry_early.Goals as goal
 
 pub returns-in-Err-clause-refuses : goal.returns-in-Err-clause-refuses
 returns-in-Err-clause-refuses g c =
@@ -31,6 +31,5 @@ loop-ahead-preserved g c =
           c.in_default-apply.ensures.samples so_far.early;
       limit = c.apply.ensures.rules.limit ∙ so_far.limit;
       format = c.apply.ensures.rules.format ∙ so_far.format;
-      known = c.in_ok-advance.ensures.known;
-      ready = c.in_ok-advance.ensures.ready;
+      ahead = c.in_ok-advance.ensures.ahead;
     }
