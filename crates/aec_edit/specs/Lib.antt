@@ -5,6 +5,8 @@ pub mod Early
 pub mod Steps
 pub mod Index
 pub mod Fresh
+pub mod Coming
+pub mod CodedLists
 pub mod Opened
 pub mod Changes
 pub mod Runs
