@@ -7,7 +7,11 @@ use Rattle.std.proofs.Math.Nat.{mul-le-mul_right}
 use Rattle.std.proofs.lemmas.Bool.{cases_lt}
 use Rattle.std.proofs.lemmas.List.{length-take, length-drop, take-take, take-append-drop, drop-append-le}
 use Rattle.aec_bits.specs.Codec.{Format, AreHeld, IsLawful, code_of}
+use Rattle.aec_params.specs.Edits.{Stretch}
+use Rattle.aec_edit.specs.Workspace.{Contents, interval_count}
 use Rattle.aec_edit.specs.Fresh.{old_part, to_come}
+use Rattle.aec_edit.specs.Coming.{coming, HasOldPart, IsFreshFor}
+use Rattle.aec_edit.specs.declared.workspace.fresh_coding.Fresh.{Fresh}
 use Rattle.std.specs.Result.{MatchResult}
 use Rattle.aec_params.specs.declared.fault.Fault.{Fault}
 use Rattle.aec_params.specs.declared.fault.Fault.TheVariants.{Memory}
@@ -27,6 +31,22 @@ pub coming_at : (f g : Format) (s s' front front' values values' back back' : Li
     → to_come g.most s' front' values' back' next' end' ≡ to_come f.most s front values back next end
 coming_at f g s s' front front' values values' back back' next next' end end' format_is s_is front_is values_is back_is next_is end_is =
     rw (format_is, s_is, front_is, values_is, back_is, next_is, end_is) refl
+
+-- and as a workspace has it that was only read since
+module _ {C : Type 0} (format_of : C → Format) (seen w : Contents C) {gone : Stretch} {to : ℕ} {values : List ℤ} {fresh : Fresh}
+    (format_is : format_of w.codec ≡ format_of seen.codec) (samples_are : w.samples ≡ seen.samples) where
+  pub fresh_coming : IsFreshFor (format_of seen.codec).most seen.samples gone to values fresh
+      → coming format_of w fresh ≡ fresh_of (format_of seen.codec).most seen.samples gone to values
+  fresh_coming is =
+      coming_at (format_of seen.codec) (format_of w.codec) seen.samples w.samples (head_of (format_of seen.codec).most gone.first seen.samples)
+      fresh.front.items values fresh.values.now (tail_of (format_of seen.codec).most gone.stop seen.samples) fresh.back.items
+      (div_ceil gone.stop (format_of seen.codec).most) fresh.next to fresh.end format_is samples_are is.front is.values_are is.back is.next is.end
+
+  pub fresh_old_part : div_ceil gone.stop (format_of seen.codec).most ≤ to → to ≤ interval_count (format_of seen.codec) seen.samples
+      → IsFreshFor (format_of seen.codec).most seen.samples gone to values fresh → HasOldPart format_of w fresh
+  fresh_old_part reaches inside is =
+      let within : fresh.end ≤ interval_count (format_of seen.codec) seen.samples = omega (arith, is.end, inside) in
+      record { order = omega (arith, is.next, is.end, reaches); within = rw (format_is, samples_are) within }
 
 module _ (f : Format) (limit first stop to : ℕ) (s values : List ℤ) (lawful : IsLawful f) (held : AreHeld f s)
     (fits : IsExchangeUpTo f limit s (from_to first stop) to values) where

@@ -1,8 +1,10 @@
 -- For proofs alone: no public contract cites this file.
 -- What calls do to the code of samples with its index. The contract of `apply` cites
 -- `samples_after`, `needed_calls` and `opened_intervals` instead.
-use Rattle.std.specs.Prelude.{◌≡◌, ℕ, ◌+◌, ◌-◌, ◌^◌, ◌<◌, ◌≤◌, List, [], ◌++◌, length, map, take, drop, slice_index, vec_len, vec_capacity}
+use Rattle.std.specs.Prelude.{◌≡◌, ℕ, ◌+◌, ◌-◌, ◌^◌, ◌<◌, ◌≤◌, List, [], ◌++◌, length, map, take, drop, slice_index, vec_len, vec_capacity, ℤ}
 use Rattle.std.specs.declared.vec.Vec.{Vec}
+use Rattle.aec_bits.specs.Codec.{Format}
+use Rattle.aec_edit.specs.Workspace.{start_of}
 use Rattle.aec_edit.specs.declared.coded.Coded.{Coded}
 use Rattle.aec_edit.specs.declared.coded.Cut.{Cut}
 
@@ -49,6 +51,11 @@ pub record CanBeReplaced (coded with : Coded) (from to : Cut) : Type 0 where
   pub bits_within : to.bit ≤ length coded.bits.list
   pub short : AreUpTo (length with.bits.list) with.starts.items
   pub later : AreLater to.interval to.bit (length coded.bits.list) coded.starts.items
+
+-- where interval i begins in the code of samples, with its number
+pub record IsCutAt (f : Format) (s : List ℤ) (i : ℕ) (cut : Cut) : Type 0 where
+  pub interval : cut.interval ≡ i
+  pub bit : cut.bit ≡ start_of f s i
 
 -- starts of which those from number from up to number to are replaced by others, each moved on by
 -- base, and those after them moved from old_end on to new_end on

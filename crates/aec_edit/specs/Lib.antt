@@ -11,4 +11,5 @@ pub mod Opened
 pub mod Changes
 pub mod Runs
 pub mod Stops
+pub mod Left
 pub mod Laws

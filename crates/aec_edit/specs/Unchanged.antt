@@ -9,6 +9,11 @@ pub record KeepsRules {C : Type 0} (format_of : C → Format) (old new : Content
   pub limit : new.limit ≡ old.limit
   pub format : format_of new.codec ≡ format_of old.codec
 
+-- the limit and the codec are as they were
+pub record KeepsCodec {C : Type 0} (old new : Contents C) : Type 0 where
+  pub limit : new.limit ≡ old.limit
+  pub codec : new.codec ≡ old.codec
+
 -- samples, limit and format are as they were, and the counts of coded and of decoded intervals have
 -- risen by at most so many
 pub record KeepsSamples {C : Type 0} (format_of : C → Format) (called read : C → ℕ) (coded decoded : ℕ) (old new : Contents C) : Type 0 where

@@ -17,6 +17,7 @@ impl<C: Codec> Workspace<C> {
     ghost use Rattle.aec_bits.specs.Codec.{AreHeld};
     ghost use Rattle.aec_bits.specs.Refusals.{growth_refusal, values_refusal, first_unheld as first_unheld_of};
     ghost use Rattle.aec_edit.specs.Runs.{HasRun};
+    ghost use Rattle.aec_edit.specs.Workspace.{IsSound};
     ghost use Rattle.aec_edit.specs.declared.outcome.Outcome.{Outcome as OutcomeOf};
     ghost use Rattle.aec_edit.specs.Stops.{StopsAtRefusal};
 
@@ -154,8 +155,7 @@ impl<C: Codec> Workspace<C> {
     /// Whether there are `len` samples from place `first` on.
     pub(crate) fn check_places(&self, first: u64, len: u64) -> Result<(), Fault>
         ensures ok { OnOk result (first + len ≤ length self.now.samples) }
-        ensures few { length self.now.samples ≤ self.now.limit }
-        ensures bound { self.now.limit ≤ 2 ^ 32 }
+        ensures sound { IsSound (C.format self.now.codec) self.now.limit self.now.samples }
         ensures refuses { IfErr result
             (λ e. (length self.now.samples < first + len)
             × (e ≡ OutOfRange (length self.now.samples))) }

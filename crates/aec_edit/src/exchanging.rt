@@ -11,8 +11,9 @@ impl<C: Codec> Workspace<C> {
     ghost use Rattle.aec_params.specs.declared.fault.Fault.TheVariants.{Memory};
     ghost use Rattle.aec_params.specs.Edits.{keeps_a_sample};
     ghost use Rattle.aec_edit.specs.Calls.{RisesAtMost};
-    ghost use Rattle.aec_edit.specs.Changes.{IsExchange, IsExchanged, IsNotExchanged, exchanged, exchange_calls, head_of, tail_of, opened_by, recoding_calls, recoding_openings, IsExchangeUpTo};
-    ghost use Rattle.aec_edit.specs.Opened.{opened_first, opened_behind, opened_count, samples_of, opened_samples};
+    ghost use Rattle.aec_edit.specs.Changes.{IsExchange, IsExchanged, IsNotExchanged, exchanged, exchange_calls, opened_by, recoding_calls, recoding_openings, IsExchangeUpTo};
+    ghost use Rattle.aec_edit.specs.Coming.{IsFreshFor};
+    ghost use Rattle.aec_edit.specs.Opened.{HasPlaces, opened_first, opened_behind, opened_count, samples_of, opened_samples};
     ghost use Rattle.aec_edit.specs.Unchanged.{KeepsRules, IsOnlyRead};
 
     /// Exchanges the samples from place `first` up to place `stop` for values, as many, or at the
@@ -104,16 +105,8 @@ impl<C: Codec> Workspace<C> {
     ) -> Result<Fresh<'a>, Fault>
         requires { IsExchangeUpTo (C.format self.old.codec) self.old.limit self.old.samples
             (record { first = first; stop = stop }) to values.now }
-        ensures front { IfOk result
-            (λ fresh. fresh.front.items
-            ≡ head_of (C.format self.old.codec).most first self.old.samples) }
-        ensures values { IfOk result (λ fresh. fresh.values.now ≡ values.now) }
-        ensures back { IfOk result
-            (λ fresh. fresh.back.items
-            ≡ tail_of (C.format self.old.codec).most stop self.old.samples) }
-        ensures next { IfOk result
-            (λ fresh. fresh.next ≡ div_ceil stop (C.format self.old.codec).most) }
-        ensures end { IfOk result (λ fresh. fresh.end ≡ to) }
+        ensures ok { IfOk result (IsFreshFor (C.format self.old.codec).most self.old.samples
+            (record { first = first; stop = stop }) to values.now) }
         ensures fault { IfErr result (λ e. (e ≡ Memory)
             × (0 < recoding_calls (C.format self.old.codec).most (length self.old.samples)
             (record {
@@ -151,10 +144,9 @@ impl<C: Codec> Workspace<C> {
         ends: &mut Vec<i64>,
         spare: &mut Vec<i64>,
     ) -> Result<(), Fault>
-        requires order { first ≤ stop }
-        requires within { stop ≤ length self.old.samples }
-        requires ends { ends.old.items ≡ [] }
-        requires spare { spare.old.items ≡ [] }
+        requires places { HasPlaces (length self.old.samples)
+            (record { first = first; stop = stop }) }
+        requires empty { (ends.old.items ≡ []) × (spare.old.items ≡ []) }
         ensures ok { OnOk result (ends.new.items
             ≡ opened_samples (C.format self.old.codec).most
             (record { first = first; stop = stop }) self.old.samples) }
@@ -176,8 +168,8 @@ impl<C: Codec> Workspace<C> {
 
     /// Whether interval `k` begins in front of place `stop`, and keeps a sample outside the places.
     fn is_opened(&self, first: u64, stop: u64, k: u64) -> bool
-        requires order { first ≤ stop }
-        requires within { stop ≤ length self.now.samples }
+        requires places { HasPlaces (length self.now.samples)
+            (record { first = first; stop = stop }) }
         requires place { k * (C.format self.now.codec).most ≤ stop }
         ensures { result ≡ (nat_lt (k * (C.format self.now.codec).most) stop
             && keeps_a_sample (C.format self.now.codec).most (length self.now.samples)
@@ -191,8 +183,7 @@ impl<C: Codec> Workspace<C> {
     /// Decodes the first touched interval where it keeps a sample in front of the places, or is the
     /// last one too and keeps one after them.
     fn open_first(&mut self, first: u64, stop: u64, ends: &mut Vec<i64>) -> Result<(), Fault>
-        requires order { first ≤ stop }
-        requires within { stop ≤ length self.old.samples }
+        requires { HasPlaces (length self.old.samples) (record { first = first; stop = stop }) }
         ensures ok { OnOk result (ends.new.items ≡ ends.old.items
             ++ samples_of (C.format self.old.codec).most self.old.samples
             (opened_first (C.format self.old.codec).most (length self.old.samples)
@@ -215,8 +206,7 @@ impl<C: Codec> Workspace<C> {
     /// Decodes the last touched interval where it isn't the first and keeps a sample after the
     /// places.
     fn open_last(&mut self, first: u64, stop: u64, ends: &mut Vec<i64>) -> Result<(), Fault>
-        requires order { first ≤ stop }
-        requires within { stop ≤ length self.old.samples }
+        requires { HasPlaces (length self.old.samples) (record { first = first; stop = stop }) }
         ensures ok { OnOk result (ends.new.items ≡ ends.old.items
             ++ samples_of (C.format self.old.codec).most self.old.samples
             (opened_behind (C.format self.old.codec).most (length self.old.samples)

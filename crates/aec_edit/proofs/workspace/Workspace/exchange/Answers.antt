@@ -14,7 +14,7 @@ exchange_up_to-requires g c =
     let f : Format = g.C.Codec.format seen.codec in
     let to : c.div_ceil.result ≡ div_ceil c.args.stop f.most = c.div_ceil.ensures ∙ ap (div_ceil c.args.stop) c.interval_len-most.ensures.value in
     rw to (up_to_last f seen.limit c.args.first c.args.stop seen.samples c.args.values.now (g.C.Codec.lawful seen.codec)
-    c.interval_len-most.ensures.held c.requires)
+    c.interval_len-most.ensures.sound.held c.requires)
 
 pub returns-clause-answer : goal.returns-clause-answer
 returns-clause-answer g c =
@@ -24,7 +24,7 @@ returns-clause-answer g c =
     let to : c.div_ceil.result ≡ div_ceil c.args.stop f.most = c.div_ceil.ensures ∙ ap (div_ceil c.args.stop) c.interval_len-most.ensures.value in
     answer_at _ _ _ _ _
     (ap (λ t. recoding_calls f.most size (recoding c.args.first c.args.stop t (length c.args.values.now))) to
-    ∙ same_calls f seen.limit c.args.first c.args.stop seen.samples c.args.values.now (g.C.Codec.lawful seen.codec) c.interval_len-most.ensures.held c.requires)
+    ∙ same_calls f seen.limit c.args.first c.args.stop seen.samples c.args.values.now (g.C.Codec.lawful seen.codec) c.interval_len-most.ensures.sound.held c.requires)
     c.exchange_up_to.ensures.answer
 
 pub returns-clause-reads : goal.returns-clause-reads
@@ -37,6 +37,6 @@ returns-clause-reads g c =
     ≡ opened_count f.most size (from_to c.args.first c.args.stop) = omega arith in
     reads_at _ _ _ _ _ _ _
     (ap (λ t. recoding_calls f.most size (recoding c.args.first c.args.stop t (length c.args.values.now))) to
-    ∙ same_calls f seen.limit c.args.first c.args.stop seen.samples c.args.values.now (g.C.Codec.lawful seen.codec) c.interval_len-most.ensures.held c.requires)
+    ∙ same_calls f seen.limit c.args.first c.args.stop seen.samples c.args.values.now (g.C.Codec.lawful seen.codec) c.interval_len-most.ensures.sound.held c.requires)
     (ap (λ t. recoding_openings f.most size (from_to c.args.first c.args.stop) t) to ∙ no_more)
     c.exchange_up_to.ensures.reads
