@@ -19,7 +19,7 @@ use Rattle.aec_edit.specs.Index.{starts_of}
 use Rattle.aec_edit.specs.Calls.{RisesAtMost}
 use Rattle.aec_edit.specs.Changes.{IsCodeFor, IsExchanged, IsNotExchanged, opened_by, IsExchange, IsExchangeUpTo, IsRecoding, exchanged, exchange_calls, recoded, head_of, tail_of, fresh_of, fresh_total, recoding_calls}
 use Rattle.aec_params.proofs.CountLaws.{ceil_bounds}
-use Rattle.aec_edit.proofs.CallLemmas.{lacks_memory, recoded_at}
+use Rattle.aec_edit.proofs.CallLemmas.{calls_left, lacks_memory, recoded_at}
 use Rattle.aec_edit.proofs.HeldLemmas.{held-take, held-drop, held-append}
 use Rattle.aec_edit.proofs.ExchangeLemmas.{begins_before, ends_after, ceil_mono, fresh_len, fresh_count}
 use Rattle.aec_params.proofs.MoveLaws.{from_to}
@@ -220,6 +220,15 @@ answer_at a b calls after r same answer = rw (sym same) answer
 pub reads_at : (a b calls opens opens' reads reads' : ℕ) → a ≡ b → opens ≡ opens' → RisesAtMost (opened_by a calls opens) reads reads'
     → RisesAtMost (opened_by b calls opens') reads reads'
 reads_at a b calls opens opens' reads reads' same opens_same rises = rw (sym same, sym opens_same) rises
+
+-- the intervals at both ends were decoded, then old intervals from number next up to number end
+pub decodes_both : (needed calls ends next next' end end' reads : ℕ) {between after : ℕ} → next' ≡ next → end' ≡ end → needed ≤ 2 ^ 64 - 1 - calls
+    → RisesAtMost ends reads between → RisesAtMost (end' - next') between after → RisesAtMost (opened_by needed calls (ends + (end - next))) reads after
+decodes_both needed calls ends next next' end end' reads next_is end_is enough first then =
+    rw (calls_left calls needed enough) (record {
+      stays = omega (arith, first.stays, then.stays);
+      few = omega (arith, first.few, then.few, next_is, end_is);
+    })
 
 -- ---- an exchange up to some interval, as the code has it
 

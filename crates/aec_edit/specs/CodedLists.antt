@@ -70,12 +70,20 @@ pub record IsReplaced (old new with : Coded) (from to : Cut) (count : ℕ) : Typ
       ≡ with_starts old.starts.items from.interval to.interval with.starts.items from.bit to.bit (from.bit + length with.bits.list)
   pub count_is : new.count ≡ count
 
+-- starts that can be moved on by base
+pub record CanMoveOn (base : ℕ) (starts : List ℕ) : Type 0 where
+  pub base_few : base ≤ 2 ^ 62
+  pub short : AreUpTo (2 ^ 62) starts
+
+-- starts of which those from number at on can be moved from old_end on to new_end on
+pub record CanShift (at old_end new_end : ℕ) (starts : List ℕ) : Type 0 where
+  pub end_few : new_end ≤ 2 ^ 63
+  pub later : AreLater at old_end (2 ^ 62) starts
+
 -- a list of starts in which others can come for those from number from up to number to
 pub record CanTakeStarts {Z : Type 0} (starts : Vec ℕ Z) (from to : ℕ) (with : List ℕ) (base old_end new_end : ℕ) : Type 0 where
   pub order : from ≤ to
   pub within : to ≤ vec_len starts
   pub room : vec_len starts + length with ≤ vec_capacity starts + (to - from)
-  pub base_few : base ≤ 2 ^ 62
-  pub end_few : new_end ≤ 2 ^ 63
-  pub short : AreUpTo (2 ^ 62) with
-  pub later : AreLater to old_end (2 ^ 62) starts.items
+  pub moved : CanMoveOn base with
+  pub shifted : CanShift to old_end new_end starts.items

@@ -12,4 +12,5 @@ pub mod Changes
 pub mod Runs
 pub mod Stops
 pub mod Left
+pub mod Judged
 pub mod Laws

@@ -11,7 +11,7 @@ impl<C: Codec> Workspace<C> {
     ghost use Rattle.aec_params.specs.declared.fault.Fault.TheVariants.{Memory};
     ghost use Rattle.aec_params.specs.Edits.{keeps_a_sample};
     ghost use Rattle.aec_edit.specs.Calls.{RisesAtMost};
-    ghost use Rattle.aec_edit.specs.Changes.{IsExchange, IsExchanged, IsNotExchanged, exchanged, exchange_calls, opened_by, recoding_calls, recoding_openings, IsExchangeUpTo};
+    ghost use Rattle.aec_edit.specs.Changes.{IsExchange, Exchanges, exchanged, exchange_calls, recoding_calls, recoding_openings, IsExchangeUpTo};
     ghost use Rattle.aec_edit.specs.Coming.{IsFreshFor};
     ghost use Rattle.aec_edit.specs.Opened.{HasPlaces, opened_first, opened_behind, opened_count, samples_of, opened_samples};
     ghost use Rattle.aec_edit.specs.Unchanged.{KeepsRules, IsOnlyRead};
@@ -21,22 +21,12 @@ impl<C: Codec> Workspace<C> {
     pub(crate) fn exchange(&mut self, first: u64, stop: u64, values: &[i64]) -> Result<u64, Fault>
         requires { IsExchange (C.format self.old.codec) self.old.limit self.old.samples
             (record { first = first; stop = stop }) values.now }
-        ensures answer { let needed
-            = exchange_calls (C.format self.old.codec).most first (length values.now) in
-            MatchResult result
-            (λ coded. IsExchanged needed (C.called self.old.codec) coded (C.called self.new.codec))
-            (λ fault. IsNotExchanged needed (C.called self.old.codec) fault
-            (C.called self.new.codec)) }
-        ensures ok { OnOk result (self.new.samples
-            ≡ exchanged (record { first = first; stop = stop }) values.now self.old.samples) }
-        ensures err { OnErr result (self.new.samples ≡ self.old.samples) }
-        ensures reads { RisesAtMost
-            (opened_by (exchange_calls (C.format self.old.codec).most first (length values.now))
-            (C.called self.old.codec)
+        ensures { Exchanges C.format C.called C.read
+            (exchange_calls (C.format self.old.codec).most first (length values.now))
             (opened_count (C.format self.old.codec).most (length self.old.samples)
-            (record { first = first; stop = stop })))
-            (C.read self.old.codec) (C.read self.new.codec) }
-        ensures rules { KeepsRules C.format self.old self.new }
+            (record { first = first; stop = stop }))
+            (exchanged (record { first = first; stop = stop }) values.now self.old.samples)
+            result self.old self.new }
     {
         let most = self.interval_len();
         self.exchange_up_to(first, stop, stop.div_ceil(most), values)
@@ -54,32 +44,17 @@ impl<C: Codec> Workspace<C> {
     ) -> Result<u64, Fault>
         requires { IsExchangeUpTo (C.format self.old.codec) self.old.limit self.old.samples
             (record { first = first; stop = stop }) to values.now }
-        ensures answer { let needed
-            = recoding_calls (C.format self.old.codec).most (length self.old.samples)
-            (record {
-              gone = record { first = first; stop = stop };
-              to = to;
-              values = length values.now;
-            }) in
-            MatchResult result
-            (λ coded. IsExchanged needed (C.called self.old.codec) coded (C.called self.new.codec))
-            (λ fault. IsNotExchanged needed (C.called self.old.codec) fault
-            (C.called self.new.codec)) }
-        ensures ok { OnOk result (self.new.samples
-            ≡ exchanged (record { first = first; stop = stop }) values.now self.old.samples) }
-        ensures err { OnErr result (self.new.samples ≡ self.old.samples) }
-        ensures reads { RisesAtMost
-            (opened_by (recoding_calls (C.format self.old.codec).most (length self.old.samples)
+        ensures { Exchanges C.format C.called C.read
+            (recoding_calls (C.format self.old.codec).most (length self.old.samples)
             (record {
               gone = record { first = first; stop = stop };
               to = to;
               values = length values.now;
             }))
-            (C.called self.old.codec)
             (recoding_openings (C.format self.old.codec).most (length self.old.samples)
-            (record { first = first; stop = stop }) to))
-            (C.read self.old.codec) (C.read self.new.codec) }
-        ensures rules { KeepsRules C.format self.old self.new }
+            (record { first = first; stop = stop }) to)
+            (exchanged (record { first = first; stop = stop }) values.now self.old.samples)
+            result self.old self.new }
     {
         let most = self.interval_len();
         let kept = self.count().min(to * most) - stop;
@@ -150,7 +125,6 @@ impl<C: Codec> Workspace<C> {
         ensures ok { OnOk result (ends.new.items
             ≡ opened_samples (C.format self.old.codec).most
             (record { first = first; stop = stop }) self.old.samples) }
-        ensures spare { OnOk result (spare.new.items ≡ []) }
         ensures fault { IfErr result (λ e. (e ≡ Memory)
             × (0 < opened_count (C.format self.old.codec).most (length self.old.samples)
             (record { first = first; stop = stop }))) }
@@ -162,7 +136,6 @@ impl<C: Codec> Workspace<C> {
         self.open_first(first, stop, ends)?;
         self.open_last(first, stop, spare)?;
         ends.extend_from_slice(spare)?;
-        spare.clear();
         Ok(())
     }
 
@@ -234,7 +207,7 @@ impl<C: Codec> Workspace<C> {
 ghost use Rattle.std.specs.Prelude.{◌≡◌, ◌-◌, ◌<◌, ◌≤◌, [], length, take, drop, OnOk, IfErr};
 ghost use Rattle.aec_params.specs.declared.fault.Fault.TheVariants.{Memory};
 
-/// Keeps the first `head` items, and puts the last `tail` into another list. `Memory` where a
+/// Keeps the first `head` items, and puts the last `tail` alone into another list. `Memory` where a
 /// growth was refused.
 fn head_and_tail(
     items: &mut Vec<i64>,
@@ -242,13 +215,13 @@ fn head_and_tail(
     head: usize,
     tail: usize,
 ) -> Result<(), Fault>
-    requires tail { tail ≤ length items.old.items }
-    requires empty { last.old.items ≡ [] }
+    requires { tail ≤ length items.old.items }
     ensures head { OnOk result (items.new.items ≡ take head items.old.items) }
     ensures tail { OnOk result
         (last.new.items ≡ drop (length items.old.items - tail) items.old.items) }
     ensures fault { IfErr result (λ e. (e ≡ Memory) × (0 < tail)) }
 {
+    last.clear();
     last.extend_from_slice(&items[items.len() - tail..])?;
     items.truncate(head);
     Ok(())

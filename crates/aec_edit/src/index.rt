@@ -1,7 +1,7 @@
 //! The index of a stream: where its intervals begin.
 
 ghost use Rattle.std.specs.Prelude.{◌≡◌, ◌+◌, ◌-◌, ◌^◌, ◌≤◌, ◌++◌, length, map, take, drop, replicate, vec_len, vec_capacity};
-ghost use Rattle.aec_edit.specs.CodedLists.{AreUpTo, AreLater, with_starts, CanTakeStarts};
+ghost use Rattle.aec_edit.specs.CodedLists.{CanMoveOn, CanShift, with_starts, CanTakeStarts};
 
 /// Replaces the starts from number `from` up to number `to` by others, each moved on by `base`, and
 /// moves those after them from `old_end` on to `new_end` on. There is room for the new starts.
@@ -43,8 +43,7 @@ fn move_later(starts: &mut Vec<u64>, from: usize, to: usize)
 /// Writes starts over those from number `at` on, each moved on by `base`.
 fn write_starts(starts: &mut [u64], at: usize, with: &[u64], base: u64)
     requires within { at + length with.now ≤ length starts.old }
-    requires base { base ≤ 2 ^ 62 }
-    requires short { AreUpTo (2 ^ 62) with.now }
+    requires few { CanMoveOn base with.now }
     ensures { starts.new ≡ take at starts.old
         ++ (map (λ x. base + x) with.now ++ drop (at + length with.now) starts.old) }
 {
@@ -57,8 +56,7 @@ fn write_starts(starts: &mut [u64], at: usize, with: &[u64], base: u64)
 /// `new_end`.
 fn shift_starts(starts: &mut [u64], at: usize, old_end: u64, new_end: u64)
     requires within { at ≤ length starts.old }
-    requires end { new_end ≤ 2 ^ 63 }
-    requires later { AreLater at old_end (2 ^ 62) starts.old }
+    requires few { CanShift at old_end new_end starts.old }
     ensures { starts.new ≡ take at starts.old
         ++ map (λ x. x - old_end + new_end) (drop at starts.old) }
 {

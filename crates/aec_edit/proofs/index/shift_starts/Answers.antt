@@ -22,4 +22,4 @@ loop-k-preserved c =
 pub returns-then-old_end-new_end : goal.returns-then-old_end-new_end
 returns-then-old_end-new_end c =
     unmoved c.args.old_end c.args.new_end c.args.at c.args.starts.now c.if-old_end-new_end.true c.requires.within
-    (λ k at l. (c.requires.later k at l).0)
+    (λ k at l. (c.requires.few.later k at l).0)

@@ -22,8 +22,8 @@ returns-in_err-open_ends-clause-fault g c =
     (omega (arith, opened, more)) in
     rw (p.1, p.2) (c.in_err-open_ends.ensures.fault.0, codes)
 
-pub head_and_tail-requires-clause-tail : goal.head_and_tail-requires-clause-tail
-head_and_tail-requires-clause-tail g c =
+pub head_and_tail-requires : goal.head_and_tail-requires
+head_and_tail-requires g c =
     let f : Format = g.C.Codec.format c.args.self.now.codec in
     let end = touched_end _ _ _ f.most _ c.args.stop _ c.count.ensures.value c.interval_len-most.ensures.value c.div_ceil-next.ensures c.min.ensures in
     let there = ends_tail f.most c.args.first c.args.stop c.args.self.now.samples
