@@ -71,27 +71,30 @@ no_rest front (x ∷ rest) all = absurd (omega (arith, ap length all, length-app
 
 -- the first interval of what is to come, where it has been gathered in front
 module _ (f : Format) (front rest : List ℤ) (len : ℕ) (len_is : len ≡ min f.most (length front)) (gathered : IsGathered f.most front (front ++ rest)) where
-  pub front_taken : take len front ≡ take f.most (front ++ rest)
-  front_taken =
+  pub front_taken : {coming : List ℤ} → front ++ rest ≡ coming → take len front ≡ take f.most coming
+  front_taken same =
       ap (λ m. take m front) len_is
       ∙ take_min f.most front
       ∙ elim gathered [
         | inl whole ↦ sym (take-append-le f.most front rest whole)
         | inr all ↦ ap (take f.most) all
       ]
+      ∙ ap (take f.most) same
 
-  pub front_dropped : drop len front ++ rest ≡ drop f.most (front ++ rest)
-  front_dropped =
-      ap (λ m. drop m front ++ rest) len_is
+  pub front_dropped : {coming front' : List ℤ} → front ++ rest ≡ coming → front' ≡ drop len front → front' ++ rest ≡ drop f.most coming
+  front_dropped same dropped =
+      ap (λ l. l ++ rest) dropped
+      ∙ ap (λ m. drop m front ++ rest) len_is
       ∙ ap (λ l. l ++ rest) (drop_min f.most front)
       ∙ elim gathered [
         | inl whole ↦ sym (drop-append-le f.most front rest whole)
         | inr all ↦ rw (no_rest front rest all) (append-nil (drop f.most front) ∙ ap (drop f.most) (sym (append-nil front)))
       ]
+      ∙ ap (drop f.most) same
 
   pub front_interval : 1 ≤ f.most → 1 ≤ length (front ++ rest) → AreHeld f (front ++ rest) → IsInterval f (take len front)
   front_interval some any held = record {
-    some = omega (arith, ap length front_taken, length-take f.most (front ++ rest));
-    few = omega (arith, ap length front_taken, length-take f.most (front ++ rest));
-    held = subst (AreHeld f) (sym front_taken) (held-take f.holds f.most (front ++ rest) held);
+    some = omega (arith, ap length (front_taken refl), length-take f.most (front ++ rest));
+    few = omega (arith, ap length (front_taken refl), length-take f.most (front ++ rest));
+    held = subst (AreHeld f) (sym (front_taken refl)) (held-take f.holds f.most (front ++ rest) held);
   }

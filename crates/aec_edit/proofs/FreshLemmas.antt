@@ -56,7 +56,8 @@ emptied n front values back (inr none) less = none
 
 -- ---- old intervals that are handed out
 
-pub moves_further : {reads between after : ℕ} {old mid new : Fresh} → MovesOn reads between old mid → MovesOn between after mid new → MovesOn reads after old new
+pub moves_further : {reads between after : ℕ} {old mid new : Fresh} → MovesOn reads between old mid → MovesOn between after mid new
+    → MovesOn reads after old new
 moves_further first then = record {
   order = then.order;
   end = then.end ∙ first.end;
@@ -66,3 +67,11 @@ moves_further first then = record {
 pub rises_further : {reads between after : ℕ} {old mid : Fresh} → MovesOn reads between old mid → RisesAtMost (mid.end - mid.next) between after
     → RisesAtMost (old.end - old.next) reads after
 rises_further first then = record { stays = omega (arith, first.opens.stays, then.stays); few = omega (arith, first.opens.few, then.few) }
+
+pub moves_still : {reads between after : ℕ} {old mid new : Fresh} → MovesOn reads between old mid → after ≡ between → new.next ≡ mid.next → new.end ≡ mid.end
+    → MovesOn reads after old new
+moves_still first same next_is end_is = record {
+  order = omega (arith, first.order, next_is, end_is);
+  end = end_is ∙ first.end;
+  opens = record { stays = omega (arith, first.opens.stays, same); few = omega (arith, first.opens.few, same, next_is, end_is) };
+}

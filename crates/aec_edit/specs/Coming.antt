@@ -74,11 +74,17 @@ pub record CodesFresh {C : Type 0} (format_of : C → Format) (called : C → �
   pub count_is : coded.count ≡ count
   pub calls : called w_after.codec ≡ called w.codec + div_ceil count (format_of w.codec).most
 
+-- fresh samples of which n in front and n' behind were kept from what stood in front, round the
+-- values
+pub record KeepsEnds (n n' : ℕ) (old new : Fresh) : Type 0 where
+  pub all : new.front.items ++ (new.values.now ++ new.back.items)
+      ≡ take n old.front.items ++ (old.values.now ++ drop (length old.front.items - n') old.front.items)
+  pub next : new.next ≡ old.next
+  pub end : new.end ≡ old.end
+
 -- the fresh samples of an exchange of places for values, of which the old intervals up to number to
 -- are coded anew
 pub record IsFreshFor (n : ℕ) (s : List ℤ) (gone : Stretch) (to : ℕ) (values : List ℤ) (fresh : Fresh) : Type 0 where
-  pub front : fresh.front.items ≡ head_of n gone.first s
-  pub values_are : fresh.values.now ≡ values
-  pub back : fresh.back.items ≡ tail_of n gone.stop s
+  pub all : fresh.front.items ++ (fresh.values.now ++ fresh.back.items) ≡ head_of n gone.first s ++ (values ++ tail_of n gone.stop s)
   pub next : fresh.next ≡ div_ceil gone.stop n
   pub end : fresh.end ≡ to

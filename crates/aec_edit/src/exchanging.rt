@@ -100,14 +100,15 @@ impl<C: Codec> Workspace<C> {
         let tail = (self.count().min(next * most) - stop) as usize;
         let (mut front, mut back) = self.take_lists();
         self.open_ends(first, stop, &mut front, &mut back)?;
-        head_and_tail(&mut front, &mut back, head, tail)?;
-        Ok(Fresh {
+        let mut fresh = Fresh {
             front,
             values,
             back,
             next,
             end: to,
-        })
+        };
+        fresh.keep_ends(head, tail)?;
+        Ok(fresh)
     }
 
     /// Puts the first and the last interval that an exchange touches into `ends`, where they keep a
@@ -202,27 +203,4 @@ impl<C: Codec> Workspace<C> {
         }
         Ok(())
     }
-}
-
-ghost use Rattle.std.specs.Prelude.{◌≡◌, ◌-◌, ◌<◌, ◌≤◌, [], length, take, drop, OnOk, IfErr};
-ghost use Rattle.aec_params.specs.declared.fault.Fault.TheVariants.{Memory};
-
-/// Keeps the first `head` items, and puts the last `tail` alone into another list. `Memory` where a
-/// growth was refused.
-fn head_and_tail(
-    items: &mut Vec<i64>,
-    last: &mut Vec<i64>,
-    head: usize,
-    tail: usize,
-) -> Result<(), Fault>
-    requires { tail ≤ length items.old.items }
-    ensures head { OnOk result (items.new.items ≡ take head items.old.items) }
-    ensures tail { OnOk result
-        (last.new.items ≡ drop (length items.old.items - tail) items.old.items) }
-    ensures fault { IfErr result (λ e. (e ≡ Memory) × (0 < tail)) }
-{
-    last.clear();
-    last.extend_from_slice(&items[items.len() - tail..])?;
-    items.truncate(head);
-    Ok(())
 }

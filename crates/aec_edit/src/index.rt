@@ -15,7 +15,8 @@ pub fn replace_starts(
     new_end: u64,
 )
     requires { CanTakeStarts starts.old from to with.now base old_end new_end }
-    ensures { starts.new.items ≡ with_starts starts.old.items from to with.now base old_end new_end }
+    ensures { starts.new.items
+        ≡ with_starts starts.old.items from to with.now base old_end new_end }
 {
     move_later(starts, to, from + with.len());
     write_starts(starts.as_mut_slice(), from, with, base);

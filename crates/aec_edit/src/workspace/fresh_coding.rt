@@ -1,8 +1,8 @@
 //! Fresh samples and their code, an interval at a time, in lists that one edit leaves to the next.
 
-ghost use Rattle.std.specs.Prelude.{◌≡◌, ◌≤◌, [], length, drop, OnOk, IfErr, ◌*◌, vec_capacity};
+ghost use Rattle.std.specs.Prelude.{◌≡◌, ◌<◌, ◌≤◌, [], length, drop, OnOk, IfErr, ◌*◌, vec_capacity};
 ghost use Rattle.aec_params.specs.declared.fault.Fault.TheVariants.{Memory};
-ghost use Rattle.aec_edit.specs.Coming.{MovesToFront};
+ghost use Rattle.aec_edit.specs.Coming.{MovesToFront, KeepsEnds};
 ghost use Rattle.aec_edit.specs.Workspace.{IsScratchRoom};
 
 use super::Workspace;
@@ -24,6 +24,26 @@ pub(crate) struct Fresh<'a> {
 }
 
 impl<'a> Fresh<'a> {
+    /// Keeps the first `head` and the last `tail` of the samples in front, with the values between
+    /// them: written over as many samples there, or else with the last ones behind. `Memory` where
+    /// a growth was refused.
+    pub fn keep_ends(&mut self, head: usize, tail: usize) -> Result<(), Fault>
+        requires { tail ≤ length self.old.front.items }
+        ensures ok { OnOk result (KeepsEnds head tail self.old self.new) }
+        ensures fault { IfErr result (λ e. (e ≡ Memory) × (0 < tail)) }
+    {
+        let end = self.front.len() - tail;
+        self.back.clear();
+        if head <= end && self.values.len() == end - head {
+            self.front[head..end].copy_from_slice(self.values);
+            self.values = &[];
+            return Ok(());
+        }
+        self.back.extend_from_slice(&self.front[end..])?;
+        self.front.truncate(head);
+        Ok(())
+    }
+
     /// Moves values and what follows them to the front, until it holds a whole interval. `Memory`
     /// where a growth was refused.
     pub fn gather_held(&mut self, most: usize) -> Result<(), Fault>

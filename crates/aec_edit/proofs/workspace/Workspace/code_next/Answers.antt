@@ -1,7 +1,7 @@
-use Rattle.std.proofs.Common.{◌≡◌, ◌++◌, ℤ, List, min, length, take, drop, refl, ap, ◌∙◌, arith}
+use Rattle.std.proofs.Common.{◌≡◌, ◌++◌, ℤ, List, min, length, refl, ap, ◌∙◌, arith}
 use Rattle.aec_bits.specs.Codec.{Format}
 use Rattle.aec_edit.specs.Fresh.{old_part}
-use Rattle.aec_edit.specs.Coming.{coming}
+use Rattle.aec_edit.proofs.FreshLemmas.{moves_still}
 use Rattle.aec_edit.proofs.UpToLemmas.{held_at}
 use Rattle.aec_edit.proofs.CodingLemmas.{one_more_call, front_taken, front_dropped, front_interval}
 use Rattle.aec_edit.proofs.KeptLemmas.{coded_once, read_and_coded}
@@ -38,33 +38,20 @@ returns-clause-ok g c =
     let seen = c.args.self.now in
     let f : Format = g.C.Codec.format seen.codec in
     let now = c.gather.new.fresh in
-    let front : List ℤ = now.front.items in
     let rest : List ℤ = now.values.now ++ (now.back.items ++ old_part f.most seen.samples now.next now.end) in
-    let old : List ℤ = coming g.C.Codec.format seen c.args.fresh.now in
-    let same : front ++ rest ≡ old = c.in_ok-gather.ensures.ok.same in
-    let gathered = c.in_ok-gather.ensures.gathered in
-    let moves = c.in_ok-gather.ensures.ok.moves in
-    let len : c.min-len.result ≡ min f.most (length front) = omega (arith, c.interval_len-most.ensures.value, now.front.ok.0) in
-    let format = ap (λ w. g.C.Codec.format w.codec) c.self-2.view_is ∙ c.in_ok-gather.ensures.read.format in
-    let reads = c.in_ok-code.ensures.same_reads ∙ ap (λ w. g.C.Codec.read w.codec) c.self-2.view_is in
-    let taken : take c.min-len.result front ≡ take f.most old = front_taken f front rest c.min-len.result len gathered ∙ ap (take f.most) same in
+    let got = c.in_ok-gather.ensures in
+    let coded = c.in_ok-code.ensures in
+    let len : c.min-len.result ≡ min f.most (length now.front.items) = omega (arith, c.interval_len-most.ensures.value, now.front.ok.0) in
+    let format = ap (λ w. g.C.Codec.format w.codec) c.self-2.view_is ∙ got.read.format in
+    let taken = front_taken f now.front.items rest c.min-len.result len got.gathered got.ok.same in
     record {
-      left = ap (λ l. l ++ rest) c.drop_front.ensures ∙ front_dropped f front rest c.min-len.result len gathered ∙ ap (drop f.most) same;
+      left = front_dropped f now.front.items rest c.min-len.result len got.gathered got.ok.same c.drop_front.ensures;
       adds = record {
-        bits = rw (format, c.deref.ensures.value, taken) at c.in_ok-code.ensures.ok;
+        bits = rw (format, c.deref.ensures.value, taken) at coded.ok;
         starts = rw c.len.ensures.value at c.in_ok-push.ensures.items;
       };
-      calls = omega (
-        arith,
-        c.in_ok-code.ensures.counts,
-        ap (λ w. g.C.Codec.called w.codec) c.self-2.view_is,
-        c.in_ok-gather.ensures.read.calls,
-      );
-      moves = record {
-        order = moves.order;
-        end = moves.end;
-        opens = record { stays = omega (arith, reads, moves.opens.stays); few = omega (arith, reads, moves.opens.few) };
-      };
+      calls = omega (arith, coded.counts, ap (λ w. g.C.Codec.called w.codec) c.self-2.view_is, got.read.calls);
+      moves = moves_still got.ok.moves (coded.same_reads ∙ ap (λ w. g.C.Codec.read w.codec) c.self-2.view_is) refl refl;
     }
 
 pub returns-clause-same : goal.returns-clause-same
