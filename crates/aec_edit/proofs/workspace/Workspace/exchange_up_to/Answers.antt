@@ -78,22 +78,20 @@ returns-in_err-put g c =
 pub returns : goal.returns
 returns g c =
     let seen = c.args.self.now in
-    let f : Format = g.C.Codec.format seen.codec in
     let lawful = g.C.Codec.lawful seen.codec in
     let held = c.interval_len-most.ensures.sound.held in
     let most = c.interval_len-most.ensures.value in
     let got = c.in_ok-fresh.ensures in
     let coded = c.in_ok-coded.ensures in
-    let put = c.in_ok-put.ensures in
     let total = total_is _ _ _ (length seen.samples) c.args.first c.args.stop c.args.to _ _ most c.count.ensures.value c.min.ensures in
     let needed = calls_is _ _ _ (length seen.samples) c.args.first c.args.stop c.args.to _ _ _ most c.count.ensures.value c.min.ensures
     c.div_ceil-needed.ensures in
     let from = ap (λ n. c.args.first / n) most in
     let is = coded_for g.C.Codec.format g.C.Codec.called g.C.Codec.read seen c.args.first c.args.stop c.args.to c.args.values.now lawful held c.requires
     got.read got.ok coded.ok coded.same total from in
-    let samples = put.ok _ is
-    ∙ put_came f seen.limit c.args.first c.args.stop c.args.to seen.samples c.args.values.now lawful held c.requires _ _ _
+    let samples = c.in_ok-put.ensures.ok _ is
+    ∙ put_came (g.C.Codec.format seen.codec) seen.limit c.args.first c.args.stop c.args.to seen.samples c.args.values.now lawful held c.requires _ _ _
     (coded.same.format ∙ got.read.format) (coded.same.samples ∙ got.read.samples) from in
     rw c.keep_lists.ensures.same
     (is_exchanged g.C.Codec.format g.C.Codec.called g.C.Codec.read seen c.args.first c.args.stop c.args.to c.args.values.now lawful held c.requires
-    got.read got.ok coded.ok coded.same put.rest total needed (omega arith) samples)
+    got.read got.ok coded.ok coded.same c.in_ok-put.ensures.rest total needed (omega arith) samples)
