@@ -65,7 +65,9 @@ impl<C: Codec> Workspace<C> {
         if values.is_empty() {
             return Ok(0);
         }
-        self.exchange(first, first + len, values)
+        let stop = first + len;
+        let to = stop.div_ceil(self.interval_len());
+        self.exchange(first, stop, to, values)
     }
 
     /// Appends the values, as `apply` does with an `Append` of them, and returns what it returns.
@@ -80,8 +82,8 @@ impl<C: Codec> Workspace<C> {
         if values.is_empty() {
             return Ok(0);
         }
-        let count = self.count();
-        self.exchange(count, count, values)
+        let (count, to) = (self.count(), self.intervals());
+        self.exchange(count, count, to, values)
     }
 
     /// Keeps the first samples, up to place `stop`.
@@ -99,7 +101,8 @@ impl<C: Codec> Workspace<C> {
         if stop == count {
             return Ok(0);
         }
-        self.exchange(stop, count, &[])
+        let to = self.intervals();
+        self.exchange(stop, count, to, &[])
     }
 
     /// Inserts the values before the sample at place `first`, or after the last one.
@@ -119,7 +122,7 @@ impl<C: Codec> Workspace<C> {
             return Ok(0);
         }
         let to = self.recoded_end(first, values.len() as u64);
-        self.exchange_up_to(first, first, to, values)
+        self.exchange(first, first, to, values)
     }
 
     /// Takes out the `len` samples from place `first` on.
@@ -136,7 +139,7 @@ impl<C: Codec> Workspace<C> {
         }
         let stop = first + len;
         let to = self.recoded_end(stop, len);
-        self.exchange_up_to(first, stop, to, &[])
+        self.exchange(first, stop, to, &[])
     }
 
     /// Where the intervals end that are coded anew where `len` samples come or go in front of place
