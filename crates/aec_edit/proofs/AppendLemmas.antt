@@ -1,5 +1,5 @@
 -- What an appending codes and decodes, as its definition has it and as the code has it.
-use Rattle.std.proofs.Common.{◌≡◌, ℕ, ◌+◌, ◌<◌, ◌≤◌, List, ◌++◌, length, take, drop, ℤ, refl, sym, ap, ◌∙◌, inl, arith, Result}
+use Rattle.std.proofs.Common.{◌≡◌, ℕ, ◌+◌, ◌<◌, ◌≤◌, List, ◌++◌, length, drop, ℤ, refl, ap, ◌∙◌, inl, arith, Result}
 use Rattle.std.specs.Result.{MatchResult, OnOk, OnErr}
 use Rattle.std.proofs.lemmas.Bool.{ne_eqb}
 use Rattle.std.proofs.lemmas.List.{append-nil, drop_all, take_all}

@@ -13,8 +13,8 @@ exchange-requires g c =
     can_exchange g.C.Codec.format g.C.Codec.called g.C.Codec.read seen c.args.first _ _ c.args.values.now (g.C.Codec.lawful seen.codec) places.sound.held
     fits (c.div_ceil-to.ensures ∙ ap (div_ceil (c.args.first + length c.args.values.now)) c.interval_len.ensures.value)
 
-pub returns-clause-applies : goal.returns-clause-applies
-returns-clause-applies g c =
+pub returns : goal.returns
+returns g c =
     let seen = c.args.self.now in
     let places = c.in_ok-check_places.ensures in
     let held = c.in_ok-check_values.ensures.ok.held in
@@ -23,7 +23,8 @@ returns-clause-applies g c =
     let made = exchanged_to_last g.C.Codec.format g.C.Codec.called g.C.Codec.read seen c.args.first _ _ c.args.values.now (g.C.Codec.lawful seen.codec)
     places.sound.held fits (c.div_ceil-to.ensures ∙ ap (div_ceil (c.args.first + length c.args.values.now)) c.interval_len.ensures.value)
     c.exchange.ensures in
-    overwritten (g.C.Codec.format seen.codec) seen.limit (g.C.Codec.called seen.codec)
+    let applies = overwritten (g.C.Codec.format seen.codec) seen.limit (g.C.Codec.called seen.codec)
     (g.C.Codec.read seen.codec) c.args.first seen.samples c.args.values.now c.exchange.result
     c.exchange.new.self.samples (g.C.Codec.called c.exchange.new.self.codec) (g.C.Codec.read c.exchange.new.self.codec) (g.C.Codec.lawful seen.codec).some
-    (search rules) held (omega (arith, places.ok)) made.answer made.ok made.err made.reads
+    (search rules) held (omega (arith, places.ok)) made.answer made.ok made.err made.reads in
+    record { applies = applies; rules = record { limit = c.exchange.ensures.limit; format = c.exchange.ensures.format } }
