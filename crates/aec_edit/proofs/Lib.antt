@@ -11,6 +11,7 @@ pub mod IndexLemmas
 pub mod RecodingLemmas
 pub mod ExchangeLemmas
 pub mod UpToLemmas
+pub mod ExchangedLemmas
 pub mod OpenedLemmas
 pub mod EndSamplesLemmas
 pub mod CallLemmas
@@ -19,6 +20,7 @@ pub mod OverwriteLemmas
 pub mod MoveLemmas
 pub mod TruncateLemmas
 pub mod InsertLemmas
+pub mod AppendLemmas
 pub mod RemoveLemmas
 pub mod RangeLemmas
 pub mod EarlyLemmas

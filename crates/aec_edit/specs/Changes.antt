@@ -3,13 +3,13 @@
 -- intervals for fresh samples. The contract of `apply` cites `samples_after`, `needed_calls` and
 -- `opened_intervals` instead.
 use Rattle.std.specs.Prelude.{◌≡◌, ℕ, ◌+◌, ◌-◌, ◌*◌, ◌/◌, ◌%◌, ◌≤◌, ◌⊎◌, min, Bool}
-use Rattle.std.specs.Prelude.{◌==◌, if◌then◌else◌, None, MatchOption, is_some, List, ◌++◌, length, take, drop, ℤ}
+use Rattle.std.specs.Prelude.{◌==◌, if◌then◌else◌, None, MatchOption, Result, MatchResult, OnOk, OnErr, is_some, List, ◌++◌, length, take, drop, ℤ}
 use Rattle.std.specs.Int.{div_ceil}
 use Rattle.aec_bits.specs.Codec.{Format, AreHeld, code_of}
 use Rattle.aec_params.specs.declared.fault.Fault.{Fault}
 use Rattle.aec_params.specs.Edits.{Stretch}
-use Rattle.aec_edit.specs.Workspace.{interval_count}
-use Rattle.aec_edit.specs.Calls.{want_of_calls}
+use Rattle.aec_edit.specs.Workspace.{Contents, interval_count}
+use Rattle.aec_edit.specs.Calls.{want_of_calls, RisesAtMost}
 use Rattle.aec_edit.specs.Steps.{LacksMemory}
 use Rattle.aec_edit.specs.Index.{starts_of}
 use Rattle.aec_edit.specs.Fresh.{to_come}
@@ -68,6 +68,18 @@ IsNotExchanged needed calls fault after =
 abbrev pub opened_by : ℕ → ℕ → ℕ → ℕ
 opened_by needed calls opened = if is_some (want_of_calls calls needed) then 0 else opened
 
+-- an exchange that codes some intervals and may decode some, and all that it does to a workspace:
+-- its answer, and the samples, which are those left where it is made
+pub record Exchanges {C : Type 0} (format_of : C → Format) (called read : C → ℕ) (coded opened : ℕ) (left : List ℤ) (r : Result ℕ Fault) (old new : Contents C)
+    : Type 0 where
+  pub answer : MatchResult r (λ told. IsExchanged coded (called old.codec) told (called new.codec))
+      (λ fault. IsNotExchanged coded (called old.codec) fault (called new.codec))
+  pub ok : OnOk r (new.samples ≡ left)
+  pub err : OnErr r (new.samples ≡ old.samples)
+  pub reads : RisesAtMost (opened_by coded (called old.codec) opened) (read old.codec) (read new.codec)
+  pub limit : new.limit ≡ old.limit
+  pub format : format_of new.codec ≡ format_of old.codec
+
 -- ---- any exchange, of which the intervals up to number to are coded anew
 
 -- its places, the number of the interval up to which it codes, and how many values come
@@ -84,6 +96,10 @@ fresh_total n count x = x.gone.first % n + (x.values + (min count (x.to * n) - x
 -- how many intervals it codes
 abbrev pub recoding_calls : ℕ → ℕ → Recoding → ℕ
 recoding_calls n count x = div_ceil (fresh_total n count x) n
+
+-- how many it codes of the samples s
+abbrev pub calls_up_to : Format → List ℤ → Stretch → ℕ → List ℤ → ℕ
+calls_up_to f s gone to values = recoding_calls f.most (length s) (record { gone = gone; to = to; values = length values })
 
 -- how many it decodes
 abbrev pub recoding_openings : ℕ → ℕ → Stretch → ℕ → ℕ
@@ -115,3 +131,13 @@ pub record IsCodeFor (f : Format) (limit : ℕ) (s : List ℤ) (from to : ℕ) (
 -- where they are whole intervals
 abbrev pub recoded_end : Format → List ℤ → ℕ → ℕ → ℕ
 recoded_end f s place len = if len % f.most == 0 then div_ceil place f.most else interval_count f s
+
+-- a workspace that can make such an exchange
+abbrev pub CanExchange : {C : Type 0} → (C → Format) → Contents C → Stretch → ℕ → List ℤ → Type 0
+CanExchange format_of w gone to values = IsExchangeUpTo (format_of w.codec) w.limit w.samples gone to values
+
+-- such an exchange, and all that it does to a workspace
+abbrev pub ExchangesUpTo : {C : Type 0} → (C → Format) → (C → ℕ) → (C → ℕ) → Stretch → ℕ → List ℤ → Result ℕ Fault → Contents C → Contents C → Type 0
+ExchangesUpTo format_of called read gone to values r old new =
+    Exchanges format_of called read (calls_up_to (format_of old.codec) old.samples gone to values)
+    (recoding_openings (format_of old.codec).most (length old.samples) gone to) (exchanged gone values old.samples) r old new

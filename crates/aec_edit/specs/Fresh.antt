@@ -1,7 +1,7 @@
 -- For proofs alone: no public contract cites this file.
 -- Fresh samples that are handed out one interval at a time. The contract of `apply` cites
 -- `samples_after`, `needed_calls` and `opened_intervals` instead.
-use Rattle.std.specs.Prelude.{◌≡◌, ℕ, ◌+◌, ◌*◌, ◌≤◌, ◌⊎◌, List, [], ◌++◌, length, take, drop, ℤ}
+use Rattle.std.specs.Prelude.{◌≡◌, ℕ, ◌+◌, ◌*◌, ◌≤◌, ◌⊎◌, List, ◌++◌, length, take, drop, ℤ}
 
 -- the samples s of the intervals of n from number next up to number end
 abbrev pub old_part : ℕ → List ℤ → ℕ → ℕ → List ℤ
@@ -14,10 +14,6 @@ to_come n s front values back next end = front ++ (values ++ (back ++ old_part n
 -- a whole interval stands in front, or all that is to come
 abbrev pub IsGathered : ℕ → List ℤ → List ℤ → Type 0
 IsGathered n front coming = (n ≤ length front) ⊎ (front ≡ coming)
-
--- nothing stands in front, and a whole interval of n samples in the values
-abbrev pub BeginsWhole : ℕ → List ℤ → List ℤ → Type 0
-BeginsWhole n front values = (front ≡ []) × (n ≤ length values)
 
 -- intervals are decoded one after the other: so many at most from now on
 pub record OpensAtMost (left left_after reads reads_after : ℕ) : Type 0 where

@@ -14,9 +14,10 @@ impl<C: Codec> Workspace<C> {
     ghost use Rattle.aec_edit.specs.Unchanged.{KeepsRules};
     ghost use Rattle.std.specs.List.{list_all};
     ghost use Rattle.aec_params.specs.declared.fault.Fault.TheVariants.{OutOfRange, Spent, Memory};
-    ghost use Rattle.aec_bits.specs.Codec.{AreHeld};
     ghost use Rattle.aec_bits.specs.Refusals.{growth_refusal, values_refusal, first_unheld as first_unheld_of};
     ghost use Rattle.aec_edit.specs.Runs.{HasRun};
+    ghost use Rattle.aec_edit.specs.Workspace.{IsSound};
+    ghost use Rattle.aec_edit.specs.Judged.{AreValues, CanCome, MakesEdit};
     ghost use Rattle.aec_edit.specs.declared.outcome.Outcome.{Outcome as OutcomeOf};
     ghost use Rattle.aec_edit.specs.Stops.{StopsAtRefusal};
 
@@ -52,11 +53,8 @@ impl<C: Codec> Workspace<C> {
 
     /// Replaces the samples from place `first` on by as many values.
     fn overwrite(&mut self, first: u64, values: &[i64]) -> Result<u64, Fault>
-        ensures applies { Applies (C.format self.old.codec) self.old.limit self.old.samples
-            (C.called self.old.codec)
-            (C.read self.old.codec) (Overwrite first values.now) result self.new.samples
-            (C.called self.new.codec) (C.read self.new.codec) }
-        ensures rules { KeepsRules C.format self.old self.new }
+        ensures { MakesEdit C.format C.called C.read (Overwrite first values.now) result
+            self.old self.new }
     {
         let len = values.len() as u64;
         self.check_places(first, len)?;
@@ -64,7 +62,9 @@ impl<C: Codec> Workspace<C> {
         if values.is_empty() {
             return Ok(0);
         }
-        self.exchange(first, first + len, values)
+        let stop = first + len;
+        let to = stop.div_ceil(self.interval_len());
+        self.exchange(first, stop, to, values)
     }
 
     /// Appends the values, as `apply` does with an `Append` of them, and returns what it returns.
@@ -79,17 +79,14 @@ impl<C: Codec> Workspace<C> {
         if values.is_empty() {
             return Ok(0);
         }
-        let count = self.count();
-        self.exchange(count, count, values)
+        let (count, to) = (self.count(), self.intervals());
+        self.exchange(count, count, to, values)
     }
 
     /// Keeps the first samples, up to place `stop`.
     fn truncate(&mut self, stop: u64) -> Result<u64, Fault>
-        ensures applies { Applies (C.format self.old.codec) self.old.limit self.old.samples
-            (C.called self.old.codec)
-            (C.read self.old.codec) (Truncate stop) result self.new.samples
-            (C.called self.new.codec) (C.read self.new.codec) }
-        ensures rules { KeepsRules C.format self.old self.new }
+        ensures { MakesEdit C.format C.called C.read (Truncate stop) result
+            self.old self.new }
     {
         let count = self.count();
         if stop > count {
@@ -98,16 +95,14 @@ impl<C: Codec> Workspace<C> {
         if stop == count {
             return Ok(0);
         }
-        self.exchange(stop, count, &[])
+        let to = self.intervals();
+        self.exchange(stop, count, to, &[])
     }
 
     /// Inserts the values before the sample at place `first`, or after the last one.
     fn insert(&mut self, first: u64, values: &[i64]) -> Result<u64, Fault>
-        ensures applies { Applies (C.format self.old.codec) self.old.limit self.old.samples
-            (C.called self.old.codec)
-            (C.read self.old.codec) (Insert first values.now) result self.new.samples
-            (C.called self.new.codec) (C.read self.new.codec) }
-        ensures rules { KeepsRules C.format self.old self.new }
+        ensures { MakesEdit C.format C.called C.read (Insert first values.now) result
+            self.old self.new }
     {
         let count = self.count();
         if first > count {
@@ -118,16 +113,13 @@ impl<C: Codec> Workspace<C> {
             return Ok(0);
         }
         let to = self.recoded_end(first, values.len() as u64);
-        self.exchange_up_to(first, first, to, values)
+        self.exchange(first, first, to, values)
     }
 
     /// Takes out the `len` samples from place `first` on.
     fn remove(&mut self, first: u64, len: u64) -> Result<u64, Fault>
-        ensures applies { Applies (C.format self.old.codec) self.old.limit self.old.samples
-            (C.called self.old.codec)
-            (C.read self.old.codec) (Remove first len) result self.new.samples
-            (C.called self.new.codec) (C.read self.new.codec) }
-        ensures rules { KeepsRules C.format self.old self.new }
+        ensures { MakesEdit C.format C.called C.read (Remove first len) result
+            self.old self.new }
     {
         self.check_places(first, len)?;
         if len == 0 {
@@ -135,7 +127,7 @@ impl<C: Codec> Workspace<C> {
         }
         let stop = first + len;
         let to = self.recoded_end(stop, len);
-        self.exchange_up_to(first, stop, to, &[])
+        self.exchange(first, stop, to, &[])
     }
 
     /// Where the intervals end that are coded anew where `len` samples come or go in front of place
@@ -154,8 +146,7 @@ impl<C: Codec> Workspace<C> {
     /// Whether there are `len` samples from place `first` on.
     pub(crate) fn check_places(&self, first: u64, len: u64) -> Result<(), Fault>
         ensures ok { OnOk result (first + len ≤ length self.now.samples) }
-        ensures few { length self.now.samples ≤ self.now.limit }
-        ensures bound { self.now.limit ≤ 2 ^ 32 }
+        ensures sound { IsSound (C.format self.now.codec) self.now.limit self.now.samples }
         ensures refuses { IfErr result
             (λ e. (length self.now.samples < first + len)
             × (e ≡ OutOfRange (length self.now.samples))) }
@@ -178,10 +169,8 @@ impl<C: Codec> Workspace<C> {
 
     /// Whether values can come: the limit has room for them, and they are samples.
     pub(crate) fn check_growth(&self, values: &[i64]) -> Result<(), Fault>
-        ensures ok { OnOk result (growth_refusal (C.format self.now.codec) self.now.limit
-            self.now.samples values.now ≡ None) }
-        ensures few { OnOk result (length self.now.samples + length values.now ≤ self.now.limit) }
-        ensures held { OnOk result (AreHeld (C.format self.now.codec) values.now) }
+        ensures ok { OnOk result (CanCome (C.format self.now.codec) self.now.limit
+            self.now.samples values.now) }
         ensures refuses { IfErr result (λ e.
             growth_refusal (C.format self.now.codec) self.now.limit self.now.samples values.now
             ≡ Some e) }
@@ -195,8 +184,7 @@ impl<C: Codec> Workspace<C> {
 
     /// Whether all values are samples; else the place of the first one that isn't.
     pub(crate) fn check_values(&self, values: &[i64]) -> Result<(), Fault>
-        ensures ok { OnOk result (values_refusal (C.format self.now.codec) values.now ≡ None) }
-        ensures held { OnOk result (AreHeld (C.format self.now.codec) values.now) }
+        ensures ok { OnOk result (AreValues (C.format self.now.codec) values.now) }
         ensures refuses { IfErr result
             (λ e. values_refusal (C.format self.now.codec) values.now ≡ Some e) }
     {
