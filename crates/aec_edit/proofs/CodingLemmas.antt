@@ -1,12 +1,16 @@
 -- One interval more is coded.
-use Rattle.std.proofs.Common.{◌≡◌, ℕ, suc, ◌+◌, ◌<◌, min, Bool, List, [], ◌∷◌, ◌++◌, length, take, drop, ℤ, sym, ap, ◌∙◌, append_assoc, length-append}
+use Rattle.std.proofs.Common.{◌≡◌, ℕ, suc, ◌+◌, ◌<◌, ◌≤◌, min, Bool, Result, Ok, Err, List, [], ◌∷◌, ◌++◌, length, take, drop, ℤ}
+use Rattle.std.proofs.Common.{refl, sym, subst, ap, ◌∙◌, inl, inr, arith, append_assoc, length-append}
+use Rattle.std.specs.Result.{OnOk, OnErr}
 use Rattle.std.specs.Int.{div_ceil}
-use Rattle.std.proofs.lemmas.List.{take_min, drop_min, length-drop}
+use Rattle.std.proofs.lemmas.List.{take_min, drop_min, length-take, length-drop, take-append-le, drop-append-le, append-nil}
 use Rattle.aec_params.proofs.CuttingLaws.{div_ceil-step}
-use Rattle.aec_bits.specs.Codec.{Format, AreHeld, IsLawful, code_of}
+use Rattle.aec_bits.specs.Codec.{Format, AreHeld, IsInterval, IsLawful, code_of}
 use Rattle.aec_bits.proofs.CodeLaws.{code_of_first}
 use Rattle.aec_edit.specs.Index.{starts_of}
-use Rattle.aec_edit.proofs.HeldLemmas.{held-drop}
+use Rattle.aec_edit.specs.Calls.{RisesAtMost}
+use Rattle.aec_edit.specs.Fresh.{IsGathered}
+use Rattle.aec_edit.proofs.HeldLemmas.{held-take, held-drop}
 use Rattle.aec_edit.proofs.StartLemmas.{starts_of_first}
 
 -- samples whose first interval is one list, and whose others another
@@ -55,3 +59,42 @@ starts_more f {rest = rest} {interval = interval} {later = later} bits bits' sta
     ∙ sym (append_assoc starts (length bits ∷ []) (starts_of f (length bits') later))
     ∙ ap (λ n. (starts ++ n ∷ []) ++ starts_of f (length bits') later) (sym here)
     ∙ ap (λ l. l ++ starts_of f (length bits') later) (sym pushed)
+
+-- a call of the coder that may fail
+pub one_more_call : {T E : Type 0} (r : Result T E) (before after : ℕ) → OnOk r (after ≡ before + 1) → OnErr r (after ≡ before) → RisesAtMost 1 before after
+one_more_call (Ok t) before after ok err = record { stays = omega (arith, ok); few = omega (arith, ok) }
+one_more_call (Err e) before after ok err = record { stays = omega (arith, err); few = omega (arith, err) }
+
+no_rest : (front rest : List ℤ) → front ≡ front ++ rest → rest ≡ []
+no_rest front [] all = refl
+no_rest front (x ∷ rest) all = absurd (omega (arith, ap length all, length-append front (x ∷ rest)))
+
+-- the first interval of what is to come, where it has been gathered in front
+module _ (f : Format) (front rest : List ℤ) (len : ℕ) (len_is : len ≡ min f.most (length front)) (gathered : IsGathered f.most front (front ++ rest)) where
+  pub front_taken : {coming : List ℤ} → front ++ rest ≡ coming → take len front ≡ take f.most coming
+  front_taken same =
+      ap (λ m. take m front) len_is
+      ∙ take_min f.most front
+      ∙ elim gathered [
+        | inl whole ↦ sym (take-append-le f.most front rest whole)
+        | inr all ↦ ap (take f.most) all
+      ]
+      ∙ ap (take f.most) same
+
+  pub front_dropped : {coming front' : List ℤ} → front ++ rest ≡ coming → front' ≡ drop len front → front' ++ rest ≡ drop f.most coming
+  front_dropped same dropped =
+      ap (λ l. l ++ rest) dropped
+      ∙ ap (λ m. drop m front ++ rest) len_is
+      ∙ ap (λ l. l ++ rest) (drop_min f.most front)
+      ∙ elim gathered [
+        | inl whole ↦ sym (drop-append-le f.most front rest whole)
+        | inr all ↦ rw (no_rest front rest all) (append-nil (drop f.most front) ∙ ap (drop f.most) (sym (append-nil front)))
+      ]
+      ∙ ap (drop f.most) same
+
+  pub front_interval : 1 ≤ f.most → 1 ≤ length (front ++ rest) → AreHeld f (front ++ rest) → IsInterval f (take len front)
+  front_interval some any held = record {
+    some = omega (arith, ap length (front_taken refl), length-take f.most (front ++ rest));
+    few = omega (arith, ap length (front_taken refl), length-take f.most (front ++ rest));
+    held = subst (AreHeld f) (sym (front_taken refl)) (held-take f.holds f.most (front ++ rest) held);
+  }

@@ -1,7 +1,10 @@
 -- Fresh samples, handed out one interval at a time.
 use Rattle.std.proofs.Common.{◌≡◌, ℕ, ◌+◌, ◌-◌, ◌*◌, ◌<◌, ◌≤◌, ◌⊎◌, List, [], ◌++◌, length, take, drop, ℤ, sym, ap, ◌∙◌, inl, inr, arith, append_assoc, take-add}
 use Rattle.std.proofs.lemmas.List.{drop-drop, drop-take}
+use Rattle.aec_edit.specs.Calls.{RisesAtMost}
 use Rattle.aec_edit.specs.Fresh.{old_part, to_come}
+use Rattle.aec_edit.specs.Coming.{MovesOn}
+use Rattle.aec_edit.specs.declared.workspace.fresh_coding.Fresh.{Fresh}
 
 -- ---- old intervals
 
@@ -50,3 +53,25 @@ coming_decoded n s front values back front' next end some no_values no_back grow
 pub emptied : (n : ℕ) (front values back : List ℤ) → (n ≤ length front) ⊎ ((values ≡ []) × (back ≡ [])) → length front < n → (values ≡ []) × (back ≡ [])
 emptied n front values back (inl full) less = absurd (omega arith)
 emptied n front values back (inr none) less = none
+
+-- ---- old intervals that are handed out
+
+pub moves_further : {reads between after : ℕ} {old mid new : Fresh} → MovesOn reads between old mid → MovesOn between after mid new
+    → MovesOn reads after old new
+moves_further first then = record {
+  order = then.order;
+  end = then.end ∙ first.end;
+  opens = record { stays = omega (arith, first.opens.stays, then.opens.stays); few = omega (arith, first.opens.few, then.opens.few) };
+}
+
+pub rises_further : {reads between after : ℕ} {old mid : Fresh} → MovesOn reads between old mid → RisesAtMost (mid.end - mid.next) between after
+    → RisesAtMost (old.end - old.next) reads after
+rises_further first then = record { stays = omega (arith, first.opens.stays, then.stays); few = omega (arith, first.opens.few, then.few) }
+
+pub moves_still : {reads between after : ℕ} {old mid new : Fresh} → MovesOn reads between old mid → after ≡ between → new.next ≡ mid.next → new.end ≡ mid.end
+    → MovesOn reads after old new
+moves_still first same next_is end_is = record {
+  order = omega (arith, first.order, next_is, end_is);
+  end = end_is ∙ first.end;
+  opens = record { stays = omega (arith, first.opens.stays, same); few = omega (arith, first.opens.few, same, next_is, end_is) };
+}

@@ -4,6 +4,8 @@ use Rattle.aec_bits.specs.Codec.{Format, AreHeld, IsLawful, BeginsAt, code_of}
 use Rattle.aec_bits.proofs.CodeLaws.{code_of-nil, code_of_first, same_samples}
 use Rattle.std.proofs.lemmas.List.{length-take, length-drop, take_all}
 use Rattle.aec_edit.specs.Workspace.{Contents, Room, interval_count, start_of}
+use Rattle.aec_edit.specs.Calls.{RisesAtMost}
+use Rattle.aec_edit.specs.Unchanged.{KeepsSamples, IsOnlyRead}
 use Rattle.aec_edit.specs.Index.{IsKeptCode, KeptSamples, kept_samples}
 use Rattle.aec_params.proofs.CountLaws.{before_end, past_end}
 use Rattle.aec_edit.proofs.HeldLemmas.{held-take, held-drop}
@@ -57,6 +59,38 @@ pub kept_again : {f g : Format} {count : ℕ} {bits : List Bool} {starts : List 
     → g ≡ f → kept_samples kept ≡ s → IsKeptCode g count bits starts s
 kept_again {f} {count = count} {bits = bits} {starts = starts} {s = s} kept same e =
     subst (λ h. IsKeptCode h count bits starts s) (sym same) (subst (IsKeptCode f count bits starts) e (stands kept))
+
+-- and after a call of the coder
+pub coded_once : {C : Type 0} (format_of : C → Format) (called read : C → ℕ) {codec codec' : C} {count limit : ℕ} {bits : List Bool} {starts : List ℕ}
+    {room : Room} (decoded : ℕ) (kept : KeptSamples (format_of codec) count bits starts) (again : KeptSamples (format_of codec') count bits starts)
+    (seen : Contents C) → IsLawful (format_of codec')
+    → record { samples = kept_samples kept; limit = limit; codec = codec; room = room } ≡ seen
+    → format_of codec' ≡ format_of codec → read codec' ≡ read codec → RisesAtMost 1 (called codec) (called codec')
+    → KeepsSamples format_of called read 1 decoded seen (record { samples = kept_samples again; limit = limit; codec = codec'; room = room })
+coded_once format_of called read {codec' = codec'} {limit = limit} {room = room} decoded kept again seen lawful e same same_reads rises =
+    subst
+    (λ w. KeepsSamples format_of called read 1 decoded w (record { samples = kept_samples again; limit = limit; codec = codec'; room = room })) e (record {
+      samples = no_other again lawful (kept_again kept same refl);
+      limit = refl;
+      format = same;
+      calls = rises;
+      reads = record { stays = omega (arith, same_reads); few = omega (arith, same_reads) };
+    })
+
+-- as after intervals were decoded
+pub read_and_coded : {C : Type 0} {format_of : C → Format} {called read : C → ℕ} {decoded : ℕ} {old mid new : Contents C}
+    → IsOnlyRead format_of called read decoded old mid → KeepsSamples format_of called read 1 0 mid new
+    → KeepsSamples format_of called read 1 decoded old new
+read_and_coded first then = record {
+  samples = then.samples ∙ first.samples;
+  limit = then.limit ∙ first.limit;
+  format = then.format ∙ first.format;
+  calls = record { stays = omega (arith, first.calls, then.calls.stays); few = omega (arith, first.calls, then.calls.few) };
+  reads = record {
+    stays = omega (arith, first.reads.stays, then.reads.stays);
+    few = omega (arith, first.reads.few, then.reads.few);
+  };
+}
 
 -- none are kept in empty fields
 pub none_kept : (f : Format) {count : ℕ} {bits : List Bool} {starts : List ℕ} → IsLawful f → count ≡ 0 → bits ≡ [] → starts ≡ []

@@ -11,6 +11,7 @@ pub mod IndexLemmas
 pub mod RecodingLemmas
 pub mod ExchangeLemmas
 pub mod UpToLemmas
+pub mod ExchangedLemmas
 pub mod OpenedLemmas
 pub mod EndSamplesLemmas
 pub mod CallLemmas

@@ -118,14 +118,14 @@ pub some_kept : {T E : Type 0} {f : Format} {count : ℕ} {bits : List Bool} {st
 some_kept (Ok t) s s' ok err = (s', ok)
 some_kept (Err e) s s' ok err = (s, err)
 
--- what two or three clauses say of a success together
-pub on_ok_three : {T E : Type 0} {A B D P : Type 0} (r : Result T E) → OnOk r A → OnOk r B → OnOk r D → (A → B → D → P) → OnOk r P
-on_ok_three (Ok t) a b d h = h a b d
-on_ok_three (Err e) a b d h = tt
+-- what follows from a fact on a success, or on a refusal
+pub on_ok_then : {T E P Q : Type 0} (r : Result T E) → OnOk r P → (P → Q) → OnOk r Q
+on_ok_then (Ok t) p h = h p
+on_ok_then (Err e) p h = tt
 
-pub on_err_three : {T E : Type 0} {A B D P : Type 0} (r : Result T E) → OnErr r A → OnErr r B → OnErr r D → (A → B → D → P) → OnErr r P
-on_err_three (Ok t) a b d h = tt
-on_err_three (Err e) a b d h = h a b d
+pub on_err_then : {T E P Q : Type 0} (r : Result T E) → OnErr r P → (P → Q) → OnErr r Q
+on_err_then (Ok t) p h = tt
+on_err_then (Err e) p h = h p
 
 -- fields that are as before keep the same
 pub same_kept : {f : Format} {count count' : ℕ} {bits bits' : List Bool} {starts starts' : List ℕ} {s : List ℤ} → IsKeptCode f count bits starts s

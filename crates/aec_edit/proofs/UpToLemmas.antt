@@ -7,7 +7,11 @@ use Rattle.std.proofs.Math.Nat.{mul-le-mul_right}
 use Rattle.std.proofs.lemmas.Bool.{cases_lt}
 use Rattle.std.proofs.lemmas.List.{length-take, length-drop, take-take, take-append-drop, drop-append-le}
 use Rattle.aec_bits.specs.Codec.{Format, AreHeld, IsLawful, code_of}
+use Rattle.aec_params.specs.Edits.{Stretch}
+use Rattle.aec_edit.specs.Workspace.{Contents, interval_count}
 use Rattle.aec_edit.specs.Fresh.{old_part, to_come}
+use Rattle.aec_edit.specs.Coming.{coming, HasOldPart, IsFreshFor}
+use Rattle.aec_edit.specs.declared.workspace.fresh_coding.Fresh.{Fresh}
 use Rattle.std.specs.Result.{MatchResult}
 use Rattle.aec_params.specs.declared.fault.Fault.{Fault}
 use Rattle.aec_params.specs.declared.fault.Fault.TheVariants.{Memory}
@@ -15,18 +19,29 @@ use Rattle.aec_edit.specs.Index.{starts_of}
 use Rattle.aec_edit.specs.Calls.{RisesAtMost}
 use Rattle.aec_edit.specs.Changes.{IsCodeFor, IsExchanged, IsNotExchanged, opened_by, IsExchange, IsExchangeUpTo, IsRecoding, exchanged, exchange_calls, recoded, head_of, tail_of, fresh_of, fresh_total, recoding_calls}
 use Rattle.aec_params.proofs.CountLaws.{ceil_bounds}
-use Rattle.aec_edit.proofs.CallLemmas.{lacks_memory, recoded_at}
+use Rattle.aec_edit.proofs.FreshLemmas.{coming_moved}
+use Rattle.aec_edit.proofs.CallLemmas.{calls_left, lacks_memory, recoded_at}
 use Rattle.aec_edit.proofs.HeldLemmas.{held-take, held-drop, held-append}
 use Rattle.aec_edit.proofs.ExchangeLemmas.{begins_before, ends_after, ceil_mono, fresh_len, fresh_count}
 use Rattle.aec_params.proofs.MoveLaws.{from_to}
 use Rattle.aec_edit.proofs.ExchangeLemmas.{recoding}
 
--- what is to come, under other names
-pub coming_at : (f g : Format) (s s' front front' values values' back back' : List ℤ) (next next' end end' : ℕ) → g ≡ f → s' ≡ s
-    → front' ≡ front → values' ≡ values → back' ≡ back → next' ≡ next → end' ≡ end
-    → to_come g.most s' front' values' back' next' end' ≡ to_come f.most s front values back next end
-coming_at f g s s' front front' values values' back back' next next' end end' format_is s_is front_is values_is back_is next_is end_is =
-    rw (format_is, s_is, front_is, values_is, back_is, next_is, end_is) refl
+-- what is to come, as a workspace has it that was only read
+module _ {C : Type 0} (format_of : C → Format) (seen w : Contents C) {gone : Stretch} {to : ℕ} {values : List ℤ} {fresh : Fresh}
+    (format_is : format_of w.codec ≡ format_of seen.codec) (samples_are : w.samples ≡ seen.samples) where
+  pub fresh_coming : IsFreshFor (format_of seen.codec).most seen.samples gone to values fresh
+      → coming format_of w fresh ≡ fresh_of (format_of seen.codec).most seen.samples gone to values
+  fresh_coming is =
+      rw (format_is, samples_are)
+      (coming_moved (format_of seen.codec).most seen.samples (head_of (format_of seen.codec).most gone.first seen.samples) values
+      (tail_of (format_of seen.codec).most gone.stop seen.samples) fresh.front.items fresh.values.now fresh.back.items
+      (div_ceil gone.stop (format_of seen.codec).most) to fresh.next fresh.end is.all is.next is.end)
+
+  pub fresh_old_part : div_ceil gone.stop (format_of seen.codec).most ≤ to → to ≤ interval_count (format_of seen.codec) seen.samples
+      → IsFreshFor (format_of seen.codec).most seen.samples gone to values fresh → HasOldPart format_of w fresh
+  fresh_old_part reaches inside is =
+      let within : fresh.end ≤ interval_count (format_of seen.codec) seen.samples = omega (arith, is.end, inside) in
+      record { order = omega (arith, is.next, is.end, reaches); within = rw (format_is, samples_are) within }
 
 module _ (f : Format) (limit first stop to : ℕ) (s values : List ℤ) (lawful : IsLawful f) (held : AreHeld f s)
     (fits : IsExchangeUpTo f limit s (from_to first stop) to values) where
@@ -201,24 +216,27 @@ pub reads_at : (a b calls opens opens' reads reads' : ℕ) → a ≡ b → opens
     → RisesAtMost (opened_by b calls opens') reads reads'
 reads_at a b calls opens opens' reads reads' same opens_same rises = rw (sym same, sym opens_same) rises
 
+-- the intervals at both ends were decoded, then old intervals from number next up to number end
+pub decodes_both : (needed calls ends next next' end end' reads : ℕ) {between after : ℕ} → next' ≡ next → end' ≡ end → needed ≤ 2 ^ 64 - 1 - calls
+    → RisesAtMost ends reads between → RisesAtMost (end' - next') between after → RisesAtMost (opened_by needed calls (ends + (end - next))) reads after
+decodes_both needed calls ends next next' end end' reads next_is end_is enough first then =
+    rw (calls_left calls needed enough) (record {
+      stays = omega (arith, first.stays, then.stays);
+      few = omega (arith, first.few, then.few, next_is, end_is);
+    })
+
 -- ---- an exchange up to some interval, as the code has it
 
 module _ (f : Format) (limit first stop to : ℕ) (s values : List ℤ) (lawful : IsLawful f) (held : AreHeld f s)
     (fits : IsExchangeUpTo f limit s (from_to first stop) to values) where
   -- what was coded is the code of its fresh samples
-  pub code_came : (g h : Format) (limit' from count : ℕ) (s' s'' front values' back : List ℤ) (next end : ℕ) (bits : List Bool) (starts : List ℕ)
-      → g ≡ f → h ≡ g → limit' ≡ limit → s' ≡ s → s'' ≡ s' → front ≡ head_of f.most first s → values' ≡ values → back ≡ tail_of f.most stop s
-      → next ≡ div_ceil stop f.most → end ≡ to → from ≡ first / f.most → bits ≡ code_of g (to_come g.most s' front values' back next end)
-      → starts ≡ starts_of g 0 (to_come g.most s' front values' back next end) → count ≡ fresh_total f.most (length s) (recoding first stop to (length values))
+  pub code_came : (g h : Format) (limit' from count : ℕ) (s'' came : List ℤ) (bits : List Bool) (starts : List ℕ)
+      → g ≡ f → h ≡ g → limit' ≡ limit → s'' ≡ s → came ≡ fresh_of f.most s (from_to first stop) to values → from ≡ first / f.most
+      → bits ≡ code_of g came → starts ≡ starts_of g 0 came → count ≡ fresh_total f.most (length s) (recoding first stop to (length values))
       → IsCodeFor h limit' s'' from to bits starts count (fresh_of f.most s (from_to first stop) to values)
-  code_came g h limit' from count s' s'' front values' back next end bits starts format_is after_is limit_is s_is left_is front_is values_is back_is next_is
-      end_is from_is bits_are starts_are count_is =
-      let came = coming_at f g s s' (head_of f.most first s) front values values' (tail_of f.most stop s) back (div_ceil stop f.most) next to end
-      format_is s_is front_is values_is back_is next_is end_is in
-      code_for f g h limit limit' (first / f.most) from to s s'' (fresh_of f.most s (from_to first stop) to values)
-      (to_come g.most s' front values' back next end)
-      bits starts count (fresh_total f.most (length s) (recoding first stop to (length values))) format_is
-      (after_is ∙ format_is) limit_is (left_is ∙ s_is) from_is came
+  code_came g h limit' from count s'' came' bits starts format_is after_is limit_is s_is came from_is bits_are starts_are count_is =
+      code_for f g h limit limit' (first / f.most) from to s s'' (fresh_of f.most s (from_to first stop) to values) came' bits starts count
+      (fresh_total f.most (length s) (recoding first stop to (length values))) format_is (after_is ∙ format_is) limit_is s_is from_is came
       (is_recoding_up_to f limit first stop to s values lawful held fits) bits_are starts_are count_is
       (sym (ap length came ∙ all_len f limit first stop to s values lawful held fits))
 
@@ -229,15 +247,3 @@ module _ (f : Format) (limit first stop to : ℕ) (s values : List ℤ) (lawful 
       recoded_at f h (first / f.most) from to to s s'' (fresh_of f.most s (from_to first stop) to values)
       (fresh_of f.most s (from_to first stop) to values) format_is from_is refl s_is refl
       ∙ recoded_up_to f limit first stop to s values lawful held fits
-
-  -- memory was wanting while it was coded, or for its code
-  pub want_came : (g : Format) (calls after total' needed' : ℕ) (fault : Fault) → g ≡ f
-      → total' ≡ fresh_total f.most (length s) (recoding first stop to (length values))
-      → needed' ≡ recoding_calls f.most (length s) (recoding first stop to (length values)) → needed' ≤ 2 ^ 64 - 1 - calls
-      → fault ≡ Memory → 0 < total' → calls ≤ after
-      → after ≤ calls + div_ceil total' g.most
-      → IsNotExchanged (recoding_calls f.most (length s) (recoding first stop to (length values))) calls fault after
-  want_came g calls after total' needed' fault format_is total_is needed_is enough fault_is some least most =
-      let count = calls_in f g total' (length s) first stop to (length values) format_is total_is in
-      lacks_memory (recoding_calls f.most (length s) (recoding first stop to (length values))) calls after fault (omega (arith, needed_is, enough)) fault_is
-      (some_calls f limit first stop to s values lawful held fits (omega (arith, some, total_is))) least (omega (arith, most, count))

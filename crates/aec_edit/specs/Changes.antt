@@ -3,13 +3,13 @@
 -- intervals for fresh samples. The contract of `apply` cites `samples_after`, `needed_calls` and
 -- `opened_intervals` instead.
 use Rattle.std.specs.Prelude.{◌≡◌, ℕ, ◌+◌, ◌-◌, ◌*◌, ◌/◌, ◌%◌, ◌≤◌, ◌⊎◌, min, Bool}
-use Rattle.std.specs.Prelude.{◌==◌, if◌then◌else◌, None, MatchOption, is_some, List, ◌++◌, length, take, drop, ℤ}
+use Rattle.std.specs.Prelude.{◌==◌, if◌then◌else◌, None, MatchOption, Result, MatchResult, OnOk, OnErr, is_some, List, ◌++◌, length, take, drop, ℤ}
 use Rattle.std.specs.Int.{div_ceil}
 use Rattle.aec_bits.specs.Codec.{Format, AreHeld, code_of}
 use Rattle.aec_params.specs.declared.fault.Fault.{Fault}
 use Rattle.aec_params.specs.Edits.{Stretch}
-use Rattle.aec_edit.specs.Workspace.{interval_count}
-use Rattle.aec_edit.specs.Calls.{want_of_calls}
+use Rattle.aec_edit.specs.Workspace.{Contents, interval_count}
+use Rattle.aec_edit.specs.Calls.{want_of_calls, RisesAtMost}
 use Rattle.aec_edit.specs.Steps.{LacksMemory}
 use Rattle.aec_edit.specs.Index.{starts_of}
 use Rattle.aec_edit.specs.Fresh.{to_come}
@@ -67,6 +67,18 @@ IsNotExchanged needed calls fault after =
 -- how many intervals it may decode
 abbrev pub opened_by : ℕ → ℕ → ℕ → ℕ
 opened_by needed calls opened = if is_some (want_of_calls calls needed) then 0 else opened
+
+-- an exchange that codes some intervals and may decode some, and all that it does to a workspace:
+-- its answer, and the samples, which are those left where it is made
+pub record Exchanges {C : Type 0} (format_of : C → Format) (called read : C → ℕ) (coded opened : ℕ) (left : List ℤ) (r : Result ℕ Fault) (old new : Contents C)
+    : Type 0 where
+  pub answer : MatchResult r (λ told. IsExchanged coded (called old.codec) told (called new.codec))
+      (λ fault. IsNotExchanged coded (called old.codec) fault (called new.codec))
+  pub ok : OnOk r (new.samples ≡ left)
+  pub err : OnErr r (new.samples ≡ old.samples)
+  pub reads : RisesAtMost (opened_by coded (called old.codec) opened) (read old.codec) (read new.codec)
+  pub limit : new.limit ≡ old.limit
+  pub format : format_of new.codec ≡ format_of old.codec
 
 -- ---- any exchange, of which the intervals up to number to are coded anew
 

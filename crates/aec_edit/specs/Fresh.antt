@@ -15,10 +15,6 @@ to_come n s front values back next end = front ++ (values ++ (back ++ old_part n
 abbrev pub IsGathered : ℕ → List ℤ → List ℤ → Type 0
 IsGathered n front coming = (n ≤ length front) ⊎ (front ≡ coming)
 
--- nothing stands in front, and a whole interval of n samples in the values
-abbrev pub BeginsWhole : ℕ → List ℤ → List ℤ → Type 0
-BeginsWhole n front values = (front ≡ []) × (n ≤ length values)
-
 -- intervals are decoded one after the other: so many at most from now on
 pub record OpensAtMost (left left_after reads reads_after : ℕ) : Type 0 where
   pub stays : reads ≤ reads_after

@@ -5,8 +5,12 @@ pub mod Early
 pub mod Steps
 pub mod Index
 pub mod Fresh
+pub mod Coming
+pub mod CodedLists
 pub mod Opened
 pub mod Changes
 pub mod Runs
 pub mod Stops
+pub mod Left
+pub mod Judged
 pub mod Laws

@@ -1,9 +1,14 @@
 -- For proofs alone: no public contract cites this file.
 -- The intervals that an exchange of places decodes: those that it touches and that keep a sample.
 -- The contract of `apply` cites `samples_after`, `needed_calls` and `opened_intervals` instead.
-use Rattle.std.specs.Prelude.{ℕ, ◌*◌, List, length, take, drop, ℤ}
+use Rattle.std.specs.Prelude.{ℕ, ◌*◌, ◌≤◌, List, length, take, drop, ℤ}
 use Rattle.std.specs.List.{flat_map}
 use Rattle.aec_params.specs.Edits.{Stretch, reached_intervals, keeping_intervals}
+
+-- places that are there, of count
+pub record HasPlaces (count : ℕ) (gone : Stretch) : Type 0 where
+  pub order : gone.first ≤ gone.stop
+  pub within : gone.stop ≤ count
 
 -- those of n samples that an exchange of places decodes, where there are count samples
 abbrev pub opened_by_exchange : ℕ → ℕ → Stretch → List ℕ

@@ -9,11 +9,19 @@ pub record KeepsRules {C : Type 0} (format_of : C → Format) (old new : Content
   pub limit : new.limit ≡ old.limit
   pub format : format_of new.codec ≡ format_of old.codec
 
--- the samples, the limit and the format are as they were; the counts of calls may have risen
-pub record KeepsSamples {C : Type 0} (format_of : C → Format) (old new : Contents C) : Type 0 where
+-- the limit and the codec are as they were
+pub record KeepsCodec {C : Type 0} (old new : Contents C) : Type 0 where
+  pub limit : new.limit ≡ old.limit
+  pub codec : new.codec ≡ old.codec
+
+-- samples, limit and format are as they were, and the counts of coded and of decoded intervals have
+-- risen by at most so many
+pub record KeepsSamples {C : Type 0} (format_of : C → Format) (called read : C → ℕ) (coded decoded : ℕ) (old new : Contents C) : Type 0 where
   pub samples : new.samples ≡ old.samples
   pub limit : new.limit ≡ old.limit
   pub format : format_of new.codec ≡ format_of old.codec
+  pub calls : RisesAtMost coded (called old.codec) (called new.codec)
+  pub reads : RisesAtMost decoded (read old.codec) (read new.codec)
 
 -- samples, limit, format and the count of calls are as they were, and the count of decoded
 -- intervals has risen by at most so many

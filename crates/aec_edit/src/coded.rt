@@ -1,8 +1,5 @@
 //! The code of samples, with an index of its intervals.
 
-ghost use Rattle.std.specs.Prelude.{◌≡◌, ℕ, ◌+◌, ◌-◌, ◌*◌, ◌<◌, ◌≤◌, ◌++◌, ◌⊎◌, [], length, map, take, drop, vec_len, vec_capacity, slice_index, OnOk, OnErr, IfErr};
-ghost use Rattle.aec_params.specs.declared.fault.Fault.TheVariants.{Memory};
-
 use crate::index::replace_starts;
 use aec_bits::BitBuf;
 use aec_params::Fault;
@@ -24,12 +21,14 @@ pub struct Cut {
 }
 
 impl Coded {
+    ghost use Rattle.std.specs.Prelude.{◌≡◌, ◌+◌, ◌-◌, ◌*◌, ◌<◌, ◌≤◌, ◌⊎◌, length, vec_len, vec_capacity, OnOk, OnErr, IfErr};
+    ghost use Rattle.aec_params.specs.declared.fault.Fault.TheVariants.{Memory};
+    ghost use Rattle.aec_edit.specs.CodedLists.{IsNoCode, IsSameCode, HasRoomOf, HasRoomAtMost, KeepsRoom, CanBeReplaced, IsReplaced};
+
     /// The code of no samples. Takes no memory.
     pub fn new(alloc: Global) -> Coded
-        ensures bits { result.bits.list ≡ [] }
-        ensures starts { result.starts.items ≡ [] }
-        ensures count { result.count ≡ 0 }
-        ensures room { (result.bits.room ≡ 0) × (vec_capacity result.starts ≡ 0) }
+        ensures none { IsNoCode result }
+        ensures room { HasRoomAtMost 0 0 result }
     {
         Coded {
             bits: BitBuf::new(alloc),
@@ -42,14 +41,9 @@ impl Coded {
     /// with `Memory` only if there is less room than asked for: then an allocation fails, or there
     /// would be more than 2^62 bits. Room that was there is kept.
     pub fn reserve(&mut self, bits: u64, intervals: u64) -> Result<(), Fault>
-        ensures bits { self.new.bits.list ≡ self.old.bits.list }
-        ensures starts { self.new.starts.items ≡ self.old.starts.items }
-        ensures count { self.new.count ≡ self.old.count }
-        ensures room { OnOk result (bits ≤ self.new.bits.room) }
-        ensures room_of_starts { OnOk result
-            (vec_len self.new.starts + intervals ≤ vec_capacity self.new.starts) }
-        ensures kept { (self.old.bits.room ≤ self.new.bits.room)
-            × (vec_capacity self.old.starts ≤ vec_capacity self.new.starts) }
+        ensures same { IsSameCode self.old self.new }
+        ensures room { OnOk result (HasRoomOf bits intervals self.new) }
+        ensures kept { KeepsRoom self.old self.new }
         ensures full { OnErr result ((self.old.bits.room < bits)
             ⊎ (vec_capacity self.old.starts - vec_len self.old.starts < intervals)) }
         ensures fault { IfErr result (λ e. (e ≡ Memory) × (0 < bits + intervals)) }
@@ -64,11 +58,8 @@ impl Coded {
     /// samples, or for more than so many starts, is let go.
     pub fn emptied(mut self, alloc: Global, most: u64) -> Coded
         requires { most ≤ 524288 }
-        ensures bits { result.bits.list ≡ [] }
-        ensures starts { result.starts.items ≡ [] }
-        ensures count { result.count ≡ 0 }
-        ensures room { result.bits.room ≤ 128 * most }
-        ensures room_of_starts { vec_capacity result.starts ≤ most }
+        ensures none { IsNoCode result }
+        ensures room { HasRoomAtMost (128 * most) most result }
     {
         self.bits.truncate(0);
         self.starts.clear();
@@ -83,26 +74,9 @@ impl Coded {
     /// and notes the new number of samples. All memory is taken first, so that nothing has changed
     /// where it is refused.
     pub fn replace(&mut self, from: Cut, to: Cut, with: &Coded, count: u64) -> Result<(), Fault>
-        requires intervals { from.interval ≤ to.interval }
-        requires intervals_within { to.interval ≤ length self.old.starts.items }
-        requires bits { from.bit ≤ to.bit }
-        requires bits_within { to.bit ≤ length self.old.bits.list }
-        requires short { (k : ℕ) → k < length with.now.starts.items
-            → slice_index with.now.starts.items k ≤ length with.now.bits.list }
-        requires later { (k : ℕ) → to.interval ≤ k → k < length self.old.starts.items
-            → (to.bit ≤ slice_index self.old.starts.items k)
-            × (slice_index self.old.starts.items k ≤ length self.old.bits.list) }
-        ensures bits { OnOk result (self.new.bits.list ≡ take from.bit self.old.bits.list
-            ++ (with.now.bits.list ++ drop to.bit self.old.bits.list)) }
-        ensures starts { OnOk result
-            (self.new.starts.items ≡ take from.interval self.old.starts.items
-            ++ (map (λ x. from.bit + x) with.now.starts.items
-            ++ map (λ x. x - to.bit + (from.bit + length with.now.bits.list))
-            (drop to.interval self.old.starts.items))) }
-        ensures count { OnOk result (self.new.count ≡ count) }
-        ensures same_bits { OnErr result (self.new.bits.list ≡ self.old.bits.list) }
-        ensures same_starts { OnErr result (self.new.starts.items ≡ self.old.starts.items) }
-        ensures same_count { OnErr result (self.new.count ≡ self.old.count) }
+        requires { CanBeReplaced self.old with.now from to }
+        ensures ok { OnOk result (IsReplaced self.old self.new with.now from to count) }
+        ensures err { OnErr result (IsSameCode self.old self.new) }
         ensures fault { IfErr result (λ e. (e ≡ Memory)
             × (0 < length with.now.bits.list + length with.now.starts.items)) }
     {

@@ -8,6 +8,9 @@ ghost use Rattle.aec_bits.specs.Codec.{code_of};
 ghost use Rattle.aec_bits.specs.Devices.{AppendsFront};
 ghost use Rattle.aec_edit.specs.Runs.{AnswersAll, all_left};
 ghost use Rattle.aec_edit.specs.Workspace.{HasOneReading};
+ghost use Rattle.aec_edit.specs.Left.{IsLeftBy};
+ghost use Rattle.aec_edit.specs.Unchanged.{IsOnlyRead};
+ghost use Rattle.aec_params.specs.Edits.{touched_intervals};
 ghost use Rattle.aec_edit.specs.declared.outcome.Outcome.{Outcome as OutcomeOf};
 
 use crate::outcome::Outcome;
@@ -71,7 +74,13 @@ pub fn write_edited<C: Codec + Drop, W: Sink>(
     let mut outcomes = Vec::new(alloc);
     let mut workspace = edit_from_nothing(alloc, codec, limit, edits, &mut outcomes)?;
     let samples = read_back(alloc, &mut workspace)?;
-    write_left(&workspace, outcomes, samples, sink)
+    workspace.write_to(sink)?;
+    Ok(Edited {
+        outcomes,
+        bits: workspace.stream_bits(),
+        samples,
+        calls: workspace.calls(),
+    })
 }
 
 /// Makes edits in an empty workspace, and adds what became of each to `outcomes`. `Memory` where
@@ -85,12 +94,8 @@ fn edit_from_nothing<C: Codec + Drop>(
 ) -> Result<Workspace<C>, Fault>
     requires limit { limit ≤ 2 ^ 32 }
     requires none { outcomes.old.items ≡ [] }
-    ensures answers { IfOk result
-        (λ workspace. AnswersAll (C.format codec) limit [] (C.called codec)
-        edits.now outcomes.new.items (C.called workspace.codec)) }
-    ensures samples { IfOk result
-        (λ workspace. workspace.samples ≡ all_left [] edits.now outcomes.new.items) }
-    ensures format { IfOk result (λ workspace. C.format workspace.codec ≡ C.format codec) }
+    ensures ok { IfOk result
+        (IsLeftBy C.format C.called codec limit edits.now outcomes.new.items) }
     ensures full { OnErr result (vec_capacity outcomes.old < length edits.now) }
     ensures fault { IfErr result (λ e. e ≡ Memory) }
 {
@@ -106,54 +111,11 @@ fn read_back<C: Codec>(alloc: Global, workspace: &mut Workspace<C>) -> Result<Ve
     ensures reading { IfOk result (λ samples. HasOneReading (C.format workspace.old.codec)
         (bytes_of (code_of (C.format workspace.old.codec) workspace.old.samples)) samples.items) }
     ensures fault { IfErr result (λ e. (e ≡ Memory) × (0 < length workspace.old.samples)) }
-    ensures samples { workspace.new.samples ≡ workspace.old.samples }
-    ensures calls { C.called workspace.new.codec ≡ C.called workspace.old.codec }
-    ensures format { C.format workspace.new.codec ≡ C.format workspace.old.codec }
+    ensures read { IsOnlyRead C.format C.called C.read
+        (length (touched_intervals (C.format workspace.old.codec).most
+        0 (length workspace.old.samples)))
+        workspace.old workspace.new }
 {
     let count = workspace.count();
     workspace.range(alloc, 0, count)
-}
-
-/// Writes the stream of a workspace, and says what edits have left in it.
-fn write_left<C: Codec, W: Sink>(
-    workspace: &Workspace<C>,
-    outcomes: Vec<Outcome>,
-    samples: Vec<i64>,
-    sink: &mut W,
-) -> Result<Edited, Fault>
-    ensures outcomes { IfOk result (λ edited. edited.outcomes.items ≡ outcomes.items) }
-    ensures samples { IfOk result (λ edited. edited.samples.items ≡ samples.items) }
-    ensures bits { IfOk result
-        (λ edited. edited.bits ≡ length
-        (code_of (C.format workspace.now.codec) workspace.now.samples)) }
-    ensures calls { IfOk result (λ edited. edited.calls ≡ C.called workspace.now.codec) }
-    ensures stream { OnOk result (Appends (W.taken sink.old) (W.taken sink.new)
-        (bytes_of (code_of (C.format workspace.now.codec) workspace.now.samples))) }
-    ensures front { OnErr result (AppendsFront (W.taken sink.old) (W.taken sink.new)
-        (bytes_of (code_of (C.format workspace.now.codec) workspace.now.samples))) }
-    ensures begun { W.begun sink.new ≡ W.begun sink.old }
-    ensures fault { IfErr result (λ e. (e ≡ WriteFault) × (W.failed sink.new ≡ 1)) }
-{
-    workspace.write_to(sink)?;
-    Ok(summed_up(workspace, outcomes, samples))
-}
-
-/// What edits have left in a workspace, with their outcomes and its samples.
-fn summed_up<C: Codec>(
-    workspace: &Workspace<C>,
-    outcomes: Vec<Outcome>,
-    samples: Vec<i64>,
-) -> Edited
-    ensures outcomes { result.outcomes.items ≡ outcomes.items }
-    ensures samples { result.samples.items ≡ samples.items }
-    ensures bits { result.bits
-        ≡ length (code_of (C.format workspace.now.codec) workspace.now.samples) }
-    ensures calls { result.calls ≡ C.called workspace.now.codec }
-{
-    Edited {
-        outcomes,
-        bits: workspace.stream_bits(),
-        samples,
-        calls: workspace.calls(),
-    }
 }

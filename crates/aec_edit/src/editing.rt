@@ -14,9 +14,10 @@ impl<C: Codec> Workspace<C> {
     ghost use Rattle.aec_edit.specs.Unchanged.{KeepsRules};
     ghost use Rattle.std.specs.List.{list_all};
     ghost use Rattle.aec_params.specs.declared.fault.Fault.TheVariants.{OutOfRange, Spent, Memory};
-    ghost use Rattle.aec_bits.specs.Codec.{AreHeld};
     ghost use Rattle.aec_bits.specs.Refusals.{growth_refusal, values_refusal, first_unheld as first_unheld_of};
     ghost use Rattle.aec_edit.specs.Runs.{HasRun};
+    ghost use Rattle.aec_edit.specs.Workspace.{IsSound};
+    ghost use Rattle.aec_edit.specs.Judged.{AreValues, CanCome};
     ghost use Rattle.aec_edit.specs.declared.outcome.Outcome.{Outcome as OutcomeOf};
     ghost use Rattle.aec_edit.specs.Stops.{StopsAtRefusal};
 
@@ -154,8 +155,7 @@ impl<C: Codec> Workspace<C> {
     /// Whether there are `len` samples from place `first` on.
     pub(crate) fn check_places(&self, first: u64, len: u64) -> Result<(), Fault>
         ensures ok { OnOk result (first + len ≤ length self.now.samples) }
-        ensures few { length self.now.samples ≤ self.now.limit }
-        ensures bound { self.now.limit ≤ 2 ^ 32 }
+        ensures sound { IsSound (C.format self.now.codec) self.now.limit self.now.samples }
         ensures refuses { IfErr result
             (λ e. (length self.now.samples < first + len)
             × (e ≡ OutOfRange (length self.now.samples))) }
@@ -178,10 +178,8 @@ impl<C: Codec> Workspace<C> {
 
     /// Whether values can come: the limit has room for them, and they are samples.
     pub(crate) fn check_growth(&self, values: &[i64]) -> Result<(), Fault>
-        ensures ok { OnOk result (growth_refusal (C.format self.now.codec) self.now.limit
-            self.now.samples values.now ≡ None) }
-        ensures few { OnOk result (length self.now.samples + length values.now ≤ self.now.limit) }
-        ensures held { OnOk result (AreHeld (C.format self.now.codec) values.now) }
+        ensures ok { OnOk result (CanCome (C.format self.now.codec) self.now.limit
+            self.now.samples values.now) }
         ensures refuses { IfErr result (λ e.
             growth_refusal (C.format self.now.codec) self.now.limit self.now.samples values.now
             ≡ Some e) }
@@ -195,8 +193,7 @@ impl<C: Codec> Workspace<C> {
 
     /// Whether all values are samples; else the place of the first one that isn't.
     pub(crate) fn check_values(&self, values: &[i64]) -> Result<(), Fault>
-        ensures ok { OnOk result (values_refusal (C.format self.now.codec) values.now ≡ None) }
-        ensures held { OnOk result (AreHeld (C.format self.now.codec) values.now) }
+        ensures ok { OnOk result (AreValues (C.format self.now.codec) values.now) }
         ensures refuses { IfErr result
             (λ e. values_refusal (C.format self.now.codec) values.now ≡ Some e) }
     {

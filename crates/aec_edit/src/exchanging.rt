@@ -11,8 +11,9 @@ impl<C: Codec> Workspace<C> {
     ghost use Rattle.aec_params.specs.declared.fault.Fault.TheVariants.{Memory};
     ghost use Rattle.aec_params.specs.Edits.{keeps_a_sample};
     ghost use Rattle.aec_edit.specs.Calls.{RisesAtMost};
-    ghost use Rattle.aec_edit.specs.Changes.{IsExchange, IsExchanged, IsNotExchanged, exchanged, exchange_calls, head_of, tail_of, opened_by, recoding_calls, recoding_openings, IsExchangeUpTo};
-    ghost use Rattle.aec_edit.specs.Opened.{opened_first, opened_behind, opened_count, samples_of, opened_samples};
+    ghost use Rattle.aec_edit.specs.Changes.{IsExchange, Exchanges, exchanged, exchange_calls, recoding_calls, recoding_openings, IsExchangeUpTo};
+    ghost use Rattle.aec_edit.specs.Coming.{IsFreshFor};
+    ghost use Rattle.aec_edit.specs.Opened.{HasPlaces, opened_first, opened_behind, opened_count, samples_of, opened_samples};
     ghost use Rattle.aec_edit.specs.Unchanged.{KeepsRules, IsOnlyRead};
 
     /// Exchanges the samples from place `first` up to place `stop` for values, as many, or at the
@@ -20,22 +21,12 @@ impl<C: Codec> Workspace<C> {
     pub(crate) fn exchange(&mut self, first: u64, stop: u64, values: &[i64]) -> Result<u64, Fault>
         requires { IsExchange (C.format self.old.codec) self.old.limit self.old.samples
             (record { first = first; stop = stop }) values.now }
-        ensures answer { let needed
-            = exchange_calls (C.format self.old.codec).most first (length values.now) in
-            MatchResult result
-            (λ coded. IsExchanged needed (C.called self.old.codec) coded (C.called self.new.codec))
-            (λ fault. IsNotExchanged needed (C.called self.old.codec) fault
-            (C.called self.new.codec)) }
-        ensures ok { OnOk result (self.new.samples
-            ≡ exchanged (record { first = first; stop = stop }) values.now self.old.samples) }
-        ensures err { OnErr result (self.new.samples ≡ self.old.samples) }
-        ensures reads { RisesAtMost
-            (opened_by (exchange_calls (C.format self.old.codec).most first (length values.now))
-            (C.called self.old.codec)
+        ensures { Exchanges C.format C.called C.read
+            (exchange_calls (C.format self.old.codec).most first (length values.now))
             (opened_count (C.format self.old.codec).most (length self.old.samples)
-            (record { first = first; stop = stop })))
-            (C.read self.old.codec) (C.read self.new.codec) }
-        ensures rules { KeepsRules C.format self.old self.new }
+            (record { first = first; stop = stop }))
+            (exchanged (record { first = first; stop = stop }) values.now self.old.samples)
+            result self.old self.new }
     {
         let most = self.interval_len();
         self.exchange_up_to(first, stop, stop.div_ceil(most), values)
@@ -53,32 +44,17 @@ impl<C: Codec> Workspace<C> {
     ) -> Result<u64, Fault>
         requires { IsExchangeUpTo (C.format self.old.codec) self.old.limit self.old.samples
             (record { first = first; stop = stop }) to values.now }
-        ensures answer { let needed
-            = recoding_calls (C.format self.old.codec).most (length self.old.samples)
-            (record {
-              gone = record { first = first; stop = stop };
-              to = to;
-              values = length values.now;
-            }) in
-            MatchResult result
-            (λ coded. IsExchanged needed (C.called self.old.codec) coded (C.called self.new.codec))
-            (λ fault. IsNotExchanged needed (C.called self.old.codec) fault
-            (C.called self.new.codec)) }
-        ensures ok { OnOk result (self.new.samples
-            ≡ exchanged (record { first = first; stop = stop }) values.now self.old.samples) }
-        ensures err { OnErr result (self.new.samples ≡ self.old.samples) }
-        ensures reads { RisesAtMost
-            (opened_by (recoding_calls (C.format self.old.codec).most (length self.old.samples)
+        ensures { Exchanges C.format C.called C.read
+            (recoding_calls (C.format self.old.codec).most (length self.old.samples)
             (record {
               gone = record { first = first; stop = stop };
               to = to;
               values = length values.now;
             }))
-            (C.called self.old.codec)
             (recoding_openings (C.format self.old.codec).most (length self.old.samples)
-            (record { first = first; stop = stop }) to))
-            (C.read self.old.codec) (C.read self.new.codec) }
-        ensures rules { KeepsRules C.format self.old self.new }
+            (record { first = first; stop = stop }) to)
+            (exchanged (record { first = first; stop = stop }) values.now self.old.samples)
+            result self.old self.new }
     {
         let most = self.interval_len();
         let kept = self.count().min(to * most) - stop;
@@ -104,16 +80,8 @@ impl<C: Codec> Workspace<C> {
     ) -> Result<Fresh<'a>, Fault>
         requires { IsExchangeUpTo (C.format self.old.codec) self.old.limit self.old.samples
             (record { first = first; stop = stop }) to values.now }
-        ensures front { IfOk result
-            (λ fresh. fresh.front.items
-            ≡ head_of (C.format self.old.codec).most first self.old.samples) }
-        ensures values { IfOk result (λ fresh. fresh.values.now ≡ values.now) }
-        ensures back { IfOk result
-            (λ fresh. fresh.back.items
-            ≡ tail_of (C.format self.old.codec).most stop self.old.samples) }
-        ensures next { IfOk result
-            (λ fresh. fresh.next ≡ div_ceil stop (C.format self.old.codec).most) }
-        ensures end { IfOk result (λ fresh. fresh.end ≡ to) }
+        ensures ok { IfOk result (IsFreshFor (C.format self.old.codec).most self.old.samples
+            (record { first = first; stop = stop }) to values.now) }
         ensures fault { IfErr result (λ e. (e ≡ Memory)
             × (0 < recoding_calls (C.format self.old.codec).most (length self.old.samples)
             (record {
@@ -132,14 +100,15 @@ impl<C: Codec> Workspace<C> {
         let tail = (self.count().min(next * most) - stop) as usize;
         let (mut front, mut back) = self.take_lists();
         self.open_ends(first, stop, &mut front, &mut back)?;
-        head_and_tail(&mut front, &mut back, head, tail)?;
-        Ok(Fresh {
+        let mut fresh = Fresh {
             front,
             values,
             back,
             next,
             end: to,
-        })
+        };
+        fresh.keep_ends(head, tail)?;
+        Ok(fresh)
     }
 
     /// Puts the first and the last interval that an exchange touches into `ends`, where they keep a
@@ -151,14 +120,12 @@ impl<C: Codec> Workspace<C> {
         ends: &mut Vec<i64>,
         spare: &mut Vec<i64>,
     ) -> Result<(), Fault>
-        requires order { first ≤ stop }
-        requires within { stop ≤ length self.old.samples }
-        requires ends { ends.old.items ≡ [] }
-        requires spare { spare.old.items ≡ [] }
+        requires places { HasPlaces (length self.old.samples)
+            (record { first = first; stop = stop }) }
+        requires empty { (ends.old.items ≡ []) × (spare.old.items ≡ []) }
         ensures ok { OnOk result (ends.new.items
             ≡ opened_samples (C.format self.old.codec).most
             (record { first = first; stop = stop }) self.old.samples) }
-        ensures spare { OnOk result (spare.new.items ≡ []) }
         ensures fault { IfErr result (λ e. (e ≡ Memory)
             × (0 < opened_count (C.format self.old.codec).most (length self.old.samples)
             (record { first = first; stop = stop }))) }
@@ -170,14 +137,13 @@ impl<C: Codec> Workspace<C> {
         self.open_first(first, stop, ends)?;
         self.open_last(first, stop, spare)?;
         ends.extend_from_slice(spare)?;
-        spare.clear();
         Ok(())
     }
 
     /// Whether interval `k` begins in front of place `stop`, and keeps a sample outside the places.
     fn is_opened(&self, first: u64, stop: u64, k: u64) -> bool
-        requires order { first ≤ stop }
-        requires within { stop ≤ length self.now.samples }
+        requires places { HasPlaces (length self.now.samples)
+            (record { first = first; stop = stop }) }
         requires place { k * (C.format self.now.codec).most ≤ stop }
         ensures { result ≡ (nat_lt (k * (C.format self.now.codec).most) stop
             && keeps_a_sample (C.format self.now.codec).most (length self.now.samples)
@@ -191,8 +157,7 @@ impl<C: Codec> Workspace<C> {
     /// Decodes the first touched interval where it keeps a sample in front of the places, or is the
     /// last one too and keeps one after them.
     fn open_first(&mut self, first: u64, stop: u64, ends: &mut Vec<i64>) -> Result<(), Fault>
-        requires order { first ≤ stop }
-        requires within { stop ≤ length self.old.samples }
+        requires { HasPlaces (length self.old.samples) (record { first = first; stop = stop }) }
         ensures ok { OnOk result (ends.new.items ≡ ends.old.items
             ++ samples_of (C.format self.old.codec).most self.old.samples
             (opened_first (C.format self.old.codec).most (length self.old.samples)
@@ -215,8 +180,7 @@ impl<C: Codec> Workspace<C> {
     /// Decodes the last touched interval where it isn't the first and keeps a sample after the
     /// places.
     fn open_last(&mut self, first: u64, stop: u64, ends: &mut Vec<i64>) -> Result<(), Fault>
-        requires order { first ≤ stop }
-        requires within { stop ≤ length self.old.samples }
+        requires { HasPlaces (length self.old.samples) (record { first = first; stop = stop }) }
         ensures ok { OnOk result (ends.new.items ≡ ends.old.items
             ++ samples_of (C.format self.old.codec).most self.old.samples
             (opened_behind (C.format self.old.codec).most (length self.old.samples)
@@ -239,27 +203,4 @@ impl<C: Codec> Workspace<C> {
         }
         Ok(())
     }
-}
-
-ghost use Rattle.std.specs.Prelude.{◌≡◌, ◌-◌, ◌<◌, ◌≤◌, [], length, take, drop, OnOk, IfErr};
-ghost use Rattle.aec_params.specs.declared.fault.Fault.TheVariants.{Memory};
-
-/// Keeps the first `head` items, and puts the last `tail` into another list. `Memory` where a
-/// growth was refused.
-fn head_and_tail(
-    items: &mut Vec<i64>,
-    last: &mut Vec<i64>,
-    head: usize,
-    tail: usize,
-) -> Result<(), Fault>
-    requires tail { tail ≤ length items.old.items }
-    requires empty { last.old.items ≡ [] }
-    ensures head { OnOk result (items.new.items ≡ take head items.old.items) }
-    ensures tail { OnOk result
-        (last.new.items ≡ drop (length items.old.items - tail) items.old.items) }
-    ensures fault { IfErr result (λ e. (e ≡ Memory) × (0 < tail)) }
-{
-    last.extend_from_slice(&items[items.len() - tail..])?;
-    items.truncate(head);
-    Ok(())
 }

@@ -1,6 +1,7 @@
 //! The index of a stream: where its intervals begin.
 
-ghost use Rattle.std.specs.Prelude.{◌≡◌, ℕ, ◌+◌, ◌-◌, ◌^◌, ◌<◌, ◌≤◌, ◌++◌, length, map, take, drop, replicate, vec_len, vec_capacity, slice_index};
+ghost use Rattle.std.specs.Prelude.{◌≡◌, ◌+◌, ◌-◌, ◌^◌, ◌≤◌, ◌++◌, length, map, take, drop, replicate, vec_len, vec_capacity};
+ghost use Rattle.aec_edit.specs.CodedLists.{CanMoveOn, CanShift, with_starts, CanTakeStarts};
 
 /// Replaces the starts from number `from` up to number `to` by others, each moved on by `base`, and
 /// moves those after them from `old_end` on to `new_end` on. There is room for the new starts.
@@ -13,17 +14,9 @@ pub fn replace_starts(
     old_end: u64,
     new_end: u64,
 )
-    requires order { from ≤ to }
-    requires within { to ≤ vec_len starts.old }
-    requires room { vec_len starts.old + length with.now ≤ vec_capacity starts.old + (to - from) }
-    requires base { base ≤ 2 ^ 62 }
-    requires end { new_end ≤ 2 ^ 63 }
-    requires short { (k : ℕ) → k < length with.now → slice_index with.now k ≤ 2 ^ 62 }
-    requires later { (k : ℕ) → to ≤ k → k < vec_len starts.old
-        → (old_end ≤ slice_index starts.old.items k) × (slice_index starts.old.items k ≤ 2 ^ 62) }
-    ensures { starts.new.items ≡ take from starts.old.items
-        ++ (map (λ x. base + x) with.now
-        ++ map (λ x. x - old_end + new_end) (drop to starts.old.items)) }
+    requires { CanTakeStarts starts.old from to with.now base old_end new_end }
+    ensures { starts.new.items
+        ≡ with_starts starts.old.items from to with.now base old_end new_end }
 {
     move_later(starts, to, from + with.len());
     write_starts(starts.as_mut_slice(), from, with, base);
@@ -51,8 +44,7 @@ fn move_later(starts: &mut Vec<u64>, from: usize, to: usize)
 /// Writes starts over those from number `at` on, each moved on by `base`.
 fn write_starts(starts: &mut [u64], at: usize, with: &[u64], base: u64)
     requires within { at + length with.now ≤ length starts.old }
-    requires base { base ≤ 2 ^ 62 }
-    requires short { (k : ℕ) → k < length with.now → slice_index with.now k ≤ 2 ^ 62 }
+    requires few { CanMoveOn base with.now }
     ensures { starts.new ≡ take at starts.old
         ++ (map (λ x. base + x) with.now ++ drop (at + length with.now) starts.old) }
 {
@@ -65,26 +57,13 @@ fn write_starts(starts: &mut [u64], at: usize, with: &[u64], base: u64)
 /// `new_end`.
 fn shift_starts(starts: &mut [u64], at: usize, old_end: u64, new_end: u64)
     requires within { at ≤ length starts.old }
-    requires end { new_end ≤ 2 ^ 63 }
-    requires later { (k : ℕ) → at ≤ k → k < length starts.old
-        → (old_end ≤ slice_index starts.old k) × (slice_index starts.old k ≤ 2 ^ 62) }
+    requires few { CanShift at old_end new_end starts.old }
     ensures { starts.new ≡ take at starts.old
         ++ map (λ x. x - old_end + new_end) (drop at starts.old) }
 {
-    if old_end != new_end {
-        add_difference(starts, at, old_end, new_end);
+    if old_end == new_end {
+        return;
     }
-}
-
-/// The same, one after the other.
-fn add_difference(starts: &mut [u64], at: usize, old_end: u64, new_end: u64)
-    requires within { at ≤ length starts.old }
-    requires end { new_end ≤ 2 ^ 63 }
-    requires later { (k : ℕ) → at ≤ k → k < length starts.old
-        → (old_end ≤ slice_index starts.old k) × (slice_index starts.old k ≤ 2 ^ 62) }
-    ensures { starts.new ≡ take at starts.old
-        ++ map (λ x. x - old_end + new_end) (drop at starts.old) }
-{
     for k in at..starts.len() {
         starts[k] = starts[k] - old_end + new_end;
     }

@@ -36,8 +36,7 @@ impl<C: Codec> Workspace<C> {
     /// The `len` samples from place `first` on, which are there. `Memory` where a growth was
     /// refused, but not for no samples.
     fn slice(&mut self, alloc: Global, first: u64, len: u64) -> Result<Vec<i64>, Fault>
-        requires within { first + len ≤ length self.old.samples }
-        requires short { first + len ≤ 2 ^ 32 }
+        requires { first + len ≤ length self.old.samples }
         ensures ok { IfOk result (λ v. v.items ≡ take len (drop first self.old.samples)) }
         ensures fault { IfErr result (λ e. (e ≡ Memory) × (0 < len)) }
         ensures read { IsOnlyRead C.format C.called C.read

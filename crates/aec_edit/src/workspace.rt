@@ -56,9 +56,10 @@ impl<C: Codec> Workspace<C> {
     ghost use Rattle.aec_params.specs.Codewords.{bytes_of};
     ghost use Rattle.aec_bits.specs.Codec.{AreHeld, code_of};
     ghost use Rattle.aec_bits.specs.Devices.{AppendsFront};
-    ghost use Rattle.aec_edit.specs.Workspace.{interval_count, start_of};
+    ghost use Rattle.aec_edit.specs.Workspace.{interval_count, start_of, IsSound};
+    ghost use Rattle.aec_edit.specs.CodedLists.{IsCutAt};
     ghost use Rattle.aec_edit.specs.Calls.{RisesAtMost};
-    ghost use Rattle.aec_edit.specs.Unchanged.{IsOnlyRead};
+    ghost use Rattle.aec_edit.specs.Unchanged.{IsOnlyRead, KeepsCodec};
     ghost use Rattle.aec_edit.specs.Changes.{recoded, IsCodeFor};
 
     /// An empty workspace, which is to hold no more samples than the limit. Takes no memory.
@@ -184,10 +185,7 @@ impl<C: Codec> Workspace<C> {
     /// The number of samples in an interval that isn't the last.
     pub(crate) fn interval_len(&self) -> u64
         ensures value { result ≡ (C.format self.now.codec).most }
-        ensures some { 1 ≤ (C.format self.now.codec).most }
-        ensures few { (C.format self.now.codec).most ≤ 262144 }
-        ensures limit { self.now.limit ≤ 2 ^ 32 }
-        ensures held { AreHeld (C.format self.now.codec) self.now.samples }
+        ensures sound { IsSound (C.format self.now.codec) self.now.limit self.now.samples }
     {
         let _ = &self.coded;
         self.codec.interval_len()
@@ -215,8 +213,7 @@ impl<C: Codec> Workspace<C> {
     /// That place, with the interval's number.
     pub(crate) fn cut_at(&self, i: u64) -> Cut
         requires { i ≤ interval_count (C.format self.now.codec) self.now.samples }
-        ensures interval { result.interval ≡ i }
-        ensures bit { result.bit ≡ start_of (C.format self.now.codec) self.now.samples i }
+        ensures { IsCutAt (C.format self.now.codec) self.now.samples i result }
     {
         Cut {
             interval: i,
@@ -255,8 +252,7 @@ impl<C: Codec> Workspace<C> {
             ≡ recoded (C.format self.old.codec) from to fresh self.old.samples) }
         ensures err { OnErr result (self.new.samples ≡ self.old.samples) }
         ensures fault { IfErr result (λ e. (e ≡ Memory) × (0 < coded.now.count)) }
-        ensures limit { self.new.limit ≡ self.old.limit }
-        ensures codec { self.new.codec ≡ self.old.codec }
+        ensures rest { KeepsCodec self.old self.new }
     {
         let from = self.cut_at(from);
         let to = self.cut_at(to);

@@ -1,8 +1,8 @@
 //! Fresh samples and their code, an interval at a time, in lists that one edit leaves to the next.
 
-ghost use Rattle.std.specs.Prelude.{◌≡◌, ◌⊎◌, ◌≤◌, ◌++◌, true, false, [], length, drop, OnOk, OnErr, IfErr, ◌*◌, vec_capacity};
+ghost use Rattle.std.specs.Prelude.{◌≡◌, ◌<◌, ◌≤◌, [], length, drop, OnOk, IfErr, ◌*◌, vec_capacity};
 ghost use Rattle.aec_params.specs.declared.fault.Fault.TheVariants.{Memory};
-ghost use Rattle.aec_edit.specs.Fresh.{BeginsWhole};
+ghost use Rattle.aec_edit.specs.Coming.{MovesToFront, KeepsEnds};
 ghost use Rattle.aec_edit.specs.Workspace.{IsScratchRoom};
 
 use super::Workspace;
@@ -24,27 +24,31 @@ pub(crate) struct Fresh<'a> {
 }
 
 impl<'a> Fresh<'a> {
-    /// Whether the next interval, of `most` samples, stands whole in the values.
-    pub fn begins_whole(&self, most: usize) -> bool
-        ensures whole { result ≡ true → BeginsWhole most self.now.front.items self.now.values.now }
-        ensures not { result ≡ false
-            → BeginsWhole most self.now.front.items self.now.values.now → ⊥ }
+    /// Keeps the first `head` and the last `tail` of the samples in front, with the values between
+    /// them: written over as many samples there, or else with the last ones behind. `Memory` where
+    /// a growth was refused.
+    pub fn keep_ends(&mut self, head: usize, tail: usize) -> Result<(), Fault>
+        requires { tail ≤ length self.old.front.items }
+        ensures ok { OnOk result (KeepsEnds head tail self.old self.new) }
+        ensures fault { IfErr result (λ e. (e ≡ Memory) × (0 < tail)) }
     {
-        self.front.is_empty() && self.values.len() >= most
+        let end = self.front.len() - tail;
+        self.back.clear();
+        if head <= end && self.values.len() == end - head {
+            self.front[head..end].copy_from_slice(self.values);
+            self.values = &[];
+            return Ok(());
+        }
+        self.back.extend_from_slice(&self.front[end..])?;
+        self.front.truncate(head);
+        Ok(())
     }
 
     /// Moves values and what follows them to the front, until it holds a whole interval. `Memory`
     /// where a growth was refused.
     pub fn gather_held(&mut self, most: usize) -> Result<(), Fault>
-        ensures ok { OnOk result (self.new.front.items
-            ++ (self.new.values.now ++ self.new.back.items)
-            ≡ self.old.front.items ++ (self.old.values.now ++ self.old.back.items)) }
-        ensures full { OnOk result
-            ((most ≤ length self.new.front.items)
-            ⊎ ((self.new.values.now ≡ []) × (self.new.back.items ≡ []))) }
+        ensures ok { OnOk result (MovesToFront most self.old self.new) }
         ensures fault { IfErr result (λ e. e ≡ Memory) }
-        ensures next { self.new.next ≡ self.old.next }
-        ensures end { self.new.end ≡ self.old.end }
     {
         let some = most.saturating_sub(self.front.len()).min(self.values.len());
         let (now, later) = self.values.split_at(some);
@@ -85,10 +89,8 @@ pub(crate) struct Scratch {
 impl Scratch {
     /// Lists with no room. Takes no memory.
     pub fn new(alloc: Global) -> Scratch
-        ensures front { vec_capacity result.front ≡ 0 }
-        ensures back { vec_capacity result.back ≡ 0 }
-        ensures bits { result.coded.bits.room ≡ 0 }
-        ensures starts { vec_capacity result.coded.starts ≡ 0 }
+        ensures { IsScratchRoom 0 (vec_capacity result.front) (vec_capacity result.back)
+            result.coded.bits.room (vec_capacity result.coded.starts) }
     {
         Scratch {
             front: Vec::new(alloc),
@@ -125,38 +127,23 @@ fn emptied(alloc: Global, mut items: Vec<i64>, most: usize) -> Vec<i64>
 }
 
 impl<C: Codec> Workspace<C> {
-    ghost use Rattle.std.specs.Prelude.{◌≡◌, ◌+◌, ◌-◌, ◌^◌, ◌<◌, ◌≤◌, ◌++◌, ◌∷◌, [], min, length, take, drop, IfOk, OnOk, OnErr, IfErr};
+    ghost use Rattle.std.specs.Prelude.{◌≡◌, ◌+◌, ◌-◌, ◌^◌, ◌<◌, ◌≤◌, [], IfOk, OnOk, IfErr};
     ghost use Rattle.std.specs.Int.{div_ceil};
     ghost use Rattle.aec_params.specs.declared.fault.Fault.TheVariants.{Memory};
-    ghost use Rattle.aec_bits.specs.Codec.{AreHeld, code_of};
-    ghost use Rattle.aec_edit.specs.Workspace.{interval_count};
-    ghost use Rattle.aec_edit.specs.Calls.{RisesAtMost};
-    ghost use Rattle.aec_edit.specs.Index.{starts_of};
-    ghost use Rattle.aec_edit.specs.Fresh.{to_come, IsGathered, OpensAtMost};
-    ghost use Rattle.aec_edit.specs.Unchanged.{KeepsSamples};
+    ghost use Rattle.aec_edit.specs.CodedLists.{IsNoCode};
+    ghost use Rattle.aec_edit.specs.Fresh.{IsGathered};
+    ghost use Rattle.aec_edit.specs.Coming.{coming, HasOldPart, Gathers, HasNext, CodesNext, CanBeCoded, CodesFresh};
+    ghost use Rattle.aec_edit.specs.Unchanged.{KeepsSamples, IsOnlyRead};
 
     /// Brings the next interval of fresh samples to the front. `Memory` where a growth was refused.
     fn gather(&mut self, fresh: &mut Fresh<'_>) -> Result<(), Fault>
-        requires order { fresh.old.next ≤ fresh.old.end }
-        requires within { fresh.old.end ≤ interval_count (C.format self.old.codec)
-            self.old.samples }
-        ensures coming { let n = (C.format self.old.codec).most in OnOk result (
-            to_come n self.old.samples fresh.new.front.items fresh.new.values.now
-            fresh.new.back.items fresh.new.next fresh.new.end
-            ≡ to_come n self.old.samples fresh.old.front.items fresh.old.values.now
-            fresh.old.back.items fresh.old.next fresh.old.end) }
-        ensures gathered { let n = (C.format self.old.codec).most in OnOk result
-            (IsGathered n fresh.new.front.items
-            (to_come n self.old.samples fresh.new.front.items fresh.new.values.now
-            fresh.new.back.items fresh.new.next fresh.new.end)) }
+        requires { HasOldPart C.format self.old fresh.old }
+        ensures ok { OnOk result (Gathers C.format C.read self.old self.new fresh.old fresh.new) }
+        ensures gathered { OnOk result (IsGathered (C.format self.old.codec).most
+            fresh.new.front.items (coming C.format self.old fresh.new)) }
         ensures fault { IfErr result (λ e. e ≡ Memory) }
-        ensures order { fresh.new.next ≤ fresh.new.end }
-        ensures end { fresh.new.end ≡ fresh.old.end }
-        ensures opens { OpensAtMost (fresh.old.end - fresh.old.next)
-            (fresh.new.end - fresh.new.next)
-            (C.read self.old.codec) (C.read self.new.codec) }
-        ensures calls { C.called self.new.codec ≡ C.called self.old.codec }
-        ensures same { KeepsSamples C.format self.old self.new }
+        ensures read { IsOnlyRead C.format C.called C.read (fresh.old.end - fresh.old.next)
+            self.old self.new }
     {
         let most = self.interval_len();
         fresh.gather_held(most as usize)?;
@@ -168,134 +155,42 @@ impl<C: Codec> Workspace<C> {
         Ok(())
     }
 
-    /// Codes one interval after others. `Memory` where a growth was refused; the call may have been
-    /// made then.
-    fn code_interval(&mut self, interval: &[i64], coded: &mut Coded) -> Result<(), Fault>
-        requires some { 1 ≤ length interval.now }
-        requires few { length interval.now ≤ (C.format self.old.codec).most }
-        requires held { AreHeld (C.format self.old.codec) interval.now }
-        requires calls { C.called self.old.codec < 2 ^ 64 - 1 }
-        ensures bits { OnOk result
-            (coded.new.bits.list ≡ coded.old.bits.list
-            ++ (C.format self.old.codec).bits_of interval.now) }
-        ensures starts { OnOk result
-            (coded.new.starts.items ≡ coded.old.starts.items ++ length coded.old.bits.list ∷ []) }
-        ensures calls { OnOk result (C.called self.new.codec ≡ C.called self.old.codec + 1) }
-        ensures rises { RisesAtMost 1 (C.called self.old.codec) (C.called self.new.codec) }
-        ensures fault { IfErr result (λ e. e ≡ Memory) }
-        ensures reads { C.read self.new.codec ≡ C.read self.old.codec }
-        ensures same { KeepsSamples C.format self.old self.new }
-    {
-        coded.starts.push(coded.bits.len())?;
-        self.codec.code(interval, &mut coded.bits)?;
-        Ok(())
-    }
-
-    /// Codes the interval in front, and takes its samples away.
-    fn code_front(&mut self, front: &mut Vec<i64>, coded: &mut Coded) -> Result<(), Fault>
-        requires some { 1 ≤ length front.old.items }
-        requires held { AreHeld (C.format self.old.codec) front.old.items }
-        requires calls { C.called self.old.codec < 2 ^ 64 - 1 }
-        ensures front { OnOk result
-            (front.new.items ≡ drop (C.format self.old.codec).most front.old.items) }
-        ensures bits { OnOk result (coded.new.bits.list ≡ coded.old.bits.list
-            ++ (C.format self.old.codec).bits_of
-            (take (C.format self.old.codec).most front.old.items)) }
-        ensures starts { OnOk result
-            (coded.new.starts.items ≡ coded.old.starts.items ++ length coded.old.bits.list ∷ []) }
-        ensures calls { OnOk result (C.called self.new.codec ≡ C.called self.old.codec + 1) }
-        ensures rises { RisesAtMost 1 (C.called self.old.codec) (C.called self.new.codec) }
-        ensures fault { IfErr result (λ e. e ≡ Memory) }
-        ensures reads { C.read self.new.codec ≡ C.read self.old.codec }
-        ensures same { KeepsSamples C.format self.old self.new }
-    {
-        let most = self.interval_len() as usize;
-        let len = most.min(front.len());
-        self.code_interval(&front[..len], coded)?;
-        drop_front(front, len);
-        Ok(())
-    }
-
     /// Codes the next interval of fresh samples after others. Where it stands whole in the values,
     /// it is coded from there; else it is brought to the front. `Memory` where a growth was
     /// refused; the call may have been made then.
     fn code_next(&mut self, fresh: &mut Fresh<'_>, coded: &mut Coded) -> Result<(), Fault>
-        requires order { fresh.old.next ≤ fresh.old.end }
-        requires within { fresh.old.end ≤ interval_count (C.format self.old.codec)
-            self.old.samples }
-        requires some { 1 ≤ length (to_come (C.format self.old.codec).most self.old.samples
-            fresh.old.front.items fresh.old.values.now fresh.old.back.items fresh.old.next
-            fresh.old.end) }
-        requires held { AreHeld (C.format self.old.codec)
-            (to_come (C.format self.old.codec).most self.old.samples
-            fresh.old.front.items fresh.old.values.now fresh.old.back.items fresh.old.next
-            fresh.old.end) }
-        requires calls { C.called self.old.codec < 2 ^ 64 - 1 }
-        ensures coming { let n = (C.format self.old.codec).most in OnOk result (
-            to_come n self.old.samples fresh.new.front.items fresh.new.values.now
-            fresh.new.back.items fresh.new.next fresh.new.end
-            ≡ drop n (to_come n self.old.samples fresh.old.front.items fresh.old.values.now
-            fresh.old.back.items fresh.old.next fresh.old.end)) }
-        ensures bits { let n = (C.format self.old.codec).most in OnOk result (
-            coded.new.bits.list ≡ coded.old.bits.list ++ (C.format self.old.codec).bits_of
-            (take n (to_come n self.old.samples fresh.old.front.items fresh.old.values.now
-            fresh.old.back.items fresh.old.next fresh.old.end))) }
-        ensures starts { OnOk result
-            (coded.new.starts.items ≡ coded.old.starts.items ++ length coded.old.bits.list ∷ []) }
-        ensures calls { OnOk result (C.called self.new.codec ≡ C.called self.old.codec + 1) }
-        ensures rises { RisesAtMost 1 (C.called self.old.codec) (C.called self.new.codec) }
-        ensures order { fresh.new.next ≤ fresh.new.end }
-        ensures end { fresh.new.end ≡ fresh.old.end }
-        ensures opens { OpensAtMost (fresh.old.end - fresh.old.next)
-            (fresh.new.end - fresh.new.next)
-            (C.read self.old.codec) (C.read self.new.codec) }
+        requires { HasNext C.format C.called self.old fresh.old }
+        ensures ok { OnOk result (CodesNext C.format C.called C.read self.old self.new
+            fresh.old fresh.new coded.old coded.new) }
         ensures fault { IfErr result (λ e. e ≡ Memory) }
-        ensures same { KeepsSamples C.format self.old self.new }
+        ensures same { KeepsSamples C.format C.called C.read 1 (fresh.old.end - fresh.old.next)
+            self.old self.new }
     {
         let most = self.interval_len() as usize;
-        if fresh.begins_whole(most) {
+        coded.starts.push(coded.bits.len())?;
+        if fresh.front.is_empty() && fresh.values.len() >= most {
             let (interval, later) = fresh.values.split_at(most);
             fresh.values = later;
-            return self.code_interval(interval, coded);
+            return self.codec.code(interval, &mut coded.bits);
         }
         self.gather(fresh)?;
-        self.code_front(&mut fresh.front, coded)
+        let len = most.min(fresh.front.len());
+        self.codec.code(&fresh.front[..len], &mut coded.bits)?;
+        drop_front(&mut fresh.front, len);
+        Ok(())
     }
 
     /// Codes fresh samples, so many as `count` says. `Memory` where a growth was refused; some
     /// calls may have been made then.
     pub(crate) fn code_fresh(&mut self, fresh: &mut Fresh<'_>, count: u64) -> Result<Coded, Fault>
-        requires order { fresh.old.next ≤ fresh.old.end }
-        requires within { fresh.old.end ≤ interval_count (C.format self.old.codec)
-            self.old.samples }
-        requires held { AreHeld (C.format self.old.codec)
-            (to_come (C.format self.old.codec).most self.old.samples
-            fresh.old.front.items fresh.old.values.now fresh.old.back.items fresh.old.next
-            fresh.old.end) }
-        requires count { count ≡ length (to_come (C.format self.old.codec).most self.old.samples
-            fresh.old.front.items fresh.old.values.now fresh.old.back.items fresh.old.next
-            fresh.old.end) }
-        requires calls { C.called self.old.codec + div_ceil count (C.format self.old.codec).most ≤ 2
-            ^ 64 - 1 }
-        ensures bits { IfOk result
-            (λ coded. coded.bits.list
-            ≡ code_of (C.format self.old.codec) (to_come (C.format self.old.codec).most
-            self.old.samples fresh.old.front.items fresh.old.values.now fresh.old.back.items
-            fresh.old.next fresh.old.end)) }
-        ensures starts { IfOk result
-            (λ coded. coded.starts.items
-            ≡ starts_of (C.format self.old.codec) 0 (to_come (C.format self.old.codec).most
-            self.old.samples fresh.old.front.items fresh.old.values.now fresh.old.back.items
-            fresh.old.next fresh.old.end)) }
-        ensures count { IfOk result (λ coded. coded.count ≡ count) }
-        ensures calls { OnOk result (C.called self.new.codec
-            ≡ C.called self.old.codec + div_ceil count (C.format self.old.codec).most) }
-        ensures rises { RisesAtMost (div_ceil count (C.format self.old.codec).most)
-            (C.called self.old.codec) (C.called self.new.codec) }
-        ensures reads { RisesAtMost (fresh.old.end - fresh.old.next) (C.read self.old.codec)
-            (C.read self.new.codec) }
+        requires fresh { CanBeCoded C.format self.old fresh.old count }
+        requires calls { C.called self.old.codec + div_ceil count (C.format self.old.codec).most
+            ≤ 2 ^ 64 - 1 }
+        ensures ok { IfOk result (CodesFresh C.format C.called self.old self.new fresh.old count) }
         ensures fault { IfErr result (λ e. (e ≡ Memory) × (0 < count)) }
-        ensures same { KeepsSamples C.format self.old self.new }
+        ensures same { KeepsSamples C.format C.called C.read
+            (div_ceil count (C.format self.old.codec).most) (fresh.old.end - fresh.old.next)
+            self.old self.new }
     {
         let most = self.interval_len();
         let mut coded = self.take_coded();
@@ -311,8 +206,7 @@ impl<C: Codec> Workspace<C> {
     /// Empty lists for samples before values and after them, in the room that the edit before has
     /// left.
     pub(crate) fn take_lists(&mut self) -> (Vec<i64>, Vec<i64>)
-        ensures front { result.0.items ≡ [] }
-        ensures back { result.1.items ≡ [] }
+        ensures empty { (result.0.items ≡ []) × (result.1.items ≡ []) }
         ensures same { self.new ≡ self.old }
     {
         let alloc = self.alloc;
@@ -328,9 +222,7 @@ impl<C: Codec> Workspace<C> {
 
     /// The code of no samples, in such room.
     pub(crate) fn take_coded(&mut self) -> Coded
-        ensures bits { result.bits.list ≡ [] }
-        ensures starts { result.starts.items ≡ [] }
-        ensures count { result.count ≡ 0 }
+        ensures none { IsNoCode result }
         ensures same { self.new ≡ self.old }
     {
         let empty = Coded::new(self.alloc);

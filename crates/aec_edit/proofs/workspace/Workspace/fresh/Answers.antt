@@ -1,8 +1,9 @@
-use Rattle.std.proofs.Common.{◌≡◌, ◌-◌, ◌%◌, length, take, drop, arith, ap, ◌∙◌}
+use Rattle.std.proofs.Common.{◌≡◌, ◌-◌, ◌%◌, length, arith, ap, ◌∙◌}
+use Rattle.std.specs.Int.{div_ceil}
 use Rattle.std.proofs.lemmas.Result.{err_from_is_err_and}
 use Rattle.aec_bits.specs.Codec.{Format}
 use Rattle.aec_edit.specs.Opened.{opened_samples}
-use Rattle.aec_edit.proofs.EndSamplesLemmas.{ends_head, ends_tail, opened_some, touched_end}
+use Rattle.aec_edit.proofs.EndSamplesLemmas.{ends_tail, opened_some, touched_end, fresh_is}
 use Rattle.aec_edit.proofs.UpToLemmas.{some_calls, kept_more}
 use Rattle.aec_edit.proofs.workspace.Workspace.fresh.Goals as goal
 use Rattle.aec_params.proofs.MoveLaws.{from_to}
@@ -20,8 +21,8 @@ returns-in_err-open_ends-clause-fault g c =
     (omega (arith, opened, more)) in
     rw (p.1, p.2) (c.in_err-open_ends.ensures.fault.0, codes)
 
-pub head_and_tail-requires-clause-tail : goal.head_and_tail-requires-clause-tail
-head_and_tail-requires-clause-tail g c =
+pub keep_ends-requires : goal.keep_ends-requires
+keep_ends-requires g c =
     let f : Format = g.C.Codec.format c.args.self.now.codec in
     let end = touched_end _ _ _ f.most _ c.args.stop _ c.count.ensures.value c.interval_len-most.ensures.value c.div_ceil-next.ensures c.min.ensures in
     let there = ends_tail f.most c.args.first c.args.stop c.args.self.now.samples
@@ -30,39 +31,30 @@ head_and_tail-requires-clause-tail g c =
     rw c.take_lists-front.ensures.same at c.in_ok-open_ends.ensures.ok in
     omega (arith, end, there.0, ap length ends)
 
-pub returns-in_err-head_and_tail-clause-fault : goal.returns-in_err-head_and_tail-clause-fault
-returns-in_err-head_and_tail-clause-fault g c =
-    let p = err_from_is_err_and c.from_residual-in_err-head_and_tail.result c.from_residual-in_err-head_and_tail.ensures.1 in
+pub returns-in_err-keep_ends-clause-fault : goal.returns-in_err-keep_ends-clause-fault
+returns-in_err-keep_ends-clause-fault g c =
+    let p = err_from_is_err_and c.from_residual-in_err-keep_ends.result c.from_residual-in_err-keep_ends.ensures.1 in
     let seen = c.args.self.now in
     let f : Format = g.C.Codec.format seen.codec in
     let lawful = g.C.Codec.lawful seen.codec in
     let end = touched_end _ _ _ f.most _ c.args.stop _ c.count.ensures.value c.interval_len-most.ensures.value c.div_ceil-next.ensures c.min.ensures in
     let more = kept_more f seen.limit c.args.first c.args.stop c.args.to seen.samples c.args.values.now lawful c.count.ensures.held c.requires in
     let codes = some_calls f seen.limit c.args.first c.args.stop c.args.to seen.samples c.args.values.now lawful c.count.ensures.held c.requires
-    (omega (arith, c.in_err-head_and_tail.ensures.fault.1, end, more)) in
-    rw (p.1, p.2) (c.in_err-head_and_tail.ensures.fault.0, codes)
+    (omega (arith, c.in_err-keep_ends.ensures.fault.1, end, more)) in
+    rw (p.1, p.2) (c.in_err-keep_ends.ensures.fault.0, codes)
 
-pub returns-clause-front : goal.returns-clause-front
-returns-clause-front g c =
-    let f : Format = g.C.Codec.format c.args.self.now.codec in
-    let head : c.args.first % c.interval_len-most.result ≡ c.args.first % f.most = ap (λ n. c.args.first % n) c.interval_len-most.ensures.value in
-    let there = ends_head f.most c.args.first c.args.stop c.args.self.now.samples
-    (g.C.Codec.lawful c.args.self.now.codec).some c.requires.order c.requires.within in
-    let ends : c.open_ends.new.ends.items ≡ opened_samples f.most (from_to c.args.first c.args.stop) c.args.self.now.samples =
+pub returns-clause-ok : goal.returns-clause-ok
+returns-clause-ok g c =
+    let seen = c.args.self.now in
+    let f : Format = g.C.Codec.format seen.codec in
+    let most = c.interval_len-most.ensures.value in
+    let end = touched_end _ _ _ f.most _ c.args.stop _ c.count.ensures.value most c.div_ceil-next.ensures c.min.ensures in
+    let ends : c.open_ends.new.ends.items ≡ opened_samples f.most (from_to c.args.first c.args.stop) seen.samples =
     rw c.take_lists-front.ensures.same at c.in_ok-open_ends.ensures.ok in
-    c.in_ok-head_and_tail.ensures.head ∙ ap (λ l. take (c.args.first % c.interval_len-most.result) l) ends
-    ∙ ap (λ m. take m (opened_samples f.most (from_to c.args.first c.args.stop) c.args.self.now.samples)) head ∙ there.1
-
-pub returns-clause-back : goal.returns-clause-back
-returns-clause-back g c =
-    let f : Format = g.C.Codec.format c.args.self.now.codec in
-    let end = touched_end _ _ _ f.most _ c.args.stop _ c.count.ensures.value c.interval_len-most.ensures.value c.div_ceil-next.ensures c.min.ensures in
-    let there = ends_tail f.most c.args.first c.args.stop c.args.self.now.samples
-    (g.C.Codec.lawful c.args.self.now.codec).some c.requires.order c.requires.within in
-    let ends : c.open_ends.new.ends.items ≡ opened_samples f.most (from_to c.args.first c.args.stop) c.args.self.now.samples =
-    rw c.take_lists-front.ensures.same at c.in_ok-open_ends.ensures.ok in
-    c.in_ok-head_and_tail.ensures.tail
-    ∙ ap (λ l. drop (length l - (c.min.result - c.args.stop)) l) ends
-    ∙ ap (λ m. drop (length (opened_samples f.most (from_to c.args.first c.args.stop) c.args.self.now.samples) - m)
-    (opened_samples f.most (from_to c.args.first c.args.stop) c.args.self.now.samples)) (ap (λ m. m - c.args.stop) end)
-    ∙ there.1
+    let kept = c.in_ok-keep_ends.ensures.ok in
+    record {
+      all = fresh_is f.most c.args.first c.args.stop _ _ seen.samples c.args.values.now c.open_ends.new.ends.items _ (g.C.Codec.lawful seen.codec).some
+          c.requires.order c.requires.within ends (ap (λ n. c.args.first % n) most) (ap (λ m. m - c.args.stop) end) kept.all;
+      next = kept.next ∙ c.div_ceil-next.ensures ∙ ap (div_ceil c.args.stop) most;
+      end = kept.end;
+    }

@@ -7,7 +7,7 @@ exchange_up_to-requires g c =
     let seen = c.args.self.now in
     rw c.recoded_end-to.ensures
     (insert_can (g.C.Codec.format seen.codec) seen.limit c.args.first seen.samples c.args.values.now (g.C.Codec.lawful seen.codec).some
-    c.in_ok-check_growth.ensures.held (omega (arith, c.count-count.ensures.value)) c.in_ok-check_growth.ensures.few)
+    c.in_ok-check_growth.ensures.ok.held (omega (arith, c.count-count.ensures.value)) c.in_ok-check_growth.ensures.ok.few)
 
 pub returns-clause-applies : goal.returns-clause-applies
 returns-clause-applies g c =
@@ -16,5 +16,5 @@ returns-clause-applies g c =
     (g.C.Codec.read seen.codec) c.args.first _ seen.samples c.args.values.now c.exchange_up_to.result
     c.exchange_up_to.new.self.samples (g.C.Codec.called c.exchange_up_to.new.self.codec) (g.C.Codec.read c.exchange_up_to.new.self.codec)
     (g.C.Codec.lawful seen.codec).some
-    (search rules) c.in_ok-check_growth.ensures.held (omega (arith, c.count-count.ensures.value)) c.in_ok-check_growth.ensures.few
+    (search rules) c.in_ok-check_growth.ensures.ok.held (omega (arith, c.count-count.ensures.value)) c.in_ok-check_growth.ensures.ok.few
     c.recoded_end-to.ensures c.exchange_up_to.ensures.answer c.exchange_up_to.ensures.ok c.exchange_up_to.ensures.err c.exchange_up_to.ensures.reads

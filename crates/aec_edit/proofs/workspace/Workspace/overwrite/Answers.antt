@@ -8,5 +8,5 @@ returns-clause-applies g c =
     overwritten (g.C.Codec.format seen.codec) seen.limit (g.C.Codec.called seen.codec)
     (g.C.Codec.read seen.codec) c.args.first seen.samples c.args.values.now c.exchange.result
     c.exchange.new.self.samples (g.C.Codec.called c.exchange.new.self.codec) (g.C.Codec.read c.exchange.new.self.codec) (g.C.Codec.lawful seen.codec).some
-    (search rules) c.in_ok-check_values.ensures.held (omega (arith, c.in_ok-check_places.ensures.ok)) c.exchange.ensures.answer c.exchange.ensures.ok
+    (search rules) c.in_ok-check_values.ensures.ok.held (omega (arith, c.in_ok-check_places.ensures.ok)) c.exchange.ensures.answer c.exchange.ensures.ok
     c.exchange.ensures.err c.exchange.ensures.reads

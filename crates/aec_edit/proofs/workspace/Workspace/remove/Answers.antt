@@ -7,7 +7,7 @@ exchange_up_to-requires g c =
     let seen = c.args.self.now in
     rw c.recoded_end-to.ensures
     (remove_can (g.C.Codec.format seen.codec) seen.limit c.args.first c.args.len seen.samples (g.C.Codec.lawful seen.codec).some
-    (omega (arith, c.in_ok-check_places.ensures.ok)) c.in_ok-check_places.ensures.few)
+    (omega (arith, c.in_ok-check_places.ensures.ok)) c.in_ok-check_places.ensures.sound.count)
 
 pub returns-clause-applies : goal.returns-clause-applies
 returns-clause-applies g c =

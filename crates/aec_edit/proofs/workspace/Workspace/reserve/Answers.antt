@@ -4,5 +4,6 @@ use Rattle.aec_edit.proofs.workspace.Workspace.reserve.Goals as goal
 
 pub returns-clause-samples : goal.returns-clause-samples
 returns-clause-samples g c =
-    kept_still c.self.inside.written _ (g.C.Codec.lawful c.self.inside.codec) c.reserve.ensures.count c.reserve.ensures.bits c.reserve.ensures.starts
+    let same = c.reserve.ensures.same in
+    kept_still c.self.inside.written _ (g.C.Codec.lawful c.self.inside.codec) same.count same.bits same.starts
     ∙ ap (λ w. w.samples) c.self.view_is
