@@ -1,5 +1,5 @@
 -- What an exchange does to a workspace, from what its steps have done.
-use Rattle.std.proofs.Common.{◌≡◌, ℕ, ◌-◌, ◌/◌, ◌<◌, ◌≤◌, ◌^◌, Ok, Err, List, length, ℤ, ap, ◌∙◌, arith}
+use Rattle.std.proofs.Common.{◌≡◌, ℕ, ◌-◌, ◌/◌, ◌<◌, ◌≤◌, ◌^◌, Result, Ok, Err, List, length, ℤ, ap, ◌∙◌, arith}
 use Rattle.std.specs.Int.{div_ceil}
 use Rattle.aec_params.specs.declared.fault.Fault.{Fault}
 use Rattle.aec_params.specs.declared.fault.Fault.TheVariants.{Memory}
@@ -7,13 +7,13 @@ use Rattle.aec_bits.specs.Codec.{Format, AreHeld, IsLawful}
 use Rattle.aec_edit.specs.Workspace.{Contents}
 use Rattle.aec_edit.specs.Unchanged.{IsOnlyRead, KeepsCodec, KeepsSamples}
 use Rattle.aec_edit.specs.Opened.{opened_count}
-use Rattle.aec_edit.specs.Changes.{IsExchangeUpTo, IsCodeFor, Exchanges, exchanged, fresh_of, fresh_total, recoding_calls, recoding_openings}
+use Rattle.aec_edit.specs.Changes.{IsExchange, IsExchangeUpTo, IsCodeFor, exchange_calls, Exchanges, exchanged, fresh_of, fresh_total, recoding_calls, recoding_openings}
 use Rattle.aec_edit.specs.Coming.{coming, CodesFresh, IsFreshFor}
 use Rattle.aec_edit.specs.declared.coded.Coded.{Coded}
 use Rattle.aec_edit.specs.declared.workspace.fresh_coding.Fresh.{Fresh}
 use Rattle.aec_edit.proofs.CallLemmas.{calls_left, lacks_memory}
 use Rattle.aec_edit.proofs.ExchangeLemmas.{recoding}
-use Rattle.aec_edit.proofs.UpToLemmas.{calls_in, code_came, decodes_both, fresh_coming, some_calls}
+use Rattle.aec_edit.proofs.UpToLemmas.{answer_at, calls_in, code_came, decodes_both, fresh_coming, reads_at, same_calls, some_calls, up_to_last}
 use Rattle.aec_params.proofs.MoveLaws.{from_to}
 
 -- a workspace that keeps its samples, with a codec that stayed since
@@ -106,3 +106,35 @@ module _ {C : Type 0} (format_of : C → Format) (called read : C → ℕ) (seen
         limit = rest.limit ∙ kept.limit ∙ got.limit;
         format = ap format_of rest.codec ∙ kept.format ∙ got.format;
       }
+
+-- an exchange for as many values, or at the end, codes up to its last interval
+module _ {C : Type 0} (format_of : C → Format) (called read : C → ℕ) (seen : Contents C) (first stop to : ℕ) (values : List ℤ)
+    (lawful : IsLawful (format_of seen.codec)) (held : AreHeld (format_of seen.codec) seen.samples)
+    (fits : IsExchange (format_of seen.codec) seen.limit seen.samples (from_to first stop) values)
+    (to_is : to ≡ div_ceil stop (format_of seen.codec).most) where
+  abbrev m : ℕ
+  m = (format_of seen.codec).most
+
+  pub can_exchange : IsExchangeUpTo (format_of seen.codec) seen.limit seen.samples (from_to first stop) to values
+  can_exchange = rw to_is (up_to_last (format_of seen.codec) seen.limit first stop seen.samples values lawful held fits)
+
+  same_needs : recoding_calls m (length seen.samples) (recoding first stop to (length values)) ≡ exchange_calls m first (length values)
+  same_needs =
+      ap (λ t. recoding_calls m (length seen.samples) (recoding first stop t (length values))) to_is
+      ∙ same_calls (format_of seen.codec) seen.limit first stop seen.samples values lawful held fits
+
+  no_more : recoding_openings m (length seen.samples) (from_to first stop) to ≡ opened_count m (length seen.samples) (from_to first stop)
+  no_more = omega (arith, to_is)
+
+  pub exchanged_to_last : {left : List ℤ} {r : Result ℕ Fault} {new : Contents C}
+      → Exchanges format_of called read (recoding_calls m (length seen.samples) (recoding first stop to (length values)))
+      (recoding_openings m (length seen.samples) (from_to first stop) to) left r seen new
+      → Exchanges format_of called read (exchange_calls m first (length values)) (opened_count m (length seen.samples) (from_to first stop)) left r seen new
+  exchanged_to_last made = record {
+    answer = answer_at _ _ _ _ _ same_needs made.answer;
+    ok = made.ok;
+    err = made.err;
+    reads = reads_at _ _ _ _ _ _ _ same_needs no_more made.reads;
+    limit = made.limit;
+    format = made.format;
+  }

@@ -48,7 +48,7 @@ whole_calls n old first len h whole within =
 
 -- ---- how many are decoded
 
-ends_opened : (n old first : ℕ) → 0 < n → opened_count n old (from_to first first) ≤ inside_calls n first
+pub ends_opened : (n old first : ℕ) → 0 < n → opened_count n old (from_to first first) ≤ inside_calls n first
 ends_opened n old first h =
     let begins = begins_before first n h in
     let same : first ≤ first = omega arith in

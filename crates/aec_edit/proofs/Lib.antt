@@ -20,6 +20,7 @@ pub mod OverwriteLemmas
 pub mod MoveLemmas
 pub mod TruncateLemmas
 pub mod InsertLemmas
+pub mod AppendLemmas
 pub mod RemoveLemmas
 pub mod RangeLemmas
 pub mod EarlyLemmas

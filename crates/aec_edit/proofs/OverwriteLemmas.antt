@@ -1,5 +1,5 @@
 -- What an overwrite codes and decodes, as its definition has it and as the code has it.
-use Rattle.std.proofs.Common.{◌≡◌, ℕ, ◌+◌, ◌-◌, ◌*◌, ◌/◌, ◌<◌, ◌≤◌}
+use Rattle.std.proofs.Common.{◌≡◌, ℕ, ◌+◌, ◌-◌, ◌*◌, ◌/◌, ◌<◌, ◌≤◌, inr, refl}
 use Rattle.std.proofs.Common.{Result, List, length, ℤ, sym, ap, ◌∙◌, arith}
 use Rattle.std.specs.Result.{MatchResult, OnOk, OnErr}
 use Rattle.std.specs.Int.{div_ceil}
@@ -14,7 +14,7 @@ use Rattle.aec_bits.specs.Codec.{Format, AreHeld}
 use Rattle.aec_bits.proofs.RefusalLaws.{overwrite_fits}
 use Rattle.aec_edit.specs.Calls.{RisesAtMost}
 use Rattle.aec_edit.specs.Steps.{Applies}
-use Rattle.aec_edit.specs.Changes.{IsExchanged, IsNotExchanged, exchanged, exchange_calls, opened_by}
+use Rattle.aec_edit.specs.Changes.{IsExchange, IsExchanged, IsNotExchanged, exchanged, exchange_calls, opened_by}
 use Rattle.aec_edit.specs.Opened.{opened_count}
 use Rattle.aec_params.proofs.CountLaws.{ceil_unique}
 use Rattle.aec_edit.proofs.ExchangeLemmas.{begins_before}
@@ -52,6 +52,16 @@ overwrite_opens n old first len h some =
     ap (λ l. length (filter (keeps_a_sample n old (from_to first (first + len))) l)) reached
 
 -- ---- the answer
+
+pub overwrite_can : (f : Format) (limit first : ℕ) (s values : List ℤ) → AreHeld f values → first + length values ≤ length s → length s ≤ limit
+    → IsExchange f limit s (from_to first (first + length values)) values
+overwrite_can f limit first s values held within few = record {
+  order = omega arith;
+  within = within;
+  held = held;
+  fitting = inr refl;
+  few = omega (arith, within, few);
+}
 
 -- an exchange that is an overwrite
 pub overwritten : (f : Format) (limit calls reads first : ℕ) (s values : List ℤ) (r : Result ℕ Fault) (s' : List ℤ) (calls' reads' : ℕ) → 1 ≤ f.most

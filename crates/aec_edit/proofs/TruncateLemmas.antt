@@ -13,7 +13,7 @@ use Rattle.aec_bits.specs.Codec.{Format}
 use Rattle.aec_bits.proofs.RefusalLaws.{truncate_fits}
 use Rattle.aec_edit.specs.Calls.{RisesAtMost}
 use Rattle.aec_edit.specs.Steps.{Applies}
-use Rattle.aec_edit.specs.Changes.{IsExchanged, IsNotExchanged, exchanged, exchange_calls, opened_by}
+use Rattle.aec_edit.specs.Changes.{IsExchange, IsExchanged, IsNotExchanged, exchanged, exchange_calls, opened_by}
 use Rattle.aec_edit.specs.Opened.{opened_count}
 use Rattle.aec_edit.proofs.ExchangeLemmas.{begins_before}
 use Rattle.aec_edit.proofs.AnswerLemmas.{from_exchange}
@@ -46,6 +46,16 @@ truncate_opens n old stop h less =
           omega (arith, count, inside)
       | inr cut ↦ omega (arith, count, inside, cut.1, first_few n old stop old h order)
     ]
+
+pub truncate_can : (f : Format) (limit stop old : ℕ) (s : List ℤ) → old ≡ length s → stop < old → length s ≤ limit
+    → IsExchange f limit s (from_to stop old) []
+truncate_can f limit stop old s old_is less few = record {
+  order = omega arith;
+  within = omega (arith, old_is);
+  held = refl;
+  fitting = inl old_is;
+  few = omega (arith, old_is, less, few);
+}
 
 -- an exchange that is a cut
 pub truncated : (f : Format) (limit calls reads stop old : ℕ) (s : List ℤ) (r : Result ℕ Fault) (s' : List ℤ) (calls' reads' : ℕ) → 1 ≤ f.most

@@ -9,18 +9,17 @@ use Rattle.std.proofs.lemmas.List.{length-take, length-drop, take-take, take-app
 use Rattle.aec_bits.specs.Codec.{Format, AreHeld, IsLawful, code_of}
 use Rattle.aec_params.specs.Edits.{Stretch}
 use Rattle.aec_edit.specs.Workspace.{Contents, interval_count}
-use Rattle.aec_edit.specs.Fresh.{old_part, to_come}
+use Rattle.aec_edit.specs.Fresh.{old_part}
 use Rattle.aec_edit.specs.Coming.{coming, HasOldPart, IsFreshFor}
 use Rattle.aec_edit.specs.declared.workspace.fresh_coding.Fresh.{Fresh}
 use Rattle.std.specs.Result.{MatchResult}
 use Rattle.aec_params.specs.declared.fault.Fault.{Fault}
-use Rattle.aec_params.specs.declared.fault.Fault.TheVariants.{Memory}
 use Rattle.aec_edit.specs.Index.{starts_of}
 use Rattle.aec_edit.specs.Calls.{RisesAtMost}
 use Rattle.aec_edit.specs.Changes.{IsCodeFor, IsExchanged, IsNotExchanged, opened_by, IsExchange, IsExchangeUpTo, IsRecoding, exchanged, exchange_calls, recoded, head_of, tail_of, fresh_of, fresh_total, recoding_calls}
 use Rattle.aec_params.proofs.CountLaws.{ceil_bounds}
 use Rattle.aec_edit.proofs.FreshLemmas.{coming_moved}
-use Rattle.aec_edit.proofs.CallLemmas.{calls_left, lacks_memory, recoded_at}
+use Rattle.aec_edit.proofs.CallLemmas.{calls_left, recoded_at}
 use Rattle.aec_edit.proofs.HeldLemmas.{held-take, held-drop, held-append}
 use Rattle.aec_edit.proofs.ExchangeLemmas.{begins_before, ends_after, ceil_mono, fresh_len, fresh_count}
 use Rattle.aec_params.proofs.MoveLaws.{from_to}

@@ -97,6 +97,10 @@ fresh_total n count x = x.gone.first % n + (x.values + (min count (x.to * n) - x
 abbrev pub recoding_calls : ℕ → ℕ → Recoding → ℕ
 recoding_calls n count x = div_ceil (fresh_total n count x) n
 
+-- how many it codes of the samples s
+abbrev pub calls_up_to : Format → List ℤ → Stretch → ℕ → List ℤ → ℕ
+calls_up_to f s gone to values = recoding_calls f.most (length s) (record { gone = gone; to = to; values = length values })
+
 -- how many it decodes
 abbrev pub recoding_openings : ℕ → ℕ → Stretch → ℕ → ℕ
 recoding_openings n count gone to = opened_count n count gone + (to - div_ceil gone.stop n)
@@ -127,3 +131,13 @@ pub record IsCodeFor (f : Format) (limit : ℕ) (s : List ℤ) (from to : ℕ) (
 -- where they are whole intervals
 abbrev pub recoded_end : Format → List ℤ → ℕ → ℕ → ℕ
 recoded_end f s place len = if len % f.most == 0 then div_ceil place f.most else interval_count f s
+
+-- a workspace that can make such an exchange
+abbrev pub CanExchange : {C : Type 0} → (C → Format) → Contents C → Stretch → ℕ → List ℤ → Type 0
+CanExchange format_of w gone to values = IsExchangeUpTo (format_of w.codec) w.limit w.samples gone to values
+
+-- such an exchange, and all that it does to a workspace
+abbrev pub ExchangesUpTo : {C : Type 0} → (C → Format) → (C → ℕ) → (C → ℕ) → Stretch → ℕ → List ℤ → Result ℕ Fault → Contents C → Contents C → Type 0
+ExchangesUpTo format_of called read gone to values r old new =
+    Exchanges format_of called read (calls_up_to (format_of old.codec) old.samples gone to values)
+    (recoding_openings (format_of old.codec).most (length old.samples) gone to) (exchanged gone values old.samples) r old new

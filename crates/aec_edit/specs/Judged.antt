@@ -1,9 +1,14 @@
 -- For proofs alone: no public contract cites this file.
--- What the code knows of values that it has judged. The contract of `apply` cites `due_refusal`
--- instead.
-use Rattle.std.specs.Prelude.{◌≡◌, ℕ, ◌+◌, ◌≤◌, None, List, length, ℤ}
+-- What the code knows of values that it has judged, and what an edit does to a workspace. The
+-- contract of `apply` cites `due_refusal` and what `Applies` names instead.
+use Rattle.std.specs.Prelude.{◌≡◌, ℕ, ◌+◌, ◌≤◌, None, Result, List, length, ℤ}
+use Rattle.aec_params.specs.declared.fault.Fault.{Fault}
+use Rattle.aec_params.specs.declared.edit.Edit.{Edit}
 use Rattle.aec_bits.specs.Codec.{Format, AreHeld}
 use Rattle.aec_bits.specs.Refusals.{growth_refusal, values_refusal}
+use Rattle.aec_edit.specs.Workspace.{Contents}
+use Rattle.aec_edit.specs.Steps.{Applies}
+use Rattle.aec_edit.specs.Unchanged.{KeepsRules}
 
 -- values that are samples
 pub record AreValues (f : Format) (values : List ℤ) : Type 0 where
@@ -15,3 +20,8 @@ pub record CanCome (f : Format) (limit : ℕ) (s values : List ℤ) : Type 0 whe
   pub fit : growth_refusal f limit s values ≡ None
   pub few : length s + length values ≤ limit
   pub held : AreHeld f values
+
+-- an edit and all that it does to a workspace
+pub record MakesEdit {C : Type 0} (format_of : C → Format) (called read : C → ℕ) (e : Edit) (r : Result ℕ Fault) (old new : Contents C) : Type 0 where
+  pub applies : Applies (format_of old.codec) old.limit old.samples (called old.codec) (read old.codec) e r new.samples (called new.codec) (read new.codec)
+  pub rules : KeepsRules format_of old new

@@ -17,7 +17,7 @@ impl<C: Codec> Workspace<C> {
     ghost use Rattle.aec_bits.specs.Refusals.{growth_refusal, values_refusal, first_unheld as first_unheld_of};
     ghost use Rattle.aec_edit.specs.Runs.{HasRun};
     ghost use Rattle.aec_edit.specs.Workspace.{IsSound};
-    ghost use Rattle.aec_edit.specs.Judged.{AreValues, CanCome};
+    ghost use Rattle.aec_edit.specs.Judged.{AreValues, CanCome, MakesEdit};
     ghost use Rattle.aec_edit.specs.declared.outcome.Outcome.{Outcome as OutcomeOf};
     ghost use Rattle.aec_edit.specs.Stops.{StopsAtRefusal};
 
@@ -53,11 +53,8 @@ impl<C: Codec> Workspace<C> {
 
     /// Replaces the samples from place `first` on by as many values.
     fn overwrite(&mut self, first: u64, values: &[i64]) -> Result<u64, Fault>
-        ensures applies { Applies (C.format self.old.codec) self.old.limit self.old.samples
-            (C.called self.old.codec)
-            (C.read self.old.codec) (Overwrite first values.now) result self.new.samples
-            (C.called self.new.codec) (C.read self.new.codec) }
-        ensures rules { KeepsRules C.format self.old self.new }
+        ensures { MakesEdit C.format C.called C.read (Overwrite first values.now) result
+            self.old self.new }
     {
         let len = values.len() as u64;
         self.check_places(first, len)?;
@@ -65,7 +62,9 @@ impl<C: Codec> Workspace<C> {
         if values.is_empty() {
             return Ok(0);
         }
-        self.exchange(first, first + len, values)
+        let stop = first + len;
+        let to = stop.div_ceil(self.interval_len());
+        self.exchange(first, stop, to, values)
     }
 
     /// Appends the values, as `apply` does with an `Append` of them, and returns what it returns.
@@ -80,17 +79,14 @@ impl<C: Codec> Workspace<C> {
         if values.is_empty() {
             return Ok(0);
         }
-        let count = self.count();
-        self.exchange(count, count, values)
+        let (count, to) = (self.count(), self.intervals());
+        self.exchange(count, count, to, values)
     }
 
     /// Keeps the first samples, up to place `stop`.
     fn truncate(&mut self, stop: u64) -> Result<u64, Fault>
-        ensures applies { Applies (C.format self.old.codec) self.old.limit self.old.samples
-            (C.called self.old.codec)
-            (C.read self.old.codec) (Truncate stop) result self.new.samples
-            (C.called self.new.codec) (C.read self.new.codec) }
-        ensures rules { KeepsRules C.format self.old self.new }
+        ensures { MakesEdit C.format C.called C.read (Truncate stop) result
+            self.old self.new }
     {
         let count = self.count();
         if stop > count {
@@ -99,16 +95,14 @@ impl<C: Codec> Workspace<C> {
         if stop == count {
             return Ok(0);
         }
-        self.exchange(stop, count, &[])
+        let to = self.intervals();
+        self.exchange(stop, count, to, &[])
     }
 
     /// Inserts the values before the sample at place `first`, or after the last one.
     fn insert(&mut self, first: u64, values: &[i64]) -> Result<u64, Fault>
-        ensures applies { Applies (C.format self.old.codec) self.old.limit self.old.samples
-            (C.called self.old.codec)
-            (C.read self.old.codec) (Insert first values.now) result self.new.samples
-            (C.called self.new.codec) (C.read self.new.codec) }
-        ensures rules { KeepsRules C.format self.old self.new }
+        ensures { MakesEdit C.format C.called C.read (Insert first values.now) result
+            self.old self.new }
     {
         let count = self.count();
         if first > count {
@@ -119,16 +113,13 @@ impl<C: Codec> Workspace<C> {
             return Ok(0);
         }
         let to = self.recoded_end(first, values.len() as u64);
-        self.exchange_up_to(first, first, to, values)
+        self.exchange(first, first, to, values)
     }
 
     /// Takes out the `len` samples from place `first` on.
     fn remove(&mut self, first: u64, len: u64) -> Result<u64, Fault>
-        ensures applies { Applies (C.format self.old.codec) self.old.limit self.old.samples
-            (C.called self.old.codec)
-            (C.read self.old.codec) (Remove first len) result self.new.samples
-            (C.called self.new.codec) (C.read self.new.codec) }
-        ensures rules { KeepsRules C.format self.old self.new }
+        ensures { MakesEdit C.format C.called C.read (Remove first len) result
+            self.old self.new }
     {
         self.check_places(first, len)?;
         if len == 0 {
@@ -136,7 +127,7 @@ impl<C: Codec> Workspace<C> {
         }
         let stop = first + len;
         let to = self.recoded_end(stop, len);
-        self.exchange_up_to(first, stop, to, &[])
+        self.exchange(first, stop, to, &[])
     }
 
     /// Where the intervals end that are coded anew where `len` samples come or go in front of place

@@ -11,50 +11,25 @@ impl<C: Codec> Workspace<C> {
     ghost use Rattle.aec_params.specs.declared.fault.Fault.TheVariants.{Memory};
     ghost use Rattle.aec_params.specs.Edits.{keeps_a_sample};
     ghost use Rattle.aec_edit.specs.Calls.{RisesAtMost};
-    ghost use Rattle.aec_edit.specs.Changes.{IsExchange, Exchanges, exchanged, exchange_calls, recoding_calls, recoding_openings, IsExchangeUpTo};
+    ghost use Rattle.aec_edit.specs.Changes.{CanExchange, ExchangesUpTo, calls_up_to};
     ghost use Rattle.aec_edit.specs.Coming.{IsFreshFor};
     ghost use Rattle.aec_edit.specs.Opened.{HasPlaces, opened_first, opened_behind, opened_count, samples_of, opened_samples};
     ghost use Rattle.aec_edit.specs.Unchanged.{KeepsRules, IsOnlyRead};
 
-    /// Exchanges the samples from place `first` up to place `stop` for values, as many, or at the
-    /// end, and answers how many intervals it has coded.
-    pub(crate) fn exchange(&mut self, first: u64, stop: u64, values: &[i64]) -> Result<u64, Fault>
-        requires { IsExchange (C.format self.old.codec) self.old.limit self.old.samples
-            (record { first = first; stop = stop }) values.now }
-        ensures { Exchanges C.format C.called C.read
-            (exchange_calls (C.format self.old.codec).most first (length values.now))
-            (opened_count (C.format self.old.codec).most (length self.old.samples)
-            (record { first = first; stop = stop }))
-            (exchanged (record { first = first; stop = stop }) values.now self.old.samples)
-            result self.old self.new }
-    {
-        let most = self.interval_len();
-        self.exchange_up_to(first, stop, stop.div_ceil(most), values)
-    }
-
     /// Exchanges the samples from place `first` up to place `stop` for values, and answers how many
     /// intervals it has coded: those from that of the first place up to number `to`, as they are
     /// then.
-    pub(crate) fn exchange_up_to(
+    pub(crate) fn exchange(
         &mut self,
         first: u64,
         stop: u64,
         to: u64,
         values: &[i64],
     ) -> Result<u64, Fault>
-        requires { IsExchangeUpTo (C.format self.old.codec) self.old.limit self.old.samples
-            (record { first = first; stop = stop }) to values.now }
-        ensures { Exchanges C.format C.called C.read
-            (recoding_calls (C.format self.old.codec).most (length self.old.samples)
-            (record {
-              gone = record { first = first; stop = stop };
-              to = to;
-              values = length values.now;
-            }))
-            (recoding_openings (C.format self.old.codec).most (length self.old.samples)
-            (record { first = first; stop = stop }) to)
-            (exchanged (record { first = first; stop = stop }) values.now self.old.samples)
-            result self.old self.new }
+        requires { CanExchange C.format self.old (record { first = first; stop = stop }) to
+            values.now }
+        ensures { ExchangesUpTo C.format C.called C.read (record { first = first; stop = stop })
+            to values.now result self.old self.new }
     {
         let most = self.interval_len();
         let kept = self.count().min(to * most) - stop;
@@ -78,17 +53,13 @@ impl<C: Codec> Workspace<C> {
         to: u64,
         values: &'a [i64],
     ) -> Result<Fresh<'a>, Fault>
-        requires { IsExchangeUpTo (C.format self.old.codec) self.old.limit self.old.samples
-            (record { first = first; stop = stop }) to values.now }
+        requires { CanExchange C.format self.old (record { first = first; stop = stop }) to
+            values.now }
         ensures ok { IfOk result (IsFreshFor (C.format self.old.codec).most self.old.samples
             (record { first = first; stop = stop }) to values.now) }
         ensures fault { IfErr result (λ e. (e ≡ Memory)
-            × (0 < recoding_calls (C.format self.old.codec).most (length self.old.samples)
-            (record {
-              gone = record { first = first; stop = stop };
-              to = to;
-              values = length values.now;
-            }))) }
+            × (0 < calls_up_to (C.format self.old.codec) self.old.samples
+            (record { first = first; stop = stop }) to values.now)) }
         ensures read { IsOnlyRead C.format C.called C.read
             (opened_count (C.format self.old.codec).most (length self.old.samples)
             (record { first = first; stop = stop }))
