@@ -16,9 +16,9 @@ impl<C: Codec> Workspace<C> {
     ghost use Rattle.aec_edit.specs.Opened.{HasPlaces, opened_first, opened_behind, opened_count, samples_of, opened_samples};
     ghost use Rattle.aec_edit.specs.Unchanged.{KeepsRules, IsOnlyRead};
 
-    /// Exchanges the samples from place `first` up to place `stop` for values, and answers how many
-    /// intervals it has coded: those from that of the first place up to number `to`, as they are
-    /// then.
+    /// Exchanges the samples from place `first` up to place `stop` for values, and returns how many
+    /// intervals it has coded: all from the interval of `first` up to interval `to`. If it fails,
+    /// the samples are unchanged.
     pub(crate) fn exchange(
         &mut self,
         first: u64,
@@ -45,7 +45,8 @@ impl<C: Codec> Workspace<C> {
         Ok(needed)
     }
 
-    /// The samples that are to be coded for an exchange.
+    /// Returns the samples that are to be coded for an exchange. Fails with `Memory` if an
+    /// allocation fails.
     fn fresh<'a>(
         &mut self,
         first: u64,
@@ -82,7 +83,7 @@ impl<C: Codec> Workspace<C> {
         Ok(fresh)
     }
 
-    /// Puts the first and the last interval that an exchange touches into `ends`, where they keep a
+    /// Decodes the first and the last interval that an exchange touches into `ends`, if they keep a
     /// sample; the last one by way of `spare`.
     fn open_ends(
         &mut self,

@@ -25,8 +25,9 @@ pub(crate) struct Fresh<'a> {
 
 impl<'a> Fresh<'a> {
     /// Keeps the first `head` and the last `tail` of the samples in front, with the values between
-    /// them: written over as many samples there, or else with the last ones behind. `Memory` where
-    /// a growth was refused.
+    /// them. If there are as many values as samples between, the values are written over these;
+    /// otherwise the last samples move behind the values. Fails with `Memory` if an allocation
+    /// fails.
     pub fn keep_ends(&mut self, head: usize, tail: usize) -> Result<(), Fault>
         requires { tail ≤ length self.old.front.items }
         ensures ok { OnOk result (KeepsEnds head tail self.old self.new) }
