@@ -2,10 +2,11 @@
 use Rattle.std.proofs.Common.{◌≡◌, ℕ, ◌+◌, ◌-◌, ◌*◌, ◌/◌, ◌<◌, ◌≤◌, Bool, true, false, Option, Some, None, Result, Ok, Err, IfErr, List, [], ◌∷◌, ◌++◌, length, refl, sym, ap, ◌∙◌, subst, inl, inr, arith, append-nil}
 use Rattle.std.specs.Prelude.{is_some, MatchOption}
 use Rattle.std.specs.Option.{option_or}
-use Rattle.std.specs.Io.KnownBytes.{Consumes, Keeps}
+use Rattle.std.specs.Io.KnownBytes.{Consumes, IsAtEnd, Keeps}
 use Rattle.std.proofs.KnownBytes.{Consumes-nil, Consumes-trans, Consumes-kept}
-use Rattle.std.proofs.lemmas.List.{length-append, length-drop}
+use Rattle.std.proofs.lemmas.List.{length-append, length-drop, length-take, nil_from_length}
 use Rattle.std.proofs.lemmas.Nat.{div-add-mod', mod_below}
+use Rattle.std.proofs.Common.{take}
 use Rattle.aec_params.specs.declared.settings.Settings.{Settings}
 use Rattle.aec_params.specs.declared.fault.Fault.{Fault}
 use Rattle.aec_params.specs.declared.fault.Fault.TheVariants.{Read}
@@ -110,11 +111,26 @@ fewer_left s limit before after bits more coder next piece so feeds some =
     ap (λ (c : Coder). (c.limit + 1) * storage_len c.settings - (next.count * storage_len c.settings + length next.rest)) all_fed.coder in
     omega (arith, old, new, most, all, old_left, new_left, some)
 
--- a refusal that is handed on
-pub hands_on : {X : Type 0} (r : Result X Fault) (fault f : Fault) (s : Settings) (limit : ℕ) (source : Taking) → r ≡ Err fault → fault ≡ f
-    → StopsCoding s limit source f → IfErr r (λ e. StopsCoding s limit source e)
-hands_on {X} r fault f s limit source is same stops =
-    let P : Result X Fault → Type 0 = λ r. IfErr r (λ e. StopsCoding s limit source e) in subst P (sym (is ∙ ap Err same)) stops
+-- the source is at its end, and gave no more
+pub fed_ends : (s : Settings) (limit : ℕ) (before between after : Option (List ℕ)) (failures : ℕ) (bits : List Bool) (coder : Coder) (count : ℕ)
+    (buf : List ℕ) → IsFedSoFar s limit before between bits coder
+    → Consumes between after (take count buf) × (count ≡ 0 → 0 < length buf → IsAtEnd after) → failures ≡ 0 → count ≡ 0 → 0 < length buf
+    → IsFed s limit (taking before after failures) bits coder
+fed_ends s limit before between after failures bits coder count buf so (consumes, ends) sound none some = record {
+  allowed = so.allowed;
+  bytes = so.bytes;
+  gave = record {
+    taken = subst (Consumes before after) (append-nil so.bytes)
+        (Consumes-trans before between after so.bytes [] so.taken (subst (Consumes between after) nothing consumes));
+    failed = λ e. absurd (cc);
+    sound = λ e. sound;
+    whole = λ short e. ends none some;
+  };
+  feeds = so.feeds;
+}
+  where
+    nothing : take count buf ≡ []
+    nothing = nil_from_length (take count buf) (omega (arith, length-take count buf, none))
 
 -- what is promised to a coder that was not refused anything
 pub unless_refused : (o : Option Fault) (P : Type 0) (Q : Fault → Type 0) → o ≡ None → MatchOption o P Q → P
@@ -166,9 +182,6 @@ stopped_answer s caps limit source fault counted stops = by_stop fault (subst (�
     by_stop : (fault : Fault) → StopsCoding s caps.samples source fault → GivesAnswer (IsEncoded s caps) source (are_refused s caps.samples) (Err fault)
     by_stop fault no_memory = lacks_memory
     by_stop fault (refused input f gave is) = given input (Err f) gave (not_coded f is)
-
-pub unrefused_fed : (s : Settings) (limit : ℕ) (source : Taking) (bits : List Bool) (coder : Coder) → IsFed s limit source bits coder → coder.refusal ≡ None
-unrefused_fed s limit source bits coder fed = ap (λ (c : Coder). c.refusal) fed.feeds.coder ∙ fed.feeds.taken
 
 pub coded_answer : (s : Settings) (caps : Caps) (limit : ℕ) (source : Taking) (bits all : List Bool) (coder : Coder) → IsAllowed s → limit ≡ caps.samples
     → IsFed s limit source bits coder → all ≡ bits ++ stream_of coder.settings coder.held

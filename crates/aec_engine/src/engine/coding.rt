@@ -1,10 +1,9 @@
 //! Stored samples to coded data.
 
-ghost use Rattle.std.specs.Prelude.{ℕ, List, Bool, IfOk, IfErr};
+ghost use Rattle.std.specs.Prelude.{ℕ, List, Bool};
 ghost use Rattle.aec_params.specs.Codewords.{bytes_of};
 ghost use Rattle.aec_engine.specs.Transfers.{Taking, taking_of, Putting, putting_of, Leaves};
 ghost use Rattle.aec_engine.specs.Output.{IsEncoded, are_refused};
-ghost use Rattle.aec_engine.specs.CodingSteps.{IsFed, StopsCoding};
 ghost use Rattle.aec_engine.specs.Delivering.{Delivers};
 
 use crate::engine::intake::PIECE;
@@ -13,33 +12,6 @@ use aec_bits::{BitBuf, Sink, Source};
 use aec_interval::StreamCoder;
 use aec_params::{Fault, Limits, Params};
 use std::alloc::Global;
-
-/// A coder that was fed all that a source gives, each piece before the next is taken, and the bits
-/// of the intervals that are complete. The refusals as they are met: of samples those of
-/// `StreamCoder::feed`, and `Read` where the source fails.
-fn fed<R: Source>(
-    alloc: Global,
-    params: &Params,
-    limit: u64,
-    source: &mut R,
-) -> Result<(StreamCoder, BitBuf), Fault>
-    ensures ok { let took : Taking = taking_of R.left R.failed source.old source.new in
-        IfOk result (λ made. IsFed params.now limit took made.1.list made.0) }
-    ensures refuses { let took : Taking = taking_of R.left R.failed source.old source.new in
-        IfErr result (λ fault. StopsCoding params.now limit took fault) }
-{
-    known_allowed(params);
-    let mut coder = StreamCoder::new(alloc, *params, limit);
-    let mut bits = BitBuf::new(alloc);
-    let mut piece = [0u8; PIECE];
-    loop {
-        let count = source.take(&mut piece)?;
-        if count == 0 {
-            return Ok((coder, bits));
-        }
-        coder.feed(&piece[..count], &mut bits)?;
-    }
-}
 
 /// Begins, and writes the bytes that all bits fill. `Write` where the sink fails.
 fn deliver_bits<W: Sink>(bits: &BitBuf, sink: &mut W) -> Result<(), Fault>
@@ -68,7 +40,17 @@ pub fn encode<R: Source, W: Sink>(
         let enough : List ℕ → Bool = are_refused params.now limits.samples in
         Leaves (IsEncoded params.now limits) took enough put result }
 {
-    let (coder, mut bits) = fed(alloc, params, limits.samples(), source)?;
+    known_allowed(params);
+    let mut coder = StreamCoder::new(alloc, *params, limits.samples());
+    let mut bits = BitBuf::new(alloc);
+    let mut piece = [0u8; PIECE];
+    loop {
+        let count = source.take(&mut piece)?;
+        if count == 0 {
+            break;
+        }
+        coder.feed(&piece[..count], &mut bits)?;
+    }
     coder.finish(&mut bits)?;
     deliver_bits(&bits, sink)
 }
