@@ -2,19 +2,11 @@
  * Under callgrind each measured call is a dump of its own, whose name has the bytes of samples, bits, block, interval, and whether the call
  * is one of coding and one of ours. SIZES is how many of the sizes below are run. Fails where a call does, or where samples don't come
  * back. */
-#include <aecp.h>
-#include <libaec.h>
+#include "calls.h"
 #include <stdio.h>
 #include <stdlib.h>
 #include <string.h>
 #include <valgrind/callgrind.h>
-
-typedef struct {
-    unsigned bits, block, interval;
-    int is_ours, is_coding;
-    uint8_t *in, *out;
-    size_t in_len, out_len, count;
-} work;
 
 static const size_t SIZES[] = {64, 256, 1024, 4096, 65536, 1 << 20, 1 << 26};
 static uint64_t state;
@@ -23,31 +15,6 @@ static unsigned chance(unsigned below) {
     state ^= state << 13, state ^= state >> 7, state ^= state << 17;
     return (state >> 11) % below;
 }
-
-static long ours(const work *it) {
-    aecp_options options = AECP_OPTIONS(it->bits);
-    aecp_reply reply;
-    options.block_size = it->block;
-    options.interval = it->interval;
-    uint32_t fault = it->is_coding ? aecp_encode(&options, it->in, it->in_len, it->out, it->out_len, &reply)
-                                   : aecp_decode(&options, it->count, it->in, it->in_len, it->out, it->out_len, &reply);
-    return fault ? -1 : (long)reply.len;
-}
-
-static long theirs(const work *it) {
-    struct aec_stream stream = {.next_in = it->in,
-                                .avail_in = it->in_len,
-                                .next_out = it->out,
-                                .avail_out = it->out_len,
-                                .bits_per_sample = it->bits,
-                                .block_size = it->block,
-                                .rsi = it->interval,
-                                .flags = AEC_DATA_PREPROCESS};
-    int fault = it->is_coding ? aec_buffer_encode(&stream) : aec_buffer_decode(&stream);
-    return fault ? -1 : (long)stream.total_out;
-}
-
-static long call(const work *it) { return it->is_ours ? ours(it) : theirs(it); }
 
 /* A walk of small steps, and now and then of a large one. */
 static void walk(uint8_t *samples, size_t size, unsigned bits) {
@@ -73,16 +40,15 @@ static long measured(const work *it, size_t size) {
 
 /* Both libraries code the samples; both decode what theirs has coded. */
 static int cell(size_t size, unsigned bits, unsigned block, unsigned interval, uint8_t *raw, uint8_t *coded, uint8_t *out) {
-    size_t most = 2 * size + 4096, count = size / (bits / 8);
-    work coding = {bits, block, interval, 1, 1, raw, out, size, most, count};
+    work coding = {.bits = bits, .block = block, .interval = interval, .is_ours = 1, .is_coding = 1, .in = raw, .out = out,
+                   .in_len = size, .out_len = 2 * size + 4096};
     if (measured(&coding, size) < 0) return 1;
     coding.is_ours = 0, coding.out = coded;
     long len = measured(&coding, size);
     if (len < 0) return 1;
-    for (int is_ours = 0; is_ours < 2; is_ours++) {
-        work decoding = {bits, block, interval, is_ours, 0, coded, out, (size_t)len, size, count};
+    work decoding = {.bits = bits, .block = block, .interval = interval, .in = coded, .out = out, .in_len = (size_t)len, .out_len = size};
+    for (; decoding.is_ours < 2; decoding.is_ours++)
         if (measured(&decoding, size) != (long)size || memcmp(raw, out, size)) return 1;
-    }
     return 0;
 }
 
