@@ -17,6 +17,7 @@ pub mod GatheredLemmas
 pub mod WritingLemmas
 pub mod HighWordLemmas
 pub mod LowWordLemmas
+pub mod SevenLemmas
 pub mod CursorLemmas
 pub mod JoiningLemmas
 pub mod GatheringLemmas
