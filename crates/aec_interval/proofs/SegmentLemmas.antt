@@ -37,7 +37,7 @@ last_taken o (x ∷ xs) h = ap (slice_get (x ∷ xs)) (omega arith) ∙ sym (rea
     read o x [] = refl
     read o x (y ∷ xs) = read (Some x) y xs
 
-holds_last : (s : Settings) (o : Option ℤ) (xs : List ℤ) → HoldsPrevious s o → AllByRecursion (IsHeld s) xs → HoldsPrevious s (last_or o xs)
+pub holds_last : (s : Settings) (o : Option ℤ) (xs : List ℤ) → HoldsPrevious s o → AllByRecursion (IsHeld s) xs → HoldsPrevious s (last_or o xs)
 holds_last s o [] h k = h
 holds_last s o (x ∷ xs) h k = holds_last s (Some x) xs k.0 k.1
 

@@ -28,10 +28,10 @@ all-held s i (x ∷ v) h = by_test (is_held s x) h (all-held s (i + 1) v)
 
 -- ---- intervals
 
-stream_of-nil : (s : Settings) → 0 < interval_len s → stream_of s [] ≡ []
+pub stream_of-nil : (s : Settings) → 0 < interval_len s → stream_of s [] ≡ []
 stream_of-nil s h = ap (flat_map (interval_bits s)) (pieces_of-nil (interval_len s) h)
 
-stream_of-cons : (s : Settings) (front rest : List ℤ) → IsPieceBefore (interval_len s) front rest
+pub stream_of-cons : (s : Settings) (front rest : List ℤ) → IsPieceBefore (interval_len s) front rest
     → stream_of s (front ++ rest) ≡ interval_bits s front ++ stream_of s rest
 stream_of-cons s front rest piece = ap (flat_map (interval_bits s)) (pieces_of-cons (interval_len s) front rest piece)
 
