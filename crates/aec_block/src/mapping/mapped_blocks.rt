@@ -6,8 +6,10 @@ ghost use Rattle.aec_params.specs.Params.{IsHeld, sample_pattern};
 ghost use Rattle.aec_params.specs.Mapping.{mapped_after, mapped_values};
 ghost use Rattle.aec_block.specs.Offsets.{sample_offset, mapped_offsets};
 
+use crate::mapping::eight_offsets::map_eight;
 use crate::mapping::{greatest_offset, map_offset, offset_above, offset_of};
 use aec_params::Params;
+use std::simd::prelude::*;
 
 /// Puts how far samples lie above the least one into `values`.
 #[inline(always)]
@@ -23,9 +25,9 @@ fn put_sample_offsets(params: &Params, samples: &[i64], values: &mut [u32])
 }
 
 /// Puts what is coded for offsets in their place, each at the one before it, which is `previous`
-/// for the first.
+/// for the first: one by one.
 #[inline(always)]
-fn map_offsets(top: u32, previous: u32, values: &mut [u32])
+fn map_each_offset(top: u32, previous: u32, values: &mut [u32])
     requires prediction { previous ≤ top }
     requires offsets { AllByRecursion (λ x. x ≤ top) values.old }
     ensures { values.new ≡ mapped_offsets top previous values.old }
@@ -36,6 +38,21 @@ fn map_offsets(top: u32, previous: u32, values: &mut [u32])
         values[i] = map_offset(top, p, x);
         p = x;
     }
+}
+
+/// The same, of eight offsets at once.
+#[inline(always)]
+fn map_offsets(top: u32, previous: u32, values: &mut [u32])
+    requires prediction { previous ≤ top }
+    requires offsets { AllByRecursion (λ x. x ≤ top) values.old }
+    ensures { values.new ≡ mapped_offsets top previous values.old }
+{
+    if values.len() != 8 {
+        map_each_offset(top, previous, values);
+        return;
+    }
+    let offsets = u32x8::from_slice(values).to_array();
+    values.copy_from_slice(&map_eight(top, previous, &offsets));
 }
 
 /// Puts what is coded for samples at their predictions, which are the samples before them, into
