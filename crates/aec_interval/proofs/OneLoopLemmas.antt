@@ -1,30 +1,27 @@
 -- The loop over the blocks of all intervals, step by step.
-use Rattle.std.proofs.Common.{◌≡◌, ℕ, suc, ◌+◌, ◌-◌, ◌*◌, ◌%◌, ◌<◌, ◌≤◌, Bool, true, false, Option, None, ℤ, List, [], ◌∷◌, ◌++◌, length, take, drop, replicate, refl, sym, ap, ap₂, ◌∙◌, subst, arith, if◌then◌else◌, append-nil}
+use Rattle.std.proofs.Common.{◌≡◌, ℕ, suc, ◌+◌, ◌-◌, ◌*◌, ◌%◌, ◌<◌, ◌≤◌, Bool, true, false, Option, None, ℤ, List, [], ◌∷◌, ◌++◌, length, take, drop, refl, sym, ap, ap₂, ◌∙◌, subst, arith, if◌then◌else◌, append-nil}
 use Rattle.std.specs.Prelude.{slice_get}
 use Rattle.std.specs.List.{AllByRecursion, last_or, flat_map}
 use Rattle.std.proofs.Math.Seq.{take-nil, drop-nil, take-append-add, drop-append-add}
 use Rattle.std.proofs.lemmas.List.{append_assoc, length-append, length-take, length-drop, take_all, drop_all, take-append-le, drop-append-le, take-append-drop}
 use Rattle.std.proofs.lemmas.Nat.{mul-le}
 use Rattle.std.proofs.lemmas.List.Concat.{flat_map-append}
-use Rattle.std.proofs.lemmas.Bool.{cond-true, cond-false}
 use Rattle.aec_params.specs.declared.settings.Settings.{Settings}
 use Rattle.aec_params.specs.Params.{IsAllowed, IsHeld, interval_len}
 use Rattle.aec_params.specs.Blocks.{Block}
-use Rattle.aec_params.specs.Codewords.{binary, padded_to_byte}
+use Rattle.aec_params.specs.Codewords.{padded_to_byte}
 use Rattle.aec_params.specs.CodedDataSets.{cds_bits}
-use Rattle.aec_params.specs.Cutting.{up_to_multiple}
 use Rattle.aec_params.specs.Runs.{groups_of}
-use Rattle.aec_params.specs.Intervals.{group_sets, block_sets, unpadded_bits, interval_bits}
+use Rattle.aec_params.specs.Intervals.{group_sets, block_sets}
 use Rattle.aec_params.specs.Streams.{stream_of}
 use Rattle.aec_params.proofs.SettingLaws.{block_size-positive, interval-positive}
 use Rattle.aec_interval.specs.declared.interval.zero_runs.Run.{Run}
-use Rattle.aec_interval.specs.Chunks.{block_after, blocks_after, HoldsPrevious, AreSamplesAfter}
-use Rattle.aec_interval.specs.Pending.{pending_bits, segment_bits, bits_of_run, IsRun, IsKept}
-use Rattle.aec_interval.proofs.CuttingLemmas.{IsPieceBefore, pieces_of-nil, pieces_of-cons}
+use Rattle.aec_interval.specs.Chunks.{block_after, blocks_after, HoldsPrevious}
+use Rattle.aec_interval.specs.Pending.{pending_bits, segment_bits, bits_of_run, IsKept}
+use Rattle.aec_interval.proofs.CuttingLemmas.{IsPieceBefore, pieces_of-cons}
 use Rattle.aec_interval.proofs.BlockLemmas.{all_left, all_right}
 use Rattle.aec_interval.proofs.PendingLemmas.{pending-end, kept-append}
 use Rattle.aec_interval.proofs.ChunkLemmas.{blocks_after-nil, blocks_after-cons}
-use Rattle.aec_interval.proofs.PaddingLemmas.{binary-zeros}
 use Rattle.aec_interval.proofs.SegmentLemmas.{holds_last, last_taken, kept-trans}
 use Rattle.aec_interval.proofs.WholeLemmas.{stream_of-nil, stream_of-cons}
 
@@ -257,24 +254,6 @@ at-start s m l start old new whole rest h some is_m is_l is_start held kept left
           (take_all (length new) new (omega arith)) (drop_all (length new) new (omega arith))
           ∙ ap (λ xs. new ++ xs) (sym (stream_opened s rest h some)) ∙ left;
     })
-
--- ---- padding
-
--- padded up from a bit on
-pub closed-padded : (s : Settings) (start n : ℕ) (old new : List Bool) → start ≤ length old → n ≡ length old → s.pad ≡ true
-    → new ≡ old ++ binary ((8 - (n - start) % 8) % 8) 0 → new ≡ take start old ++ (if s.pad then padded_to_byte (drop start old) else drop start old)
-closed-padded s start n old new within is_n pad written =
-    let missing = replicate (up_to_multiple 8 (length (drop start old))) false in
-    let len : n - start ≡ length (drop start old) = omega (arith, is_n, length-drop start old) in
-    written ∙ ap (λ k. old ++ binary ((8 - k % 8) % 8) 0) len
-    ∙ ap (λ l. old ++ l) (binary-zeros (up_to_multiple 8 (length (drop start old))))
-    ∙ ap (λ l. l ++ missing) (sym (take-append-drop start old)) ∙ append_assoc (take start old) (drop start old) missing
-    ∙ ap (λ l. take start old ++ l) (sym (cond-true s.pad (padded_to_byte (drop start old)) (drop start old) pad))
-
-pub closed-unpadded : (s : Settings) (start : ℕ) (bits : List Bool) → s.pad ≡ false
-    → bits ≡ take start bits ++ (if s.pad then padded_to_byte (drop start bits) else drop start bits)
-closed-unpadded s start bits pad =
-    sym (take-append-drop start bits) ∙ ap (λ l. take start bits ++ l) (sym (cond-false s.pad (padded_to_byte (drop start bits)) (drop start bits) pad))
 
 -- ---- the loop's own numbers
 

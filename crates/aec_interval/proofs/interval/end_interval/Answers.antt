@@ -1,6 +1,6 @@
 use Rattle.std.proofs.Common.{◌++◌, ◌∙◌, sym, ap}
 use Rattle.aec_params.specs.Codewords.{binary}
-use Rattle.aec_interval.proofs.OneLoopLemmas.{closed-padded}
+use Rattle.aec_interval.proofs.PaddingLemmas.{closed-padded}
 use Rattle.aec_interval.proofs.interval.end_interval.Goals as goal
 
 pub returns-in_ok-push_bits-clause-ok : goal.returns-in_ok-push_bits-clause-ok

@@ -1,13 +1,12 @@
-use Rattle.std.proofs.Common.{arith, rules, ◌≡◌, ◌+◌, ◌-◌, ◌*◌, ◌%◌, ◌<◌, ◌≤◌, min, length, take, drop, ap, refl, sym, subst, None, ◌∙◌, ◌++◌}
+use Rattle.std.proofs.Common.{arith, rules, ◌≡◌, ◌+◌, ◌-◌, ◌*◌, ◌%◌, ◌<◌, min, length, ap, refl, sym, subst, None, ◌∙◌, ◌++◌}
 use Rattle.aec_params.specs.Streams.{stream_of}
 use Rattle.std.specs.Slice.Iter.{chunks_rest}
-use Rattle.std.proofs.Math.Seq.{take-nil, drop-nil}
 use Rattle.std.proofs.lemmas.Result.{on_ok_weaker}
 use Rattle.std.proofs.lemmas.List.{take_all}
 use Rattle.aec_params.proofs.SettingLaws.{block_size-positive, interval-positive}
 use Rattle.aec_interval.proofs.PendingLemmas.{kept-append}
 use Rattle.aec_interval.proofs.SegmentLemmas.{piece_taken, nothing_left, kept-trans}
-use Rattle.aec_interval.proofs.OneLoopLemmas.{StreamAt, at-next, at-inside, at-start, at-first, at-last, at-segment_end, none_of_segment, at-closed, none_left}
+use Rattle.aec_interval.proofs.OneLoopLemmas.{StreamAt, at-next, at-inside, at-first, at-last, at-segment_end, none_of_segment, at-closed, none_left}
 use Rattle.aec_interval.proofs.interval.write_known_intervals.Goals as goal
 
 pub loop-chunk-init : goal.loop-chunk-init
