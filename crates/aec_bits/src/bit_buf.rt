@@ -170,28 +170,28 @@ impl BitBuf {
         ensures full { OnErr result (self.old.room < bits) }
         ensures fault { IfErr result (λ e. e ≡ Memory) }
     {
-        if self.has_room_for(bits) {
+        if self.has_room_for(bits) || self.grow_by(bits) {
             return Ok(());
         }
-        self.grow_by(bits)
+        Err(Fault::Memory)
     }
 
-    /// The same, where memory may be needed.
+    /// Makes room for so many more bits, where memory may be needed. False if a growth was refused.
     #[inline(never)]
-    fn grow_by(&mut self, bits: u64) -> Result<(), Fault>
-        ensures ok { OnOk result (bits ≤ self.new.room) }
+    fn grow_by(&mut self, bits: u64) -> bool
+        ensures grown { result ≡ true → bits ≤ self.new.room }
         ensures list { self.new.list ≡ self.old.list }
         ensures room { self.old.room ≤ self.new.room }
-        ensures err { OnErr result (self.new ≡ self.old) }
-        ensures full { OnErr result (self.old.room < bits) }
-        ensures fault { IfErr result (λ e. e ≡ Memory) }
+        ensures refused { result ≡ false → self.new ≡ self.old }
+        ensures full { result ≡ false → self.old.room < bits }
     {
         if bits > MOST_BITS - self.len {
-            return Err(Fault::Memory);
+            return false;
         }
         let count = (self.len + bits).div_ceil(64);
-        self.words.reserve(count as usize - self.words.len())?;
-        Ok(())
+        self.words
+            .reserve(count as usize - self.words.len())
+            .is_ok()
     }
 
     /// Appends the bits of `value` in `width` bits, the most significant first.
