@@ -1,4 +1,4 @@
-//! Gathers the seven values after a reference: in lanes of eight, with the 0 in the reference place.
+//! Gathers the seven values after a reference, in lanes of eight with the 0 in the reference place.
 
 ghost use Rattle.std.specs.Prelude.{◌≡◌, ◌+◌, ◌*◌, ◌^◌, ◌<◌, ◌≤◌, ◌++◌, ◌∷◌, length, drop};
 ghost use Rattle.aec_params.specs.Codewords.{binary};

@@ -28,8 +28,7 @@ loop-chunk-init g c =
 
 pub loop-chunk-preserved-then-segment_goes_on : goal.loop-chunk-preserved-then-segment_goes_on
 loop-chunk-preserved-then-segment_goes_on g c =
-    let s = c.args.params.now in
-    let at = c.loop-chunk.invariant in
+    let s = c.args.params.now in let at = c.loop-chunk.invariant in
     let positive = block_size-positive s c.interval-interval.ensures.allowed in
     let steps = c.in-Some.ensures.steps in
     let piece = piece_taken s.block_size _ c.in-Some.chunk.now _ positive steps.1.0
@@ -38,9 +37,7 @@ loop-chunk-preserved-then-segment_goes_on g c =
     c.in_ok-run.ensures.ok in
     let here = c.segment_goes_on.ensures.inside c.if-segment_goes_on.true in
     record {
-      can_next = omega (arith, steps.0, at.can_next);
-      is_finite = tt;
-      size = steps.0 ∙ at.size;
+      can_next = omega (arith, steps.0, at.can_next); is_finite = tt; size = steps.0 ∙ at.size;
       inside = omega (arith, here.0, c.interval-interval.ensures.value);
       is_run = record { few = omega (arith, c.in_ok-run.ensures.run.few, at.is_run.few, here.1); reference = c.in_ok-run.ensures.run.reference };
       so_far = at-inside s c.loop-chunk.place _ _ _ _ _ _ _ _ _ _ piece.some (omega (arith, here.1)) (c.copied-preceding.ensures ∙ c.last.ensures.value) next;
@@ -48,8 +45,7 @@ loop-chunk-preserved-then-segment_goes_on g c =
 
 pub loop-chunk-preserved-then-place-interval : goal.loop-chunk-preserved-then-place-interval
 loop-chunk-preserved-then-place-interval g c =
-    let s = c.args.params.now in
-    let at = c.loop-chunk.invariant in
+    let s = c.args.params.now in let at = c.loop-chunk.invariant in
     let positive = block_size-positive s c.interval-interval.ensures.allowed in
     let steps = c.in-Some.ensures.steps in
     let piece = piece_taken s.block_size _ c.in-Some.chunk.now _ positive steps.1.0
@@ -60,9 +56,7 @@ loop-chunk-preserved-then-place-interval g c =
     let end = c.segment_goes_on.ensures.end c.if-segment_goes_on.false (omega (arith, inside, c.interval-interval.ensures.value)) in
     let whole : 63 - c.loop-chunk.place % 64 ≡ 0 = omega (arith, end) in
     record {
-      can_next = omega (arith, steps.0, at.can_next);
-      is_finite = tt;
-      size = steps.0 ∙ at.size;
+      can_next = omega (arith, steps.0, at.can_next); is_finite = tt; size = steps.0 ∙ at.size;
       inside = inside;
       is_run = record { few = omega arith; reference = tt };
       so_far = at-inside s c.loop-chunk.place _ _ _ _ _ _ _ _ _ _ piece.some (omega (arith, end))
@@ -77,8 +71,7 @@ returns-in_err-end_interval-clause-kept g c =
 
 pub loop-chunk-preserved : goal.loop-chunk-preserved
 loop-chunk-preserved g c =
-    let s = c.args.params.now in
-    let at = c.loop-chunk.invariant in
+    let s = c.args.params.now in let at = c.loop-chunk.invariant in
     let positive = block_size-positive s c.interval-interval.ensures.allowed in
     let steps = c.in-Some.ensures.steps in
     let piece = piece_taken s.block_size _ c.in-Some.chunk.now _ positive steps.1.0
@@ -90,9 +83,7 @@ loop-chunk-preserved g c =
     let left = at-closed s _ _ _ _ _ _ _ _ _ _ _ positive next none.0 none.1 c.in_ok-write.ensures.ok c.in_ok-end_interval.ensures.ok in
     let kept = kept-trans _ _ _ next.kept (kept-trans _ _ _ (kept-append _ _ _ c.in_ok-write.ensures.ok) c.in_ok-end_interval.ensures.kept) in
     record {
-      can_next = omega (arith, steps.0, at.can_next);
-      is_finite = tt;
-      size = steps.0 ∙ at.size;
+      can_next = omega (arith, steps.0, at.can_next); is_finite = tt; size = steps.0 ∙ at.size;
       inside = interval-positive s c.interval-interval.ensures.allowed;
       is_run = record { few = omega arith; reference = tt };
       so_far = at-first s c.interval-interval.ensures.allowed _ _ _ _ _ c.len-start-in-loop-chunk.ensures.value kept next.held left;
@@ -100,8 +91,7 @@ loop-chunk-preserved g c =
 
 pub returns-clause-ok : goal.returns-clause-ok
 returns-clause-ok g c =
-    let s = c.args.params.now in
-    let at = c.loop-chunk.invariant in
+    let s = c.args.params.now in let at = c.loop-chunk.invariant in
     let positive = block_size-positive s c.interval-interval.ensures.allowed in
     on_ok_weaker c.end_interval-2.result
     (λ padded. at-last s _ _ _ _ _ _ _ _ _ _ _ positive (interval-positive s c.interval-interval.ensures.allowed) at.so_far
