@@ -42,7 +42,7 @@ impl Model for BitBuf {
 
 #[tactic(auto, using(crate::proofs::PackedLemmas::packed_lengths))]
 impl BitBuf {
-    ghost use Rattle.std.specs.Prelude.{◌≡◌, ◌+◌, ◌-◌, ◌*◌, ◌%◌, ◌<◌, ◌≤◌, ◌^◌, [], ◌∷◌, ◌++◌, List, Bool, false, length, take, drop, replicate, slice_index, slice_index_or, IfOk, IsOk, OnOk, OnErr, IfErr, MatchOption, is_some};
+    ghost use Rattle.std.specs.Prelude.{◌≡◌, ◌+◌, ◌-◌, ◌*◌, ◌%◌, ◌<◌, ◌≤◌, ◌^◌, [], ◌∷◌, ◌++◌, List, Bool, true, false, length, take, drop, replicate, slice_index, slice_index_or, IfOk, IsOk, OnOk, OnErr, IfErr, MatchOption, is_some};
     ghost use Rattle.std.specs.Int.{div_ceil};
     ghost use Rattle.aec_params.specs.declared.fault.Fault.TheVariants.{Memory};
     ghost use Rattle.aec_params.specs.Codewords.{fs, binary, bytes_of, bits_of_bytes, padded_to_byte};
@@ -151,7 +151,17 @@ impl BitBuf {
         zeros_at(&self.words, start)
     }
 
+    /// Whether so many more bits surely need no further memory.
+    #[inline(always)]
+    fn has_room_for(&self, bits: u64) -> bool
+        ensures { result ≡ true → bits ≤ self.now.room }
+    {
+        let free = self.words.capacity() - self.words.len();
+        bits <= MOST_BITS - self.len && bits / 64 < free as u64
+    }
+
     /// Makes room for so many more bits.
+    #[inline(always)]
     pub fn reserve(&mut self, bits: u64) -> Result<(), Fault>
         ensures ok { OnOk result (bits ≤ self.new.room) }
         ensures list { self.new.list ≡ self.old.list }
@@ -160,12 +170,28 @@ impl BitBuf {
         ensures full { OnErr result (self.old.room < bits) }
         ensures fault { IfErr result (λ e. e ≡ Memory) }
     {
+        if self.has_room_for(bits) || self.grow_by(bits) {
+            return Ok(());
+        }
+        Err(Fault::Memory)
+    }
+
+    /// Makes room for so many more bits, where memory may be needed. False if a growth was refused.
+    #[inline(never)]
+    fn grow_by(&mut self, bits: u64) -> bool
+        ensures grown { result ≡ true → bits ≤ self.new.room }
+        ensures list { self.new.list ≡ self.old.list }
+        ensures room { self.old.room ≤ self.new.room }
+        ensures refused { result ≡ false → self.new ≡ self.old }
+        ensures full { result ≡ false → self.old.room < bits }
+    {
         if bits > MOST_BITS - self.len {
-            return Err(Fault::Memory);
+            return false;
         }
         let count = (self.len + bits).div_ceil(64);
-        self.words.reserve(count as usize - self.words.len())?;
-        Ok(())
+        self.words
+            .reserve(count as usize - self.words.len())
+            .is_ok()
     }
 
     /// Appends the bits of `value` in `width` bits, the most significant first.

@@ -39,7 +39,7 @@ length-high_parts k (v ∷ values) =
     let added = sum_by-cons (λ (u : ℕ). u / 2 ^ k) v values in
     simp (length-append, length-replicate) (omega arith)
 
-length-low_parts : (k : ℕ) (values : List ℕ) → length (flat_map (λ v. binary k (v % 2 ^ k)) values) ≡ length values * k
+pub length-low_parts : (k : ℕ) (values : List ℕ) → length (flat_map (λ v. binary k (v % 2 ^ k)) values) ≡ length values * k
 length-low_parts k [] = omega arith
 length-low_parts k (v ∷ values) =
     let rest = length-low_parts k values in

@@ -2,6 +2,7 @@ pub mod MappingLemmas
 pub mod ListMappingLemmas
 pub mod NearLemmas
 pub mod NearLaneLemmas
+pub mod EightOffsetsLemmas
 pub mod UnmappingLemmas
 pub mod LengthLemmas
 pub mod LanesLemmas
@@ -17,6 +18,7 @@ pub mod GatheredLemmas
 pub mod WritingLemmas
 pub mod HighWordLemmas
 pub mod LowWordLemmas
+pub mod SevenLemmas
 pub mod CursorLemmas
 pub mod JoiningLemmas
 pub mod GatheringLemmas

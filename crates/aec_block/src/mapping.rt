@@ -1,5 +1,6 @@
 //! Prediction and mapping: a sample and its prediction as one number without sign, and back.
 
+mod eight_offsets;
 pub(crate) mod mapped_blocks;
 mod small_differences;
 pub(crate) mod unmapping;

@@ -1,5 +1,6 @@
 //! What is written for one block, and for a run of zero blocks.
 
+mod after_reference;
 pub(crate) mod by_choice;
 mod gathered;
 mod high_parts;
@@ -21,6 +22,7 @@ ghost use Rattle.aec_block.specs.Written.{high_parts, low_parts, split_parts, sh
 use crate::block::{Block, BlockRef};
 use crate::choice::lengths::{head_len, pair_len};
 use crate::choice::{Choice, Coding};
+use crate::writing::after_reference::put_seven;
 use crate::writing::by_choice::write_values;
 use crate::writing::gathered::Gathered;
 use crate::writing::high_parts::put_high_parts;
@@ -168,6 +170,31 @@ fn put_split_values(
     put_low_parts(values, k, high, out)
 }
 
+/// Gathers the values of a block that are written one by one, split at bit `k`, by code for seven
+/// values after a reference if they are so many.
+#[inline(always)]
+fn put_written(
+    block: &BlockRef,
+    values: &[u32],
+    k: u32,
+    len: u64,
+    gathered: Gathered,
+    out: &mut BitBuf,
+) -> Gathered
+    requires values { values.now ≡ written_values block.now }
+    requires k { k < 32 }
+    requires len { len ≡ length (high_parts k values.now) }
+    requires room { length gathered + length (split_parts k values.now) ≤ out.old.room }
+    ensures list { out.new.list ++ result ≡ out.old.list ++ (gathered ++ split_parts k values.now) }
+    ensures room { out.old.room + length result
+        ≤ out.new.room + (length gathered + length (split_parts k values.now)) }
+{
+    if values.len() == 7 && block.reference().is_some() && len < 64 && k < 8 {
+        return put_seven(block.values(), k, len, gathered, out);
+    }
+    put_split_values(values, k, len, gathered, out)
+}
+
 /// Gathers the codewords of consecutive pairs.
 fn put_pairs(values: &[u32], mut gathered: Gathered, out: &mut BitBuf) -> Gathered
     requires fits { length (pair_bits values.now) < 2 ^ 64 }
@@ -270,7 +297,7 @@ fn put_split(
 {
     let len = high_len(params, id_len, block, values, k, bits);
     let head = put_head(params, block.reference(), k + 1, id_len, out);
-    put_split_values(values, k, len, head, out).append_to(out);
+    put_written(block, values, k, len, head, out).append_to(out);
 }
 
 /// Appends the coded data set of a block that is in no run, by the option of `choose`. `Memory`

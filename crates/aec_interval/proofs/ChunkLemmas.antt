@@ -1,23 +1,16 @@
--- Samples cut at the end of a block or a segment: the blocks of the front, and those of what is
--- behind it.
-use Rattle.std.proofs.Common.{◌≡◌, ℕ, zero, suc, ◌+◌, ◌-◌, ◌*◌, ◌%◌, ◌<◌, ◌≤◌, Bool, Option, Some, None, ℤ, pos, List, [], ◌∷◌, ◌++◌, length, map, take, drop, replicate, refl, sym, ap, ap₂, ◌∙◌, arith}
+-- Samples cut at the end of a block: the block of the front, and those of what is behind it.
+use Rattle.std.proofs.Common.{◌≡◌, ℕ, zero, suc, ◌+◌, ◌-◌, ◌*◌, ◌%◌, ◌<◌, ◌≤◌, Option, Some, None, ℤ, pos, List, [], ◌∷◌, ◌++◌, length, map, replicate, refl, sym, ap, ap₂, ◌∙◌, arith}
 use Rattle.std.specs.Prelude.{unwrap_or, if◌then◌else◌}
-use Rattle.std.specs.List.{last_or, flat_map}
-use Rattle.std.specs.Int.{div_ceil}
-use Rattle.std.proofs.Math.Nat.{add-mod_right, mod_self, mod-eq_of_lt, lt_of_mul-lt-mul_right}
-use Rattle.std.proofs.lemmas.List.{append_assoc, append-nil, length-append, length-take, length-drop, length-map, take-append-drop}
-use Rattle.std.proofs.lemmas.List.Concat.{flat_map-append}
+use Rattle.std.specs.List.{last_or}
+use Rattle.std.proofs.Math.Nat.{add-mod_right, mod_self, mod-eq_of_lt}
+use Rattle.std.proofs.lemmas.List.{append_assoc, append-nil, length-append}
 use Rattle.aec_params.specs.declared.settings.Settings.{Settings}
 use Rattle.aec_params.specs.Params.{sample_pattern}
 use Rattle.aec_params.specs.Cutting.{pieces_of, up_to_multiple}
 use Rattle.aec_params.specs.Mapping.{mapped_value}
 use Rattle.aec_params.specs.Blocks.{filled_samples, with_reference}
-use Rattle.aec_params.specs.CodedDataSets.{cds_bits}
-use Rattle.aec_params.specs.Runs.{groups_of}
-use Rattle.aec_params.specs.Intervals.{group_sets, block_sets, unpadded_bits}
 use Rattle.aec_interval.specs.Chunks.{values_after, reference_after, block_after, blocks_after}
-use Rattle.aec_interval.specs.Pending.{segment_bits}
-use Rattle.aec_interval.proofs.CuttingLemmas.{IsPieceBefore, pieces_of-nil, pieces_of-cons, length-pieces_of, div_ceil-one, div_ceil-positive, div_ceil-bounds, div_ceil-times}
+use Rattle.aec_interval.proofs.CuttingLemmas.{IsPieceBefore, pieces_of-nil, pieces_of-cons, div_ceil-one}
 use Rattle.aec_interval.proofs.BlockLemmas.{length-mapped_after, length-mapped_values, length-filled_samples}
 
 -- ---- the last sample
@@ -95,18 +88,6 @@ length-values_after s (Some p) v = length-mapped_after s p v
 
 -- ---- blocks
 
-length-with_reference : (reference : Option ℕ) (groups : List (List ℕ)) → length (with_reference reference groups) ≡ length groups
-length-with_reference reference [] = refl
-length-with_reference reference (g ∷ groups) = ap suc (length-map groups (λ values. record { reference = None; values = values }))
-
-pub length-blocks_after : (s : Settings) (o : Option ℤ) (v : List ℤ) → 0 < s.block_size → length (blocks_after s o v) ≡ div_ceil (length v) s.block_size
-length-blocks_after s o v h =
-    let values = values_after s o (filled_samples s v) in
-    length-with_reference (reference_after s o v) (pieces_of s.block_size values)
-    ∙ length-pieces_of s.block_size values
-    ∙ ap (λ k. div_ceil k s.block_size) (length-values_after s o (filled_samples s v) ∙ length-filled_samples s v h)
-    ∙ div_ceil-times (div_ceil (length v) s.block_size) s.block_size h
-
 no_values : (s : Settings) (o : Option ℤ) → values_after s o [] ≡ []
 no_values s None = refl
 no_values s (Some p) = refl
@@ -155,80 +136,3 @@ blocks_after-cons s o (x ∷ xs) rest h piece =
 
     one : IsPieceBefore s.block_size first later
     one = record { some = omega (arith, len); fits = omega (arith, len); full = λ _. len }
-
-pub full_piece : {X : Type 0} (n : ℕ) (front rest : List X) → 0 < n → length front ≡ n → IsPieceBefore n front rest
-full_piece n front rest h e = record { some = omega arith; fits = omega arith; full = λ _. e }
-
--- whole blocks, and those behind them
-blocks_after-append : (s : Settings) (k : ℕ) (o : Option ℤ) (front rest : List ℤ) → 0 < s.block_size → length front ≡ k * s.block_size
-    → blocks_after s o (front ++ rest) ≡ blocks_after s o front ++ blocks_after s (last_or o front) rest
-blocks_after-append s zero o [] rest h e = ap (λ l. l ++ blocks_after s o rest) (sym (blocks_after-nil s o h))
-blocks_after-append s zero o (x ∷ front) rest h e = absurd (omega arith)
-blocks_after-append s (suc k) o front rest h e =
-    ap (λ l. blocks_after s o (l ++ rest)) (sym whole) ∙ ap (blocks_after s o) (append_assoc a b rest)
-    ∙ blocks_after-cons s o a (b ++ rest) h (full_piece s.block_size a (b ++ rest) h la)
-    ∙ ap (λ l. block_after s o a ∷ l) (blocks_after-append s k (last_or o a) b rest h lb)
-    ∙ ap₂ ◌++◌ (sym (blocks_after-cons s o a b h (full_piece s.block_size a b h la)) ∙ ap (blocks_after s o) whole)
-    (ap (λ l. blocks_after s l rest) (sym (last_or-append o a b) ∙ ap (last_or o) whole))
-  where
-    a : List ℤ
-    a = take s.block_size front
-
-    b : List ℤ
-    b = drop s.block_size front
-
-    whole : a ++ b ≡ front
-    whole = take-append-drop s.block_size front
-
-    la : length a ≡ s.block_size
-    la = omega (arith, length-take s.block_size front)
-
-    lb : length b ≡ k * s.block_size
-    lb = omega (arith, length-drop s.block_size front)
-
--- ---- segments
-
-pub blocks_after-segment : (s : Settings) (o : Option ℤ) (front rest : List ℤ) → 0 < s.block_size → IsPieceBefore (s.block_size * 64) front rest
-    → blocks_after s o (front ++ rest) ≡ blocks_after s o front ++ blocks_after s (last_or o front) rest
-blocks_after-segment s o front [] h piece =
-    ap (blocks_after s o) (append-nil front) ∙ sym (append-nil (blocks_after s o front))
-    ∙ ap (λ l. blocks_after s o front ++ l) (sym (blocks_after-nil s (last_or o front) h))
-blocks_after-segment s o front (y ∷ rest) h piece =
-    blocks_after-append s 64 o front (y ∷ rest) h (piece.full (omega arith) ∙ omega arith)
-
--- at most so many blocks
-pub few_blocks : (s : Settings) (o : Option ℤ) (v : List ℤ) (most : ℕ) → 0 < s.block_size → length v ≤ s.block_size * most → length (blocks_after s o v) ≤ most
-few_blocks s o v most h few =
-    let bound = (div_ceil-bounds (length v) s.block_size h).1 in
-    let len = length-blocks_after s o v h in
-    let k = lt_of_mul-lt-mul_right s.block_size {m = div_ceil (length v) s.block_size} {n = most + 1} (omega arith) in
-    omega arith
-
-segment_before : (s : Settings) (o : Option ℤ) (front rest : List ℤ) → 0 < s.block_size → IsPieceBefore (s.block_size * 64) front rest
-    → IsPieceBefore 64 (blocks_after s o front) (blocks_after s (last_or o front) rest)
-segment_before s o front rest h piece = record {
-  some = omega (arith, length-blocks_after s o front h, div_ceil-positive (length front) s.block_size h piece.some);
-  fits = few_blocks s o front 64 h piece.fits;
-  full = full rest piece.full;
-}
-  where
-    full : (rest : List ℤ) → (0 < length rest → length front ≡ s.block_size * 64) → 0 < length (blocks_after s (last_or o front) rest)
-        → length (blocks_after s o front) ≡ 64
-    full [] whole some = absurd (omega (arith, ap length (blocks_after-nil s (last_or o front) h)))
-    full (y ∷ rest) whole some =
-        length-blocks_after s o front h ∙ ap (λ n. div_ceil n s.block_size) (whole (omega arith) ∙ omega arith) ∙ div_ceil-times 64 s.block_size h
-
--- the bits of samples from the start of a segment on
-abbrev pub bits_after : Settings → Option ℤ → List ℤ → List Bool
-bits_after s o v = flat_map (cds_bits s) (block_sets s (blocks_after s o v))
-
-pub bits_after-nil : (s : Settings) (o : Option ℤ) → 0 < s.block_size → bits_after s o [] ≡ []
-bits_after-nil s o h = ap (λ blocks. flat_map (cds_bits s) (block_sets s blocks)) (blocks_after-nil s o h)
-
-pub bits_after-segment : (s : Settings) (o : Option ℤ) (front rest : List ℤ) → 0 < s.block_size → IsPieceBefore (s.block_size * 64) front rest
-    → bits_after s o (front ++ rest) ≡ segment_bits s (blocks_after s o front) ++ bits_after s (last_or o front) rest
-bits_after-segment s o front rest h piece =
-    ap (λ blocks. flat_map (cds_bits s) (block_sets s blocks)) (blocks_after-segment s o front rest h piece)
-    ∙ ap (λ segments. flat_map (cds_bits s) (flat_map (λ segment. group_sets s (groups_of segment)) segments))
-    (pieces_of-cons 64 (blocks_after s o front) (blocks_after s (last_or o front) rest) (segment_before s o front rest h piece))
-    ∙ flat_map-append (cds_bits s) (group_sets s (groups_of (blocks_after s o front))) (block_sets s (blocks_after s (last_or o front) rest))

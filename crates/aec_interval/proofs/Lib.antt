@@ -21,6 +21,7 @@ pub mod MappedLemmas
 pub mod FillLemmas
 pub mod ShortBlockLemmas
 pub mod SegmentLemmas
+pub mod OneLoopLemmas
 pub mod PaddingLemmas
 pub mod WholeLemmas
 pub mod NextBlockLemmas

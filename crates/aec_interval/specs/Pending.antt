@@ -1,6 +1,6 @@
 -- For proofs alone: no public contract cites this file.
 -- What the private functions of `interval::zero_runs` and `interval` compute: what is still to be
--- written after zero blocks that are counted. The contract of `write_interval` cites
+-- written after zero blocks that are counted. The contract of `append_interval` cites
 -- `interval_bits` instead.
 use Rattle.std.specs.Prelude.{◌≡◌, ℕ, ℤ, zero, suc, ◌+◌, ◌-◌, ◌==◌, ◌<◌, ◌≤◌, Bool, length, take, if◌then◌else◌, Option, List, [], ◌∷◌, ◌++◌, Result, IfOk, IfErr}
 use Rattle.std.specs.List.{flat_map}

@@ -8,18 +8,18 @@ mod filled_blocks;
 mod short_blocks;
 mod zero_runs;
 
-ghost use Rattle.std.specs.Prelude.{◌≡◌, ◌+◌, ◌-◌, ◌*◌, ◌<◌, ◌≤◌, ◌++◌, ◌∷◌, List, None, length, OnOk, OnErr, IfOk, IfErr};
+ghost use Rattle.std.specs.Prelude.{◌≡◌, ◌-◌, ◌%◌, ◌<◌, ◌≤◌, ◌++◌, true, false, if◌then◌else◌, length, take, drop, OnOk, OnErr, IfErr};
 ghost use Rattle.aec_params.specs.declared.fault.Fault.TheVariants.{Memory};
 ghost use Rattle.std.specs.List.{AllByRecursion};
-ghost use Rattle.aec_params.specs.Params.{IsAllowed, IsHeld, interval_len};
-ghost use Rattle.aec_params.specs.Blocks.{Block as Values};
+ghost use Rattle.aec_params.specs.Params.{IsAllowed, IsHeld};
 ghost use Rattle.aec_params.specs.Cutting.{up_to_multiple};
 ghost use Rattle.aec_params.specs.Streams.{stream_of};
 ghost use Rattle.aec_params.specs.Runs.{segment_len};
-ghost use Rattle.aec_params.specs.Intervals.{unpadded_bits, interval_bits};
+ghost use Rattle.aec_params.specs.Codewords.{padded_to_byte};
+ghost use Rattle.aec_params.specs.Intervals.{interval_bits};
 ghost use Rattle.aec_interval.specs.Laws.{AreOfInterval};
-ghost use Rattle.aec_interval.specs.Chunks.{block_after, blocks_after, AreSamplesAfter};
-ghost use Rattle.aec_interval.specs.Pending.{segment_bits, IsKept, AreNext, TakesBlock};
+ghost use Rattle.aec_interval.specs.Chunks.{block_after};
+ghost use Rattle.aec_interval.specs.Pending.{IsKept, AreNext, TakesBlock};
 
 use crate::block_sizes::by_block_size;
 use crate::interval::short_blocks::write_short;
@@ -29,20 +29,13 @@ use aec_bits::BitBuf;
 use aec_params::{Fault, Params};
 use std::alloc::Global;
 
-/// How many samples each interval of a stream has; the last one may have fewer.
-fn interval_size(params: &Params) -> usize
-    ensures value { result ≡ interval_len params.now }
-    ensures allowed { IsAllowed params.now }
+/// Whether a segment goes on after the first blocks of its interval, which are so many.
+#[inline(always)]
+fn segment_goes_on(blocks: u32, interval: u32) -> bool
+    ensures inside { result ≡ true → (blocks < interval) × (0 < blocks % segment_len) }
+    ensures end { result ≡ false → blocks < interval → blocks % segment_len ≡ 0 }
 {
-    params.interval_len() as usize
-}
-
-/// How many samples each segment of an interval has; the last one may have fewer.
-fn segment_size(params: &Params) -> usize
-    ensures value { result ≡ params.now.block_size * segment_len }
-    ensures allowed { IsAllowed params.now }
-{
-    (params.block_size() * SEGMENT_BLOCKS) as usize
+    blocks < interval && blocks % SEGMENT_BLOCKS != 0
 }
 
 /// Takes the samples of the next block of a segment, after a run: by code compiled for `N` if they
@@ -68,52 +61,6 @@ fn write_chunk<const N: usize>(
     write_next::<N>(params, previous, &samples[..N], &mut values, run, out)
 }
 
-/// Appends the code of a segment, whose samples stand after `previous` or at an interval's start.
-/// `Memory` where a growth was refused; the bits from before are then still in front.
-#[inline(always)]
-fn write_segment<const N: usize>(
-    alloc: Global,
-    params: &Params,
-    previous: Option<i64>,
-    samples: &[i64],
-    out: &mut BitBuf,
-) -> Result<(), Fault>
-    requires { AreSamplesAfter params.now previous segment_len samples.now }
-    ensures ok { OnOk result (out.new.list
-        ≡ out.old.list ++ segment_bits params.now (blocks_after params.now previous samples.now)) }
-    ensures kept { IsKept out.old.list out.new.list }
-    ensures fault { IfErr result (λ e. e ≡ Memory) }
-{
-    let mut preceding = previous;
-    let mut run = NO_RUN;
-    for chunk in samples.chunks(params.block_size() as usize) {
-        run = write_chunk::<N>(alloc, params, preceding, chunk, run, out)?;
-        preceding = chunk.last().copied();
-    }
-    run.write(params, true, out)
-}
-
-/// Appends the code of an interval without padding.
-#[inline(always)]
-fn write_segments<const N: usize>(
-    alloc: Global,
-    params: &Params,
-    samples: &[i64],
-    out: &mut BitBuf,
-) -> Result<(), Fault>
-    requires { AreOfInterval params.now samples.now }
-    ensures ok { OnOk result (out.new.list ≡ out.old.list ++ unpadded_bits params.now samples.now) }
-    ensures kept { IsKept out.old.list out.new.list }
-    ensures fault { IfErr result (λ e. e ≡ Memory) }
-{
-    let mut preceding = None;
-    for segment in samples.chunks(segment_size(params)) {
-        write_segment::<N>(alloc, params, preceding, segment, out)?;
-        preceding = segment.last().copied();
-    }
-    Ok(())
-}
-
 /// How many zero bits pad the bits from `start` up to `end` to whole bytes.
 fn missing_bits(start: u64, end: u64) -> u32
     requires { start ≤ end }
@@ -123,22 +70,17 @@ fn missing_bits(start: u64, end: u64) -> u32
     ((8 - (end - start) % 8) % 8) as u32
 }
 
-/// Appends the code of an interval, padded by its own length where the parameters pad. `Memory`
-/// where a growth was refused; the bits from before are then still in front.
+/// Pads the interval that begins at bit `start` by its own length, where the parameters pad.
+/// `Memory` where a growth was refused.
 #[inline(always)]
-pub(crate) fn write_interval<const N: usize>(
-    alloc: Global,
-    params: &Params,
-    samples: &[i64],
-    out: &mut BitBuf,
-) -> Result<(), Fault>
-    requires { AreOfInterval params.now samples.now }
-    ensures ok { OnOk result (out.new.list ≡ out.old.list ++ interval_bits params.now samples.now) }
+fn end_interval(params: &Params, start: u64, out: &mut BitBuf) -> Result<(), Fault>
+    requires { start ≤ length out.old.list }
+    ensures ok { OnOk result (out.new.list ≡ take start out.old.list
+        ++ (if params.now.pad then padded_to_byte (drop start out.old.list)
+        else drop start out.old.list)) }
     ensures kept { IsKept out.old.list out.new.list }
     ensures fault { IfErr result (λ e. e ≡ Memory) }
 {
-    let start = out.len();
-    write_segments::<N>(alloc, params, samples, out)?;
     if params.pad() {
         out.push_bits(0, missing_bits(start, out.len()))?;
     }
@@ -146,8 +88,9 @@ pub(crate) fn write_interval<const N: usize>(
 }
 
 /// Appends the code of samples, interval by interval, with code compiled for whole blocks of `N`
-/// samples. No block has 0 samples, so with 0 each goes by `write_short`. Fails with `Memory` if an
-/// allocation fails; `out` then still begins with its old bits.
+/// samples: one loop over the blocks of all intervals. No block has 0 samples, so with 0 each goes
+/// by `write_short`. Fails with `Memory` if an allocation fails; `out` then still begins with its
+/// old bits.
 #[inline(never)]
 fn write_known_intervals<const N: usize>(
     alloc: Global,
@@ -164,10 +107,31 @@ fn write_known_intervals<const N: usize>(
     // Calls that stay out of line are lent copies of this copy, so that the compiler can keep it in
     // registers.
     let own = *params;
-    for interval in samples.chunks(interval_size(params)) {
-        write_interval::<N>(alloc, &own, interval, out)?;
+    let interval = own.interval();
+    let mut start = out.len();
+    let mut preceding = None;
+    let mut run = NO_RUN;
+    let mut place = 0u32;
+    for chunk in samples.chunks(own.block_size() as usize) {
+        run = write_chunk::<N>(alloc, &own, preceding, chunk, run, out)?;
+        place += 1;
+        if segment_goes_on(place, interval) {
+            preceding = chunk.last().copied();
+            continue;
+        }
+        run.write(&own, true, out)?;
+        run = NO_RUN;
+        if place < interval {
+            preceding = chunk.last().copied();
+            continue;
+        }
+        end_interval(&own, start, out)?;
+        start = out.len();
+        preceding = None;
+        place = 0;
     }
-    Ok(())
+    run.write(&own, true, out)?;
+    end_interval(&own, start, out)
 }
 
 /// Appends the code of samples, interval by interval. `Memory` where a growth was refused; the bits

@@ -4,10 +4,12 @@ ghost use Rattle.std.specs.Prelude.{◌≡◌, ◌<◌, ◌≤◌, true, length,
 ghost use Rattle.std.specs.List.{AllByRecursion};
 ghost use Rattle.aec_params.specs.Params.{IsHeld, sample_pattern};
 ghost use Rattle.aec_params.specs.Mapping.{mapped_after, mapped_values};
-ghost use Rattle.aec_block.specs.Offsets.{sample_offset, mapped_offsets};
+ghost use Rattle.aec_block.specs.Offsets.{sample_offset, top_offset, mapped_offsets};
 
-use crate::mapping::{greatest_offset, map_offset, offset_above, offset_of};
+use crate::mapping::eight_offsets::map_eight;
+use crate::mapping::{greatest_offset, map_offset, offset_above};
 use aec_params::Params;
+use std::simd::prelude::*;
 
 /// Puts how far samples lie above the least one into `values`.
 #[inline(always)]
@@ -23,9 +25,9 @@ fn put_sample_offsets(params: &Params, samples: &[i64], values: &mut [u32])
 }
 
 /// Puts what is coded for offsets in their place, each at the one before it, which is `previous`
-/// for the first.
+/// for the first: one by one.
 #[inline(always)]
-fn map_offsets(top: u32, previous: u32, values: &mut [u32])
+fn map_each_offset(top: u32, previous: u32, values: &mut [u32])
     requires prediction { previous ≤ top }
     requires offsets { AllByRecursion (λ x. x ≤ top) values.old }
     ensures { values.new ≡ mapped_offsets top previous values.old }
@@ -36,6 +38,31 @@ fn map_offsets(top: u32, previous: u32, values: &mut [u32])
         values[i] = map_offset(top, p, x);
         p = x;
     }
+}
+
+/// The same, of eight offsets at once.
+#[inline(always)]
+fn map_offsets(top: u32, previous: u32, values: &mut [u32])
+    requires prediction { previous ≤ top }
+    requires offsets { AllByRecursion (λ x. x ≤ top) values.old }
+    ensures { values.new ≡ mapped_offsets top previous values.old }
+{
+    if values.len() != 8 {
+        map_each_offset(top, previous, values);
+        return;
+    }
+    let offsets = u32x8::from_slice(values).to_array();
+    u32x8::from_array(map_eight(top, previous, &offsets)).copy_to_slice(values);
+}
+
+/// How far the sample before others lies above the least one. No branch or choice depends on it.
+#[inline(always)]
+fn first_prediction(params: &Params, previous: i64) -> u32
+    requires { IsHeld params.now previous }
+    ensures value { result ≡ sample_offset params.now previous }
+    ensures within { result ≤ top_offset params.now }
+{
+    offset_above(params.x_min(), previous)
 }
 
 /// Puts what is coded for samples at their predictions, which are the samples before them, into
@@ -49,7 +76,7 @@ fn map_predicted(params: &Params, previous: i64, samples: &[i64], values: &mut [
     ensures { values.new ≡ mapped_after params.now previous samples.now }
 {
     let top = greatest_offset(params);
-    let p = offset_of(params, previous);
+    let p = first_prediction(params, previous);
     put_sample_offsets(params, samples, values);
     map_offsets(top, p, values);
 }

@@ -62,7 +62,7 @@ fn needed_rooms(values: &[u32]) -> [u32; 8]
 /// The room on both sides of those of eight places that are offsets.
 #[inline(always)]
 #[tactic(auto, using(crate::proofs::NearLaneLemmas::rooms))]
-fn rooms_at(top: u32, places: &[u32; 8]) -> [u32; 8]
+pub(crate) fn rooms_at(top: u32, places: &[u32; 8]) -> [u32; 8]
     ensures { (i : ℕ) → i < 8 → get_or places.now i 0 ≤ top
         → get_or result i 0 ≡ offset_room top (get_or places.now i 0) }
 {

@@ -25,7 +25,7 @@ pub(crate) fn high_word_len(values: &[u32], k: u32) -> u64
 /// Eight values without their `k` low bits.
 #[inline(always)]
 #[tactic(auto, using(crate::proofs::LanesLemmas::shifts))]
-fn eight_highs(values: &[u32], k: u32) -> u32x8
+pub(crate) fn eight_highs(values: &[u32], k: u32) -> u32x8
     requires k { k < 32 }
     requires len { length values.now ≡ 8 }
     ensures { result ≡ map (λ v. v / 2 ^ k) values.now }

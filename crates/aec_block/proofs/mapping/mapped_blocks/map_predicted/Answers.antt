@@ -15,8 +15,8 @@ pub returns : goal.returns
 returns c =
     let s = c.args.params.now in
     let fits : FitsSigned w64 c.args.previous = search rules in
-    let p = c.offset_of-p.ensures.value ∙ ap (sample_offset s) (to_z-of_z w64 c.args.previous fits) in
-    c.map_offsets.ensures ∙ ap (λ (top : ℕ). mapped_offsets top c.offset_of-p.result c.put_sample_offsets.new.values) c.greatest_offset-top.ensures.value
+    let p = c.first_prediction-p.ensures.value ∙ ap (sample_offset s) (to_z-of_z w64 c.args.previous fits) in
+    c.map_offsets.ensures ∙ ap (λ (top : ℕ). mapped_offsets top c.first_prediction-p.result c.put_sample_offsets.new.values) c.greatest_offset-top.ensures.value
     ∙ ap (λ (q : ℕ). mapped_offsets (top_offset s) q c.put_sample_offsets.new.values) p
     ∙ ap (mapped_offsets (top_offset s) (sample_offset s c.args.previous)) c.put_sample_offsets.ensures
     ∙ sym (mapped_after-offsets s c.args.previous c.args.samples.now c.greatest_offset-top.ensures.allowed c.requires.on c.requires.prediction c.requires.held)
