@@ -19,6 +19,7 @@ pub mod LaneLemmas
 pub mod RunLemmas
 pub mod TopNumbersLemmas
 pub mod WindowLemmas
+mod FallingLemmas
 pub mod GroupLemmas
 pub mod OnesLemmas
 pub mod EightLemmas

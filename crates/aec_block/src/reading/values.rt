@@ -35,6 +35,7 @@ pub(crate) fn high_limit(limit: u64, k: u32) -> u64
 }
 
 /// Whether all values are below `limit`.
+#[inline(never)]
 fn are_below(values: &[u32], limit: u64) -> bool
     requires { 0 < limit }
     ensures { result ≡ all_below limit values.now }

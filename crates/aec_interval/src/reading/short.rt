@@ -24,13 +24,11 @@ const AT_ONCE: u64 = 2048;
 /// Intervals of more blocks are read one at a time: what is paid for each is little then.
 const MOST_BLOCKS: u32 = 8;
 
-/// Intervals of one run of zero blocks.
+/// Kinds of intervals: one run of zero blocks; plain blocks of samples that are predicted, or not.
 const ZEROS: usize = 10;
 
-/// Intervals of plain blocks, where samples are predicted.
 const PREDICTED: usize = 11;
 
-/// Intervals of plain blocks, where no sample is predicted.
 const UNPREDICTED: usize = 12;
 
 /// Reads the block that comes next as the first of its interval, with a reference sample, if it is
@@ -148,7 +146,6 @@ fn fill_plain_interval<const N: usize, const M: usize, const KIND: usize>(
     samples: &mut [i64],
 ) -> bool
     requires size { N ≡ params.now.block_size }
-    requires small { N ≤ most_values }
     requires count { length values.old ≡ params.now.block_size }
     requires len { length samples.old ≡ interval_len params.now }
     ensures ok { result ≡ true → ReadsWhole params.now 1 reader.old reader.new samples.new }
@@ -219,9 +216,8 @@ fn fill_zero_interval(params: &Params, reader: &mut BitReader, samples: &mut [i6
     }
 }
 
-/// Reads the interval that comes next, with `ZEROS` 1 if it is one run of zero blocks, and else if
-/// all its blocks are plain ones, and puts its samples into `samples`. Else false, and the reader
-/// is where it was. Both in one loop would make each of them slower.
+/// Reads the interval that comes next, if it is of this kind, and puts its samples into `samples`.
+/// Else false, and the reader is where it was. One loop for all kinds would make each slower.
 #[inline(always)]
 fn fill_interval<const N: usize, const M: usize, const KIND: usize>(
     params: &Params,
@@ -230,7 +226,6 @@ fn fill_interval<const N: usize, const M: usize, const KIND: usize>(
     samples: &mut [i64],
 ) -> bool
     requires size { N ≡ params.now.block_size }
-    requires small { N ≤ most_values }
     requires short { params.now.interval ≤ 64 }
     requires count { length values.old ≡ params.now.block_size }
     requires len { length samples.old ≡ interval_len params.now }
@@ -368,8 +363,7 @@ fn intervals_at_once(params: &Params, wanted: Wanted, most: u64, capacity: usize
 
 /// Reads the intervals that come next, as long as `fill_interval` reads them, and puts their
 /// samples in the place of those that are there, at most `most`. The number of the block that comes
-/// then: `wanted.first` where none was read, and what stands in `samples` isn't said then. Takes no
-/// memory.
+/// then: `wanted.first` where none was read, and `samples` may hold anything. Takes no memory.
 pub(crate) fn read_short(
     params: &Params,
     wanted: Wanted,

@@ -16,4 +16,5 @@ returns-clause-ok g c =
     (c.fill_plain_blocks.ensures.len ∙ c.requires.len) in
     subst (λ n. ReadsPlain s n c.args.reader.now (take g.row.N c.args.samples.now) c.fill_plain_blocks.new.reader c.fill_plain_blocks.new.samples) all
     (subst (ReadsPlain s n c.args.reader.now (take g.row.N c.args.samples.now) c.fill_plain_blocks.new.reader)
-    (take_all _ c.fill_plain_blocks.new.samples (omega (arith, len, ap (λ n. n * g.row.N) all, ap (λ j. n * j) c.requires.size))) c.fill_plain_blocks.ensures.reads)
+    (take_all _ c.fill_plain_blocks.new.samples
+    (omega (arith, len, ap (λ n. n * g.row.N) all, ap (λ j. n * j) c.requires.size))) c.fill_plain_blocks.ensures.reads)
