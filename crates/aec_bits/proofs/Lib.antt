@@ -19,7 +19,6 @@ pub mod LaneLemmas
 pub mod RunLemmas
 pub mod TopNumbersLemmas
 pub mod WindowLemmas
-mod FallingLemmas
 pub mod GroupLemmas
 pub mod OnesLemmas
 pub mod EightLemmas

@@ -1,6 +1,6 @@
 -- For proofs alone: no public contract cites this file.
 -- The next bits of a list as a number, and the numbers that are read from it.
-use Rattle.std.specs.Prelude.{ℕ, zero, suc, ◌≡◌, ◌+◌, ◌-◌, ◌*◌, ◌/◌, ◌%◌, ◌^◌, ◌<◌, ◌≤◌, Bool, false, List, [], ◌∷◌, ◌++◌, length, take, drop, replicate, ⊤}
+use Rattle.std.specs.Prelude.{ℕ, zero, suc, ◌≡◌, ◌-◌, ◌*◌, ◌/◌, ◌%◌, ◌^◌, ◌<◌, ◌≤◌, Bool, false, List, [], ◌∷◌, ◌++◌, length, take, drop, replicate}
 use Rattle.std.specs.List.{flat_map}
 use Rattle.aec_params.specs.Codewords.{fs, binary}
 use Rattle.aec_bits.specs.BitReader.{AreBelow}
@@ -40,23 +40,3 @@ abbrev pub moved_to_top : ℕ → List ℕ → List ℕ → List ℕ
 moved_to_top w [] powers = []
 moved_to_top w (x ∷ xs) [] = []
 moved_to_top w (x ∷ xs) (p ∷ ps) = (x * p % 2 ^ 32 / 2 ^ (32 - w)) ∷ moved_to_top w xs ps
-
--- each place in a word is below the one before, which is `left` for the first
-abbrev pub AreFalling : ℕ → List ℕ → Type 0
-AreFalling left [] = ⊤
-AreFalling left (top ∷ tops) = (top < left) × AreFalling top tops
-
--- the last of these places, or `left` where there is none
-abbrev pub lowest_of : ℕ → List ℕ → ℕ
-lowest_of left [] = left
-lowest_of left (top ∷ tops) = lowest_of top tops
-
--- how many places lie between each of these and the one before
-abbrev pub zeros_between : ℕ → List ℕ → List ℕ
-zeros_between left [] = []
-zeros_between left (top ∷ tops) = (left - top - 1) ∷ zeros_between top tops
-
--- the same modulo 2^32, whatever the places are
-abbrev pub zeros_modulo : ℕ → List ℕ → List ℕ
-zeros_modulo left [] = []
-zeros_modulo left (top ∷ tops) = (((left + (2 ^ 32 - top)) % 2 ^ 32 + (2 ^ 32 - 1)) % 2 ^ 32) ∷ zeros_modulo top tops

@@ -2,7 +2,6 @@
 
 mod counted_ones;
 mod windows;
-mod word_numbers;
 
 use crate::bit_buf::BitBuf;
 use crate::bit_reader::counted_ones::bits_to_one;

@@ -4,10 +4,9 @@ ghost use Rattle.std.specs.Prelude.{◌≡◌, ◌+◌, ◌-◌, ◌*◌, ◌/�
 ghost use Rattle.aec_params.specs.Codewords.{fs, binary};
 ghost use Rattle.aec_bits.specs.BitReader.{has_one, StopsBefore};
 ghost use Rattle.aec_bits.specs.WordBits.{word_bits};
-ghost use Rattle.aec_bits.specs.Windows.{IsWindow, StandsBefore, StandsBehind, AreFalling, zeros_between, zeros_modulo};
+ghost use Rattle.aec_bits.specs.Windows.{IsWindow, StandsBefore, StandsBehind, moved_to_top, numbers_of_word};
 
 use crate::bit_buf::BitBuf;
-use crate::bit_reader::word_numbers::{eight_numbers, four_numbers};
 use std::simd::prelude::*;
 
 /// The next bits of a list: the lowest `left` bits of a word, which stand before place `end`.
@@ -118,47 +117,12 @@ fn sequences_one_by_one(buf: &BitBuf, window: Window, numbers: &mut [u32]) -> Op
     Some(rest)
 }
 
-/// The places of the topmost `count` ones of a window, from the top down and counted from the
-/// lowest bit, and what is left after them. The places behind are 0.
-#[inline(always)]
-fn top_ones(window: Window, count: usize) -> ([u32; 8], Window)
-    requires size { window.left ≤ 64 }
-    requires fits { window.word < 2 ^ window.left }
-    requires few { count ≤ 8 }
-    requires some { count ≤ count_ones window.word }
-    ensures stand { StandsBefore fs 64 (zeros_between window.left (take count result.0))
-        (binary result.1.left result.1.word) (binary window.left window.word) }
-    ensures falling { AreFalling window.left (take count result.0) }
-    ensures fits { result.1.word < 2 ^ result.1.left }
-    ensures end { result.1.end ≡ window.end }
-{
-    let mut tops = [0u32; 8];
-    let mut rest = window;
-    for i in 0..count {
-        rest = next_sequence(rest).1;
-        tops[i] = rest.left;
-    }
-    (tops, rest)
-}
-
-/// How many zeros lie between eight ones, of which the places are given from the top down.
-#[inline(always)]
-#[tactic(auto, using(crate::proofs::FallingLemmas::zeros_in_lanes))]
-fn zeros_of(left: u32, tops: &[u32; 8]) -> [u32; 8]
-    ensures { result ≡ zeros_modulo left tops.now }
-{
-    let ends = u32x8::from_array(*tops);
-    let begins = u32x8::splat(left).shuffle(ends, [0, 8, 9, 10, 11, 12, 13, 14]);
-    (begins - ends - u32x8::splat(1)).to_array()
-}
-
 /// Puts the numbers of the fundamental sequences that begin a window into `numbers`, and returns
 /// what is left after them. The window has a 1 bit for each, so each is found.
 #[inline(always)]
 fn sequences_within(window: Window, numbers: &mut [u32]) -> Window
     requires size { window.left ≤ 64 }
     requires fits { window.word < 2 ^ window.left }
-    requires few { length numbers.old ≤ 8 }
     requires some { length numbers.old ≤ count_ones window.word }
     ensures stand { StandsBefore fs 64 numbers.new (binary result.left result.word)
         (binary window.left window.word) }
@@ -166,8 +130,12 @@ fn sequences_within(window: Window, numbers: &mut [u32]) -> Window
     ensures fits { result.word < 2 ^ result.left }
     ensures end { result.end ≡ window.end }
 {
-    let (tops, rest) = top_ones(window, numbers.len());
-    numbers.copy_from_slice(&zeros_of(window.left, &tops)[..numbers.len()]);
+    let mut rest = window;
+    for i in 0..numbers.len() {
+        let (zeros, behind) = next_sequence(rest);
+        numbers[i] = zeros;
+        rest = behind;
+    }
     rest
 }
 
@@ -199,7 +167,6 @@ fn with_ones(buf: &BitBuf, window: Window, count: usize) -> Window
 /// no 1.
 #[inline(always)]
 fn next_sequences(buf: &BitBuf, window: Window, numbers: &mut [u32]) -> Option<Window>
-    requires few { length numbers.old ≤ 8 }
     requires window { IsWindow buf.now.list window.word window.left window.end }
     requires fits { window.word < 2 ^ window.left }
     ensures cases { MatchOption result
@@ -262,6 +229,75 @@ fn next_number(window: Window, width: u32) -> (u32, Window)
         end: window.end,
     };
     ((window.word.wrapping_shr(left) & mask) as u32, rest)
+}
+
+/// What moves the second to the fourth of four numbers at a word's top there, by their width.
+static POWERS: [[u32; 4]; 9] = [
+    [1, 1, 1, 1],
+    [1, 2, 4, 8],
+    [1, 4, 16, 64],
+    [1, 8, 64, 512],
+    [1, 16, 256, 4096],
+    [1, 32, 1024, 32768],
+    [1, 64, 4096, 262144],
+    [1, 128, 16384, 2097152],
+    [1, 256, 65536, 16777216],
+];
+
+/// The row of a width.
+#[inline(always)]
+fn powers_of(width: u32) -> [u32; 4]
+    requires { width ≤ 8 }
+    ensures { result ≡ 1 ∷ 2 ^ width ∷ 2 ^ (2 * width) ∷ 2 ^ (3 * width) ∷ [] }
+{
+    POWERS[width as usize]
+}
+
+/// The 32 bits of a word from place `at` on.
+#[inline(always)]
+fn half_from(word: u64, at: u32) -> u32
+    requires { at < 64 }
+    ensures { result ≡ word * 2 ^ at % 2 ^ 64 / 2 ^ 32 }
+{
+    ((word << at) >> 32) as u32
+}
+
+/// The numbers of so many bits that stand at the top of four lanes, once powers moved them there.
+#[inline(always)]
+fn top_numbers(halves: &[u32; 4], powers: &[u32; 4], width: u32) -> [u32; 4]
+    requires { width < 32 }
+    ensures { result ≡ moved_to_top width halves.now powers.now }
+{
+    let lanes = u32x4::from_array(*halves) * u32x4::from_array(*powers);
+    ((lanes >> u32x4::splat(1)) >> u32x4::splat(31 - width)).to_array()
+}
+
+/// The eight numbers of so many bits at the top of a word.
+#[inline(always)]
+fn eight_numbers(word: u64, width: u32) -> [u32; 8]
+    requires { width ≤ 8 }
+    ensures { result ≡ numbers_of_word width 8 64 word }
+{
+    let powers = powers_of(width);
+    let half = half_from(word, 0);
+    let first = top_numbers(&[half, half, half, half], &powers, width);
+    let next = half_from(word, 4 * width);
+    let second = top_numbers(&[next, next, next, next], &powers, width);
+    [
+        first[0], first[1], first[2], first[3], second[0], second[1], second[2], second[3],
+    ]
+}
+
+/// The four numbers of so many bits at the top of a word.
+#[inline(always)]
+fn four_numbers(word: u64, width: u32) -> [u32; 4]
+    requires { width ≤ 16 }
+    ensures { result ≡ numbers_of_word width 4 64 word }
+{
+    let power = 1 << width;
+    let half = half_from(word, 0);
+    let next = half_from(word, 2 * width);
+    top_numbers(&[half, half, next, next], &[1, power, 1, power], width)
 }
 
 /// Puts the numbers that `width` bits each of a word spell, from its first bit on, into `numbers`,

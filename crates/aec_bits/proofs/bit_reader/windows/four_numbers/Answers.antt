@@ -1,7 +1,7 @@
 use Rattle.std.proofs.Common.{arith}
 use Rattle.std.proofs.lemmas.Nat.{one_shl}
 use Rattle.aec_bits.proofs.TopNumbersLemmas.{four_lanes}
-use Rattle.aec_bits.proofs.bit_reader.word_numbers.four_numbers.Goals as goal
+use Rattle.aec_bits.proofs.bit_reader.windows.four_numbers.Goals as goal
 
 pub returns : goal.returns
 returns c =

@@ -1,5 +1,5 @@
 use Rattle.aec_bits.proofs.TopNumbersLemmas.{eight_lanes}
-use Rattle.aec_bits.proofs.bit_reader.word_numbers.eight_numbers.Goals as goal
+use Rattle.aec_bits.proofs.bit_reader.windows.eight_numbers.Goals as goal
 
 pub returns : goal.returns
 returns c =
