@@ -71,7 +71,8 @@ fn fill_plain<const N: usize, const COPY: usize>(
 /// moves past it, if it is plain and its values are at most the greatest that the width has:
 /// `values` then contains them. Else returns false, and the reader hasn't moved; what `values`
 /// contains isn't said. Takes no memory. Compiled into the place of the call for blocks of `N`
-/// values; others are read as well.
+/// values; others are read as well. Calls with different `COPY` share no code: the compiler takes a
+/// large function only into the place of its only call.
 #[inline(always)]
 #[tactic(auto, using(crate::proofs::NoPlainLemmas::none_stands))]
 pub fn read_plain<const N: usize, const COPY: usize>(

@@ -11,7 +11,7 @@ ghost use Rattle.aec_interval.specs.Reached.{IsReached};
 ghost use Rattle.aec_interval.specs.Steps.{IsUntestedEnd};
 ghost use Rattle.aec_interval.specs.PlainBlocks.{ReadsPlain, most_at_once};
 
-use crate::block_sizes::by_block_size;
+use crate::block_sizes::{IN_LONG_INTERVALS, by_block_size};
 use crate::reading::Wanted;
 use crate::reading::samples::previous_of;
 use aec_bits::BitReader;
@@ -132,7 +132,7 @@ fn fill_known_blocks<const N: usize>(
     // A copy that no other call can see stays in registers.
     let own = *params;
     let mut values = [0u32; N];
-    fill_plain_blocks::<N, 3>(&own, reader, most, &mut values, samples, from)
+    fill_plain_blocks::<N, IN_LONG_INTERVALS>(&own, reader, most, &mut values, samples, from)
 }
 
 /// The same of blocks of any size.
@@ -154,7 +154,7 @@ fn fill_any_blocks(
     let own = *params;
     let mut scratch = [0u32; MOST_VALUES];
     let values = &mut scratch[..own.block_size() as usize];
-    fill_plain_blocks::<0, 3>(&own, reader, most, values, samples, from)
+    fill_plain_blocks::<0, IN_LONG_INTERVALS>(&own, reader, most, values, samples, from)
 }
 
 /// The same, compiled for the usual block sizes.

@@ -11,6 +11,7 @@ ghost use Rattle.aec_interval.specs.Reached.{IsReached};
 ghost use Rattle.aec_interval.specs.PlainBlocks.{ReadsPlain};
 ghost use Rattle.aec_interval.specs.ShortIntervals.{AreWithin, ReadsFirst, ReadsWhole};
 
+use crate::block_sizes::FIRST_UNPREDICTED;
 use crate::reading::plain::fill_plain_blocks;
 use crate::reading::zero_runs::repeated_sample;
 use crate::reading::{Wanted, block_count};
@@ -81,7 +82,7 @@ fn fill_unpredicted_block<const N: usize>(
 {
     // Called for its clause alone: the parameters are allowed.
     let _len = params.interval_len();
-    if !read_plain::<N, 5>(params, reader, values) {
+    if !read_plain::<N, FIRST_UNPREDICTED>(params, reader, values) {
         return false;
     }
     let len = values.len();
@@ -89,8 +90,7 @@ fn fill_unpredicted_block<const N: usize>(
     true
 }
 
-/// Reads the block that comes next as the first of its interval, if it is a plain one, and puts its
-/// samples into the front of `samples`. Else false.
+/// The same of the first block of an interval of this kind.
 #[inline(always)]
 fn fill_first_block<const N: usize, const M: usize, const KIND: usize>(
     params: &Params,
