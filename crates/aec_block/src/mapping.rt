@@ -62,7 +62,7 @@ pub(crate) fn offset_of(params: &Params, x: i64) -> u32
     ensures value { result ≡ sample_offset params.now x }
     ensures within { result ≤ top_offset params.now }
 {
-    offset_above(params.x_min(), x)
+    x.abs_diff(params.x_min()) as u32
 }
 
 /// How far a number lies above another.
