@@ -1,5 +1,5 @@
 -- Numbers at the top of a word, of which powers of two move each to the top of its lane.
-use Rattle.std.proofs.Common.{◌≡◌, ℕ, zero, suc, ◌+◌, ◌-◌, ◌*◌, ◌/◌, ◌%◌, ◌^◌, ◌<◌, ◌≤◌, Bool, List, [], ◌∷◌, ◌++◌, length, replicate, get_or, refl, sym, ap, ap₂, ◌∙◌, arith, append_assoc, subst}
+use Rattle.std.proofs.Common.{◌≡◌, ℕ, zero, suc, ◌+◌, ◌-◌, ◌*◌, ◌/◌, ◌%◌, ◌^◌, ◌<◌, ◌≤◌, Bool, List, [], ◌∷◌, ◌++◌, length, replicate, take, get_or, refl, sym, ap, ap₂, ◌∙◌, arith, append_assoc, subst}
 use Rattle.std.specs.Simd.Lanes.{zip2}
 use Rattle.std.specs.List.{flat_map}
 use Rattle.std.proofs.Math.Pow.{mod-mod-pow}
@@ -112,11 +112,20 @@ numbers_stand w (suc n) left word within =
       below = (mod_below value (2 ^ w) (pow_pos w), rest.below);
     }
 
--- in place of a list of as many
-pub top_numbers_stand : (w n word : ℕ) (numbers items : List ℕ) → length items ≡ n → w * length items ≤ 64 → numbers ≡ numbers_of_word w n 64 word
+-- of more numbers the first ones
+take-numbers_of_word : (w n m left word : ℕ) → n ≤ m → take n (numbers_of_word w m left word) ≡ numbers_of_word w n left word
+take-numbers_of_word w zero m left word fewer = refl
+take-numbers_of_word w (suc n) zero left word fewer = absurd (omega (arith, fewer))
+take-numbers_of_word w (suc n) (suc m) left word fewer =
+    ap (λ (l : List ℕ). word / 2 ^ (left - w) % 2 ^ w ∷ l) (take-numbers_of_word w n m (left - w) word (omega (arith, fewer)))
+
+-- in place of a list of as many, the first of m
+pub top_numbers_stand : (w n m word : ℕ) (numbers items : List ℕ) → length items ≡ n → n ≤ m → w * length items ≤ 64
+    → numbers ≡ take n (numbers_of_word w m 64 word)
     → StandsBefore (binary w) (2 ^ w) numbers (binary (64 - w * length items) word) (word_bits word)
 unfolding word_bits
-top_numbers_stand w n word numbers items long within is =
+top_numbers_stand w n m word numbers items long fewer within is =
     let room : w * n ≤ 64 = subst (λ (k : ℕ). w * k ≤ 64) long within in
     subst (λ (k : ℕ). StandsBefore (binary w) (2 ^ w) numbers (binary (64 - w * k) word) (binary 64 word)) (sym long)
-    (subst (λ (l : List ℕ). StandsBefore (binary w) (2 ^ w) l (binary (64 - w * n) word) (binary 64 word)) (sym is) (numbers_stand w n 64 word room))
+    (subst (λ (l : List ℕ). StandsBefore (binary w) (2 ^ w) l (binary (64 - w * n) word) (binary 64 word))
+    (sym (is ∙ take-numbers_of_word w n m 64 word fewer)) (numbers_stand w n 64 word room))

@@ -1,4 +1,4 @@
--- Differences of near values in lanes: half of the value, less the value itself where it is odd.
+-- Differences of near values in lanes: half of the value, with all bits turned where it is odd.
 use Rattle.std.proofs.Common.{◌≡◌, ℕ, ◌+◌, ◌-◌, ◌/◌, ◌%◌, ◌^◌, ◌<◌, refl, ap, ap₂, ◌∙◌, sym, subst, arith, List, [], ◌∷◌, length, map, take, get_or, bit_and, inl, inr, Bool, false, nat_lt, ◌≤◌}
 use Rattle.std.specs.Simd.Lanes.{Each1, zip2, sel_l}
 use Rattle.std.specs.Simd.Lanes.{top as lane_top}
@@ -11,14 +11,15 @@ use Rattle.std.proofs.lemmas.Simd.{chunk-fits, length-zip2, get_or-zip2, get_or-
 use Rattle.aec_block.specs.Offsets.{offset_room, near_difference, places_before, places_after}
 use mathlib.Core.Bool.{cond}
 use mir.Syntax.{shr, unsigned, w32, wrap_add, wrap_sub, lt, mask}
-use mir.Syntax.{bit_and as and_op}
+use mir.Syntax.{bit_and as and_op, bit_xor as xor_op}
+use lib.Bits.{bit_xor, xor_add_and, xor_zero_r}
 use mir.Val.{Fits}
 use borrow.Rule.Simd.Lanes.{act2}
 use borrow.Table.Row.{s_int}
 
 -- what is computed in one lane
 abbrev lane_difference : ℕ → ℕ → ℕ → ℕ
-lane_difference x one none = (x / 2 ^ one + (4294967296 - bit_and x ((none + (4294967296 - bit_and x one)) % 4294967296))) % 4294967296
+lane_difference x one none = bit_xor (x / 2 ^ one) ((none + (4294967296 - bit_and x one)) % 4294967296)
 
 near_difference-even : (x : ℕ) → x % 2 ≡ 0 → near_difference x ≡ x / 2
 near_difference-even x even = grind (arith, nat_tests)
@@ -26,33 +27,32 @@ near_difference-even x even = grind (arith, nat_tests)
 near_difference-odd : (x : ℕ) → x % 2 ≡ 1 → near_difference x ≡ 4294967296 - (x / 2 + 1)
 near_difference-odd x odd = grind (arith, nat_tests)
 
-even-lane : (x : ℕ) → x < 4294967296 → x % 2 ≡ 0 → lane_difference x 1 0 ≡ near_difference x
-even-lane x fits even =
+even-lane : (x : ℕ) → x % 2 ≡ 0 → lane_difference x 1 0 ≡ near_difference x
+even-lane x even =
     let mask : (0 + (4294967296 - bit_and x 1)) % 4294967296 ≡ 0 = omega (arith, and_mask x 1, even) in
-    let none : bit_and x ((0 + (4294967296 - bit_and x 1)) % 4294967296) ≡ x % 1 = ap (bit_and x) mask ∙ and_mask x 0 in
-    omega (arith, none, fits, near_difference-even x even)
+    ap (bit_xor (x / 2)) mask ∙ (xor_zero_r (x / 2) ∙ sym (near_difference-even x even))
 
 odd-lane : (x : ℕ) → x < 4294967296 → x % 2 ≡ 1 → lane_difference x 1 0 ≡ near_difference x
 odd-lane x fits odd =
+    let half : ℕ = x / 2 in
     let mask : (0 + (4294967296 - bit_and x 1)) % 4294967296 ≡ 4294967295 = omega (arith, and_mask x 1, odd) in
-    let all : bit_and x ((0 + (4294967296 - bit_and x 1)) % 4294967296) ≡ x % 4294967296 = ap (bit_and x) mask ∙ and_mask x 32 in
-    omega (arith, all, fits, near_difference-odd x odd)
+    let turned : bit_xor half 4294967295 ≡ 4294967295 - half = omega (arith, xor_add_and half 4294967295, and_mask half 32, fits) in
+    ap (bit_xor half) mask ∙ omega (arith, turned, fits, near_difference-odd x odd)
 
 one-lane : (x : ℕ) → x < 4294967296 → lane_difference x 1 0 ≡ near_difference x
 one-lane x fits =
     elim (cases_lt (x % 2) 1) [
-      | inl less ↦ even-lane x fits (omega arith)
+      | inl less ↦ even-lane x (omega arith)
       | inr more ↦ odd-lane x fits (omega arith)
     ]
 
 -- and in all
 abbrev pub lanes_of : List ℕ → List ℕ → List ℕ → List ℕ
 lanes_of xs ones zeros =
-    zip2 (act2 wrap_sub (s_int w32) (s_int w32) (s_int w32))
+    zip2 (act2 xor_op (s_int w32) (s_int w32) (s_int w32))
     (zip2 (act2 (shr unsigned) (s_int w32) (s_int w32) (s_int w32)) xs ones)
-    (zip2 (act2 and_op (s_int w32) (s_int w32) (s_int w32)) xs
     (zip2 (act2 wrap_sub (s_int w32) (s_int w32) (s_int w32)) zeros
-    (zip2 (act2 and_op (s_int w32) (s_int w32) (s_int w32)) xs ones)))
+    (zip2 (act2 and_op (s_int w32) (s_int w32) (s_int w32)) xs ones))
 
 pub lanes_of-differences : (xs : List ℕ) → Each1 (Fits w32) xs
     → lanes_of xs (replicate (length xs) 1) (replicate (length xs) 0) ≡ map near_difference xs

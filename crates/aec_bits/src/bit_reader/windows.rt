@@ -322,7 +322,7 @@ fn any_numbers_within(word: u64, width: u32, numbers: &mut [u32])
     }
 }
 
-/// The same: eight or four at once.
+/// The same: up to eight or four at once.
 #[inline(always)]
 fn numbers_within(word: u64, width: u32, numbers: &mut [u32])
     requires width { width ≤ 32 }
@@ -331,10 +331,10 @@ fn numbers_within(word: u64, width: u32, numbers: &mut [u32])
         (binary (64 - width * length numbers.old) word) (word_bits word) }
     ensures len { length numbers.new ≡ length numbers.old }
 {
-    if numbers.len() == 8 {
-        numbers.copy_from_slice(&eight_numbers(word, width));
-    } else if numbers.len() == 4 {
-        numbers.copy_from_slice(&four_numbers(word, width));
+    if width <= 8 && numbers.len() <= 8 {
+        numbers.copy_from_slice(&eight_numbers(word, width)[..numbers.len()]);
+    } else if width <= 16 && numbers.len() <= 4 {
+        numbers.copy_from_slice(&four_numbers(word, width)[..numbers.len()]);
     } else {
         any_numbers_within(word, width, numbers);
     }

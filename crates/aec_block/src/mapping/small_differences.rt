@@ -11,7 +11,7 @@ ghost use Rattle.aec_block.specs.Unmapping.{UnmapsTo};
 use std::simd::prelude::*;
 
 /// The differences for which eight near values are coded, modulo 2^32: half of an even value, and
-/// for an odd one that half without the value.
+/// for an odd one the half with all bits turned.
 #[inline(always)]
 #[tactic(auto, using(crate::proofs::NearLaneLemmas::differences))]
 pub(crate) fn near_differences(values: &[u32]) -> [u32; 8]
@@ -21,7 +21,7 @@ pub(crate) fn near_differences(values: &[u32]) -> [u32; 8]
     let all = u32x8::from_slice(values);
     let odd = all & u32x8::splat(1);
     let halves = all >> u32x8::splat(1);
-    (halves - (all & (u32x8::splat(0) - odd))).to_array()
+    (halves ^ (u32x8::splat(0) - odd)).to_array()
 }
 
 /// From where eight differences lead that follow each other, the first from an offset: modulo 2^32.

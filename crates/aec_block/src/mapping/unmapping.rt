@@ -12,6 +12,7 @@ use aec_params::Params;
 
 /// Puts the samples for which values are coded into `samples`, predicted from the sample at an
 /// offset on, and tells the offset of the last.
+#[inline(always)]
 fn put_each(params: &Params, offset: u32, values: &[u32], samples: &mut [i64]) -> u32
     requires on { params.now.preprocess ≡ true }
     requires within { offset ≤ top_offset params.now }
@@ -30,6 +31,21 @@ fn put_each(params: &Params, offset: u32, values: &[u32], samples: &mut [i64]) -
         samples[i] = least + i64::from(last);
     }
     last
+}
+
+/// The same, called: values that aren't near are few, and their code out of the way of the others.
+#[inline(never)]
+fn put_far(params: &Params, offset: u32, values: &[u32], samples: &mut [i64]) -> u32
+    requires on { params.now.preprocess ≡ true }
+    requires within { offset ≤ top_offset params.now }
+    requires mapped { AllByRecursion (λ v. v < 2 ^ params.now.bits) values.now }
+    requires len { length samples.old ≡ length values.now }
+    ensures within { result ≤ top_offset params.now }
+    ensures items { UnmapsTo params.now (x_min params.now +ℤ pos offset)
+        (x_min params.now +ℤ pos result) values.now [] samples.new }
+    ensures len { length samples.new ≡ length samples.old }
+{
+    put_each(params, offset, values, samples)
 }
 
 /// Puts the samples for which eight near values are coded, and whose offsets are given, into
@@ -82,7 +98,7 @@ fn put_eight(params: &Params, offset: u32, values: &[u32], samples: &mut [i64]) 
         let places = next_places(&before, &differences);
         return put_near(params, offset, values, &places, samples);
     }
-    put_each(params, offset, values, samples)
+    put_far(params, offset, values, samples)
 }
 
 /// Puts the samples of the values in front into the front of `samples`, eight at a time as long as

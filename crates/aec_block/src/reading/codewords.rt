@@ -87,6 +87,23 @@ pub(crate) fn read_block_numbers(
     }
 }
 
+/// The same, compiled into the place of the call where there are `N` numbers.
+#[inline(always)]
+pub(crate) fn read_usual_numbers<const N: usize>(
+    reader: &mut BitReader,
+    width: u32,
+    numbers: &mut [u32],
+) -> Result<(), Fault>
+    requires width { width ≤ 32 }
+    requires within { reader.old.pos ≤ length reader.old.list }
+    ensures { PutsNumbers width reader.old numbers.old result reader.new numbers.new }
+{
+    if numbers.len() == N {
+        return read_numbers(reader, width, &mut numbers[..N]);
+    }
+    read_block_numbers(reader, width, numbers)
+}
+
 /// Puts the numbers of the fundamental sequences that come next into `numbers`, where all are
 /// short. Else false, and the reader stays.
 #[inline(always)]

@@ -14,7 +14,7 @@ ghost use Rattle.aec_block.specs.ReadAt.{taken, map_taken, cds_at};
 ghost use Rattle.aec_block.specs.Gathering.{bits_at};
 ghost use Rattle.aec_block.specs.ReadCds.{checked, is_plain_body, begins_plain, HasNoPlain, IsReadPlain, IsReadFirst};
 
-use crate::reading::codewords::read_block_numbers;
+use crate::reading::codewords::read_usual_numbers;
 use crate::reading::values::read_usual_split;
 use crate::reading::{Kind, read_kind, read_pattern};
 use aec_bits::BitReader;
@@ -36,7 +36,7 @@ pub fn comes_plain(params: &Params, reader: &mut BitReader) -> bool
 /// Puts the values of the coded data set that comes next into `values`, if they are written one by
 /// one and all are at most the greatest that the width has. Else false, or a fault.
 #[inline(always)]
-fn fill_plain<const N: usize>(
+fn fill_plain<const N: usize, const COPY: usize>(
     params: &Params,
     reader: &mut BitReader,
     values: &mut [u32],
@@ -59,10 +59,10 @@ fn fill_plain<const N: usize>(
 {
     match read_kind(params, reader)? {
         Kind::NoCompression => {
-            read_block_numbers(reader, params.bits(), values)?;
+            read_usual_numbers::<N>(reader, params.bits(), values)?;
             Ok(true)
         }
-        Kind::Split(k) => read_usual_split::<N>(params, reader, k, values),
+        Kind::Split(k) => read_usual_split::<N, COPY>(params, reader, k, values),
         _ => Ok(false),
     }
 }
@@ -71,10 +71,11 @@ fn fill_plain<const N: usize>(
 /// moves past it, if it is plain and its values are at most the greatest that the width has:
 /// `values` then contains them. Else returns false, and the reader hasn't moved; what `values`
 /// contains isn't said. Takes no memory. Compiled into the place of the call for blocks of `N`
-/// values; others are read as well.
+/// values; others are read as well. Calls with different `COPY` share no code: the compiler takes a
+/// large function only into the place of its only call.
 #[inline(always)]
 #[tactic(auto, using(crate::proofs::NoPlainLemmas::none_stands))]
-pub fn read_plain<const N: usize>(
+pub fn read_plain<const N: usize, const COPY: usize>(
     params: &Params,
     reader: &mut BitReader,
     values: &mut [u32],
@@ -94,7 +95,7 @@ pub fn read_plain<const N: usize>(
     ensures list { reader.new.list ≡ reader.old.list }
 {
     let start = reader.pos();
-    match fill_plain::<N>(params, reader, values) {
+    match fill_plain::<N, COPY>(params, reader, values) {
         Ok(true) => true,
         Ok(false) => {
             reader.seek(start);
@@ -133,11 +134,11 @@ fn fill_first<const M: usize>(
     let pattern = read_pattern(params, reader)?;
     match kind {
         Kind::NoCompression => {
-            read_block_numbers(reader, params.bits(), values)?;
+            read_usual_numbers::<M>(reader, params.bits(), values)?;
             Ok(Some(pattern))
         }
         Kind::Split(k) => {
-            if !read_usual_split::<M>(params, reader, k, values)? {
+            if !read_usual_split::<M, 2>(params, reader, k, values)? {
                 return Ok(None);
             }
             Ok(Some(pattern))

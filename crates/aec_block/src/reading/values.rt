@@ -35,6 +35,7 @@ pub(crate) fn high_limit(limit: u64, k: u32) -> u64
 }
 
 /// Whether all values are below `limit`.
+#[inline(never)]
 fn are_below(values: &[u32], limit: u64) -> bool
     requires { 0 < limit }
     ensures { result ≡ all_below limit values.now }
@@ -291,7 +292,7 @@ pub(crate) fn read_block_split(
 
 /// The same, compiled into the place of the call where there are `N` values.
 #[inline(always)]
-pub(crate) fn read_usual_split<const N: usize>(
+pub(crate) fn read_usual_split<const N: usize, const COPY: usize>(
     params: &Params,
     reader: &mut BitReader,
     k: u32,
@@ -303,7 +304,7 @@ pub(crate) fn read_usual_split<const N: usize>(
     ensures { PutsSplit params.now k reader.old values.old result reader.new values.new }
 {
     if values.len() == N {
-        return read_exact_split::<N, 2>(params, reader, k, values);
+        return read_exact_split::<N, COPY>(params, reader, k, values);
     }
     read_any_split(params, reader, k, values)
 }

@@ -11,7 +11,7 @@ ghost use Rattle.aec_interval.specs.Reached.{IsReached};
 ghost use Rattle.aec_interval.specs.Steps.{IsUntestedEnd};
 ghost use Rattle.aec_interval.specs.PlainBlocks.{ReadsPlain, most_at_once};
 
-use crate::block_sizes::by_block_size;
+use crate::block_sizes::{IN_LONG_INTERVALS, by_block_size};
 use crate::reading::Wanted;
 use crate::segment::previous_of;
 use aec_bits::BitReader;
@@ -50,7 +50,7 @@ fn untested_end(params: &Params, wanted: Wanted, end: u64) -> u64
 /// Reads the block that comes next into `values`, if it is a plain one, and puts its samples after
 /// the first `at`. Else false, and the reader is where it was.
 #[inline(always)]
-fn fill_plain_block<const N: usize>(
+fn fill_plain_block<const N: usize, const COPY: usize>(
     params: &Params,
     reader: &mut BitReader,
     values: &mut [u32],
@@ -69,7 +69,7 @@ fn fill_plain_block<const N: usize>(
 {
     // Called for its clause alone: the parameters are allowed.
     let _len = params.interval_len();
-    if !read_plain::<N>(params, reader, values) {
+    if !read_plain::<N, COPY>(params, reader, values) {
         return false;
     }
     let previous = previous_of(&samples[..at]);
@@ -78,44 +78,42 @@ fn fill_plain_block<const N: usize>(
     true
 }
 
-/// Reads the blocks that come next, `most` of them, as long as they are plain ones, and puts their
-/// samples, `size` each, after the first `from`. How many blocks were read.
+/// Reads the blocks that come next, `most` of them, as long as they are plain ones, each into
+/// `values`, and puts their samples after the first `from`. How many blocks were read. Each `COPY`
+/// has one caller for each `N`.
 #[inline(always)]
-fn fill_plain_blocks<const N: usize>(
+pub(crate) fn fill_plain_blocks<const N: usize, const COPY: usize>(
     params: &Params,
     reader: &mut BitReader,
     most: usize,
+    values: &mut [u32],
     samples: &mut [i64],
     from: usize,
-    size: usize,
 ) -> usize
     requires held { AllByRecursion (IsHeld params.now) (take from samples.old) }
-    requires size { size ≡ params.now.block_size }
-    requires small { size ≤ most_values }
-    requires room { from + most * size ≤ length samples.old }
+    requires count { length values.old ≡ params.now.block_size }
+    requires room { from + most * params.now.block_size ≤ length samples.old }
     ensures reads { ReadsPlain params.now result reader.old (take from samples.old) reader.new
-        (take (from + result * size) samples.new) }
+        (take (from + result * params.now.block_size) samples.new) }
     ensures within { result ≤ most }
+    ensures count { length values.new ≡ length values.old }
     ensures len { length samples.new ≡ length samples.old }
 {
-    // A copy that no other call can see stays in registers.
-    let own = *params;
-    let mut scratch = [0u32; MOST_VALUES];
     let mut count = 0;
     let mut at = from;
     while count < most {
-        if !fill_plain_block::<N>(&own, reader, &mut scratch[..size], samples, at) {
+        if !fill_plain_block::<N, COPY>(params, reader, values, samples, at) {
             return count;
         }
         count += 1;
-        at += size;
+        at += values.len();
     }
     count
 }
 
 /// The same of blocks of `N` samples, compiled for that size.
 #[inline(never)]
-pub(crate) fn fill_known_blocks<const N: usize>(
+fn fill_known_blocks<const N: usize>(
     params: &Params,
     reader: &mut BitReader,
     most: usize,
@@ -125,13 +123,38 @@ pub(crate) fn fill_known_blocks<const N: usize>(
     requires held { AllByRecursion (IsHeld params.now) (take from samples.old) }
     requires size { N ≡ params.now.block_size }
     requires small { N ≤ most_values }
-    requires room { from + most * N ≤ length samples.old }
+    requires room { from + most * params.now.block_size ≤ length samples.old }
     ensures reads { ReadsPlain params.now result reader.old (take from samples.old) reader.new
-        (take (from + result * N) samples.new) }
+        (take (from + result * params.now.block_size) samples.new) }
     ensures within { result ≤ most }
     ensures len { length samples.new ≡ length samples.old }
 {
-    fill_plain_blocks::<N>(params, reader, most, samples, from, N)
+    // A copy that no other call can see stays in registers.
+    let own = *params;
+    let mut values = [0u32; N];
+    fill_plain_blocks::<N, IN_LONG_INTERVALS>(&own, reader, most, &mut values, samples, from)
+}
+
+/// The same of blocks of any size.
+#[inline(never)]
+fn fill_any_blocks(
+    params: &Params,
+    reader: &mut BitReader,
+    most: usize,
+    samples: &mut [i64],
+    from: usize,
+) -> usize
+    requires held { AllByRecursion (IsHeld params.now) (take from samples.old) }
+    requires room { from + most * params.now.block_size ≤ length samples.old }
+    ensures reads { ReadsPlain params.now result reader.old (take from samples.old) reader.new
+        (take (from + result * params.now.block_size) samples.new) }
+    ensures within { result ≤ most }
+    ensures len { length samples.new ≡ length samples.old }
+{
+    let own = *params;
+    let mut scratch = [0u32; MOST_VALUES];
+    let values = &mut scratch[..own.block_size() as usize];
+    fill_plain_blocks::<0, IN_LONG_INTERVALS>(&own, reader, most, values, samples, from)
 }
 
 /// The same, compiled for the usual block sizes.
@@ -149,12 +172,11 @@ fn fill_usual_blocks(
     ensures within { result ≤ most }
     ensures len { length samples.new ≡ length samples.old }
 {
-    let size = params.block_size();
     by_block_size!(
-        size,
-        [8 10 12 14 16 18 20 22 24 32 64],
+        params.block_size(),
+        [8 10 12 14 16 18 20 22 24 26 28 30 32 64],
         fill_known_blocks(params, reader, most, samples, from),
-        fill_plain_blocks::<0>(params, reader, most, samples, from, size as usize)
+        fill_any_blocks(params, reader, most, samples, from)
     )
 }
 

@@ -11,7 +11,8 @@ ghost use Rattle.aec_interval.specs.Reached.{IsReached};
 ghost use Rattle.aec_interval.specs.PlainBlocks.{ReadsPlain};
 ghost use Rattle.aec_interval.specs.ShortIntervals.{AreWithin, ReadsFirst, ReadsWhole};
 
-use crate::reading::plain::fill_known_blocks;
+use crate::block_sizes::FIRST_UNPREDICTED;
+use crate::reading::plain::fill_plain_blocks;
 use crate::reading::zero_runs::repeated_sample;
 use crate::reading::{Wanted, block_count};
 use aec_bits::BitReader;
@@ -23,6 +24,13 @@ const AT_ONCE: u64 = 2048;
 
 /// Intervals of more blocks are read one at a time: what is paid for each is little then.
 const MOST_BLOCKS: u32 = 8;
+
+/// Kinds of intervals: one run of zero blocks; plain blocks of samples that are predicted, or not.
+const ZEROS: usize = 10;
+
+const PREDICTED: usize = 11;
+
+const UNPREDICTED: usize = 12;
 
 /// Reads the block that comes next as the first of its interval, with a reference sample, if it is
 /// a plain one, and puts its samples into the front of `samples`. Else false.
@@ -57,7 +65,7 @@ fn fill_reference_block<const M: usize>(
 
 /// The same without a reference sample, where no sample is predicted.
 #[inline(always)]
-fn fill_unpredicted_block(
+fn fill_unpredicted_block<const N: usize>(
     params: &Params,
     reader: &mut BitReader,
     values: &mut [u32],
@@ -74,7 +82,7 @@ fn fill_unpredicted_block(
 {
     // Called for its clause alone: the parameters are allowed.
     let _len = params.interval_len();
-    if !read_plain::<0>(params, reader, values) {
+    if !read_plain::<N, FIRST_UNPREDICTED>(params, reader, values) {
         return false;
     }
     let len = values.len();
@@ -82,10 +90,9 @@ fn fill_unpredicted_block(
     true
 }
 
-/// Reads the block that comes next as the first of its interval, if it is a plain one, and puts its
-/// samples into the front of `samples`. Else false.
+/// The same of the first block of an interval of this kind.
 #[inline(always)]
-fn fill_first_block<const M: usize>(
+fn fill_first_block<const N: usize, const M: usize, const KIND: usize>(
     params: &Params,
     reader: &mut BitReader,
     values: &mut [u32],
@@ -100,43 +107,45 @@ fn fill_first_block<const M: usize>(
     ensures len { length samples.new ≡ length samples.old }
 {
     if params.preprocess() {
-        fill_reference_block::<M>(params, reader, values, samples)
+        KIND == PREDICTED && fill_reference_block::<M>(params, reader, values, samples)
     } else {
-        fill_unpredicted_block(params, reader, values, samples)
+        KIND == UNPREDICTED && fill_unpredicted_block::<N>(params, reader, values, samples)
     }
 }
 
 /// Reads the other blocks of an interval of which the first was read, if they are plain ones, and
 /// puts their samples after those of the first. Else false.
 #[inline(always)]
-fn fill_rest<const N: usize>(params: &Params, reader: &mut BitReader, samples: &mut [i64]) -> bool
-    requires size { N ≡ params.now.block_size }
-    requires small { N ≤ most_values }
-    requires held { AllByRecursion (IsHeld params.now) (take N samples.old) }
-    requires len { length samples.old ≡ interval_len params.now }
-    ensures ok { result ≡ true → ReadsPlain params.now (params.now.interval - 1) reader.old
-        (take N samples.old) reader.new samples.new }
-    ensures list { reader.new.list ≡ reader.old.list }
-    ensures len { length samples.new ≡ length samples.old }
-{
-    let rest = params.interval() as usize - 1;
-    if rest == 0 {
-        return true;
-    }
-    fill_known_blocks::<N>(params, reader, rest, samples, N) == rest
-}
-
-/// Reads the interval that comes next, if all its blocks are plain ones, and puts its samples into
-/// `samples`. Else false, and the reader is where it was.
-#[inline(always)]
-fn fill_plain_interval<const N: usize, const M: usize>(
+fn fill_rest<const N: usize, const COPY: usize>(
     params: &Params,
     reader: &mut BitReader,
     values: &mut [u32],
     samples: &mut [i64],
 ) -> bool
     requires size { N ≡ params.now.block_size }
-    requires small { N ≤ most_values }
+    requires count { length values.old ≡ params.now.block_size }
+    requires held { AllByRecursion (IsHeld params.now) (take N samples.old) }
+    requires len { length samples.old ≡ interval_len params.now }
+    ensures ok { result ≡ true → ReadsPlain params.now (params.now.interval - 1) reader.old
+        (take N samples.old) reader.new samples.new }
+    ensures list { reader.new.list ≡ reader.old.list }
+    ensures count { length values.new ≡ length values.old }
+    ensures len { length samples.new ≡ length samples.old }
+{
+    let rest = params.interval() as usize - 1;
+    fill_plain_blocks::<N, COPY>(params, reader, rest, values, samples, N) == rest
+}
+
+/// Reads the interval that comes next, if all its blocks are plain ones, and puts its samples into
+/// `samples`. Else false, and the reader is where it was.
+#[inline(always)]
+fn fill_plain_interval<const N: usize, const M: usize, const KIND: usize>(
+    params: &Params,
+    reader: &mut BitReader,
+    values: &mut [u32],
+    samples: &mut [i64],
+) -> bool
+    requires size { N ≡ params.now.block_size }
     requires count { length values.old ≡ params.now.block_size }
     requires len { length samples.old ≡ interval_len params.now }
     ensures ok { result ≡ true → ReadsWhole params.now 1 reader.old reader.new samples.new }
@@ -147,8 +156,8 @@ fn fill_plain_interval<const N: usize, const M: usize>(
     // What the parameters promise is told by their calls.
     let _len = params.interval_len();
     let start = reader.pos();
-    if fill_first_block::<M>(params, reader, values, samples)
-        && fill_rest::<N>(params, reader, samples)
+    if fill_first_block::<N, M, KIND>(params, reader, values, samples)
+        && fill_rest::<N, KIND>(params, reader, values, samples)
     {
         return true;
     }
@@ -207,18 +216,16 @@ fn fill_zero_interval(params: &Params, reader: &mut BitReader, samples: &mut [i6
     }
 }
 
-/// Reads the interval that comes next, with `ZEROS` 1 if it is one run of zero blocks, and else if
-/// all its blocks are plain ones, and puts its samples into `samples`. Else false, and the reader
-/// is where it was. Both in one loop would make each of them slower.
+/// Reads the interval that comes next, if it is of this kind, and puts its samples into `samples`.
+/// Else false, and the reader is where it was. One loop for all kinds would make each slower.
 #[inline(always)]
-fn fill_interval<const N: usize, const M: usize, const ZEROS: usize>(
+fn fill_interval<const N: usize, const M: usize, const KIND: usize>(
     params: &Params,
     reader: &mut BitReader,
     values: &mut [u32],
     samples: &mut [i64],
 ) -> bool
     requires size { N ≡ params.now.block_size }
-    requires small { N ≤ most_values }
     requires short { params.now.interval ≤ 64 }
     requires count { length values.old ≡ params.now.block_size }
     requires len { length samples.old ≡ interval_len params.now }
@@ -227,16 +234,16 @@ fn fill_interval<const N: usize, const M: usize, const ZEROS: usize>(
     ensures count { length values.new ≡ length values.old }
     ensures len { length samples.new ≡ length samples.old }
 {
-    if ZEROS == 1 {
+    if KIND == ZEROS {
         return fill_zero_interval(params, reader, samples);
     }
-    fill_plain_interval::<N, M>(params, reader, values, samples)
+    fill_plain_interval::<N, M, KIND>(params, reader, values, samples)
 }
 
 /// Reads the intervals that come next, `most` of them, as long as `fill_interval` reads them, and
 /// puts their samples into `samples`. How many intervals were read.
 #[inline(never)]
-fn fill_intervals<const N: usize, const M: usize, const ZEROS: usize>(
+fn fill_intervals<const N: usize, const M: usize, const KIND: usize>(
     params: &Params,
     reader: &mut BitReader,
     most: usize,
@@ -261,7 +268,7 @@ fn fill_intervals<const N: usize, const M: usize, const ZEROS: usize>(
     let mut at = 0;
     while count < most {
         let part = &mut samples[at..at + len];
-        if !fill_interval::<N, M, ZEROS>(&own, reader, &mut values, part) {
+        if !fill_interval::<N, M, KIND>(&own, reader, &mut values, part) {
             return count;
         }
         count += 1;
@@ -271,7 +278,7 @@ fn fill_intervals<const N: usize, const M: usize, const ZEROS: usize>(
 }
 
 /// The same, compiled for the usual block sizes; none of others are read.
-fn fill_usual_intervals<const ZEROS: usize>(
+fn fill_usual_intervals<const KIND: usize>(
     params: &Params,
     reader: &mut BitReader,
     most: usize,
@@ -287,10 +294,10 @@ fn fill_usual_intervals<const ZEROS: usize>(
     ensures len { length samples.new ≡ length samples.old }
 {
     match params.block_size() {
-        8 => fill_intervals::<8, 7, ZEROS>(params, reader, most, samples),
-        16 => fill_intervals::<16, 15, ZEROS>(params, reader, most, samples),
-        32 => fill_intervals::<32, 31, ZEROS>(params, reader, most, samples),
-        64 => fill_intervals::<64, 63, ZEROS>(params, reader, most, samples),
+        8 => fill_intervals::<8, 7, KIND>(params, reader, most, samples),
+        16 => fill_intervals::<16, 15, KIND>(params, reader, most, samples),
+        32 => fill_intervals::<32, 31, KIND>(params, reader, most, samples),
+        64 => fill_intervals::<64, 63, KIND>(params, reader, most, samples),
         _ => 0,
     }
 }
@@ -311,10 +318,13 @@ fn fill_coming_intervals(
     ensures within { result ≤ most }
     ensures len { length samples.new ≡ length samples.old }
 {
-    if comes_plain(params, reader) {
-        return fill_usual_intervals::<0>(params, reader, most, samples);
+    if !comes_plain(params, reader) {
+        return fill_usual_intervals::<ZEROS>(params, reader, most, samples);
     }
-    fill_usual_intervals::<1>(params, reader, most, samples)
+    if params.preprocess() {
+        return fill_usual_intervals::<PREDICTED>(params, reader, most, samples);
+    }
+    fill_usual_intervals::<UNPREDICTED>(params, reader, most, samples)
 }
 
 /// How many intervals from `wanted.first` on need no test of their place: their samples are within
@@ -353,8 +363,7 @@ fn intervals_at_once(params: &Params, wanted: Wanted, most: u64, capacity: usize
 
 /// Reads the intervals that come next, as long as `fill_interval` reads them, and puts their
 /// samples in the place of those that are there, at most `most`. The number of the block that comes
-/// then: `wanted.first` where none was read, and what stands in `samples` isn't said then. Takes no
-/// memory.
+/// then: `wanted.first` where none was read, and `samples` may hold anything. Takes no memory.
 pub(crate) fn read_short(
     params: &Params,
     wanted: Wanted,

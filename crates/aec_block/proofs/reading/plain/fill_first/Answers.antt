@@ -2,13 +2,13 @@ use Rattle.aec_block.specs.Gathering.{bits_at}
 use Rattle.aec_block.proofs.PlainLemmas.{first_split, first_numbers}
 use Rattle.aec_block.proofs.reading.plain.fill_first.Goals as goal
 
-pub returns-in_ok-read_block_numbers-in-NoCompression-clause-taken :
-    goal.returns-in_ok-read_block_numbers-in-NoCompression-clause-taken
-returns-in_ok-read_block_numbers-in-NoCompression-clause-taken g c =
+pub returns-in_ok-read_usual_numbers-in-NoCompression-clause-taken :
+    goal.returns-in_ok-read_usual_numbers-in-NoCompression-clause-taken
+returns-in_ok-read_usual_numbers-in-NoCompression-clause-taken g c =
     first_numbers c.args.params.now c.in_ok-kind.kind c.bits.result _ c.in_ok-pattern.pattern (bits_at c.args.reader.now)
-    (bits_at c.read_kind.new.reader) (bits_at c.read_pattern.new.reader) (bits_at c.read_block_numbers.new.reader) c.read_block_numbers.new.numbers
+    (bits_at c.read_kind.new.reader) (bits_at c.read_pattern.new.reader) (bits_at c.read_usual_numbers.new.reader) c.read_usual_numbers.new.numbers
     c.in-NoCompression.is c.bits.ensures.value c.requires.count c.in_ok-kind.ensures.taken c.in_ok-pattern.ensures.taken
-    c.in_ok-read_block_numbers-in-NoCompression.ensures.taken
+    c.in_ok-read_usual_numbers-in-NoCompression.ensures.taken
 
 pub returns-else-not-branch-clause-taken : goal.returns-else-not-branch-clause-taken
 returns-else-not-branch-clause-taken g c =

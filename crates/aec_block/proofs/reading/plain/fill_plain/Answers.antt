@@ -5,13 +5,13 @@ use Rattle.aec_block.proofs.NoPlainLemmas.{split_none}
 use Rattle.aec_block.proofs.PlainLemmas.{split_set, numbers_set}
 use Rattle.aec_block.proofs.reading.plain.fill_plain.Goals as goal
 
-pub returns-in_ok-read_block_numbers-in-NoCompression-clause-taken :
-    goal.returns-in_ok-read_block_numbers-in-NoCompression-clause-taken
-returns-in_ok-read_block_numbers-in-NoCompression-clause-taken g c =
+pub returns-in_ok-read_usual_numbers-in-NoCompression-clause-taken :
+    goal.returns-in_ok-read_usual_numbers-in-NoCompression-clause-taken
+returns-in_ok-read_usual_numbers-in-NoCompression-clause-taken g c =
     λ read. numbers_set c.args.params.now c.in_ok-read_kind.field-0 c.bits.result _ (bits_at c.args.reader.now) (bits_at c.read_kind.new.reader)
-    (bits_at c.read_block_numbers.new.reader) c.read_block_numbers.new.numbers c.in-NoCompression.is
+    (bits_at c.read_usual_numbers.new.reader) c.read_usual_numbers.new.numbers c.in-NoCompression.is
     (search rules) c.requires.count c.in_ok-read_kind.ensures.taken
-    c.in_ok-read_block_numbers-in-NoCompression.ensures.taken
+    c.in_ok-read_usual_numbers-in-NoCompression.ensures.taken
 
 pub returns-in-Split-clause-taken : goal.returns-in-Split-clause-taken
 returns-in-Split-clause-taken g c =

@@ -1,5 +1,4 @@
-use Rattle.std.proofs.lemmas.List.{length-append, length-drop, length-take}
-use Rattle.std.proofs.Common.{rules, drop, refl, arith}
+use Rattle.std.proofs.Common.{rules, ◌≡◌, ◌∙◌, length, refl, arith}
 use Rattle.aec_interval.proofs.PlainLemmas.{none_read, one_block_more, one_more_read}
 use Rattle.aec_interval.proofs.reading.plain.fill_plain_blocks.Goals as goal
 
@@ -8,7 +7,7 @@ loop-count-init g c = record {
   reads = none_read _ _ _ c.requires.held;
   within = search rules;
   place = search rules;
-  scratch = search rules;
+  values = c.requires.count;
   len = search rules;
 }
 
@@ -18,18 +17,12 @@ fill_plain_block-requires-clause-held g c = c.loop-count.invariant.reads.held
 pub loop-count-preserved : goal.loop-count-preserved
 loop-count-preserved g c =
     let more = c.if-not-fill_plain_block.ensures in
+    let inv = c.loop-count.invariant in
+    let size : length c.fill_plain_block.new.values ≡ c.args.params.now.block_size = c.fill_plain_block.ensures.count ∙ inv.values in
     record {
-      reads = one_more_read _ _ _ _ _ _ _ _ _ _ c.requires.size c.loop-count.invariant.reads (more.ok refl);
+      reads = one_more_read _ _ _ _ _ _ _ _ _ _ size inv.reads (more.ok refl);
       within = omega arith;
-      place = one_block_more _ _ _ _ c.loop-count.invariant.place;
-      scratch = omega (
-        arith,
-        length-append c.fill_plain_block.new.values (drop c.args.size c.loop-count.scratch),
-        length-drop c.args.size c.loop-count.scratch,
-        length-take c.args.size c.loop-count.scratch,
-        c.fill_plain_block.ensures.count,
-        c.loop-count.invariant.scratch,
-        c.requires.small,
-      );
+      place = omega (arith, size, one_block_more _ _ _ c.args.params.now.block_size inv.place);
+      values = size;
       len = search rules;
     }

@@ -4,10 +4,10 @@ use Rattle.aec_interval.proofs.reading.plain.fill_plain_blocks.Given as goal
 
 abbrev pub invariant-loop-count : goal.invariant-loop-count
 invariant-loop-count g l = record {
-  reads : ReadsPlain l.own l.count l.fn.reader (take l.from l.fn.samples) l.reader (take l.at l.samples);
+  reads : ReadsPlain l.params l.count l.fn.reader (take l.from l.fn.samples) l.reader (take l.at l.samples);
   within : l.count ≤ l.most;
-  place : l.at ≡ l.from + l.count * l.size;
-  scratch : length l.scratch ≡ 64;
+  place : l.at ≡ l.from + l.count * l.params.block_size;
+  values : length l.values ≡ l.params.block_size;
   len : length l.samples ≡ length l.fn.samples;
 }
 

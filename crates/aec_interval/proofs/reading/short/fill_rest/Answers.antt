@@ -9,11 +9,12 @@ use Rattle.aec_interval.proofs.reading.short.fill_rest.Goals as goal
 pub returns-clause-ok : goal.returns-clause-ok
 returns-clause-ok g c =
     let s = c.args.params.now in
-    let n = c.fill_known_blocks.result in
+    let n = c.fill_plain_blocks.result in
     λ same.
     let all : n ≡ s.interval - 1 = eqb-true n (c.interval.result - 1) same ∙ ap (λ r. r - 1) c.interval.ensures.value in
     let len = whole_len g.row.N s.block_size s.interval _ (interval-positive s c.interval.ensures.allowed) c.requires.size
-    (c.fill_known_blocks.ensures.len ∙ c.requires.len) in
-    subst (λ n. ReadsPlain s n c.args.reader.now (take g.row.N c.args.samples.now) c.fill_known_blocks.new.reader c.fill_known_blocks.new.samples) all
-    (subst (ReadsPlain s n c.args.reader.now (take g.row.N c.args.samples.now) c.fill_known_blocks.new.reader)
-    (take_all _ c.fill_known_blocks.new.samples (omega (arith, len, ap (λ n. n * g.row.N) all))) c.fill_known_blocks.ensures.reads)
+    (c.fill_plain_blocks.ensures.len ∙ c.requires.len) in
+    subst (λ n. ReadsPlain s n c.args.reader.now (take g.row.N c.args.samples.now) c.fill_plain_blocks.new.reader c.fill_plain_blocks.new.samples) all
+    (subst (ReadsPlain s n c.args.reader.now (take g.row.N c.args.samples.now) c.fill_plain_blocks.new.reader)
+    (take_all _ c.fill_plain_blocks.new.samples
+    (omega (arith, len, ap (λ n. n * g.row.N) all, ap (λ j. n * j) c.requires.size))) c.fill_plain_blocks.ensures.reads)

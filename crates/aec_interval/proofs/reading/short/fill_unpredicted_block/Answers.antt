@@ -6,10 +6,10 @@ use Rattle.aec_interval.proofs.ShortLemmas.{reads_unpredicted}
 use Rattle.aec_interval.proofs.reading.short.fill_unpredicted_block.Goals as goal
 
 pub unmap_into-requires-clause-prediction : goal.unmap_into-requires-clause-prediction
-unmap_into-requires-clause-prediction c = held-zero c.args.params.now c.interval_len-len.ensures.allowed
+unmap_into-requires-clause-prediction g c = held-zero c.args.params.now c.interval_len-len.ensures.allowed
 
 pub returns-clause-ok : goal.returns-clause-ok
-returns-clause-ok c =
+returns-clause-ok g c =
     let s = c.args.params.now in
     let len : length c.unmap_into.new.samples ≡ s.block_size = omega (
       arith,
