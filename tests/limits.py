@@ -20,7 +20,7 @@ import page_limits
 TOP = os.path.abspath(sys.argv[1] if len(sys.argv) > 1 else os.path.join(os.path.dirname(__file__), ".."))
 CODE, DEFINITIONS = 400, 150  # lines of a file
 TEXT = 100  # columns of code, clauses and comments
-SPEC = 160  # columns of a definition and of a proof
+SPEC, PROOF = 120, 160  # columns of a definition, of a proof
 BODY, DEFINITION, ANSWER = 40, 20, 20  # lines
 NAMES = 40  # of one `use`
 COPIES = ("asserts.rt", "tables.rt")  # of which crates of tests have copies, so that none waits for another's proof
@@ -31,6 +31,8 @@ ALLOWED = {
     ("crates/aec_bits_tests/src/params/stored_lists.rt", "lists_go_both_ways"): "rows of a table",
     ("crates/aec_block_tests/src/reading.rt", "judges_the_members_of_pairs"): "rows of a table",
     ("crates/aec_interval_tests/src/feeding.rt", "answers_a_refusal_for_good"): "rows of a table",
+    ("crates/aec_interval/specs/CutLaws.antt", "CutsMakeNoDifference"): "one record, with a sentence for each member",
+    ("crates/aec_params/specs/EditLaws.antt", "MovesByLength"): "one record, with a sentence for each member",
     ("crates/aec_edit/src/workspace.rt", "ghost written:"): "the formatter puts it on one line",
     ("crates/aec_block/proofs/reading/values/read_pairs/Answers.antt", "loop-i-preserved"): "one record, a line for each member",
     ("crates/aec_edit/proofs/workspace/Workspace/code_fresh/Answers.antt", "loop-left-preserved"): "one record, a line for each member",
@@ -79,7 +81,7 @@ def wide_lines(path, lines):
     elif path.endswith(".antt"):
         for number, line in enumerate(lines, 1):
             is_comment = line.lstrip().startswith("--")
-            most = TEXT if is_comment else SPEC
+            most = TEXT if is_comment else SPEC if "/specs/" in path else PROOF
             if len(line) > most and not USE.match(line):
                 yield Place(path, number, f"{len(line)} columns", line.strip())
 

@@ -7,7 +7,8 @@ use Rattle.aec_bits.specs.Refusals.{refusal_of}
 
 -- samples cut at the end of an interval: the code of both parts, one after the other
 abbrev pub CutsAtIntervals : Type 0
-CutsAtIntervals = (f : Format) (k : ℕ) (a b : List ℤ) → 1 ≤ f.most → length a ≡ k * f.most → code_of f (a ++ b) ≡ code_of f a ++ code_of f b
+CutsAtIntervals = (f : Format) (k : ℕ) (a b : List ℤ) → 1 ≤ f.most → length a ≡ k * f.most
+    → code_of f (a ++ b) ≡ code_of f a ++ code_of f b
 
 -- one interval has its own bits as its code
 abbrev pub CodesIntervals : Type 0
@@ -17,11 +18,13 @@ CodesIntervals = (f : Format) (s : List ℤ) → 1 ≤ length s → length s ≤
 -- after it
 abbrev pub StandsBetween : Type 0
 StandsBetween = (f : Format) (k : ℕ) (s : List ℤ) → 1 ≤ f.most → k * f.most < length s
-    → code_of f s ≡ code_of f (take (k * f.most) s) ++ (f.bits_of (take f.most (drop (k * f.most) s)) ++ code_of f (drop ((k + 1) * f.most) s))
+    → code_of f s ≡ code_of f (take (k * f.most) s)
+    ++ (f.bits_of (take f.most (drop (k * f.most) s)) ++ code_of f (drop ((k + 1) * f.most) s))
 
 -- of a lawful codec a code and a number of samples have one list of samples, whatever bits follow
 abbrev pub HasOneList : Type 0
-HasOneList = (f : Format) (a b : List ℤ) (x y : List Bool) → IsLawful f → AreHeld f a → AreHeld f b → length a ≡ length b
+HasOneList = (f : Format) (a b : List ℤ) (x y : List Bool) → IsLawful f → AreHeld f a → AreHeld f b
+    → length a ≡ length b
     → code_of f a ++ x ≡ code_of f b ++ y → (a ≡ b) × (x ≡ y)
 
 -- a place past the samples is refused, whatever the values are
@@ -42,11 +45,13 @@ JudgesTheLimitFirst = (f : Format) (limit first : ℕ) (s values : List ℤ) →
 -- an overwrite within the samples, an append within the limit and an insertion within both are
 -- refused for the first value that is no sample, and for no other
 abbrev pub NamesTheFirstValue : Type 0
-NamesTheFirstValue = (f : Format) (limit first : ℕ) (s values : List ℤ) (i : ℕ) → i < length values → AreHeld f (take i values)
+NamesTheFirstValue = (f : Format) (limit first : ℕ) (s values : List ℤ) (i : ℕ) → i < length values
+    → AreHeld f (take i values)
     → f.holds (slice_index_or values i (pos 0)) ≡ false
     → (first + length values ≤ length s → refusal_of f limit s (Overwrite first values) ≡ Some (SampleRange i))
     × (length s + length values ≤ limit → refusal_of f limit s (Append values) ≡ Some (SampleRange i))
-    × (first ≤ length s → length s + length values ≤ limit → refusal_of f limit s (Insert first values) ≡ Some (SampleRange i))
+    × (first ≤ length s → length s + length values ≤ limit
+    → refusal_of f limit s (Insert first values) ≡ Some (SampleRange i))
 
 -- an edit whose values are samples, within the limit and the samples present, is not refused
 abbrev pub AllowsWhatFits : Type 0

@@ -18,7 +18,8 @@ values_refusal f values = option_map (λ i. SampleRange i) (first_unheld f.holds
 
 -- why values can't join the samples s: too many for the limit, or one is no sample
 abbrev pub growth_refusal : Format → ℕ → List ℤ → List ℤ → Option Fault
-growth_refusal f limit s values = if nat_lt limit (length s + length values) then Some (TooManySamples limit) else values_refusal f values
+growth_refusal f limit s values =
+    if nat_lt limit (length s + length values) then Some (TooManySamples limit) else values_refusal f values
 
 -- the first rule that an edit of the samples s breaks under a limit, if there is one
 abbrev pub refusal_of : Format → ℕ → List ℤ → Edit → Option Fault

@@ -11,4 +11,5 @@ bits_of_words (w ∷ words) = binary 64 w ++ bits_of_words words
 -- `from` on
 abbrev pub HaveCopied : (from at n : ℕ) (source old new : List ℕ) → Type 0
 HaveCopied from at n source old new =
-    bits_of_words new ≡ take at (bits_of_words old) ++ (take n (drop from (bits_of_words source)) ++ drop (at + n) (bits_of_words old))
+    bits_of_words new ≡ take at (bits_of_words old)
+    ++ (take n (drop from (bits_of_words source)) ++ drop (at + n) (bits_of_words old))

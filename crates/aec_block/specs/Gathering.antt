@@ -60,8 +60,10 @@ pair_block limit reference members =
 
 -- as many numbers come next as the list before has, of so many bits each, and take its place; an
 -- error where fewer come. The bits stay, and the place is within them
-pub record PutsNumbers {X E : Type 0} (width : ℕ) (old : Cursor) (before : List ℕ) (result : Result X E) (new : Cursor) (numbers : List ℕ) : Type 0 where
-  pub taken : values_at (binary_at width) (length before) (bits_at old) ≡ as_taken_by (λ _. numbers) result (bits_at new)
+pub record PutsNumbers {X E : Type 0} (width : ℕ) (old : Cursor) (before : List ℕ) (result : Result X E) (new : Cursor)
+    (numbers : List ℕ) : Type 0 where
+  pub taken : values_at (binary_at width) (length before) (bits_at old)
+      ≡ as_taken_by (λ _. numbers) result (bits_at new)
   pub len : length numbers ≡ length before
   pub list : new.list ≡ old.list
   pub within : new.pos ≤ length new.list
@@ -69,9 +71,11 @@ pub record PutsNumbers {X E : Type 0} (width : ℕ) (old : Cursor) (before : Lis
 -- as many values come next as the list before has, split at bit k, and take its place, where all
 -- are at most 2^n - 1, which the result tells; an error where fewer come. The bits stay, and the
 -- place is within them
-pub record PutsSplit {E : Type 0} (s : Settings) (k : ℕ) (old : Cursor) (before : List ℕ) (result : Result Bool E) (new : Cursor) (values : List ℕ)
+pub record PutsSplit {E : Type 0} (s : Settings) (k : ℕ) (old : Cursor) (before : List ℕ) (result : Result Bool E)
+    (new : Cursor) (values : List ℕ)
     : Type 0 where
-  pub taken : map_taken (small_values (2 ^ s.bits)) (split_at k (length before) (bits_at old)) ≡ as_taken_by (λ fit. when fit values) result (bits_at new)
+  pub taken : map_taken (small_values (2 ^ s.bits)) (split_at k (length before) (bits_at old))
+      ≡ as_taken_by (λ fit. when fit values) result (bits_at new)
   pub len : length values ≡ length before
   pub list : new.list ≡ old.list
   pub within : new.pos ≤ length new.list

@@ -11,18 +11,21 @@ use Rattle.aec_block.specs.ReadAt.{nothing, taken, cds_at}
 
 -- a coded data set is read back from its bits, whatever follows them
 abbrev pub WhatIsSpelledIsRead : Type 0
-WhatIsSpelledIsRead = (s : Settings) → IsAllowed s → (is_reference : Bool) (c : CodedDataSet) (rest : List Bool) → HasShape s is_reference c
+WhatIsSpelledIsRead = (s : Settings) → IsAllowed s → (is_reference : Bool) (c : CodedDataSet) (rest : List Bool)
+    → HasShape s is_reference c
     → cds_at s is_reference (cds_bits s c ++ rest) ≡ taken c rest
 
 -- what is read has the shape of a coded data set, and its bits are those that were taken
 abbrev pub WhatIsReadIsSpelled : Type 0
-WhatIsReadIsSpelled = (s : Settings) → IsAllowed s → (is_reference : Bool) (bits : List Bool) (c : CodedDataSet) (rest : List Bool)
+WhatIsReadIsSpelled = (s : Settings) → IsAllowed s
+    → (is_reference : Bool) (bits : List Bool) (c : CodedDataSet) (rest : List Bool)
     → cds_at s is_reference bits ≡ taken c rest → HasShape s is_reference c × (bits ≡ cds_bits s c ++ rest)
 
 -- nothing is read exactly where no coded data set begins the bits
 abbrev pub NothingIsReadWhereNoneBegins : Type 0
 NothingIsReadWhereNoneBegins = (s : Settings) → IsAllowed s → (is_reference : Bool) (bits : List Bool)
-    → (cds_at s is_reference bits ≡ nothing) ↔ ((c : CodedDataSet) (rest : List Bool) → HasShape s is_reference c → bits ≡ cds_bits s c ++ rest → ⊥)
+    → (cds_at s is_reference bits ≡ nothing)
+    ↔ ((c : CodedDataSet) (rest : List Bool) → HasShape s is_reference c → bits ≡ cds_bits s c ++ rest → ⊥)
 
 -- no coded data set is a prefix of another, where both are of reference blocks or neither is
 abbrev pub NoSetIsAPrefix : Type 0
@@ -45,5 +48,6 @@ single_block_of reference (zero_blocks m) = None
 -- no coded data set that stands for a block by a single option has fewer bits than the block's
 -- shortest spelling
 abbrev pub NoOptionIsShorter : Type 0
-NoOptionIsShorter = (s : Settings) → IsAllowed s → (is_reference : Bool) (c : CodedDataSet) (b : Block) → HasShape s is_reference c
+NoOptionIsShorter = (s : Settings) → IsAllowed s → (is_reference : Bool) (c : CodedDataSet) (b : Block)
+    → HasShape s is_reference c
     → single_block_of c.reference c.body ≡ Some b → length (cds_bits s (shortest_spelling s b)) ≤ length (cds_bits s c)

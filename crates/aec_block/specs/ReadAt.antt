@@ -33,12 +33,14 @@ fs_at (false ∷ bits) = map_taken (λ v. v + 1) (fs_at bits)
 
 -- the number of so many bits
 abbrev pub binary_at : ℕ → List Bool → Taken ℕ
-binary_at width bits = if nat_le width (length bits) then taken (bits_number (take width bits)) (drop width bits) else nothing
+binary_at width bits = if nat_le width (length bits) then taken (bits_number (take width bits)) (drop width bits)
+    else nothing
 
 -- so many numbers in a row
 abbrev pub values_at : (List Bool → Taken ℕ) → ℕ → List Bool → Taken (List ℕ)
 values_at value_at zero bits = taken [] bits
-values_at value_at (suc n) bits = then_at (value_at bits) (λ v rest. map_taken (λ values. v ∷ values) (values_at value_at n rest))
+values_at value_at (suc n) bits = then_at (value_at bits)
+    (λ v rest. map_taken (λ values. v ∷ values) (values_at value_at n rest))
 
 -- ---- the parts of a coded data set
 
@@ -52,7 +54,8 @@ kind_of_number len number = if number == 2 ^ len - 1 then NoCompression else Spl
 
 -- the kind, after the number in the first bits of an identifier
 abbrev pub kind_after : ℕ → ℕ → List Bool → Taken Kind
-kind_after len number bits = if number == 0 then map_taken kind_of_last (binary_at 1 bits) else taken (kind_of_number len number) bits
+kind_after len number bits = if number == 0 then map_taken kind_of_last (binary_at 1 bits)
+    else taken (kind_of_number len number) bits
 
 -- the kind of the identifier that begins the bits (§6)
 abbrev pub kind_at : ℕ → List Bool → Taken Kind
@@ -89,7 +92,8 @@ before_members p members = p.first ∷ (p.second ∷ members)
 -- the members of so many pairs
 abbrev pub members_at : ℕ → List Bool → Taken (List ℕ)
 members_at zero bits = taken [] bits
-members_at (suc n) bits = then_at (fs_at bits) (λ m rest. map_taken (before_members (pair_with_number m)) (members_at n rest))
+members_at (suc n) bits = then_at (fs_at bits)
+    (λ m rest. map_taken (before_members (pair_with_number m)) (members_at n rest))
 
 -- values from their high parts and their lowest k bits
 abbrev pub joined_values : ℕ → List ℕ → List ℕ → List ℕ
@@ -107,7 +111,8 @@ split_at k n bits = then_at (values_at fs_at n bits) (lows_at k n)
 
 -- what follows identifier and reference sample, by its kind (§7)
 abbrev pub body_at : Settings → Bool → Kind → List Bool → Taken Body
-body_at s is_reference NoCompression bits = map_taken uncompressed_values (values_at (binary_at s.bits) (written_count s is_reference) bits)
+body_at s is_reference NoCompression bits =
+    map_taken uncompressed_values (values_at (binary_at s.bits) (written_count s is_reference) bits)
 body_at s is_reference SecondExtension bits = map_taken value_pairs (members_at (s.block_size / 2) bits)
 body_at s is_reference (Split k) bits = map_taken (split_values k) (split_at k (written_count s is_reference) bits)
 body_at s is_reference ZeroBlocks bits = map_taken zero_blocks (fs_at bits)
@@ -124,7 +129,8 @@ set_after_reference s is_reference kind reference bits = map_taken (set_of refer
 
 -- the coded data set, after its identifier
 abbrev pub set_after_kind : Settings → Bool → Kind → List Bool → Taken CodedDataSet
-set_after_kind s is_reference kind bits = then_at (reference_at s is_reference bits) (set_after_reference s is_reference kind)
+set_after_kind s is_reference kind bits =
+    then_at (reference_at s is_reference bits) (set_after_reference s is_reference kind)
 
 -- the coded data set of a reference block or of another
 abbrev pub cds_at : Settings → Bool → List Bool → Taken CodedDataSet

@@ -99,16 +99,19 @@ begins_plain s bits = is_plain_taken (kind_at (id_len s) bits)
 -- no plain coded data set without a reference sample, whose values are at most 2^n - 1, begins the
 -- bits
 abbrev pub HasNoPlain : Settings → List Bool → Type 0
-HasNoPlain s bits = (c : CodedDataSet) (rest : List Bool) → cds_at s false bits ≡ taken c rest → is_plain_body c.body ≡ true → has_small_values s c ≡ false
+HasNoPlain s bits = (c : CodedDataSet) (rest : List Bool) → cds_at s false bits ≡ taken c rest
+    → is_plain_body c.body ≡ true → has_small_values s c ≡ false
 
 -- no run of zero blocks begins the bits
 abbrev pub HasNoRun : Settings → Bool → List Bool → Type 0
-HasNoRun s is_reference bits = (c : CodedDataSet) (rest : List Bool) → cds_at s is_reference bits ≡ taken c rest → is_run_body c.body ≡ false
+HasNoRun s is_reference bits = (c : CodedDataSet) (rest : List Bool) → cds_at s is_reference bits ≡ taken c rest
+    → is_run_body c.body ≡ false
 
 -- the coded data set c, whose values are at most 2^n - 1, is read as what it stands for, and the
 -- cursor moves past it (says that such a set stands there; the code takes many codewords from a
 -- word of 64 bits)
-pub record IsReadAs (s : Settings) (is_reference : Bool) (old new : Cursor) (c : CodedDataSet) (cds : Cds) : Type 0 where
+pub record IsReadAs (s : Settings) (is_reference : Bool) (old new : Cursor) (c : CodedDataSet)
+    (cds : Cds) : Type 0 where
   pub set : IsSetAt s is_reference old.list old.pos c
   pub small : has_small_values s c ≡ true
   pub behind : new ≡ record { list = old.list; pos = old.pos + length (cds_bits s c) }

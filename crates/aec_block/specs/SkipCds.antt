@@ -39,6 +39,7 @@ judged_body_len s reference body = judged_len s (set_of reference body)
 
 -- the coded data set c, whose values are at most 2^n - 1, is gone over as `IsReadAs` has it, and
 -- stands for so many blocks (the code reads values only where it must judge each)
-pub record IsSkippedAs (s : Settings) (is_reference : Bool) (old new : Cursor) (c : CodedDataSet) (len : RunLen) : Type 0 where
+pub record IsSkippedAs (s : Settings) (is_reference : Bool) (old new : Cursor) (c : CodedDataSet)
+    (len : RunLen) : Type 0 where
   pub read : IsReadAs s is_reference old new c (cds_of c)
   pub told : len ≡ set_len c

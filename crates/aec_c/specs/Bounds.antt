@@ -11,7 +11,8 @@ blocks_of s samples = div_ceil samples s.block_size
 
 -- five bits and the plain samples for each block, and a byte for each interval
 abbrev pub most_bytes : Settings → ℕ → ℕ
-most_bytes s samples = div_ceil (blocks_of s samples * (5 + s.block_size * s.bits)) 8 + div_ceil (blocks_of s samples) s.interval
+most_bytes s samples = div_ceil (blocks_of s samples * (5 + s.block_size * s.bits)) 8 + div_ceil
+    (blocks_of s samples) s.interval
 
 -- a number of bytes that no code of `samples` samples passes; 0 where there is no code, since the
 -- settings break a rule or the samples are more than 2^32 (`aecp_bound`)
@@ -21,4 +22,5 @@ bound_of s samples = if is_none (settings_fault s) && nat_le samples (2 ^ 32) th
 -- so many bytes are enough for the answer to any stored bytes that hold so many whole samples,
 -- where it is their code
 abbrev pub Suffices : Settings → ℕ → ℕ → Type 0
-Suffices s samples bytes = (stored code : List ℕ) → length stored / storage_len s ≡ samples → IsCoding s stored (Ok code) → length code ≤ bytes
+Suffices s samples bytes = (stored code : List ℕ) → length stored / storage_len s ≡ samples
+    → IsCoding s stored (Ok code) → length code ≤ bytes

@@ -39,21 +39,26 @@ pub data IsCoding (s : Settings) (samples : List ℕ) : Result (List ℕ) Fault 
   coded : (bytes : List ℕ) → IsAllowed s → IsCodeOf s most.samples samples bytes → IsCoding s samples (Ok bytes)
   -- the settings are judged first
   not_allowed : (fault : Fault) → settings_fault s ≡ Some fault → IsCoding s samples (Err fault)
-  not_coded : (fault : Fault) → IsAllowed s → bytes_refusal s most.samples samples ≡ Some fault → IsCoding s samples (Err fault)
+  not_coded : (fault : Fault) → IsAllowed s → bytes_refusal s most.samples samples ≡ Some fault
+      → IsCoding s samples (Err fault)
   lacks_memory : IsAllowed s → IsCoding s samples (Err Memory)
 
 -- the answer of decoding coded bytes (the refusal of the options, else what `decode_into` promises,
 -- or want of memory)
 pub data IsDecoding (s : Settings) (count : Option ℕ) (coded : List ℕ) : Result (List ℕ) Fault → Type 0 where
-  decoded : (samples : List ℕ) → IsAllowed s → IsStoredReadingOf s most count coded samples → IsDecoding s count coded (Ok samples)
+  decoded : (samples : List ℕ) → IsAllowed s → IsStoredReadingOf s most count coded samples
+      → IsDecoding s count coded (Ok samples)
   bad_settings : (fault : Fault) → settings_fault s ≡ Some fault → IsDecoding s count coded (Err fault)
-  not_decoded : (fault : Fault) → IsAllowed s → RefusesCoded s most count coded fault → IsDecoding s count coded (Err fault)
+  not_decoded : (fault : Fault) → IsAllowed s → RefusesCoded s most count coded fault
+      → IsDecoding s count coded (Err fault)
   no_memory : IsAllowed s → IsDecoding s count coded (Err Memory)
 
 -- the answer of cutting out a range of coded bytes (the refusal of the options, else what
 -- `range_into` promises, or want of memory)
-pub data IsRanging (s : Settings) (count : Option ℕ) (first len : ℕ) (coded : List ℕ) : Result (List ℕ) Fault → Type 0 where
-  ranged : (answer : Result (List ℕ) Fault) → IsAllowed s → IsRanged s most count first len (input_of coded false) answer
+pub data IsRanging (s : Settings) (count : Option ℕ) (first len : ℕ) (coded : List ℕ) : Result (List ℕ) Fault
+    → Type 0 where
+  ranged : (answer : Result (List ℕ) Fault) → IsAllowed s
+      → IsRanged s most count first len (input_of coded false) answer
       → IsRanging s count first len coded answer
   no_settings : (fault : Fault) → settings_fault s ≡ Some fault → IsRanging s count first len coded (Err fault)
   no_room : IsAllowed s → IsRanging s count first len coded (Err Memory)

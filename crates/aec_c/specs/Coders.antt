@@ -24,9 +24,11 @@ left_bits bits = drop (8 * (length bits / 8)) bits
 -- opening: a coder that was fed nothing in the place of what was held, or a refusal that changes
 -- nothing
 pub data OpensCoder (s : Settings) (old new : Option OpenCoder) (reply : Reply) : Type 0 where
-  opened : (made : OpenCoder) → IsAllowed s → new ≡ Some made → made.coder ≡ Some (fresh_coder s (2 ^ 32)) → made.bits.list ≡ [] → reply ≡ done 0
+  opened : (made : OpenCoder) → IsAllowed s → new ≡ Some made → made.coder ≡ Some (fresh_coder s (2 ^ 32))
+      → made.bits.list ≡ [] → reply ≡ done 0
       → OpensCoder s old new reply
-  not_opened : (fault : Fault) → (fault ≡ Memory) ⊎ (settings_fault s ≡ Some fault) → new ≡ old → reply ≡ refused_for fault → OpensCoder s old new reply
+  not_opened : (fault : Fault) → (fault ≡ Memory) ⊎ (settings_fault s ≡ Some fault) → new ≡ old
+      → reply ≡ refused_for fault → OpensCoder s old new reply
 
 -- a piece taken, with the number of whole bytes that can be taken now; or refused, by the first
 -- refusal of all pieces, which stays
@@ -37,35 +39,44 @@ pub data FeedsPiece (piece : List ℕ) (before after : OpenCoder) (reply : Reply
       → MatchOption c.refusal (StopsFeeding c piece before.bits.list after.bits.list fault)
       (λ was. (fault ≡ was) × (after.bits.list ≡ before.bits.list))
       → reply ≡ refused_for fault → FeedsPiece piece before after reply
-  ended : before.coder ≡ None → after.coder ≡ None → after.bits ≡ before.bits → reply ≡ not_open → FeedsPiece piece before after reply
+  ended : before.coder ≡ None → after.coder ≡ None → after.bits ≡ before.bits → reply ≡ not_open
+      → FeedsPiece piece before after reply
 
 -- the stream ended: the code of the samples that were held comes last, and zeros fill the last
 -- byte; or a refusal, which leaves the bits; the coder takes no more in both cases
 pub data FinishesStream (before after : OpenCoder) (reply : Reply) : Type 0 where
   finished : (c : Coder) → before.coder ≡ Some c → c.refusal ≡ None → after.coder ≡ None
-      → after.bits.list ≡ padded_to_byte (before.bits.list ++ stream_of c.settings c.held) → reply ≡ done (length after.bits.list / 8)
+      → after.bits.list ≡ padded_to_byte (before.bits.list ++ stream_of c.settings c.held)
+      → reply ≡ done (length after.bits.list / 8)
       → FinishesStream before after reply
-  not_finished : (c : Coder) (fault : Fault) → before.coder ≡ Some c → after.coder ≡ None → after.bits.list ≡ before.bits.list
+  not_finished : (c : Coder) (fault : Fault) → before.coder ≡ Some c → after.coder ≡ None
+      → after.bits.list ≡ before.bits.list
       → MatchOption c.refusal ((fault ≡ Memory) × (0 < length c.held)) (λ was. fault ≡ was) → reply ≡ refused_for fault
       → FinishesStream before after reply
-  was_finished : before.coder ≡ None → after.coder ≡ None → after.bits ≡ before.bits → reply ≡ not_open → FinishesStream before after reply
+  was_finished : before.coder ≡ None → after.coder ≡ None → after.bits ≡ before.bits → reply ≡ not_open
+      → FinishesStream before after reply
 
 -- whole bytes put into a buffer and taken out of the code, where there is room for all of them
 pub data TakesBytes (before after : OpenCoder) (old new : List ℕ) (reply : Reply) : Type 0 where
-  taken : after.coder ≡ before.coder → after.bits.list ≡ left_bits before.bits.list → length (ready_bytes before.bits.list) ≤ length old
-      → new ≡ left_of (Ok (ready_bytes before.bits.list)) old → reply ≡ reply_to (Ok (ready_bytes before.bits.list)) (length old)
+  taken : after.coder ≡ before.coder → after.bits.list ≡ left_bits before.bits.list
+      → length (ready_bytes before.bits.list) ≤ length old
+      → new ≡ left_of (Ok (ready_bytes before.bits.list)) old
+      → reply ≡ reply_to (Ok (ready_bytes before.bits.list)) (length old)
       → TakesBytes before after old new reply
   no_room : after ≡ before → length old < length (ready_bytes before.bits.list)
-      → new ≡ left_of (Ok (ready_bytes before.bits.list)) old → reply ≡ reply_to (Ok (ready_bytes before.bits.list)) (length old)
+      → new ≡ left_of (Ok (ready_bytes before.bits.list)) old
+      → reply ≡ reply_to (Ok (ready_bytes before.bits.list)) (length old)
       → TakesBytes before after old new reply
   no_memory : after ≡ before → new ≡ old → reply ≡ refused_for Memory → TakesBytes before after old new reply
 
 -- the same for what a handle holds: nothing is taken where it holds no coder
 pub data TakesOut (old new : Option OpenCoder) (before after : List ℕ) (reply : Reply) : Type 0 where
-  taken_out : (w w' : OpenCoder) → old ≡ Some w → new ≡ Some w' → TakesBytes w w' before after reply → TakesOut old new before after reply
+  taken_out : (w w' : OpenCoder) → old ≡ Some w → new ≡ Some w' → TakesBytes w w' before after reply
+      → TakesOut old new before after reply
   none_taken : old ≡ None → new ≡ None → after ≡ before → reply ≡ not_open → TakesOut old new before after reply
 
 -- the whole bytes that were taken, and then those of the bits that were left and all that came
 -- behind them, are the bytes of all bits
 abbrev pub TakenBytesJoin : Type 0
-TakenBytesJoin = (bits more : List Bool) → bytes_of (bits ++ more) ≡ ready_bytes bits ++ bytes_of (left_bits bits ++ more)
+TakenBytesJoin = (bits more : List Bool)
+    → bytes_of (bits ++ more) ≡ ready_bytes bits ++ bytes_of (left_bits bits ++ more)

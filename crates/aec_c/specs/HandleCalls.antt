@@ -21,7 +21,8 @@ not_open = record { fault = 19; place = 0; len = 0 }
 -- a call on a handle, by what it does to what is held: one that holds nothing holds nothing after
 -- it
 pub data OnHandle {X : Type 0} (Does : X → X → Reply → Type 0) (old new : Option X) (reply : Reply) : Type 0 where
-  held : (before after : X) → old ≡ Some before → new ≡ Some after → Does before after reply → OnHandle Does old new reply
+  held : (before after : X) → old ≡ Some before → new ≡ Some after → Does before after reply
+      → OnHandle Does old new reply
   empty : old ≡ None → new ≡ None → reply ≡ not_open → OnHandle Does old new reply
 
 -- how many intervals an edit has coded, or why it is refused
@@ -33,7 +34,8 @@ edit_reply (Err fault) = refused_for fault
 pub record MakesEdit (e : Edit) (before after : OpenWorkspace) (reply : Reply) : Type 0 where
   pub answer : Result ℕ Fault
   pub replied : reply ≡ edit_reply answer
-  pub applies : Applies (format_of before) before.workspace.limit before.workspace.samples before.workspace.codec.calls before.workspace.codec.reads
+  pub applies : Applies (format_of before) before.workspace.limit before.workspace.samples
+      before.workspace.codec.calls before.workspace.codec.reads
       e answer after.workspace.samples after.workspace.codec.calls after.workspace.codec.reads
   pub limit : after.workspace.limit ≡ before.workspace.limit
   pub format : format_of after ≡ format_of before

@@ -40,13 +40,17 @@ pub record Holds (s : Settings) (samples : List ℤ) (w : OpenWorkspace) : Type 
 -- want of memory
 abbrev pub CannotHold : Settings → List ℤ → Fault → Type 0
 CannotHold s samples fault =
-    (fault ≡ Memory) ⊎ ((settings_fault s ≡ Some fault) ⊎ (due_refusal (interval_format s) (2 ^ 32) [] 0 (Append samples) ≡ Some fault))
+    (fault ≡ Memory) ⊎ ((settings_fault s ≡ Some fault)
+    ⊎ (due_refusal (interval_format s) (2 ^ 32) [] 0 (Append samples) ≡ Some fault))
 
 -- loading: a workspace with the samples that bytes are read as in the place of what was held, or a
 -- refusal that changes nothing
-pub data Loads (s : Settings) (count : Option ℕ) (bytes : List ℕ) (old new : Option OpenWorkspace) (reply : Reply) : Type 0 where
-  loaded : (samples : List ℤ) (w : OpenWorkspace) → AreRead s count bytes samples → new ≡ Some w → Holds s samples w → reply ≡ done (length samples)
+pub data Loads (s : Settings) (count : Option ℕ) (bytes : List ℕ) (old new : Option OpenWorkspace)
+    (reply : Reply) : Type 0 where
+  loaded : (samples : List ℤ) (w : OpenWorkspace) → AreRead s count bytes samples → new ≡ Some w → Holds s samples w
+      → reply ≡ done (length samples)
       → Loads s count bytes old new reply
-  unread : (fault : Fault) → CannotRead s count bytes fault → new ≡ old → reply ≡ refused_for fault → Loads s count bytes old new reply
+  unread : (fault : Fault) → CannotRead s count bytes fault → new ≡ old → reply ≡ refused_for fault
+      → Loads s count bytes old new reply
   not_held : (samples : List ℤ) (fault : Fault) → AreRead s count bytes samples → CannotHold s samples fault → new ≡ old
       → reply ≡ refused_for fault → Loads s count bytes old new reply

@@ -25,7 +25,8 @@ pub record IsFresh (s : Settings) (w : OpenWorkspace) : Type 0 where
 -- opening: a fresh workspace in the place of what was held, or a refusal that changes nothing
 pub data Opens (s : Settings) (old new : Option OpenWorkspace) (reply : Reply) : Type 0 where
   fresh : (w : OpenWorkspace) → new ≡ Some w → IsFresh s w → reply ≡ done 0 → Opens s old new reply
-  refused : (fault : Fault) → (fault ≡ Memory) ⊎ (settings_fault s ≡ Some fault) → new ≡ old → reply ≡ refused_for fault → Opens s old new reply
+  refused : (fault : Fault) → (fault ≡ Memory) ⊎ (settings_fault s ≡ Some fault) → new ≡ old
+      → reply ≡ refused_for fault → Opens s old new reply
 
 -- the number of samples, and that of the coder's calls; none where no workspace is held
 abbrev pub size_in : Option OpenWorkspace → ℕ
@@ -44,13 +45,15 @@ IsCodeOf w (Err fault) = fault ≡ Memory
 
 -- the bytes of the code of a workspace's samples, put into a buffer
 pub data WritesOut (old new : Option OpenWorkspace) (before after : List ℕ) (reply : Reply) : Type 0 where
-  written : (w : OpenWorkspace) (answer : Result (List ℕ) Fault) → old ≡ Some w → new ≡ Some w → IsCodeOf w answer → after ≡ left_of answer before
+  written : (w : OpenWorkspace) (answer : Result (List ℕ) Fault) → old ≡ Some w → new ≡ Some w → IsCodeOf w answer
+      → after ≡ left_of answer before
       → reply ≡ reply_to answer (length before) → WritesOut old new before after reply
   no_work : old ≡ None → new ≡ None → after ≡ before → reply ≡ not_open → WritesOut old new before after reply
 
 -- the samples of a range, or why they are refused: for their place, and else for want of memory
 abbrev pub IsRangeOf : List ℤ → ℕ → ℕ → Result (List ℤ) Fault → Type 0
-IsRangeOf samples first len (Ok part) = (part ≡ take len (drop first samples)) × (range_refusal (length samples) first len ≡ None)
+IsRangeOf samples first len (Ok part) = (part ≡ take len (drop first samples))
+    × (range_refusal (length samples) first len ≡ None)
 IsRangeOf samples first len (Err fault) = IsDue (range_refusal (length samples) first len) fault
 
 -- a workspace with the same samples, limit, format and calls; it may have been read more often
@@ -61,8 +64,11 @@ pub record IsSameBut (before after : OpenWorkspace) : Type 0 where
   pub format : format_of after ≡ format_of before
 
 -- the samples of a range, put into a buffer
-pub data ReadsOut (first len : ℕ) (old new : Option OpenWorkspace) (before after : List ℤ) (reply : Reply) : Type 0 where
+pub data ReadsOut (first len : ℕ) (old new : Option OpenWorkspace) (before after : List ℤ)
+    (reply : Reply) : Type 0 where
   read : (w w' : OpenWorkspace) (answer : Result (List ℤ) Fault) → old ≡ Some w → new ≡ Some w' → IsSameBut w w'
-      → IsRangeOf w.workspace.samples first len answer → after ≡ left_of answer before → reply ≡ reply_to answer (length before)
+      → IsRangeOf w.workspace.samples first len answer → after ≡ left_of answer before
+      → reply ≡ reply_to answer (length before)
       → ReadsOut first len old new before after reply
-  none_read : old ≡ None → new ≡ None → after ≡ before → reply ≡ not_open → ReadsOut first len old new before after reply
+  none_read : old ≡ None → new ≡ None → after ≡ before → reply ≡ not_open
+      → ReadsOut first len old new before after reply

@@ -24,10 +24,13 @@ CannotOpen s count fault =
 
 -- opening: a reader at the first bit of coded bytes in the place of what was held, with the length
 -- in bytes of the samples of a whole interval; or a refusal that changes nothing
-pub data OpensReader (s : Settings) (count : Option ℕ) (bytes : List ℕ) (old new : Option OpenReader) (reply : Reply) : Type 0 where
-  opened : (made : OpenReader) → IsAllowed s → new ≡ Some made → made.reader ≡ standing_at s count (bits_of_bytes bytes) 0 0 0
+pub data OpensReader (s : Settings) (count : Option ℕ) (bytes : List ℕ) (old new : Option OpenReader)
+    (reply : Reply) : Type 0 where
+  opened : (made : OpenReader) → IsAllowed s → new ≡ Some made
+      → made.reader ≡ standing_at s count (bits_of_bytes bytes) 0 0 0
       → reply ≡ done (interval_len s * storage_len s) → OpensReader s count bytes old new reply
-  not_opened : (fault : Fault) → CannotOpen s count fault → new ≡ old → reply ≡ refused_for fault → OpensReader s count bytes old new reply
+  not_opened : (fault : Fault) → CannotOpen s count fault → new ≡ old → reply ≡ refused_for fault
+      → OpensReader s count bytes old new reply
 
 -- the stored samples of the next interval put into a buffer, where there is room for all of them,
 -- and the reader behind them; no bytes where all samples were read; or the fault in that interval,
@@ -36,23 +39,31 @@ pub data ReadsNext (before after : OpenReader) (old new : List ℕ) (reply : Rep
   next : (samples : List ℤ) → ReadsInterval before.reader.place samples after.reader.place
       → length (all_stored before.reader.place.settings samples) ≤ length old
       → new ≡ left_of (Ok (all_stored before.reader.place.settings samples)) old
-      → reply ≡ reply_to (Ok (all_stored before.reader.place.settings samples)) (length old) → ReadsNext before after old new reply
+      → reply ≡ reply_to (Ok (all_stored before.reader.place.settings samples)) (length old)
+      → ReadsNext before after old new reply
   no_room : (samples : List ℤ) (q : Place) → ReadsInterval before.reader.place samples q
       → length old < length (all_stored before.reader.place.settings samples) → after.reader ≡ before.reader → new ≡ old
-      → reply ≡ reply_to (Ok (all_stored before.reader.place.settings samples)) (length old) → ReadsNext before after old new reply
-  at_end : is_wanted_at before.reader.place ≡ false → after.reader ≡ before.reader → new ≡ old → reply ≡ done 0 → ReadsNext before after old new reply
-  not_read : (fault : Fault) → IsFaultAt before.reader.place fault → after.reader ≡ before.reader → new ≡ old → reply ≡ refused_for fault
+      → reply ≡ reply_to (Ok (all_stored before.reader.place.settings samples)) (length old)
+      → ReadsNext before after old new reply
+  at_end : is_wanted_at before.reader.place ≡ false → after.reader ≡ before.reader → new ≡ old → reply ≡ done 0
+      → ReadsNext before after old new reply
+  not_read : (fault : Fault) → IsFaultAt before.reader.place fault → after.reader ≡ before.reader → new ≡ old
+      → reply ≡ refused_for fault
       → ReadsNext before after old new reply
 
 -- the same for what a handle holds: nothing is put where it holds no reader
 pub data PutsNext (old new : Option OpenReader) (before after : List ℕ) (reply : Reply) : Type 0 where
-  put : (w w' : OpenReader) → old ≡ Some w → new ≡ Some w' → ReadsNext w w' before after reply → PutsNext old new before after reply
+  put : (w w' : OpenReader) → old ≡ Some w → new ≡ Some w' → ReadsNext w w' before after reply
+      → PutsNext old new before after reply
   none_put : old ≡ None → new ≡ None → after ≡ before → reply ≡ not_open → PutsNext old new before after reply
 
 -- the reader where interval k begins, or behind the last sample if there are fewer intervals, with
 -- the number of samples before it; or the fault of all bits, if it lies before there
 pub data GoesTo (k : ℕ) (before after : OpenReader) (reply : Reply) : Type 0 where
-  gone : (samples : List ℤ) → after.reader.place ≡ place_in before.reader.place after.reader.place.block after.reader.place.bit
-      → BeginsInterval k after.reader.place → HasRead after.reader.place samples → reply ≡ done (length samples) → GoesTo k before after reply
-  not_reached : (fault : Fault) → IsFaultOnWay k before.reader.place fault → after.reader ≡ before.reader → reply ≡ refused_for fault
+  gone : (samples : List ℤ) → after.reader.place
+      ≡ place_in before.reader.place after.reader.place.block after.reader.place.bit
+      → BeginsInterval k after.reader.place → HasRead after.reader.place samples → reply ≡ done (length samples)
+      → GoesTo k before after reply
+  not_reached : (fault : Fault) → IsFaultOnWay k before.reader.place fault → after.reader ≡ before.reader
+      → reply ≡ refused_for fault
       → GoesTo k before after reply

@@ -21,15 +21,18 @@ use Rattle.aec_c.specs.Replies.{reply_to}
 -- The bytes of the code of the samples that a script leaves of those that coded bytes are read as,
 -- or why there are none.
 pub data IsEditing (s : Settings) (count : Option ℕ) (script coded : List ℕ) : Result (List ℕ) EditFault → Type 0 where
-  edited : (made : Recoded) → IsAllowed s → IsEdited s most count (input_of script false) (input_of coded false) (Ok made)
+  edited : (made : Recoded) → IsAllowed s
+      → IsEdited s most count (input_of script false) (input_of coded false) (Ok made)
       → IsEditing s count script coded (Ok made.bytes)
-  not_edited : (fault : EditFault) → IsAllowed s → IsEdited s most count (input_of script false) (input_of coded false) (Err fault)
+  not_edited : (fault : EditFault) → IsAllowed s
+      → IsEdited s most count (input_of script false) (input_of coded false) (Err fault)
       → IsEditing s count script coded (Err fault)
   -- the settings are judged first
   not_allowed : (fault : Fault) → settings_fault s ≡ Some fault → IsEditing s count script coded (Err (Plain fault))
   lacks_memory : IsAllowed s → IsEditing s count script coded (Err (Plain Memory))
   -- on a line whose edit codes some interval, where no edit up to it is refused else
-  lacks_memory_on : (samples : List ℤ) (line : ℕ) → IsAllowed s → script_refusal most.bytes (input_of script false) ≡ None
+  lacks_memory_on : (samples : List ℤ) (line : ℕ) → IsAllowed s
+      → script_refusal most.bytes (input_of script false) ≡ None
       → IsRead s most count (input_of coded false) samples
       → (let f : Format = interval_format s in let read : Listing = listing_of script in
       LacksMemoryOn f most.samples (first_calls f samples) samples read.edits read.lines line)
@@ -69,7 +72,8 @@ IsCounted s (Ok bytes) count = CodesSoMany s bytes count
 IsCounted s (Err fault) count = count ≡ 0
 
 -- a call gave one of these answers
-pub record RepliesEdit (s : Settings) (answers : Result (List ℕ) EditFault → Type 0) (before after : List ℕ) (reply : EditReply) : Type 0 where
+pub record RepliesEdit (s : Settings) (answers : Result (List ℕ) EditFault → Type 0) (before after : List ℕ)
+    (reply : EditReply) : Type 0 where
   pub answer : Result (List ℕ) EditFault
   pub answered : answers answer
   pub left : after ≡ left_of (plain_answer answer) before

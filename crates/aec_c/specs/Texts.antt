@@ -5,7 +5,8 @@ use Rattle.aec_c.specs.Replies.{over_front}
 -- as much of a text as fits before a zero, and the zero, at the front of a buffer; one of no bytes
 -- stays as it is
 abbrev pub text_in : List ℕ → List ℕ → List ℕ
-text_in text before = if nat_lt 0 (length before) then over_front (take (length before - 1) text ++ (0 ∷ [])) before else before
+text_in text before = if nat_lt 0 (length before) then over_front (take (length before - 1) text ++ (0 ∷ [])) before
+    else before
 
 -- a text of so many bytes was put into a buffer (not which text)
 pub record PutsText (before after : List ℕ) (len : ℕ) : Type 0 where

@@ -57,7 +57,8 @@ unfolding aec_app number_rules coding_rules storage_rules work_rules file_rules 
 repeated = refl
 
 -- a number that doesn't fit 32 bits
-too_large : fault_of aec_app (codes "aec" ∷ codes "-r" ∷ codes "4294967296" ∷ codes "a" ∷ codes "b" ∷ []) ≡ ValueValidation ∷ []
+too_large : fault_of aec_app (codes "aec" ∷ codes "-r" ∷ codes "4294967296" ∷ codes "a" ∷ codes "b" ∷ [])
+    ≡ ValueValidation ∷ []
 unfolding aec_app number_rules coding_rules storage_rules work_rules file_rules clap_on_literals
 too_large = refl
 
@@ -81,7 +82,8 @@ unfolding aec_app number_rules coding_rules storage_rules work_rules file_rules 
 range_left_out = refl
 
 -- a count that doesn't fit 64 bits
-count_too_large : fault_of aec_app (codes "aec" ∷ codes "--count" ∷ codes "18446744073709551616" ∷ codes "a" ∷ codes "b" ∷ []) ≡ ValueValidation ∷ []
+count_too_large : fault_of aec_app (codes "aec"
+    ∷ codes "--count" ∷ codes "18446744073709551616" ∷ codes "a" ∷ codes "b" ∷ []) ≡ ValueValidation ∷ []
 unfolding aec_app number_rules coding_rules storage_rules work_rules file_rules clap_on_literals
 count_too_large = refl
 
@@ -92,7 +94,9 @@ version_asked = refl
 
 -- `aec --even-blocks -j 10 -r 1 -d in out`
 abbrev even_decoding : List Text
-even_decoding = codes "aec" ∷ codes "--even-blocks" ∷ codes "-j" ∷ codes "10" ∷ codes "-r" ∷ codes "1" ∷ codes "-d" ∷ codes "in" ∷ codes "out" ∷ []
+even_decoding =
+    codes "aec" ∷ codes "--even-blocks" ∷ codes "-j" ∷ codes "10" ∷ codes "-r" ∷ codes "1" ∷ codes "-d"
+    ∷ codes "in" ∷ codes "out" ∷ []
 
 -- `--even-blocks` sets its flag
 even_blocks_given : first_of (codes "even-blocks") (matches_of aec_app even_decoding) ≡ Some (codes "true")
@@ -105,6 +109,7 @@ unfolding aec_app number_rules coding_rules storage_rules work_rules file_rules 
 even_blocks_left_out = refl
 
 -- `--even-blocks=1`: a flag takes no value
-even_blocks_take_no_value : fault_of aec_app (codes "aec" ∷ codes "--even-blocks=1" ∷ codes "a" ∷ codes "b" ∷ []) ≡ TooManyValues ∷ []
+even_blocks_take_no_value : fault_of aec_app
+    (codes "aec" ∷ codes "--even-blocks=1" ∷ codes "a" ∷ codes "b" ∷ []) ≡ TooManyValues ∷ []
 unfolding aec_app number_rules coding_rules storage_rules work_rules file_rules clap_on_literals
 even_blocks_take_no_value = refl

@@ -74,7 +74,8 @@ storage_rules = flag_rule (codes "signed") (letter (codes "s")) ∷ flag_rule (c
 -- what is done
 unfoldable pub work_rules : List Rule
 work_rules = flag_rule (codes "decode") (letter (codes "d")) ∷ long_text_rule (codes "range")
-    ∷ long_text_rule (codes "edit") ∷ long_number_rule long_parser (codes "count") ∷ number_rule long_parser (codes "buffer") (letter (codes "b")) ∷ []
+    ∷ long_text_rule (codes "edit") ∷ long_number_rule long_parser (codes "count") ∷ number_rule long_parser
+    (codes "buffer") (letter (codes "b")) ∷ []
 
 -- the two files, in this order
 unfoldable pub file_rules : List Rule
@@ -87,5 +88,6 @@ versioned_app name = on_top (λ shape. record shape { has_version = true }) (new
 -- the command: its rules are those of the argument parser's own definitions (COMMAND: Options; the
 -- code calls its builder)
 unfoldable pub aec_app : App
-aec_app = with_rules (with_rules (with_rules (with_rules (with_rules (versioned_app (codes "aec")) number_rules) coding_rules)
+aec_app = with_rules (with_rules (with_rules
+    (with_rules (with_rules (versioned_app (codes "aec")) number_rules) coding_rules)
     storage_rules) work_rules) file_rules

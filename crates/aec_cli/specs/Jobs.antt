@@ -40,7 +40,8 @@ pub record Task : Type 0 where
 
 -- the task that the code's `Job` is
 abbrev pub task_of : Job → Task
-task_of j = record { settings = j.params; work = work_of j.action; source = string_bytes j.source; dest = string_bytes j.dest }
+task_of j =
+    record { settings = j.params; work = work_of j.action; source = string_bytes j.source; dest = string_bytes j.dest }
 
 -- whether a flag is given: its value is the word `true`
 unfoldable pub is_given : Text → Found → Bool
@@ -79,7 +80,8 @@ settings_of f = record {
 unfoldable pub actions_given : Found → ℕ
 actions_given f =
     count_by (λ given. given)
-    (is_given (codes "decode") f ∷ is_some (first_value f (codes "range")) ∷ is_some (first_value f (codes "edit")) ∷ [])
+    (is_given (codes "decode") f ∷ is_some (first_value f (codes "range")) ∷ is_some (first_value f (codes "edit"))
+    ∷ [])
 
 -- the range, where its text is one
 unfoldable pub range_of : Found → Option (ℕ × ℕ)

@@ -75,4 +75,5 @@ EndsByRefusal (Err usage) status = status ≡ usage_status usage
 -- Words without a mistake end with the status of the first refusal of their job, if it has one; if
 -- it has none with 0 or 1; or with 1 for want of memory. (COMMAND: Exit status)
 abbrev pub EndsByWords : List Text → ℕ → Type 0
-EndsByWords words status = (status ≡ 1) ⊎ ((found : Found) × IsFoundIn words found × EndsByRefusal (job_of found) status)
+EndsByWords words status = (status ≡ 1)
+    ⊎ ((found : Found) × IsFoundIn words found × EndsByRefusal (job_of found) status)

@@ -17,11 +17,13 @@ want_of_calls calls needed = if nat_lt (2 ^ 64 - 1 - calls) needed then Some Spe
 -- calls are left (one function of edit and calls, where the code judges each rule in its own place,
 -- before any call)
 abbrev pub due_refusal : Format → ℕ → List ℤ → ℕ → Edit → Option Fault
-due_refusal f limit s calls e = option_or (refusal_of f limit s e) (want_of_calls calls (needed_calls f.most (length s) e))
+due_refusal f limit s calls e = option_or (refusal_of f limit s e)
+    (want_of_calls calls (needed_calls f.most (length s) e))
 
 -- how many intervals an edit may decode: none if it is refused for a reason other than memory
 abbrev pub opened_at_most : Format → ℕ → List ℤ → ℕ → Edit → ℕ
-opened_at_most f limit s calls e = if is_some (due_refusal f limit s calls e) then 0 else opened_intervals f.most (length s) e
+opened_at_most f limit s calls e = if is_some (due_refusal f limit s calls e) then 0
+    else opened_intervals f.most (length s) e
 
 -- a count that rises by at most so many
 pub record RisesAtMost (by old new : ℕ) : Type 0 where

@@ -1,9 +1,7 @@
 -- For proofs alone: no public contract cites this file.
--- What the private functions do to the samples: places are exchanged for values, and for that
--- intervals for fresh samples. The contract of `apply` cites `samples_after`, `needed_calls` and
--- `opened_intervals` instead.
-use Rattle.std.specs.Prelude.{◌≡◌, ℕ, ◌+◌, ◌-◌, ◌*◌, ◌/◌, ◌%◌, ◌≤◌, ◌⊎◌, min, Bool}
-use Rattle.std.specs.Prelude.{◌==◌, if◌then◌else◌, None, MatchOption, Result, MatchResult, OnOk, OnErr, is_some, List, ◌++◌, length, take, drop, ℤ}
+-- What private functions do: they exchange places for values, and intervals for fresh samples.
+-- The contract of `apply` cites `samples_after`, `needed_calls` and `opened_intervals` instead.
+use Rattle.std.specs.Prelude.{◌≡◌, ℕ, ◌+◌, ◌-◌, ◌*◌, ◌/◌, ◌%◌, ◌≤◌, ◌⊎◌, min, Bool, ◌==◌, if◌then◌else◌, None, MatchOption, Result, MatchResult, OnOk, OnErr, is_some, List, ◌++◌, length, take, drop, ℤ}
 use Rattle.std.specs.Int.{div_ceil}
 use Rattle.aec_bits.specs.Codec.{Format, AreHeld, code_of}
 use Rattle.aec_params.specs.declared.fault.Fault.{Fault}
@@ -35,8 +33,7 @@ exchange_calls n first len = div_ceil (first + len) n - first / n
 abbrev pub recoded : Format → ℕ → ℕ → List ℤ → List ℤ → List ℤ
 recoded f from to fresh s = exchanged (record { first = from * f.most; stop = to * f.most }) fresh s
 
--- intervals that can be exchanged: the fresh samples fill whole intervals, as many as they like, or
--- reach the end
+-- intervals that can be exchanged: the fresh samples fill any number of intervals, or reach the end
 pub record IsRecoding (f : Format) (limit : ℕ) (s : List ℤ) (from to : ℕ) (fresh : List ℤ) : Type 0 where
   pub order : from ≤ to
   pub within : to ≤ interval_count f s
@@ -62,7 +59,8 @@ pub record IsExchanged (needed calls coded after : ℕ) : Type 0 where
 -- an exchange that was refused: no calls were left for it, or memory was wanting
 abbrev pub IsNotExchanged : ℕ → ℕ → Fault → ℕ → Type 0
 IsNotExchanged needed calls fault after =
-    MatchOption (want_of_calls calls needed) (LacksMemory needed calls fault after) (λ due. (fault ≡ due) × (after ≡ calls))
+    MatchOption (want_of_calls calls needed) (LacksMemory needed calls fault after)
+    (λ due. (fault ≡ due) × (after ≡ calls))
 
 -- how many intervals it may decode
 abbrev pub opened_by : ℕ → ℕ → ℕ → ℕ
@@ -70,7 +68,8 @@ opened_by needed calls opened = if is_some (want_of_calls calls needed) then 0 e
 
 -- an exchange that codes some intervals and may decode some, and all that it does to a workspace:
 -- its answer, and the samples, which are those left where it is made
-pub record Exchanges {C : Type 0} (format_of : C → Format) (called read : C → ℕ) (coded opened : ℕ) (left : List ℤ) (r : Result ℕ Fault) (old new : Contents C)
+pub record Exchanges {C : Type 0} (format_of : C → Format) (called read : C → ℕ) (coded opened : ℕ) (left : List ℤ)
+    (r : Result ℕ Fault) (old new : Contents C)
     : Type 0 where
   pub answer : MatchResult r (λ told. IsExchanged coded (called old.codec) told (called new.codec))
       (λ fault. IsNotExchanged coded (called old.codec) fault (called new.codec))
@@ -99,7 +98,8 @@ recoding_calls n count x = div_ceil (fresh_total n count x) n
 
 -- how many it codes of the samples s
 abbrev pub calls_up_to : Format → List ℤ → Stretch → ℕ → List ℤ → ℕ
-calls_up_to f s gone to values = recoding_calls f.most (length s) (record { gone = gone; to = to; values = length values })
+calls_up_to f s gone to values = recoding_calls f.most (length s)
+    (record { gone = gone; to = to; values = length values })
 
 -- how many it decodes
 abbrev pub recoding_openings : ℕ → ℕ → Stretch → ℕ → ℕ
@@ -107,21 +107,26 @@ recoding_openings n count gone to = opened_count n count gone + (to - div_ceil g
 
 -- the samples that it codes
 abbrev pub fresh_of : ℕ → List ℤ → Stretch → ℕ → List ℤ → List ℤ
-fresh_of n s gone to values = to_come n s (head_of n gone.first s) values (tail_of n gone.stop s) (div_ceil gone.stop n) to
+fresh_of n s gone to values = to_come n s (head_of n gone.first s) values (tail_of n gone.stop s)
+    (div_ceil gone.stop n) to
 
 -- an exchange that a workspace can make so: what is coded fills whole intervals, or reaches the end
-pub record IsExchangeUpTo (f : Format) (limit : ℕ) (s : List ℤ) (gone : Stretch) (to : ℕ) (values : List ℤ) : Type 0 where
+pub record IsExchangeUpTo (f : Format) (limit : ℕ) (s : List ℤ) (gone : Stretch) (to : ℕ)
+    (values : List ℤ) : Type 0 where
   pub order : gone.first ≤ gone.stop
   pub within : gone.stop ≤ length s
   pub reaches : div_ceil gone.stop f.most ≤ to
   pub inside : to ≤ interval_count f s
   pub held : AreHeld f values
-  pub fitting : (length s ≤ to * f.most) ⊎ ((k : ℕ) × (fresh_total f.most (length s) (record { gone = gone; to = to; values = length values }) ≡ k * f.most))
+  pub fitting : (length s ≤ to * f.most)
+      ⊎ ((k : ℕ) × (fresh_total f.most (length s) (record { gone = gone; to = to; values = length values })
+      ≡ k * f.most))
   pub few : gone.first + length values + (length s - gone.stop) ≤ limit
 
 -- bits, starts and a count that are the code of fresh samples for the intervals from number from up
 -- to number to
-pub record IsCodeFor (f : Format) (limit : ℕ) (s : List ℤ) (from to : ℕ) (bits : List Bool) (starts : List ℕ) (count : ℕ) (fresh : List ℤ) : Type 0 where
+pub record IsCodeFor (f : Format) (limit : ℕ) (s : List ℤ) (from to : ℕ) (bits : List Bool) (starts : List ℕ)
+    (count : ℕ) (fresh : List ℤ) : Type 0 where
   pub recoding : IsRecoding f limit s from to fresh
   pub bits_are : bits ≡ code_of f fresh
   pub starts_are : starts ≡ starts_of f 0 fresh
@@ -137,7 +142,9 @@ abbrev pub CanExchange : {C : Type 0} → (C → Format) → Contents C → Stre
 CanExchange format_of w gone to values = IsExchangeUpTo (format_of w.codec) w.limit w.samples gone to values
 
 -- such an exchange, and all that it does to a workspace
-abbrev pub ExchangesUpTo : {C : Type 0} → (C → Format) → (C → ℕ) → (C → ℕ) → Stretch → ℕ → List ℤ → Result ℕ Fault → Contents C → Contents C → Type 0
+abbrev pub ExchangesUpTo : {C : Type 0} → (C → Format) → (C → ℕ) → (C → ℕ) → Stretch → ℕ → List ℤ → Result ℕ Fault
+    → Contents C → Contents C → Type 0
 ExchangesUpTo format_of called read gone to values r old new =
     Exchanges format_of called read (calls_up_to (format_of old.codec) old.samples gone to values)
-    (recoding_openings (format_of old.codec).most (length old.samples) gone to) (exchanged gone values old.samples) r old new
+    (recoding_openings (format_of old.codec).most (length old.samples) gone to)
+    (exchanged gone values old.samples) r old new

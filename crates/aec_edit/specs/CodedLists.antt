@@ -37,7 +37,8 @@ pub record HasRoomAtMost (bits starts : ℕ) (coded : Coded) : Type 0 where
 
 -- the starts from number to on lie between a place and the end of the bits
 abbrev pub AreLater : ℕ → ℕ → ℕ → List ℕ → Type 0
-AreLater to place end starts = (k : ℕ) → to ≤ k → k < length starts → (place ≤ slice_index starts k) × (slice_index starts k ≤ end)
+AreLater to place end starts = (k : ℕ) → to ≤ k → k < length starts
+    → (place ≤ slice_index starts k) × (slice_index starts k ≤ end)
 
 -- no start is past a place
 abbrev pub AreUpTo : ℕ → List ℕ → Type 0
@@ -67,7 +68,8 @@ with_starts starts from to with base old_end new_end =
 pub record IsReplaced (old new with : Coded) (from to : Cut) (count : ℕ) : Type 0 where
   pub bits : new.bits.list ≡ take from.bit old.bits.list ++ (with.bits.list ++ drop to.bit old.bits.list)
   pub starts : new.starts.items
-      ≡ with_starts old.starts.items from.interval to.interval with.starts.items from.bit to.bit (from.bit + length with.bits.list)
+      ≡ with_starts old.starts.items from.interval to.interval with.starts.items from.bit to.bit
+      (from.bit + length with.bits.list)
   pub count_is : new.count ≡ count
 
 -- starts that can be moved on by base
@@ -81,7 +83,8 @@ pub record CanShift (at old_end new_end : ℕ) (starts : List ℕ) : Type 0 wher
   pub later : AreLater at old_end (2 ^ 62) starts
 
 -- a list of starts in which others can come for those from number from up to number to
-pub record CanTakeStarts {Z : Type 0} (starts : Vec ℕ Z) (from to : ℕ) (with : List ℕ) (base old_end new_end : ℕ) : Type 0 where
+pub record CanTakeStarts {Z : Type 0} (starts : Vec ℕ Z) (from to : ℕ) (with : List ℕ)
+    (base old_end new_end : ℕ) : Type 0 where
   pub order : from ≤ to
   pub within : to ≤ vec_len starts
   pub room : vec_len starts + length with ≤ vec_capacity starts + (to - from)

@@ -24,7 +24,8 @@ pub record HasOldPart {C : Type 0} (format_of : C → Format) (w : Contents C) (
 
 -- fresh samples of which some have moved to the front, until it holds n, or all but old intervals
 pub record MovesToFront (n : ℕ) (old new : Fresh) : Type 0 where
-  pub all : new.front.items ++ (new.values.now ++ new.back.items) ≡ old.front.items ++ (old.values.now ++ old.back.items)
+  pub all : new.front.items ++ (new.values.now ++ new.back.items) ≡ old.front.items
+      ++ (old.values.now ++ old.back.items)
   pub full : (n ≤ length new.front.items) ⊎ ((new.values.now ≡ []) × (new.back.items ≡ []))
   pub next : new.next ≡ old.next
   pub end : new.end ≡ old.end
@@ -36,12 +37,14 @@ pub record MovesOn (reads reads_after : ℕ) (old new : Fresh) : Type 0 where
   pub opens : OpensAtMost (old.end - old.next) (new.end - new.next) reads reads_after
 
 -- the same fresh samples are still to come, after some of their old intervals were handed out
-pub record Gathers {C : Type 0} (format_of : C → Format) (read : C → ℕ) (w w_after : Contents C) (old new : Fresh) : Type 0 where
+pub record Gathers {C : Type 0} (format_of : C → Format) (read : C → ℕ) (w w_after : Contents C)
+    (old new : Fresh) : Type 0 where
   pub same : coming format_of w new ≡ coming format_of w old
   pub moves : MovesOn (read w.codec) (read w_after.codec) old new
 
 -- there is an interval of fresh samples that can be coded
-pub record HasNext {C : Type 0} (format_of : C → Format) (called : C → ℕ) (w : Contents C) (fresh : Fresh) : Type 0 where
+pub record HasNext {C : Type 0} (format_of : C → Format) (called : C → ℕ) (w : Contents C)
+    (fresh : Fresh) : Type 0 where
   pub there : HasOldPart format_of w fresh
   pub some : 1 ≤ length (coming format_of w fresh)
   pub held : AreHeld (format_of w.codec) (coming format_of w fresh)
@@ -53,7 +56,8 @@ pub record AddsInterval (f : Format) (interval : List ℤ) (old new : Coded) : T
   pub starts : new.starts.items ≡ old.starts.items ++ length old.bits.list ∷ []
 
 -- the next interval of fresh samples has been coded, by one call
-pub record CodesNext {C : Type 0} (format_of : C → Format) (called read : C → ℕ) (w w_after : Contents C) (old new : Fresh) (coded coded_after : Coded)
+pub record CodesNext {C : Type 0} (format_of : C → Format) (called read : C → ℕ) (w w_after : Contents C)
+    (old new : Fresh) (coded coded_after : Coded)
     : Type 0 where
   pub left : coming format_of w new ≡ drop (format_of w.codec).most (coming format_of w old)
   pub adds : AddsInterval (format_of w.codec) (take (format_of w.codec).most (coming format_of w old)) coded coded_after
@@ -67,7 +71,8 @@ pub record CanBeCoded {C : Type 0} (format_of : C → Format) (w : Contents C) (
   pub count_is : count ≡ length (coming format_of w fresh)
 
 -- their code, made by one call for each interval
-pub record CodesFresh {C : Type 0} (format_of : C → Format) (called : C → ℕ) (w w_after : Contents C) (fresh : Fresh) (count : ℕ) (coded : Coded)
+pub record CodesFresh {C : Type 0} (format_of : C → Format) (called : C → ℕ) (w w_after : Contents C) (fresh : Fresh)
+    (count : ℕ) (coded : Coded)
     : Type 0 where
   pub bits : coded.bits.list ≡ code_of (format_of w.codec) (coming format_of w fresh)
   pub starts : coded.starts.items ≡ starts_of (format_of w.codec) 0 (coming format_of w fresh)
@@ -85,6 +90,7 @@ pub record KeepsEnds (n n' : ℕ) (old new : Fresh) : Type 0 where
 -- the fresh samples of an exchange of places for values, of which the old intervals up to number to
 -- are coded anew
 pub record IsFreshFor (n : ℕ) (s : List ℤ) (gone : Stretch) (to : ℕ) (values : List ℤ) (fresh : Fresh) : Type 0 where
-  pub all : fresh.front.items ++ (fresh.values.now ++ fresh.back.items) ≡ head_of n gone.first s ++ (values ++ tail_of n gone.stop s)
+  pub all : fresh.front.items ++ (fresh.values.now ++ fresh.back.items) ≡ head_of n gone.first s
+      ++ (values ++ tail_of n gone.stop s)
   pub next : fresh.next ≡ div_ceil gone.stop n
   pub end : fresh.end ≡ to

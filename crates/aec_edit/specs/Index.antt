@@ -30,15 +30,19 @@ abbrev pub KeptSamples : Format → ℕ → List Bool → List ℕ → Type 0
 KeptSamples f count bits starts = (s : List ℤ) × IsKeptCode f count bits starts s
 
 -- that list of them
-unfoldable pub kept_samples : {f : Format} {count : ℕ} {bits : List Bool} {starts : List ℕ} → KeptSamples f count bits starts → List ℤ
+unfoldable pub kept_samples : {f : Format} {count : ℕ} {bits : List Bool} {starts : List ℕ}
+    → KeptSamples f count bits starts → List ℤ
 kept_samples kept = kept.0
 
 -- two proofs that samples are kept so are equal
-IsKeptCode-prop : (f : Format) (count : ℕ) (bits : List Bool) (starts : List ℕ) (s : List ℤ) → IsProp (IsKeptCode f count bits starts s)
+IsKeptCode-prop : (f : Format) (count : ℕ) (bits : List Bool) (starts : List ℕ) (s : List ℤ)
+    → IsProp (IsKeptCode f count bits starts s)
 IsKeptCode-prop f count bits starts s = hlevel props
 
 -- of a lawful codec there is at most one
-pub one_list : (f : Format) (count : ℕ) (bits : List Bool) (starts : List ℕ) → IsLawful f → IsProp (KeptSamples f count bits starts)
+pub one_list : (f : Format) (count : ℕ) (bits : List Bool) (starts : List ℕ) → IsLawful f
+    → IsProp (KeptSamples f count bits starts)
 one_list f count bits starts lawful =
     λ u v. Σ_prop_path (IsKeptCode-prop f count bits starts)
-    (same_samples f u.0 v.0 lawful u.1.held v.1.held (u.1.count_is ∙ sym v.1.count_is) (sym u.1.bits_are ∙ v.1.bits_are))
+    (same_samples f u.0 v.0 lawful u.1.held v.1.held (u.1.count_is ∙ sym v.1.count_is)
+    (sym u.1.bits_are ∙ v.1.bits_are))

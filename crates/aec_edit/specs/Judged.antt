@@ -22,6 +22,8 @@ pub record CanCome (f : Format) (limit : ℕ) (s values : List ℤ) : Type 0 whe
   pub held : AreHeld f values
 
 -- an edit and all that it does to a workspace
-pub record MakesEdit {C : Type 0} (format_of : C → Format) (called read : C → ℕ) (e : Edit) (r : Result ℕ Fault) (old new : Contents C) : Type 0 where
-  pub applies : Applies (format_of old.codec) old.limit old.samples (called old.codec) (read old.codec) e r new.samples (called new.codec) (read new.codec)
+pub record MakesEdit {C : Type 0} (format_of : C → Format) (called read : C → ℕ) (e : Edit) (r : Result ℕ Fault)
+    (old new : Contents C) : Type 0 where
+  pub applies : Applies (format_of old.codec) old.limit old.samples (called old.codec) (read old.codec) e r new.samples
+      (called new.codec) (read new.codec)
   pub rules : KeepsRules format_of old new

@@ -19,14 +19,17 @@ use Rattle.aec_edit.specs.Runs.{AnswersAll, all_left, all_coded}
 
 -- an overwrite that is made has called the coder once for each interval that it touches
 abbrev pub OverwritesCodeWhatTheyTouch : Type 0
-OverwritesCodeWhatTheyTouch = (f : Format) (limit : ℕ) (s : List ℤ) (calls first : ℕ) (values : Samples) (coded after : ℕ)
+OverwritesCodeWhatTheyTouch = (f : Format) (limit : ℕ) (s : List ℤ) (calls first : ℕ) (values : Samples)
+    (coded after : ℕ)
     → Answers f limit s calls (Overwrite first values) (Done coded) after
-    → (coded ≡ length (touched_intervals f.most first (length values))) × (after ≡ calls + length (touched_intervals f.most first (length values)))
+    → (coded ≡ length (touched_intervals f.most first (length values)))
+    × (after ≡ calls + length (touched_intervals f.most first (length values)))
 
 -- a refused edit leaves the samples unchanged, and unless it is refused with `Memory` the calls
 abbrev pub RefusedEditsChangeNothing : Type 0
 RefusedEditsChangeNothing = (f : Format) (limit : ℕ) (s : List ℤ) (calls : ℕ) (e : Edit) (fault : Fault) (after : ℕ)
-    → Answers f limit s calls e (Refused fault) after → (samples_left s e (Refused fault) ≡ s) × (fault ≢ Memory → after ≡ calls)
+    → Answers f limit s calls e (Refused fault) after
+    → (samples_left s e (Refused fault) ≡ s) × (fault ≢ Memory → after ≡ calls)
 
 -- edits that code nothing: those of no values or no places, a cut to the samples that are there or
 -- to whole intervals, and a removal of whole intervals or from the beginning of one to the end
@@ -60,30 +63,39 @@ HadMemory outcomes = AllByRecursion (λ outcome. outcome ≢ Refused Memory) out
 -- over a run the calls rise by what the accepted edits have coded, or by more if an edit was
 -- refused with `Memory`
 abbrev pub RunsCountTheirCalls : Type 0
-RunsCountTheirCalls = (f : Format) (limit : ℕ) (s : List ℤ) (calls : ℕ) (edits : List Edit) (done : List Outcome) (after : ℕ)
+RunsCountTheirCalls = (f : Format) (limit : ℕ) (s : List ℤ) (calls : ℕ) (edits : List Edit) (done : List Outcome)
+    (after : ℕ)
     → AnswersAll f limit s calls edits done after
     → (calls + all_coded done ≤ after) × (HadMemory done → after ≡ calls + all_coded done)
 
 -- two runs one after the other are one run of all their edits; one edit is a run
 pub record RunsJoin : Type 0 where
-  pub answers : (f : Format) (limit : ℕ) (s : List ℤ) (calls between after : ℕ) (edits others : List Edit) (done more : List Outcome)
-      → AnswersAll f limit s calls edits done between → AnswersAll f limit (all_left s edits done) between others more after
+  pub answers : (f : Format) (limit : ℕ) (s : List ℤ) (calls between after : ℕ) (edits others : List Edit)
+      (done more : List Outcome)
+      → AnswersAll f limit s calls edits done between
+      → AnswersAll f limit (all_left s edits done) between others more after
       → AnswersAll f limit s calls (edits ++ others) (done ++ more) after
-  pub samples : (f : Format) (limit : ℕ) (s : List ℤ) (calls between : ℕ) (edits others : List Edit) (done more : List Outcome)
-      → AnswersAll f limit s calls edits done between → all_left s (edits ++ others) (done ++ more) ≡ all_left (all_left s edits done) others more
+  pub samples : (f : Format) (limit : ℕ) (s : List ℤ) (calls between : ℕ) (edits others : List Edit)
+      (done more : List Outcome)
+      → AnswersAll f limit s calls edits done between
+      → all_left s (edits ++ others) (done ++ more) ≡ all_left (all_left s edits done) others more
   pub one : (f : Format) (limit : ℕ) (s : List ℤ) (calls : ℕ) (e : Edit) (outcome : Outcome) (after : ℕ)
       → Answers f limit s calls e outcome after → AnswersAll f limit s calls (e ∷ []) (outcome ∷ []) after
 
 -- edits have exactly one list of outcomes without `Memory`
 pub record RunsHaveOneAnswer : Type 0 where
   pub some : (f : Format) (limit : ℕ) (s : List ℤ) (calls : ℕ) (edits : List Edit) → calls < 2 ^ 64
-      → (done : List Outcome) × (after : ℕ) × AnswersAll f limit s calls edits done after × HadMemory done × (after < 2 ^ 64)
-  pub one : (f : Format) (limit : ℕ) (s : List ℤ) (calls : ℕ) (edits : List Edit) (done other : List Outcome) (after last : ℕ)
-      → AnswersAll f limit s calls edits done after → HadMemory done → AnswersAll f limit s calls edits other last → HadMemory other
+      → (done : List Outcome) × (after : ℕ) × AnswersAll f limit s calls edits done after × HadMemory done
+      × (after < 2 ^ 64)
+  pub one : (f : Format) (limit : ℕ) (s : List ℤ) (calls : ℕ) (edits : List Edit) (done other : List Outcome)
+      (after last : ℕ)
+      → AnswersAll f limit s calls edits done after → HadMemory done → AnswersAll f limit s calls edits other last
+      → HadMemory other
       → (done ≡ other) × (after ≡ last)
 
 -- the samples that edits leave are held, and no more than the limit
 abbrev pub RunsLeaveSamples : Type 0
-RunsLeaveSamples = (f : Format) (limit : ℕ) (s : List ℤ) (calls : ℕ) (edits : List Edit) (done : List Outcome) (after : ℕ)
+RunsLeaveSamples = (f : Format) (limit : ℕ) (s : List ℤ) (calls : ℕ) (edits : List Edit) (done : List Outcome)
+    (after : ℕ)
     → AnswersAll f limit s calls edits done after → AreHeld f s → length s ≤ limit
     → AreHeld f (all_left s edits done) × (length (all_left s edits done) ≤ limit)

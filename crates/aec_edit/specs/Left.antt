@@ -9,7 +9,8 @@ use Rattle.aec_edit.specs.Runs.{AnswersAll, all_left}
 use Rattle.aec_edit.specs.declared.outcome.Outcome.{Outcome}
 
 -- a workspace with a codec like this one, after edits from no samples on that had these outcomes
-pub record IsLeftBy {C : Type 0} (format_of : C → Format) (called : C → ℕ) (codec : C) (limit : ℕ) (edits : List Edit) (done : List Outcome) (w : Contents C)
+pub record IsLeftBy {C : Type 0} (format_of : C → Format) (called : C → ℕ) (codec : C) (limit : ℕ) (edits : List Edit)
+    (done : List Outcome) (w : Contents C)
     : Type 0 where
   pub answers : AnswersAll (format_of codec) limit [] (called codec) edits done (called w.codec)
   pub samples : w.samples ≡ all_left [] edits done

@@ -22,7 +22,8 @@ AnswersAll f limit s calls [] [] after = after ≡ calls
 AnswersAll f limit s calls [] (outcome ∷ outcomes) after = ⊥
 AnswersAll f limit s calls (e ∷ edits) [] after = ⊥
 AnswersAll f limit s calls (e ∷ edits) (outcome ∷ outcomes) after =
-    (between : ℕ) × Answers f limit s calls e outcome between × AnswersAll f limit (samples_left s e outcome) between edits outcomes after
+    (between : ℕ) × Answers f limit s calls e outcome between
+    × AnswersAll f limit (samples_left s e outcome) between edits outcomes after
 
 -- how many intervals were coded for the edits that were made (a sum over the outcomes, where the
 -- code counts in the codec)
@@ -42,11 +43,13 @@ opened_for n old e (Refused fault) = 0
 abbrev pub all_opened : ℕ → List ℤ → List Edit → List Outcome → ℕ
 all_opened n s [] outcomes = 0
 all_opened n s (e ∷ edits) [] = 0
-all_opened n s (e ∷ edits) (outcome ∷ outcomes) = opened_for n (length s) e outcome + all_opened n (samples_left s e outcome) edits outcomes
+all_opened n s (e ∷ edits) (outcome ∷ outcomes) =
+    opened_for n (length s) e outcome + all_opened n (samples_left s e outcome) edits outcomes
 
 -- what a run of edits has done, from the samples s and the codec's counts of calls and reads: its
 -- outcomes, the samples that are left, and the counts after it
-pub record HasRun (f : Format) (limit : ℕ) (s : List ℤ) (calls reads : ℕ) (edits : List Edit) (done : List Outcome) (left : List ℤ)
+pub record HasRun (f : Format) (limit : ℕ) (s : List ℤ) (calls reads : ℕ) (edits : List Edit) (done : List Outcome)
+    (left : List ℤ)
     (calls_after reads_after : ℕ) : Type 0 where
   pub answers : AnswersAll f limit s calls edits done calls_after
   pub samples : left ≡ all_left s edits done

@@ -50,7 +50,8 @@ outcome_of (Err fault) = Refused fault
 
 -- an edit and all that it does: its answer, the samples s' that it leaves, and the calls of the
 -- coder and the decoder after it (the clauses of the private functions in one)
-pub record Applies (f : Format) (limit : ℕ) (s : List ℤ) (calls reads : ℕ) (e : Edit) (r : Result ℕ Fault) (s' : List ℤ) (calls' reads' : ℕ) : Type 0 where
+pub record Applies (f : Format) (limit : ℕ) (s : List ℤ) (calls reads : ℕ) (e : Edit) (r : Result ℕ Fault)
+    (s' : List ℤ) (calls' reads' : ℕ) : Type 0 where
   pub answer : Answers f limit s calls e (outcome_of r) calls'
   pub samples : s' ≡ samples_left s e (outcome_of r)
   pub opens : RisesAtMost (opened_at_most f limit s calls e) reads reads'

@@ -23,7 +23,9 @@ pub data StopsAtRefusal (f : Format) (limit : ℕ) (s : List ℤ) (calls reads :
   all_made : (done : List Outcome) (left : List ℤ) (calls_after reads_after : ℕ) → AreDone done
       → HasRun f limit s calls reads edits done left calls_after reads_after
       → StopsAtRefusal f limit s calls reads edits (Ok tt) left calls_after reads_after
-  stopped : (before : List Edit) (edit : Edit) (behind : List Edit) (done : List Outcome) (fault : Fault) (left : List ℤ) (calls_after reads_after : ℕ)
+  stopped : (before : List Edit) (edit : Edit) (behind : List Edit) (done : List Outcome) (fault : Fault)
+      (left : List ℤ) (calls_after reads_after : ℕ)
       → edits ≡ before ++ (edit ∷ behind) → AreDone done
       → HasRun f limit s calls reads (before ++ (edit ∷ [])) (done ++ (Refused fault ∷ [])) left calls_after reads_after
-      → StopsAtRefusal f limit s calls reads edits (Err (record { place = length before; fault = fault })) left calls_after reads_after
+      → StopsAtRefusal f limit s calls reads edits
+      (Err (record { place = length before; fault = fault })) left calls_after reads_after

@@ -16,7 +16,8 @@ pub record KeepsCodec {C : Type 0} (old new : Contents C) : Type 0 where
 
 -- samples, limit and format are as they were, and the counts of coded and of decoded intervals have
 -- risen by at most so many
-pub record KeepsSamples {C : Type 0} (format_of : C → Format) (called read : C → ℕ) (coded decoded : ℕ) (old new : Contents C) : Type 0 where
+pub record KeepsSamples {C : Type 0} (format_of : C → Format) (called read : C → ℕ) (coded decoded : ℕ)
+    (old new : Contents C) : Type 0 where
   pub samples : new.samples ≡ old.samples
   pub limit : new.limit ≡ old.limit
   pub format : format_of new.codec ≡ format_of old.codec
@@ -25,7 +26,8 @@ pub record KeepsSamples {C : Type 0} (format_of : C → Format) (called read : C
 
 -- samples, limit, format and the count of calls are as they were, and the count of decoded
 -- intervals has risen by at most so many
-pub record IsOnlyRead {C : Type 0} (format_of : C → Format) (called read : C → ℕ) (most : ℕ) (old new : Contents C) : Type 0 where
+pub record IsOnlyRead {C : Type 0} (format_of : C → Format) (called read : C → ℕ) (most : ℕ)
+    (old new : Contents C) : Type 0 where
   pub samples : new.samples ≡ old.samples
   pub limit : new.limit ≡ old.limit
   pub format : format_of new.codec ≡ format_of old.codec

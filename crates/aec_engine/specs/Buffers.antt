@@ -14,7 +14,8 @@ left_of (Ok items) before = front_put items before
 left_of (Err fault) before = before
 
 -- a call has one of these answers, has put it into a buffer, and returns its length
-pub record FillsOne (answers : Result (List ℕ) Fault → Type 0) (before after : List ℕ) (result : Result ℕ Fault) : Type 0 where
+pub record FillsOne (answers : Result (List ℕ) Fault → Type 0) (before after : List ℕ)
+    (result : Result ℕ Fault) : Type 0 where
   pub answer : Result (List ℕ) Fault
   pub answered : answers answer
   pub told : result ≡ answer_by (λ (bytes : List ℕ). length bytes) answer

@@ -12,7 +12,8 @@ use Rattle.aec_engine.specs.Output.{are_refused, coding_refusal}
 
 -- a new coder was fed what a source gave so far, in any pieces: what it is then, and the bits that
 -- it made
-pub record IsFedSoFar (s : Settings) (limit : ℕ) (before after : Option (List ℕ)) (bits : List Bool) (coder : Coder) : Type 0 where
+pub record IsFedSoFar (s : Settings) (limit : ℕ) (before after : Option (List ℕ)) (bits : List Bool)
+    (coder : Coder) : Type 0 where
   pub allowed : IsAllowed s
   pub bytes : List ℕ
   pub taken : Consumes before after bytes
@@ -28,7 +29,8 @@ pub record IsFed (s : Settings) (limit : ℕ) (source : Taking) (bits : List Boo
 -- why it was not: want of memory, or the refusal of what the source gave so far
 pub data StopsCoding (s : Settings) (limit : ℕ) (source : Taking) : Fault → Type 0 where
   no_memory : StopsCoding s limit source Memory
-  refused : (input : Input) (fault : Fault) → Gave source (are_refused s limit) input → coding_refusal s limit input ≡ Some fault
+  refused : (input : Input) (fault : Fault) → Gave source (are_refused s limit) input
+      → coding_refusal s limit input ≡ Some fault
       → StopsCoding s limit source fault
 
 -- how many bytes more a coder takes at most before one sample is too many

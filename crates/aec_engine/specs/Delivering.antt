@@ -17,7 +17,8 @@ pub record PutsPart (before after : Option (List ℕ)) (waited more waiting : Li
 
 -- bytes are put to a sink, or where it failed a front of them
 abbrev pub PutsAllOrFront : {X : Type 0} → Option (List ℕ) → Option (List ℕ) → List ℕ → Result X Fault → Type 0
-PutsAllOrFront before after bytes result = MatchResult result (λ _. Appends before after bytes) (λ _. AppendsFront before after bytes)
+PutsAllOrFront before after bytes result =
+    MatchResult result (λ _. Appends before after bytes) (λ _. AppendsFront before after bytes)
 
 -- after one `begin` bytes are put to a sink, or where it failed a front of them
 pub record Delivers (bytes : List ℕ) (sink : Putting) (result : Result (Unit {0}) Fault) : Type 0 where

@@ -21,15 +21,18 @@ use Rattle.aec_engine.specs.EditingSteps.{StopsEditing, recoded_of}
 
 -- Edits lead to others, which are made on what is left then: what the former leave is what the
 -- latter do, and where the latter lack memory the former do.
-pub record LeadsToEdits (f : Format) (limit : ℕ) (from : Left) (script : Listing) (to : Left) (ahead : Listing) : Type 0 where
-  pub same : edits_left f limit from.calls from.samples script.edits script.lines ≡ edits_left f limit to.calls to.samples ahead.edits ahead.lines
+pub record LeadsToEdits (f : Format) (limit : ℕ) (from : Left) (script : Listing) (to : Left)
+    (ahead : Listing) : Type 0 where
+  pub same : edits_left f limit from.calls from.samples script.edits script.lines
+      ≡ edits_left f limit to.calls to.samples ahead.edits ahead.lines
   pub lacks : (line : ℕ) → LacksMemoryOn f limit to.calls to.samples ahead.edits ahead.lines line
       → LacksMemoryOn f limit from.calls from.samples script.edits script.lines line
 
 -- Of samples that are there, the edits of a script were made up to those ahead. Whatever samples
 -- stand after them, and however often the coder has been called before (far from the most that it
 -- can be), the edits of the script lead to those ahead.
-pub record CarriesEarly (f : Format) (limit : ℕ) (script : Listing) (s : List ℤ) (calls : ℕ) (ahead : Listing) (left : List ℤ)
+pub record CarriesEarly (f : Format) (limit : ℕ) (script : Listing) (s : List ℤ) (calls : ℕ) (ahead : Listing)
+    (left : List ℤ)
     (calls_after : ℕ) : Type 0 where
   pub made : ℕ
   pub counted : calls_after ≡ calls + made
@@ -58,33 +61,42 @@ pub record IsEmptyFor (start : Place) (f : Format) (limit : ℕ) (samples : List
 -- are made early)
 abbrev pub LoadsAll : Format → ℕ → Listing → Place → Listing → List ℤ → ℕ → Type 0
 LoadsAll f limit script start ahead left calls =
-    (xs : List ℤ) → AreSamplesOf start xs → LeadsToEdits f limit (left_with xs (first_calls f xs)) script (left_with left calls) ahead
+    (xs : List ℤ) → AreSamplesOf start xs
+    → LeadsToEdits f limit (left_with xs (first_calls f xs)) script (left_with left calls) ahead
 
 -- samples were not all taken over: there was no memory, or an edit was refused
 abbrev pub StopsLoading : Format → ℕ → Listing → Place → EditFault → Type 0
 StopsLoading f limit script start fault =
-    (fault ≡ Plain Memory) ⊎ ((xs : List ℤ) → AreSamplesOf start xs → StopsEditing f limit (first_calls f xs) xs script.edits script.lines fault)
+    (fault ≡ Plain Memory) ⊎ ((xs : List ℤ) → AreSamplesOf start xs
+    → StopsEditing f limit (first_calls f xs) xs script.edits script.lines fault)
 
 -- what making edits on samples answers, all of which can be read
-pub data EditsSamples (s : Settings) (limit : ℕ) (start : Place) (script : Listing) : Result Recoded EditFault → Type 0 where
+pub data EditsSamples (s : Settings) (limit : ℕ) (start : Place) (script : Listing) : Result Recoded EditFault
+    → Type 0 where
   no_room : EditsSamples s limit start script (Err (Plain Memory))
   stops : (fault : EditFault) → ((xs : List ℤ) → AreSamplesOf start xs
       → StopsEditing (interval_format s) limit (first_calls (interval_format s) xs) xs script.edits script.lines fault)
       → EditsSamples s limit start script (Err fault)
   makes : (left : Left) → ((xs : List ℤ) → AreSamplesOf start xs
-      → edits_left (interval_format s) limit (first_calls (interval_format s) xs) xs script.edits script.lines ≡ Ok left)
+      → edits_left (interval_format s) limit (first_calls (interval_format s) xs) xs script.edits script.lines
+      ≡ Ok left)
       → EditsSamples s limit start script (Ok (recoded_of (interval_format s) left.samples left.calls))
 
 -- what making edits on the samples that bits are read as answers
 pub data EditsBits (s : Settings) (caps : Caps) (count : Option ℕ) (bits : List Bool) (script : Listing)
     : Result Recoded EditFault → Type 0 where
-  not_read : (fault : Fault) → RefusesDecoding s count caps.samples bits fault → EditsBits s caps count bits script (Err (Plain fault))
+  not_read : (fault : Fault) → RefusesDecoding s count caps.samples bits fault
+      → EditsBits s caps count bits script (Err (Plain fault))
   lacks_room : EditsBits s caps count bits script (Err (Plain Memory))
-  stopped : (samples : List ℤ) (fault : EditFault) → count_refusal caps.samples count ≡ None → IsReading s count caps.samples bits samples
-      → StopsEditing (interval_format s) caps.samples (first_calls (interval_format s) samples) samples script.edits script.lines fault
+  stopped : (samples : List ℤ) (fault : EditFault) → count_refusal caps.samples count ≡ None
+      → IsReading s count caps.samples bits samples
+      → StopsEditing (interval_format s) caps.samples
+      (first_calls (interval_format s) samples) samples script.edits script.lines fault
       → EditsBits s caps count bits script (Err fault)
-  made : (samples : List ℤ) (left : Left) → count_refusal caps.samples count ≡ None → IsReading s count caps.samples bits samples
-      → edits_left (interval_format s) caps.samples (first_calls (interval_format s) samples) samples script.edits script.lines ≡ Ok left
+  made : (samples : List ℤ) (left : Left) → count_refusal caps.samples count ≡ None
+      → IsReading s count caps.samples bits samples
+      → edits_left (interval_format s) caps.samples
+      (first_calls (interval_format s) samples) samples script.edits script.lines ≡ Ok left
       → EditsBits s caps count bits script (Ok (recoded_of (interval_format s) left.samples left.calls))
 
 -- a workspace without samples over a codec

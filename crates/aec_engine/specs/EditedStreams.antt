@@ -12,7 +12,8 @@ use Rattle.aec_edit.specs.Runs.{AnswersAll, all_left}
 
 -- edits were made from no samples on with these outcomes, and these are the bits of the bytes that
 -- their stream fills, and the number of samples
-pub record IsWritten (s : Settings) (limit : ℕ) (edits : List Edit) (done : List Outcome) (calls : ℕ) (bits : List Bool) (count : ℕ) : Type 0 where
+pub record IsWritten (s : Settings) (limit : ℕ) (edits : List Edit) (done : List Outcome) (calls : ℕ)
+    (bits : List Bool) (count : ℕ) : Type 0 where
   pub allowed : IsAllowed s
   pub answers : AnswersAll (interval_format s) limit [] 0 edits done calls
   pub bits_are : bits ≡ bits_of_bytes (bytes_of (stream_of s (all_left [] edits done)))

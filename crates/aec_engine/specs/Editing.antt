@@ -24,7 +24,8 @@ use Rattle.aec_engine.specs.Transfers.{Input, Taking, Putting, are_past, Gave, W
 -- why a script is refused: as an input that is read whole, and else for its first line that is no
 -- edit (COMMAND: Order of a run)
 abbrev pub script_refusal : ℕ → Input → Option Fault
-script_refusal limit script = option_or (intake_refusal limit script) (option_map (λ n. Script n) (listing_of script.bytes).bad)
+script_refusal limit script =
+    option_or (intake_refusal limit script) (option_map (λ n. Script n) (listing_of script.bytes).bad)
 
 -- what edits leave: samples, and how often the coder has been called
 pub record Left : Type 0 where
@@ -63,21 +64,26 @@ pub record Recoded : Type 0 where
   pub calls : ℕ
 
 -- the answer of carrying out a script (COMMAND: Edits)
-pub data IsEdited (s : Settings) (caps : Caps) (count : Option ℕ) (script input : Input) : Result Recoded EditFault → Type 0 where
+pub data IsEdited (s : Settings) (caps : Caps) (count : Option ℕ) (script input : Input) : Result Recoded EditFault
+    → Type 0 where
   -- the script is refused before the input is looked at
-  no_script : (fault : Fault) → script_refusal caps.bytes script ≡ Some fault → IsEdited s caps count script input (Err (Plain fault))
+  no_script : (fault : Fault) → script_refusal caps.bytes script ≡ Some fault
+      → IsEdited s caps count script input (Err (Plain fault))
   -- the refusals of decoding: the whole input has to be valid
   not_decoded : (fault : Fault) → script_refusal caps.bytes script ≡ None → IsDecoded s caps count input (Err fault)
       → IsEdited s caps count script input (Err (Plain fault))
   -- an edit that doesn't fit the samples that the edits before it leave, or for which too few calls
   -- are left
-  not_edited : (samples : List ℤ) (fault : EditFault) → script_refusal caps.bytes script ≡ None → IsRead s caps count input samples
+  not_edited : (samples : List ℤ) (fault : EditFault) → script_refusal caps.bytes script ≡ None
+      → IsRead s caps count input samples
       → script_left s caps script samples ≡ Err fault → IsEdited s caps count script input (Err fault)
   -- the bytes of the code of the samples that all edits leave, and the calls that the samples and
   -- all edits need
-  edited : (samples : List ℤ) (left : Left) → script_refusal caps.bytes script ≡ None → IsRead s caps count input samples
+  edited : (samples : List ℤ) (left : Left) → script_refusal caps.bytes script ≡ None
+      → IsRead s caps count input samples
       → script_left s caps script samples ≡ Ok left
-      → IsEdited s caps count script input (Ok (record { bytes = bytes_of (stream_of s left.samples); calls = left.calls }))
+      → IsEdited s caps count script input
+      (Ok (record { bytes = bytes_of (stream_of s left.samples); calls = left.calls }))
 
 -- ---- runs
 
@@ -99,25 +105,31 @@ pub record GaveBoth (caps : Caps) (from source : Taking) (script input : Input) 
 -- The result of a run over the source of a script and that of an input, before anything is written:
 -- the refusal of the script, and then nothing was taken of the input; the answer to both; or want
 -- of memory, named by the line of an edit or by none.
-pub data GivesEdited (s : Settings) (caps : Caps) (count : Option ℕ) (from source : Taking) : Result Recoded EditFault → Type 0 where
-  script_refused : (script : Input) (fault : Fault) → Gave from (are_past caps.bytes) script → script_refusal caps.bytes script ≡ Some fault
+pub data GivesEdited (s : Settings) (caps : Caps) (count : Option ℕ) (from source : Taking) : Result Recoded EditFault
+    → Type 0 where
+  script_refused : (script : Input) (fault : Fault) → Gave from (are_past caps.bytes) script
+      → script_refusal caps.bytes script ≡ Some fault
       → Keeps source.before source.after → GivesEdited s caps count from source (Err (Plain fault))
   answered : (script input : Input) (answer : Result Recoded EditFault) → GaveBoth caps from source script input
       → IsEdited s caps count script input answer → GivesEdited s caps count from source answer
   lacks_memory : GivesEdited s caps count from source (Err (Plain Memory))
-  lacks_memory_on : (script input : Input) (samples : List ℤ) (line : ℕ) → GaveBoth caps from source script input → IsRead s caps count input samples
+  lacks_memory_on : (script input : Input) (samples : List ℤ) (line : ℕ) → GaveBoth caps from source script input
+      → IsRead s caps count input samples
       → (let f : Format = interval_format s in let read : Listing = listing_of script.bytes in
       LacksMemoryOn f caps.samples (first_calls f samples) samples read.edits read.lines line)
       → GivesEdited s caps count from source (Err (Line line Memory))
 
 -- What the engine leaves: the bytes of its answer, written after one `begin`, and then it returns
 -- the calls; or its refusal and nothing written; or a front of the bytes if the sink failed.
-pub data LeavesRecoded (s : Settings) (caps : Caps) (count : Option ℕ) (from source : Taking) (sink : Putting) : Result ℕ EditFault → Type 0 where
-  written : (made : Recoded) → GivesEdited s caps count from source (Ok made) → Appends sink.before sink.after made.bytes
+pub data LeavesRecoded (s : Settings) (caps : Caps) (count : Option ℕ) (from source : Taking)
+    (sink : Putting) : Result ℕ EditFault → Type 0 where
+  written : (made : Recoded) → GivesEdited s caps count from source (Ok made)
+      → Appends sink.before sink.after made.bytes
       → IsBegunFirst sink → sink.failures ≡ 0 → LeavesRecoded s caps count from source sink (Ok made.calls)
   refused : (fault : EditFault) → GivesEdited s caps count from source (Err fault) → WroteNothing sink
       → LeavesRecoded s caps count from source sink (Err fault)
-  not_written : (made : Recoded) → GivesEdited s caps count from source (Ok made) → AppendsFront sink.before sink.after made.bytes
+  not_written : (made : Recoded) → GivesEdited s caps count from source (Ok made)
+      → AppendsFront sink.before sink.after made.bytes
       → IsBegunFirst sink → sink.failures ≡ 1 → LeavesRecoded s caps count from source sink (Err (Plain Write))
 
 -- the same of a call that doesn't return the number of calls: there is such a number

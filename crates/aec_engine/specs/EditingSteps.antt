@@ -23,12 +23,16 @@ pub record GaveScript (from : Taking) (limit : ℕ) (read : Listing) : Type 0 wh
 -- why no script was read
 pub data RefusesScript (from : Taking) (limit : ℕ) : Fault → Type 0 where
   no_memory : RefusesScript from limit Memory
-  no_edits : (script : Input) (fault : Fault) → Gave from (are_past limit) script → script_refusal limit script ≡ Some fault → RefusesScript from limit fault
+  no_edits : (script : Input) (fault : Fault) → Gave from (are_past limit) script
+      → script_refusal limit script ≡ Some fault → RefusesScript from limit fault
 
 -- why edits were not all made: one is refused where there is memory, or there was no memory for one
-pub data StopsEditing (f : Format) (limit calls : ℕ) (s : List ℤ) (edits : List Edit) (lines : List ℕ) : EditFault → Type 0 where
-  misfit : (fault : EditFault) → edits_left f limit calls s edits lines ≡ Err fault → StopsEditing f limit calls s edits lines fault
-  lacks_memory : (line : ℕ) → LacksMemoryOn f limit calls s edits lines line → StopsEditing f limit calls s edits lines (Line line Memory)
+pub data StopsEditing (f : Format) (limit calls : ℕ) (s : List ℤ) (edits : List Edit) (lines : List ℕ) : EditFault
+    → Type 0 where
+  misfit : (fault : EditFault) → edits_left f limit calls s edits lines ≡ Err fault
+      → StopsEditing f limit calls s edits lines fault
+  lacks_memory : (line : ℕ) → LacksMemoryOn f limit calls s edits lines line
+      → StopsEditing f limit calls s edits lines (Line line Memory)
 
 -- how edits that were made up to the first that is refused end where each has a line: without a
 -- refusal, or with that of the line

@@ -15,7 +15,8 @@ text_ahead ahead = option_map (λ text. text.now) ahead.rest
 
 -- the listing of the planned overwrites, and of its lines
 abbrev pub behind : EditsAhead → Listing
-behind ahead = planned_in (drop ahead.taken ahead.window.now) (listing_from (ahead.number + 1) (lines_left (text_ahead ahead)))
+behind ahead = planned_in (drop ahead.taken ahead.window.now)
+    (listing_from (ahead.number + 1) (lines_left (text_ahead ahead)))
 
 -- a listing, with an edit before it
 abbrev pub with_next : Option NextEdit → Listing → Listing

@@ -35,6 +35,7 @@ pub record IsStoredReadingOf (s : Settings) (caps : Caps) (count : Option ℕ) (
 -- why coded bytes are not decoded
 pub data RefusesCoded (s : Settings) (caps : Caps) (count : Option ℕ) (coded : List ℕ) : Fault → Type 0 where
   too_many_bytes : caps.bytes < length coded → RefusesCoded s caps count coded (StreamTooLong caps.bytes)
-  not_counted : (fault : Fault) → length coded ≤ caps.bytes → count_refusal caps.samples count ≡ Some fault → RefusesCoded s caps count coded fault
+  not_counted : (fault : Fault) → length coded ≤ caps.bytes → count_refusal caps.samples count ≡ Some fault
+      → RefusesCoded s caps count coded fault
   faulty : (fault : Fault) → length coded ≤ caps.bytes → count_refusal caps.samples count ≡ None
       → IsFault s count caps.samples (bits_of_bytes coded) 0 0 fault → RefusesCoded s caps count coded fault

@@ -18,7 +18,8 @@ pub record IsUnread (p : Place) (s : Settings) : Type 0 where
 
 -- a reader of bits that have been judged, and what judging told: where all is read, and how many
 -- samples there are
-pub record IsJudgedReader (s : Settings) (caps : Caps) (count : Option ℕ) (bits : List Bool) (p : Place) (end total : ℕ) : Type 0 where
+pub record IsJudgedReader (s : Settings) (caps : Caps) (count : Option ℕ) (bits : List Bool) (p : Place)
+    (end total : ℕ) : Type 0 where
   pub unread : IsUnread p s
   pub limit : p.limit ≡ caps.samples
   pub limits : AreLimits caps

@@ -22,7 +22,8 @@ pub record HasOneAnswer {A E : Type 0} (answers : Input → Result A E → Type 
 -- each input is coded into bytes or has one refusal; so it is decoded, and so is each range of it
 pub record EachInputHasOneAnswer : Type 0 where
   pub coding : (s : Settings) (caps : Caps) (input : Input) → HasOneAnswer (IsEncoded s caps) input
-  pub decoding : (s : Settings) (caps : Caps) (count : Option ℕ) (input : Input) → IsAllowed s → HasOneAnswer (IsDecoded s caps count) input
+  pub decoding : (s : Settings) (caps : Caps) (count : Option ℕ) (input : Input) → IsAllowed s
+      → HasOneAnswer (IsDecoded s caps count) input
   pub ranging : (s : Settings) (caps : Caps) (count : Option ℕ) (first len : ℕ) (input : Input) → IsAllowed s
       → HasOneAnswer (IsRanged s caps count first len) input
 
@@ -36,7 +37,8 @@ EachScriptHasOneAnswer = (s : Settings) (caps : Caps) (count : Option ℕ) (scri
 abbrev pub NoEditsKeepTheSamples : Type 0
 NoEditsKeepTheSamples = (s : Settings) (caps : Caps) (count : Option ℕ) (script input : Input) (samples : List ℤ)
     → script_refusal caps.bytes script ≡ None → (listing_of script.bytes).edits ≡ [] → IsRead s caps count input samples
-    → IsEdited s caps count script input (Ok (record { bytes = bytes_of (stream_of s samples); calls = div_ceil (length samples) (interval_len s) }))
+    → IsEdited s caps count script input
+    (Ok (record { bytes = bytes_of (stream_of s samples); calls = div_ceil (length samples) (interval_len s) }))
 
 -- ---- inputs of which a front is enough
 
@@ -45,35 +47,46 @@ NoEditsKeepTheSamples = (s : Settings) (caps : Caps) (count : Option ℕ) (scrip
 pub record IsJudgedByFront {A E : Type 0} (answers : Input → Result A E → Type 0) (front rest : List ℕ) : Type 0 where
   pub fault : E
   pub of_front : (failed : Bool) (answer : Result A E) → answers (input_of front failed) answer ↔ (answer ≡ Err fault)
-  pub of_whole : (failed : Bool) (answer : Result A E) → answers (input_of (front ++ rest) failed) answer ↔ (answer ≡ Err fault)
+  pub of_whole : (failed : Bool) (answer : Result A E)
+      → answers (input_of (front ++ rest) failed) answer ↔ (answer ≡ Err fault)
 
 -- a front is enough that holds a sample which is refused; of coded data and scripts, one that is
 -- past the limit
 pub record RefusedFrontsAreEnough : Type 0 where
-  pub coding : (s : Settings) (caps : Caps) (front rest : List ℕ) → IsAllowed s → are_refused s caps.samples front ≡ true
+  pub coding : (s : Settings) (caps : Caps) (front rest : List ℕ) → IsAllowed s
+      → are_refused s caps.samples front ≡ true
       → IsJudgedByFront (IsEncoded s caps) front rest
   -- which each front is that holds more whole samples than the limit
-  pub samples : (s : Settings) (caps : Caps) (front : List ℕ) → caps.samples < length front / storage_len s → are_refused s caps.samples front ≡ true
+  pub samples : (s : Settings) (caps : Caps) (front : List ℕ) → caps.samples < length front / storage_len s
+      → are_refused s caps.samples front ≡ true
   pub decoding : (s : Settings) (caps : Caps) (count : Option ℕ) (front rest : List ℕ) → caps.bytes < length front
       → IsJudgedByFront (IsDecoded s caps count) front rest
-  pub ranging : (s : Settings) (caps : Caps) (count : Option ℕ) (first len : ℕ) (front rest : List ℕ) → caps.bytes < length front
+  pub ranging : (s : Settings) (caps : Caps) (count : Option ℕ) (first len : ℕ) (front rest : List ℕ)
+      → caps.bytes < length front
       → IsJudgedByFront (IsRanged s caps count first len) front rest
   -- with any script, a coded input; and with any coded input, a script
-  pub editing : (s : Settings) (caps : Caps) (count : Option ℕ) (script : Input) (front rest : List ℕ) → caps.bytes < length front
+  pub editing : (s : Settings) (caps : Caps) (count : Option ℕ) (script : Input) (front rest : List ℕ)
+      → caps.bytes < length front
       → IsJudgedByFront (IsEdited s caps count script) front rest
-  pub scripts : (s : Settings) (caps : Caps) (count : Option ℕ) (input : Input) (front rest : List ℕ) → caps.bytes < length front
+  pub scripts : (s : Settings) (caps : Caps) (count : Option ℕ) (input : Input) (front rest : List ℕ)
+      → caps.bytes < length front
       → IsJudgedByFront (λ script. IsEdited s caps count script input) front rest
 
 -- what a source gave is judged as all bytes that it had left, where it did not fail
 abbrev pub IsJudgedWhole : {A E : Type 0} → (Input → Result A E → Type 0) → (List ℕ → Bool) → Type 0
 IsJudgedWhole {A} {E} answers enough = (source : Taking) (input : Input) (bytes : List ℕ) (answer : Result A E)
-    → source.before ≡ Some bytes → source.failures ≡ 0 → Gave source enough input → answers input answer → answers (input_of bytes false) answer
+    → source.before ≡ Some bytes → source.failures ≡ 0 → Gave source enough input → answers input answer
+    → answers (input_of bytes false) answer
 
 -- so is what coding, decoding, a range and edits take, and what is taken of a script
 pub record WhatIsTakenIsEnough : Type 0 where
-  pub coding : (s : Settings) (caps : Caps) → IsAllowed s → IsJudgedWhole (IsEncoded s caps) (are_refused s caps.samples)
-  pub decoding : (s : Settings) (caps : Caps) (count : Option ℕ) → IsJudgedWhole (IsDecoded s caps count) (are_past caps.bytes)
-  pub ranging : (s : Settings) (caps : Caps) (count : Option ℕ) (first len : ℕ) → IsJudgedWhole (IsRanged s caps count first len) (are_past caps.bytes)
-  pub editing : (s : Settings) (caps : Caps) (count : Option ℕ) (script : Input) → IsJudgedWhole (IsEdited s caps count script) (are_past caps.bytes)
+  pub coding : (s : Settings) (caps : Caps) → IsAllowed s
+      → IsJudgedWhole (IsEncoded s caps) (are_refused s caps.samples)
+  pub decoding : (s : Settings) (caps : Caps) (count : Option ℕ)
+      → IsJudgedWhole (IsDecoded s caps count) (are_past caps.bytes)
+  pub ranging : (s : Settings) (caps : Caps) (count : Option ℕ) (first len : ℕ)
+      → IsJudgedWhole (IsRanged s caps count first len) (are_past caps.bytes)
+  pub editing : (s : Settings) (caps : Caps) (count : Option ℕ) (script : Input)
+      → IsJudgedWhole (IsEdited s caps count script) (are_past caps.bytes)
   pub scripts : (s : Settings) (caps : Caps) (count : Option ℕ) (input : Input)
       → IsJudgedWhole (λ script. IsEdited s caps count script input) (are_past caps.bytes)

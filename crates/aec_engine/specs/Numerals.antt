@@ -22,7 +22,8 @@ fits_i64 (negsuc n) = nat_lt n (2 ^ 63)
 -- is one (COMMAND: Ranges; by the value of a list of digits, with no loop that stops at the first
 -- bad one)
 abbrev pub decimal_in : ℕ → Text → Option ℕ
-decimal_in width text = if is_numeral text && nat_lt (digits_value 10 text) (2 ^ width) then Some (digits_value 10 text) else None
+decimal_in width text = if is_numeral text && nat_lt (digits_value 10 text) (2 ^ width)
+    then Some (digits_value 10 text) else None
 
 -- the same where a plus may stand first, as in the number of an option (COMMAND: Options)
 abbrev pub option_number : ℕ → Text → Option ℕ
@@ -30,7 +31,8 @@ option_number width text = decimal_in width (without_leading_plus text)
 
 -- two parts that are numbers of 64 bits
 abbrev pub numbers_in : List Text → Option (ℕ × ℕ)
-numbers_in (first ∷ len ∷ []) = option_and_then (λ i. option_map (λ n. (i, n)) (decimal_in 64 len)) (decimal_in 64 first)
+numbers_in (first ∷ len ∷ []) = option_and_then (λ i. option_map (λ n. (i, n)) (decimal_in 64 len))
+    (decimal_in 64 first)
 numbers_in _ = None
 
 -- `FIRST:LEN`: cut at its colons, the text is two numbers (COMMAND: Ranges; cut at every colon,

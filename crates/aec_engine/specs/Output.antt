@@ -25,13 +25,15 @@ are_refused s limit bytes = is_some (judged_samples limit (samples_of_bytes s by
 -- why an input is not coded: the first refusal of its samples, and after them the failure of its
 -- source (COMMAND: Order of a run)
 abbrev pub coding_refusal : Settings → ℕ → Input → Option Fault
-coding_refusal s limit input = option_or (judged_samples limit (samples_of_bytes s input.bytes)) (if input.failed then Some Read else None)
+coding_refusal s limit input = option_or (judged_samples limit (samples_of_bytes s input.bytes))
+    (if input.failed then Some Read else None)
 
 -- the answer of coding (COMMAND: Limits, time and memory; how its bytes are read isn't said)
 pub data IsEncoded (s : Settings) (caps : Caps) (input : Input) : Result (List ℕ) Fault → Type 0 where
   not_coded : (fault : Fault) → coding_refusal s caps.samples input ≡ Some fault → IsEncoded s caps input (Err fault)
   -- the bytes of the samples' code
-  encoded : (samples : List ℤ) → coding_refusal s caps.samples input ≡ None → samples_of_bytes s input.bytes ≡ Ok samples
+  encoded : (samples : List ℤ) → coding_refusal s caps.samples input ≡ None
+      → samples_of_bytes s input.bytes ≡ Ok samples
       → IsEncoded s caps input (Ok (bytes_of (stream_of s samples)))
 
 -- ---- decoding
@@ -42,7 +44,8 @@ all_stored s samples = flat_map (stored_bytes s) samples
 
 -- the refusal of an input that is read whole (COMMAND: Order of a run)
 abbrev pub intake_refusal : ℕ → Input → Option Fault
-intake_refusal limit input = if nat_lt limit (length input.bytes) then Some (StreamTooLong limit) else (if input.failed then Some Read else None)
+intake_refusal limit input = if nat_lt limit (length input.bytes) then Some (StreamTooLong limit)
+    else (if input.failed then Some Read else None)
 
 -- the samples that an input is read as: it is taken whole, no count is above the limit, and its
 -- bits have this reading
@@ -52,19 +55,22 @@ pub record IsRead (s : Settings) (caps : Caps) (count : Option ℕ) (input : Inp
   pub reading : IsReading s count caps.samples (bits_of_bytes input.bytes) samples
 
 -- a source gave an input that is read as these samples
-pub record GaveSamples (s : Settings) (caps : Caps) (count : Option ℕ) (source : Taking) (samples : List ℤ) : Type 0 where
+pub record GaveSamples (s : Settings) (caps : Caps) (count : Option ℕ) (source : Taking)
+    (samples : List ℤ) : Type 0 where
   pub input : Input
   pub gave : Gave source (are_past caps.bytes) input
   pub read : IsRead s caps count input samples
 
 -- the answer of decoding (COMMAND: Order of a run)
-pub data IsDecoded (s : Settings) (caps : Caps) (count : Option ℕ) (input : Input) : Result (List ℕ) Fault → Type 0 where
+pub data IsDecoded (s : Settings) (caps : Caps) (count : Option ℕ) (input : Input) : Result (List ℕ) Fault
+    → Type 0 where
   -- the input is refused before it is read as coded data
   not_taken : (fault : Fault) → intake_refusal caps.bytes input ≡ Some fault → IsDecoded s caps count input (Err fault)
   not_counted : (fault : Fault) → intake_refusal caps.bytes input ≡ None → count_refusal caps.samples count ≡ Some fault
       → IsDecoded s caps count input (Err fault)
   -- the samples that it is read as, or the fault of its bits
-  decoded : (samples : List ℤ) → IsRead s caps count input samples → IsDecoded s caps count input (Ok (all_stored s samples))
+  decoded : (samples : List ℤ) → IsRead s caps count input samples
+      → IsDecoded s caps count input (Ok (all_stored s samples))
   faulty : (fault : Fault) → intake_refusal caps.bytes input ≡ None → count_refusal caps.samples count ≡ None
       → IsFault s count caps.samples (bits_of_bytes input.bytes) 0 0 fault → IsDecoded s caps count input (Err fault)
 
@@ -76,9 +82,11 @@ samples_from first len samples = take len (drop first samples)
 
 -- the answer of cutting out a range (COMMAND: Ranges; a refusal of decoding, then of its place,
 -- else the stored bytes of the part)
-pub data IsRanged (s : Settings) (caps : Caps) (count : Option ℕ) (first len : ℕ) (input : Input) : Result (List ℕ) Fault → Type 0 where
+pub data IsRanged (s : Settings) (caps : Caps) (count : Option ℕ) (first len : ℕ) (input : Input) : Result
+    (List ℕ) Fault → Type 0 where
   -- the refusals of decoding: the whole input has to be sound
-  not_decoded : (fault : Fault) → IsDecoded s caps count input (Err fault) → IsRanged s caps count first len input (Err fault)
+  not_decoded : (fault : Fault) → IsDecoded s caps count input (Err fault)
+      → IsRanged s caps count first len input (Err fault)
   -- a place outside the samples that it is read as
   outside : (samples : List ℤ) → IsRead s caps count input samples → length samples < first + len
       → IsRanged s caps count first len input (Err (OutOfRange (length samples)))

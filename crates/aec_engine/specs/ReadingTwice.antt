@@ -121,23 +121,29 @@ pub data StoresPart (s : Settings) (first len : ℕ) (samples : List ℤ) : Resu
   no_room : StoresPart s first len samples (Err Memory)
 
 -- what decoding answers to bits
-pub data DecodesBits (s : Settings) (count : Option ℕ) (limit : ℕ) (bits : List Bool) : Result (List ℕ) Fault → Type 0 where
+pub data DecodesBits (s : Settings) (count : Option ℕ) (limit : ℕ) (bits : List Bool) : Result (List ℕ) Fault
+    → Type 0 where
   read : (samples : List ℤ) → count_refusal limit count ≡ None → IsReading s count limit bits samples
       → DecodesBits s count limit bits (Ok (all_stored s samples))
   unread : (fault : Fault) → RefusesDecoding s count limit bits fault → DecodesBits s count limit bits (Err fault)
   no_memory : DecodesBits s count limit bits (Err Memory)
 
 -- what cutting out a range answers to bits
-pub data CutsBits (s : Settings) (count : Option ℕ) (limit first len : ℕ) (bits : List Bool) : Result (List ℕ) Fault → Type 0 where
-  cut : (samples : List ℤ) → count_refusal limit count ≡ None → IsReading s count limit bits samples → first + len ≤ length samples
+pub data CutsBits (s : Settings) (count : Option ℕ) (limit first len : ℕ) (bits : List Bool) : Result (List ℕ) Fault
+    → Type 0 where
+  cut : (samples : List ℤ) → count_refusal limit count ≡ None → IsReading s count limit bits samples
+      → first + len ≤ length samples
       → CutsBits s count limit first len bits (Ok (all_stored s (samples_from first len samples)))
-  past : (samples : List ℤ) → count_refusal limit count ≡ None → IsReading s count limit bits samples → length samples < first + len
+  past : (samples : List ℤ) → count_refusal limit count ≡ None → IsReading s count limit bits samples
+      → length samples < first + len
       → CutsBits s count limit first len bits (Err (OutOfRange (length samples)))
-  not_read : (fault : Fault) → RefusesDecoding s count limit bits fault → CutsBits s count limit first len bits (Err fault)
+  not_read : (fault : Fault) → RefusesDecoding s count limit bits fault
+      → CutsBits s count limit first len bits (Err fault)
   lacks_memory : CutsBits s count limit first len bits (Err Memory)
 
 -- one of these answers is written, or refused with nothing written
-pub record SettlesOne (answers : Result (List ℕ) Fault → Type 0) (sink : Putting) (result : Result (Unit {0}) Fault) : Type 0 where
+pub record SettlesOne (answers : Result (List ℕ) Fault → Type 0) (sink : Putting)
+    (result : Result (Unit {0}) Fault) : Type 0 where
   pub answer : Result (List ℕ) Fault
   pub answered : answers answer
   pub settles : Settles sink answer result

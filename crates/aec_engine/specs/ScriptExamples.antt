@@ -14,7 +14,8 @@ bad_third_line : listing_of (line (codes "append 1") ++ (line (codes "") ++ line
 bad_third_line = refl
 
 -- a line that begins with `#` is skipped; no value, one, or more
-four_lines : listing_of (line (codes "# p") ++ (line (codes "overwrite 20 1 -2") ++ (line (codes "append") ++ codes "truncate 5")))
+four_lines : listing_of (line (codes "# p")
+    ++ (line (codes "overwrite 20 1 -2") ++ (line (codes "append") ++ codes "truncate 5")))
     ≡ record {
       edits = Overwrite 20 (pos 1 ∷ negsuc 1 ∷ []) ∷ Append [] ∷ Truncate 5 ∷ [];
       lines = 2 ∷ 3 ∷ 4 ∷ [];
@@ -23,7 +24,8 @@ four_lines : listing_of (line (codes "# p") ++ (line (codes "overwrite 20 1 -2")
 four_lines = refl
 
 -- values that come at a place, or none; a number of samples that go
-lines_that_move : listing_of (line (codes "insert 3 7 -8") ++ (line (codes "insert 0") ++ codes "remove 18446744073709551615 0"))
+lines_that_move : listing_of (line (codes "insert 3 7 -8")
+    ++ (line (codes "insert 0") ++ codes "remove 18446744073709551615 0"))
     ≡ record {
       edits = Insert 3 (pos 7 ∷ negsuc 7 ∷ []) ∷ Insert 0 [] ∷ Remove 18446744073709551615 0 ∷ [];
       lines = 1 ∷ 2 ∷ 3 ∷ [];

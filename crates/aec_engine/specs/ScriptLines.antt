@@ -18,7 +18,8 @@ are_values text = is_some (values_in (words_of text))
 -- what a judged line says
 abbrev pub said : Line → Meaning
 said line.Nothing = nothing
-said (line.Overwrite first values) = change_if (option_map (λ xs. edit.Overwrite first xs) (values_in (words_of values.now)))
+said (line.Overwrite first values) = change_if
+    (option_map (λ xs. edit.Overwrite first xs) (values_in (words_of values.now)))
 said (line.Append values) = change_if (option_map (λ xs. edit.Append xs) (values_in (words_of values.now)))
 said (line.Truncate count) = change (edit.Truncate count)
 said (line.Insert first values) = change_if (option_map (λ xs. edit.Insert first xs) (values_in (words_of values.now)))

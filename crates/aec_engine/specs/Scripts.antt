@@ -56,7 +56,8 @@ change_if None = unknown
 -- `FIRST V..` (COMMAND: Edits)
 abbrev pub overwrite_in : List Text → Option Edit
 overwrite_in [] = None
-overwrite_in (first ∷ values) = option_and_then (λ i. option_map (λ xs. Overwrite i xs) (values_in values)) (decimal_in 64 first)
+overwrite_in (first ∷ values) = option_and_then (λ i. option_map (λ xs. Overwrite i xs) (values_in values))
+    (decimal_in 64 first)
 
 -- `V..` (COMMAND: Edits)
 abbrev pub append_in : List Text → Option Edit
@@ -70,11 +71,13 @@ truncate_in _ = None
 -- `FIRST V..` (COMMAND: Edits)
 abbrev pub insert_in : List Text → Option Edit
 insert_in [] = None
-insert_in (first ∷ values) = option_and_then (λ i. option_map (λ xs. Insert i xs) (values_in values)) (decimal_in 64 first)
+insert_in (first ∷ values) = option_and_then (λ i. option_map (λ xs. Insert i xs) (values_in values))
+    (decimal_in 64 first)
 
 -- `FIRST LEN` (COMMAND: Edits)
 abbrev pub remove_in : List Text → Option Edit
-remove_in (first ∷ len ∷ []) = option_and_then (λ i. option_map (λ n. Remove i n) (decimal_in 64 len)) (decimal_in 64 first)
+remove_in (first ∷ len ∷ []) = option_and_then (λ i. option_map (λ n. Remove i n) (decimal_in 64 len))
+    (decimal_in 64 first)
 remove_in _ = None
 
 -- the first word names the edit; a line whose first word begins with `#` says nothing (COMMAND:

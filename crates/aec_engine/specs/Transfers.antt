@@ -28,8 +28,10 @@ pub record PassesLimit (before after : Option (List ℕ)) (failures limit : ℕ)
 -- why a source was not read whole (COMMAND: Diagnostics)
 pub data RefusesIntake (before after : Option (List ℕ)) (failures limit : ℕ) : Fault → Type 0 where
   no_memory : RefusesIntake before after failures limit Memory
-  source_failed : (bytes : List ℕ) → FailsWithin before after failures limit bytes → RefusesIntake before after failures limit Read
-  too_many_bytes : (bytes : List ℕ) → PassesLimit before after failures limit bytes → RefusesIntake before after failures limit (StreamTooLong limit)
+  source_failed : (bytes : List ℕ) → FailsWithin before after failures limit bytes
+      → RefusesIntake before after failures limit Read
+  too_many_bytes : (bytes : List ℕ) → PassesLimit before after failures limit bytes
+      → RefusesIntake before after failures limit (StreamTooLong limit)
 
 -- what a source gave: its bytes in order, and whether it failed after them
 pub record Input : Type 0 where
@@ -62,9 +64,17 @@ pub record Putting : Type 0 where
 
 -- a sink before and after a run, by what its kind states: the bytes that it has taken, how often it
 -- was begun, what it had taken before it was begun last, and how often it has failed
-abbrev pub putting_of : {W : Type 0} → (W → Option (List ℕ)) → (W → ℕ) → (W → Option (List ℕ)) → (W → ℕ) → W → W → Putting
+abbrev pub putting_of : {W : Type 0} → (W → Option (List ℕ)) → (W → ℕ) → (W → Option (List ℕ)) → (W → ℕ) → W → W
+    → Putting
 putting_of taken begun mark failed old new =
-    record { before = taken old; after = taken new; begun_before = begun old; begun_after = begun new; mark = mark new; failures = failed new }
+    record {
+      before = taken old;
+      after = taken new;
+      begun_before = begun old;
+      begun_after = begun new;
+      mark = mark new;
+      failures = failed new;
+    }
 
 -- bytes that are more than a limit
 abbrev pub are_past : ℕ → List ℕ → Bool
@@ -92,20 +102,25 @@ pub record IsBegunFirst (sink : Putting) : Type 0 where
 -- What an engine leaves whose answers are a function of its input: its answer, written after one
 -- `begin`; or its refusal, or want of memory, and nothing written; or a front of its answer if the
 -- sink failed. (COMMAND: Coding and DEST)
-pub data Leaves (answers : Input → Result (List ℕ) Fault → Type 0) (source : Taking) (enough : List ℕ → Bool) (sink : Putting)
+pub data Leaves (answers : Input → Result (List ℕ) Fault → Type 0) (source : Taking) (enough : List ℕ → Bool)
+    (sink : Putting)
     : Result (Unit {0}) Fault → Type 0 where
-  written : (input : Input) (bytes : List ℕ) → Gave source enough input → answers input (Ok bytes) → Appends sink.before sink.after bytes
+  written : (input : Input) (bytes : List ℕ) → Gave source enough input → answers input (Ok bytes)
+      → Appends sink.before sink.after bytes
       → IsBegunFirst sink → sink.failures ≡ 0 → Leaves answers source enough sink (Ok tt)
   refused : (input : Input) (fault : Fault) → Gave source enough input → answers input (Err fault) → WroteNothing sink
       → Leaves answers source enough sink (Err fault)
   no_answer : WroteNothing sink → Leaves answers source enough sink (Err Memory)
-  not_written : (input : Input) (bytes : List ℕ) → Gave source enough input → answers input (Ok bytes) → AppendsFront sink.before sink.after bytes
+  not_written : (input : Input) (bytes : List ℕ) → Gave source enough input → answers input (Ok bytes)
+      → AppendsFront sink.before sink.after bytes
       → IsBegunFirst sink → sink.failures ≡ 1 → Leaves answers source enough sink (Err Write)
 
 -- the result of a run over a source before anything is written: the answer to its input, or want of
 -- memory
-pub data GivesAnswer (answers : Input → Result (List ℕ) Fault → Type 0) (source : Taking) (enough : List ℕ → Bool) : Result (List ℕ) Fault → Type 0 where
-  given : (input : Input) (answer : Result (List ℕ) Fault) → Gave source enough input → answers input answer → GivesAnswer answers source enough answer
+pub data GivesAnswer (answers : Input → Result (List ℕ) Fault → Type 0) (source : Taking)
+    (enough : List ℕ → Bool) : Result (List ℕ) Fault → Type 0 where
+  given : (input : Input) (answer : Result (List ℕ) Fault) → Gave source enough input → answers input answer
+      → GivesAnswer answers source enough answer
   lacks_memory : GivesAnswer answers source enough (Err Memory)
 
 -- an answer by what is asked of it, as its bytes; or its refusal

@@ -36,7 +36,8 @@ pub record IsFilledBlock (s : Settings) (previous : Option ℤ) (v : List ℤ) (
 -- the samples as blocks, of which the last is filled up
 abbrev pub blocks_after : Settings → Option ℤ → List ℤ → List Block
 blocks_after s previous v =
-    with_reference (reference_after s previous v) (pieces_of s.block_size (values_after s previous (filled_samples s v)))
+    with_reference (reference_after s previous v)
+    (pieces_of s.block_size (values_after s previous (filled_samples s v)))
 
 -- the sample before is one of the settings, where there is one
 abbrev pub HoldsPrevious : Settings → Option ℤ → Type 0

@@ -16,7 +16,8 @@ all_bytes pieces = flat_map (λ piece. piece) pieces
 
 -- all bytes are samples, as many as were counted and no more than the limit, and what was appended
 -- is their stream up to the code of those that are still held
-pub record IsStreamSoFar (s : Settings) (limit : ℕ) (bytes : List ℕ) (before after : List Bool) (d : Coder) : Type 0 where
+pub record IsStreamSoFar (s : Settings) (limit : ℕ) (bytes : List ℕ) (before after : List Bool)
+    (d : Coder) : Type 0 where
   pub samples : List ℤ
   pub taken : samples_of_bytes s bytes ≡ Ok samples
   pub bits : after ++ stream_of s d.held ≡ before ++ stream_of s samples
@@ -28,21 +29,26 @@ pub record IsStreamSoFar (s : Settings) (limit : ℕ) (bytes : List ℕ) (before
 pub record CutsMakeNoDifference (s : Settings) (limit : ℕ) : Type 0 where
   -- where all pieces are taken, what was appended and what `finish` appends is the stream of the
   -- samples of all bytes
-  pub stream : (pieces : List (List ℕ)) (before after : List Bool) (d : Coder) → FeedsAll (fresh_coder s limit) pieces before after d
+  pub stream : (pieces : List (List ℕ)) (before after : List Bool) (d : Coder)
+      → FeedsAll (fresh_coder s limit) pieces before after d
       → IsStreamSoFar s limit (all_bytes pieces) before after d
   -- the pieces are as one piece of all their bytes
-  pub taken : (pieces : List (List ℕ)) (before after : List Bool) (d : Coder) → FeedsAll (fresh_coder s limit) pieces before after d
+  pub taken : (pieces : List (List ℕ)) (before after : List Bool) (d : Coder)
+      → FeedsAll (fresh_coder s limit) pieces before after d
       → Feeds (fresh_coder s limit) (all_bytes pieces) before after d
   -- a refusal of the next one is the refusal of all bytes, whatever comes after them
-  pub refused : (pieces : List (List ℕ)) (piece rest : List ℕ) (before between after : List Bool) (d : Coder) (fault : Fault)
+  pub refused : (pieces : List (List ℕ)) (piece rest : List ℕ) (before between after : List Bool) (d : Coder)
+      (fault : Fault)
       → FeedsAll (fresh_coder s limit) pieces before between d → StopsFeeding d piece between after fault
       → StopsFeeding (fresh_coder s limit) (all_bytes pieces ++ (piece ++ rest)) before after fault
   -- which is the one of all samples: the first that is out of range before the limit, or too many
   -- of them
-  pub judged : (bytes : List ℕ) → (taken_of (fresh_coder s limit) bytes).refusal ≡ judged_samples limit (samples_of_bytes s bytes)
+  pub judged : (bytes : List ℕ) → (taken_of (fresh_coder s limit) bytes).refusal
+      ≡ judged_samples limit (samples_of_bytes s bytes)
   -- step by step: nothing is taken at first, and a piece more after what was taken
   pub begun : (bits : List Bool) → Feeds (fresh_coder s limit) [] bits bits (fresh_coder s limit)
-  pub more : (bytes piece : List ℕ) (before between after : List Bool) (d e : Coder) → Feeds (fresh_coder s limit) bytes before between d
+  pub more : (bytes piece : List ℕ) (before between after : List Bool) (d e : Coder)
+      → Feeds (fresh_coder s limit) bytes before between d
       → Feeds d piece between after e → Feeds (fresh_coder s limit) (bytes ++ piece) before after e
 
 -- `CutsMakeNoDifference` at all allowed settings and all limits

@@ -68,7 +68,8 @@ pub record Feeds (c : Coder) (piece : List ℕ) (before after : List Bool) (d : 
 -- intervals that were complete before it; or for want of memory at a sample that is neither, after
 -- the code of some whole intervals before it, the first ones
 pub data StopsFeeding (c : Coder) (piece : List ℕ) (before after : List Bool) : Fault → Type 0 where
-  refused : (fault : Fault) → (taken_of c piece).refusal ≡ Some fault → after ≡ before ++ fed_bits c piece → StopsFeeding c piece before after fault
+  refused : (fault : Fault) → (taken_of c piece).refusal ≡ Some fault → after ≡ before ++ fed_bits c piece
+      → StopsFeeding c piece before after fault
   no_memory : (intervals : ℕ) (front behind : List ℤ) → samples_with c piece ≡ front ++ behind
       → length front ≡ intervals * interval_len c.settings → 0 < length behind → 0 < length (taken_of c piece).samples
       → after ≡ before ++ stream_of c.settings front → StopsFeeding c piece before after Memory

@@ -18,36 +18,43 @@ pub record AreOfInterval (s : Settings) (samples : List ℤ) : Type 0 where
 
 -- the code of an interval consists of lawful coded data sets for its blocks
 abbrev pub IntervalsAreRead : Type 0
-IntervalsAreRead = (s : Settings) (samples : List ℤ) → IsAllowed s → AreOfInterval s samples → ReadsBlocks s (unpadded_bits s samples) (blocks_of s samples)
+IntervalsAreRead = (s : Settings) (samples : List ℤ) → IsAllowed s → AreOfInterval s samples
+    → ReadsBlocks s (unpadded_bits s samples) (blocks_of s samples)
 
 -- two intervals of equal length whose codes begin the same bits are equal, and the bits after them
 -- too
 abbrev pub IntervalsAreTold : Type 0
-IntervalsAreTold = (s : Settings) (a b : List ℤ) (x y : List Bool) → IsAllowed s → AreOfInterval s a → AreOfInterval s b → length a ≡ length b
+IntervalsAreTold = (s : Settings) (a b : List ℤ) (x y : List Bool) → IsAllowed s → AreOfInterval s a
+    → AreOfInterval s b → length a ≡ length b
     → interval_bits s a ++ x ≡ interval_bits s b ++ y → (a ≡ b) × (x ≡ y)
 
 -- the code of samples, read with their count, gives the samples, whatever bits follow
 abbrev pub StreamsAreReadBack : Type 0
-StreamsAreReadBack = (s : Settings) (limit : ℕ) (samples : List ℤ) (rest : List Bool) → IsAllowed s → AllByRecursion (IsHeld s) samples
+StreamsAreReadBack = (s : Settings) (limit : ℕ) (samples : List ℤ) (rest : List Bool) → IsAllowed s
+    → AllByRecursion (IsHeld s) samples
     → IsReading s (Some (length samples)) limit (stream_of s samples ++ rest) samples
 
 -- bits have either one reading or one fault: never both, never two of one kind
 pub record BitsAreReadInOneWay (s : Settings) (count : Option ℕ) (limit : ℕ) (bits : List Bool) : Type 0 where
   -- a reading, or a fault
-  pub either : ((samples : List ℤ) × IsReading s count limit bits samples) ⊎ ((fault : Fault) × IsFault s count limit bits 0 0 fault)
+  pub either : ((samples : List ℤ) × IsReading s count limit bits samples)
+      ⊎ ((fault : Fault) × IsFault s count limit bits 0 0 fault)
   -- and not both
-  pub not_both : (samples : List ℤ) (fault : Fault) → IsReading s count limit bits samples → IsFault s count limit bits 0 0 fault → ⊥
+  pub not_both : (samples : List ℤ) (fault : Fault) → IsReading s count limit bits samples
+      → IsFault s count limit bits 0 0 fault → ⊥
   -- of each at most one
   pub one_reading : (xs ys : List ℤ) → IsReading s count limit bits xs → IsReading s count limit bits ys → xs ≡ ys
   pub one_fault : (e f : Fault) → IsFault s count limit bits 0 0 e → IsFault s count limit bits 0 0 f → e ≡ f
 
 -- `BitsAreReadInOneWay` at all allowed settings, for all bits, counts and limits
 abbrev pub AllBitsAreReadInOneWay : Type 0
-AllBitsAreReadInOneWay = (s : Settings) (count : Option ℕ) (limit : ℕ) (bits : List Bool) → IsAllowed s → BitsAreReadInOneWay s count limit bits
+AllBitsAreReadInOneWay = (s : Settings) (count : Option ℕ) (limit : ℕ) (bits : List Bool) → IsAllowed s
+    → BitsAreReadInOneWay s count limit bits
 
 -- the samples of a reading are held, and with a count their number is the count
 pub record ReadingsAreSamples (s : Settings) (limit : ℕ) (bits : List Bool) : Type 0 where
-  pub held : (count : Option ℕ) (samples : List ℤ) → IsReading s count limit bits samples → AllByRecursion (IsHeld s) samples
+  pub held : (count : Option ℕ) (samples : List ℤ) → IsReading s count limit bits samples
+      → AllByRecursion (IsHeld s) samples
   pub counted : (count : ℕ) (samples : List ℤ) → IsReading s (Some count) limit bits samples → length samples ≡ count
 
 -- `ReadingsAreSamples` at all allowed settings, for all limits and bits
@@ -65,15 +72,18 @@ ReadsEach s codes intervals = ⊥
 -- such codes for the intervals of samples, one after the other, are read with the count of the
 -- samples as the samples, whatever bits follow, where nothing is padded
 abbrev pub EachCodeIsRead : Type 0
-EachCodeIsRead = (s : Settings) (limit : ℕ) (samples : List ℤ) (codes : List (List Bool)) (rest : List Bool) → IsAllowed s → s.pad ≡ false
+EachCodeIsRead = (s : Settings) (limit : ℕ) (samples : List ℤ) (codes : List (List Bool)) (rest : List Bool)
+    → IsAllowed s → s.pad ≡ false
     → AllByRecursion (IsHeld s) samples → ReadsEach s codes (intervals_of s samples)
     → IsReading s (Some (length samples)) limit (flat_map (λ code. code) codes ++ rest) samples
 
 -- no coded data sets for the blocks of an interval have fewer bits than its code, and none for
 -- those of all intervals than the code of all samples, where nothing is padded
 pub record CodesAreShortest (s : Settings) (samples : List ℤ) : Type 0 where
-  pub interval : AreOfInterval s samples → (bits : List Bool) → ReadsBlocks s bits (blocks_of s samples) → length (unpadded_bits s samples) ≤ length bits
-  pub stream : AllByRecursion (IsHeld s) samples → s.pad ≡ false → (codes : List (List Bool)) → ReadsEach s codes (intervals_of s samples)
+  pub interval : AreOfInterval s samples → (bits : List Bool) → ReadsBlocks s bits (blocks_of s samples)
+      → length (unpadded_bits s samples) ≤ length bits
+  pub stream : AllByRecursion (IsHeld s) samples → s.pad ≡ false → (codes : List (List Bool))
+      → ReadsEach s codes (intervals_of s samples)
       → length (stream_of s samples) ≤ length (flat_map (λ code. code) codes)
 
 -- `CodesAreShortest` at all allowed settings, for all samples

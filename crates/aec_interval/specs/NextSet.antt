@@ -43,7 +43,8 @@ blocks_before_end s i = s.interval - i % s.interval
 abbrev pub IsNextCds : Settings → ℕ → List ℤ → ℕ → Cds → Type 0
 IsNextCds s i samples kept (Single b) = IsNextBlock s samples b
 IsNextCds s i samples kept (Zeros reference len) =
-    (1 ≤ kept) × ((i % s.interval + kept ≤ s.interval) × HasReference s (is_reference_block s (i % s.interval)) reference)
+    (1 ≤ kept) × ((i % s.interval + kept ≤ s.interval)
+    × HasReference s (is_reference_block s (i % s.interval)) reference)
 
 -- so many of its blocks
 abbrev pub cds_front : Settings → ℕ → Cds → List Block

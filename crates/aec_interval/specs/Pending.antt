@@ -60,8 +60,10 @@ pub record AreNext (s : Settings) (previous : Option ℤ) (samples : List ℤ) (
 
 -- a block is taken after a run: whatever blocks come next, what is written with what is then still
 -- to be written are the bits of all. The bits from before stay, and memory alone is refused
-pub record TakesBlock (s : Settings) (block : Block) (before : Run) (old : Bits) (result : Result Run Fault) (new : Bits) : Type 0 where
-  pub ok : (rest : List Block) → IfOk result (λ next. new.list ++ pending_bits s next rest ≡ old.list ++ pending_bits s before (block ∷ rest))
+pub record TakesBlock (s : Settings) (block : Block) (before : Run) (old : Bits) (result : Result Run Fault)
+    (new : Bits) : Type 0 where
+  pub ok : (rest : List Block) → IfOk result
+      (λ next. new.list ++ pending_bits s next rest ≡ old.list ++ pending_bits s before (block ∷ rest))
   pub run : IfOk result (λ next. IsRun s (before.blocks + 1) next)
   pub kept : IsKept old.list new.list
   pub fault : IfErr result (λ e. e ≡ Memory)

@@ -19,12 +19,15 @@ pub record StepsAreTheReading (p : Place) (xs : List ℤ) : Type 0 where
   -- the refusal of a step is that of all bits
   pub refused : (fault : Fault) → RefusesAt p fault → RefusesReading p.settings p.count p.limit p.bits 0 0 fault
   -- where the bits are read as samples, a step is refused for want of memory alone
-  pub memory_only : (samples : List ℤ) (fault : Fault) → IsReading p.settings p.count p.limit p.bits samples → RefusesAt p fault → fault ≡ Memory
+  pub memory_only : (samples : List ℤ) (fault : Fault) → IsReading p.settings p.count p.limit p.bits samples
+      → RefusesAt p fault → fault ≡ Memory
   -- and what was read is a front of them
-  pub front : (samples : List ℤ) → (is_wanted_at p ≡ true → p.block % p.settings.interval ≡ 0) → IsReading p.settings p.count p.limit p.bits samples
+  pub front : (samples : List ℤ) → (is_wanted_at p ≡ true → p.block % p.settings.interval ≡ 0)
+      → IsReading p.settings p.count p.limit p.bits samples
       → (ys : List ℤ) × (samples ≡ xs ++ ys)
 
 -- at the first bit nothing was read, and from there on steps are the reading
 pub record AllStepsAreTheReading : Type 0 where
-  pub begun : (s : Settings) (count : Option ℕ) (limit : ℕ) (bits : List Bool) → HasRead (place_at s count limit bits 0 0) []
+  pub begun : (s : Settings) (count : Option ℕ) (limit : ℕ) (bits : List Bool)
+      → HasRead (place_at s count limit bits 0 0) []
   pub steps : (p : Place) (xs : List ℤ) → IsAllowed p.settings → HasRead p xs → StepsAreTheReading p xs

@@ -37,7 +37,8 @@ pub record ReadsPiece (p : Place) (samples : List ℤ) (q : Place) : Type 0 wher
   pub sets : List CodedDataSet
   pub leads : LeadsTo p.settings p.count p.limit p.bits p.block p.bit sets q.block q.bit
   pub all_samples : List ℤ
-  pub filled : FillBlocks p.settings all_samples (kept_blocks p.settings p.count p.block (stream_blocks p.settings p.block sets))
+  pub filled : FillBlocks p.settings all_samples
+      (kept_blocks p.settings p.count p.block (stream_blocks p.settings p.block sets))
   pub counted : samples ≡ counted_from p.settings p.count p.block all_samples
   pub same : q ≡ place_at p.settings p.count p.limit p.bits q.block q.bit
 

@@ -22,10 +22,12 @@ pub record IsUntestedAt (s : Settings) (wanted : Wanted) (end i : ℕ) (cursor :
 -- n blocks further: the list is the same, the samples are held, and where none of the blocks needs
 -- a test, each reading that has come to the first with the old samples has come past the last
 -- with the new ones
-pub record ReadsPlain (s : Settings) (n : ℕ) (old : Cursor) (samples : List ℤ) (new : Cursor) (more : List ℤ) : Type 0 where
+pub record ReadsPlain (s : Settings) (n : ℕ) (old : Cursor) (samples : List ℤ) (new : Cursor)
+    (more : List ℤ) : Type 0 where
   pub list : new.list ≡ old.list
   pub held : AllByRecursion (IsHeld s) more
-  pub leads : (wanted : Wanted) (end i : ℕ) → n ≤ end - i → IsUntestedAt s wanted end i old samples → IsUntestedAt s wanted end (i + n) new more
+  pub leads : (wanted : Wanted) (end i : ℕ) → n ≤ end - i → IsUntestedAt s wanted end i old samples
+      → IsUntestedAt s wanted end (i + n) new more
 
 -- for how many blocks room is made at once, at most: `BLOCKS_AT_FIRST`, and those of
 -- `SAMPLES_AT_ONCE` samples

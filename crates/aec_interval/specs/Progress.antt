@@ -43,7 +43,8 @@ IsFewOrWhole interval count = (count < interval) ⊎ (count % interval ≡ 0)
 
 -- of these samples those of whole intervals are coded, and the others held; where memory is
 -- refused, nothing is coded
-pub record CodesWhole (s : Settings) (samples : List ℤ) (before : List Bool) (result : Result (Unit {0}) Fault) (held : List ℤ) (after : List Bool)
+pub record CodesWhole (s : Settings) (samples : List ℤ) (before : List Bool) (result : Result (Unit {0}) Fault)
+    (held : List ℤ) (after : List Bool)
     : Type 0 where
   pub ok : OnOk result (held ≡ left_behind (interval_len s) samples)
   pub bits : OnOk result (after ≡ before ++ stream_of s (whole_front (interval_len s) samples))

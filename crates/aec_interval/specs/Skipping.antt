@@ -17,7 +17,8 @@ pub record IsLedTo (s : Settings) (count : Option ℕ) (limit : ℕ) (bits : Lis
   pub leads : LeadsTo s count limit bits first start sets i b
 
 -- the fault of a coded data set that would begin before block `end` (`IsFault`, bounded)
-pub record IsFaultBefore (s : Settings) (count : Option ℕ) (limit : ℕ) (bits : List Bool) (first start end : ℕ) (fault : Fault) : Type 0 where
+pub record IsFaultBefore (s : Settings) (count : Option ℕ) (limit : ℕ) (bits : List Bool) (first start end : ℕ)
+    (fault : Fault) : Type 0 where
   pub wrong : IsFault s count limit bits first start fault
   pub before : wrong.block < end
 
@@ -38,6 +39,7 @@ IsFaultAt p fault = IsFaultBefore p.settings p.count p.limit p.bits p.block p.bi
 
 -- wanted and lawful coded data sets, from where an interval begins, stand for samples
 abbrev pub AllSetsStandForSamples : Type 0
-AllSetsStandForSamples = (s : Settings) (count : Option ℕ) (limit : ℕ) (bits : List Bool) (i b : ℕ) (sets : List CodedDataSet) (j e : ℕ) → IsAllowed s
+AllSetsStandForSamples = (s : Settings) (count : Option ℕ) (limit : ℕ) (bits : List Bool) (i b : ℕ)
+    (sets : List CodedDataSet) (j e : ℕ) → IsAllowed s
     → i % s.interval ≡ 0 → LeadsTo s count limit bits i b sets j e
     → (samples : List ℤ) × ReadsPiece (place_at s count limit bits i b) samples (place_at s count limit bits j e)

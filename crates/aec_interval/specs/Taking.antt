@@ -23,7 +23,8 @@ in_range i (Some x) = Ok x
 
 -- the bytes of sample i are judged: first by the limit, then by its range
 abbrev pub judged_sample : Settings → ℕ → ℕ → List ℕ → Result ℤ Fault
-judged_sample s limit i g = if nat_lt i limit then in_range i (sample_of_number s (number_in s g)) else Err (TooManySamples limit)
+judged_sample s limit i g = if nat_lt i limit then in_range i (sample_of_number s (number_in s g))
+    else Err (TooManySamples limit)
 
 -- a sample before those that are taken after it, or its refusal
 abbrev pub taken_before : Result ℤ Fault → TakenSamples → TakenSamples

@@ -30,7 +30,8 @@ reference_of s (x ∷ xs) = if s.preprocess then Some (sample_pattern s x) else 
 abbrev pub with_reference : Option ℕ → List (List ℕ) → List Block
 with_reference reference [] = []
 with_reference reference (group ∷ groups) =
-    record { reference = reference; values = group } ∷ map (λ values. record { reference = None; values = values }) groups
+    record { reference = reference; values = group } ∷ map
+    (λ values. record { reference = None; values = values }) groups
 
 -- the blocks of one interval (§3, §4; the whole interval filled, mapped, then cut, where the code
 -- makes one block at a time)

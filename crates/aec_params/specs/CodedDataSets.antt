@@ -52,7 +52,8 @@ reference_bits s (Some r) = binary s.bits r
 abbrev pub body_bits : Settings → Body → List Bool
 body_bits s (uncompressed_values values) = flat_map (binary s.bits) values
 body_bits s (value_pairs values) = pair_bits values
-body_bits s (split_values k values) = flat_map (λ v. fs (v / 2 ^ k)) values ++ flat_map (λ v. binary k (v % 2 ^ k)) values
+body_bits s (split_values k values) = flat_map (λ v. fs (v / 2 ^ k)) values
+    ++ flat_map (λ v. binary k (v % 2 ^ k)) values
 body_bits s (zero_blocks m) = fs m
 
 -- the bits of a coded data set (§7; one function from a value to bits. Reading has no such
@@ -74,7 +75,8 @@ written_count s is_reference = if is_reference then s.block_size - 1 else s.bloc
 -- a body of single values has `written_count` of them, one of pairs as many members as a block has
 -- values; values without compression fit n bits, and k is that of an option (§7)
 abbrev pub HasBody : Settings → Bool → Body → Type 0
-HasBody s is_reference (uncompressed_values values) = (length values ≡ written_count s is_reference) × AllByRecursion (λ v. v < 2 ^ s.bits) values
+HasBody s is_reference (uncompressed_values values) =
+    (length values ≡ written_count s is_reference) × AllByRecursion (λ v. v < 2 ^ s.bits) values
 HasBody s is_reference (value_pairs values) = length values ≡ s.block_size
 HasBody s is_reference (split_values k values) = (k < split_count s) × (length values ≡ written_count s is_reference)
 HasBody s is_reference (zero_blocks m) = ⊤

@@ -20,9 +20,11 @@ MovesNone (Remove first len) = ⊥
 pub record EditsTouchFew : Type 0 where
   pub touched : (n first len : ℕ) → 0 < n → 0 < len
       → touched_intervals n first len ≡ range_with_len (first / n) ((first + len - 1) / n - first / n + 1)
-  pub count : (n first len : ℕ) → 0 < n → 0 < len → length (touched_intervals n first len) ≡ (first + len - 1) / n - first / n + 1
+  pub count : (n first len : ℕ) → 0 < n → 0 < len
+      → length (touched_intervals n first len) ≡ (first + len - 1) / n - first / n + 1
   pub none : (n first : ℕ) → touched_intervals n first 0 ≡ []
-  pub appended : (n old : ℕ) (values : Samples) → 0 < n → needed_calls n old (Append values) ≡ length (touched_intervals n old (length values))
+  pub appended : (n old : ℕ) (values : Samples) → 0 < n
+      → needed_calls n old (Append values) ≡ length (touched_intervals n old (length values))
   pub opened : (n old : ℕ) (edit : Edit) → 0 < n → MovesNone edit
       → (opened_intervals n old edit ≤ 2) × (opened_intervals n old edit ≤ needed_calls n old edit)
 
@@ -37,7 +39,8 @@ pub record MovesByLength : Type 0 where
   pub inserted : (n old first : ℕ) (values : Samples) → 0 < n
       → needed_calls n old (Insert first values)
       ≡ (let len : ℕ = length values in
-      if len == 0 then 0 else (if len % n == 0 then len / n + inside_calls n first else div_ceil (old + len) n - first / n))
+      if len == 0 then 0 else (if len % n == 0 then len / n + inside_calls n first
+      else div_ceil (old + len) n - first / n))
   pub removed : (n old first len : ℕ) → 0 < n
       → needed_calls n old (Remove first len)
       ≡ (if len == 0 then 0 else (if len % n == 0 then inside_calls n first else div_ceil (old - len) n - first / n))
@@ -48,9 +51,11 @@ pub record MovesByLength : Type 0 where
   pub opened_by_removal : (n old first len : ℕ) → 0 < n → first + len ≤ old
       → opened_intervals n old (Remove first len)
       ≡ (let kept : List ℕ =
-      keeping_intervals n old (record { first = first; stop = first + len }) (reached_intervals n (record { first = first; stop = old })) in
+      keeping_intervals n old (record { first = first; stop = first + len })
+      (reached_intervals n (record { first = first; stop = old })) in
       if len == 0 then 0
-      else (if len % n == 0 then (if first % n == 0 then 0 else (if first + len == old then 1 else 2)) else length kept))
+      else (if len % n == 0 then (if first % n == 0 then 0 else (if first + len == old then 1 else 2))
+      else length kept))
 
 -- an exchange of places among old samples: those of `gone` for `fresh` new ones
 pub record Exchange : Type 0 where
@@ -108,7 +113,8 @@ pub record MovesOpenWhatIsLost : Type 0 where
 -- an insertion after the last sample codes as many as the append, and a removal up to the end as
 -- many as the truncate
 pub record EndsMeet : Type 0 where
-  pub inserted : (n old : ℕ) (values : Samples) → 0 < n → needed_calls n old (Insert old values) ≡ needed_calls n old (Append values)
+  pub inserted : (n old : ℕ) (values : Samples) → 0 < n
+      → needed_calls n old (Insert old values) ≡ needed_calls n old (Append values)
   pub removed : (n old first : ℕ) → 0 < n → first ≤ old
       → needed_calls n old (Remove first (old - first)) ≡ needed_calls n old (Truncate first)
 

@@ -38,7 +38,8 @@ cut_calls n old count = if count == old then 0 else (if count % n == 0 then 0 el
 -- Otherwise all of count samples, from that of the first place on
 abbrev pub moved_intervals : ℕ → ℕ → ℕ → Stretch → List ℕ
 moved_intervals n len count places =
-    if len == 0 then [] else reached_intervals n (record { first = places.first; stop = if len % n == 0 then places.stop else count })
+    if len == 0 then [] else reached_intervals n
+    (record { first = places.first; stop = if len % n == 0 then places.stop else count })
 
 -- how many intervals of n samples an edit of old samples codes: those of the result that hold a new
 -- sample or are cut anew (of an insertion or a removal those not there before: law
@@ -48,8 +49,10 @@ needed_calls n old (Overwrite first values) = length (touched_intervals n first 
 needed_calls n old (Append values) = if length values == 0 then 0 else div_ceil (old + length values) n - old / n
 needed_calls n old (Truncate count) = cut_calls n old count
 needed_calls n old (Insert first values) =
-    length (moved_intervals n (length values) (old + length values) (record { first = first; stop = first + length values }))
-needed_calls n old (Remove first len) = length (moved_intervals n len (old - len) (record { first = first; stop = first }))
+    length (moved_intervals n (length values) (old + length values)
+    (record { first = first; stop = first + length values }))
+needed_calls n old (Remove first len) = length
+    (moved_intervals n len (old - len) (record { first = first; stop = first }))
 
 -- whether interval k of n samples, of old samples in all, has a sample outside some places
 abbrev pub keeps_a_sample : ℕ → ℕ → Stretch → ℕ → Bool
@@ -64,7 +67,8 @@ keeping_intervals n old places intervals = filter (keeps_a_sample n old places) 
 -- `moves_open_what_is_lost`)
 abbrev pub opened_intervals : ℕ → ℕ → Edit → ℕ
 opened_intervals n old (Overwrite first values) =
-    length (keeping_intervals n old (record { first = first; stop = first + length values }) (touched_intervals n first (length values)))
+    length (keeping_intervals n old (record { first = first; stop = first + length values })
+    (touched_intervals n first (length values)))
 opened_intervals n old (Append values) = if length values == 0 then 0 else (if old % n == 0 then 0 else 1)
 opened_intervals n old (Truncate count) = cut_calls n old count
 opened_intervals n old (Insert first values) =

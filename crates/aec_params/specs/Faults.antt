@@ -19,23 +19,28 @@ pub data IsNotRead (s : Settings) (is_reference : Bool) (bits : List Bool) (b : 
   -- none begins there
   cut_short : ((c : CodedDataSet) → IsSetAt s is_reference bits b c → ⊥) → IsNotRead s is_reference bits b (Truncated b)
   -- else a value of it is above 2^n - 1
-  too_large : (c : CodedDataSet) → IsSetAt s is_reference bits b c → has_small_values s c ≡ false → IsNotRead s is_reference bits b (ValueTooLarge b)
+  too_large : (c : CodedDataSet) → IsSetAt s is_reference bits b c → has_small_values s c ≡ false
+      → IsNotRead s is_reference bits b (ValueTooLarge b)
 
 -- what is wrong at block i of the stream and position b (§12; none is read there, or the one that
 -- is breaks a rule. The first in the table's order counts)
 pub data IsWrongAt (s : Settings) (count : Option ℕ) (limit : ℕ) (bits : List Bool) (i b : ℕ) : Fault → Type 0 where
   -- no coded data set is read there
-  not_read : (fault : Fault) → IsNotRead s (is_reference_block s (i % s.interval)) bits b fault → IsWrongAt s count limit bits i b fault
+  not_read : (fault : Fault) → IsNotRead s (is_reference_block s (i % s.interval)) bits b fault
+      → IsWrongAt s count limit bits i b fault
   -- else the run is longer than what its segment has left
-  too_long : (c : CodedDataSet) → IsSetAt s (is_reference_block s (i % s.interval)) bits b c → has_small_values s c ≡ true
+  too_long : (c : CodedDataSet) → IsSetAt s (is_reference_block s (i % s.interval)) bits b c
+      → has_small_values s c ≡ true
       → stays_in_segment s (i % s.interval) c ≡ false → IsWrongAt s count limit bits i b (RunTooLong b)
   -- else the samples with this coded data set pass the limit
-  too_many : (c : CodedDataSet) → IsSetAt s (is_reference_block s (i % s.interval)) bits b c → IsLawfulAt s (i % s.interval) c
+  too_many : (c : CodedDataSet) → IsSetAt s (is_reference_block s (i % s.interval)) bits b c
+      → IsLawfulAt s (i % s.interval) c
       → keeps_limit s count limit (next_block s i c) ≡ false → IsWrongAt s count limit bits i b (TooManySamples limit)
 
 -- the fault of the bits from block i at position b on: lawful coded data sets lead to a place where
 -- more is wanted, and there something is wrong (§12)
-pub record IsFault (s : Settings) (count : Option ℕ) (limit : ℕ) (bits : List Bool) (i b : ℕ) (fault : Fault) : Type 0 where
+pub record IsFault (s : Settings) (count : Option ℕ) (limit : ℕ) (bits : List Bool) (i b : ℕ)
+    (fault : Fault) : Type 0 where
   pub sets : List CodedDataSet
   pub block : ℕ
   pub bit : ℕ

@@ -23,7 +23,8 @@ FundamentalSequencesDiffer = (a b : ℕ) (u v : List Bool) → fs a ++ u ≡ fs 
 -- two numbers below 2^w, in w bits, begin the same bits only if they are equal, and then the bits
 -- after them are
 abbrev pub BinaryNumbersDiffer : Type 0
-BinaryNumbersDiffer = (w a b : ℕ) (u v : List Bool) → a < 2 ^ w → b < 2 ^ w → binary w a ++ u ≡ binary w b ++ v → (a ≡ b) × (u ≡ v)
+BinaryNumbersDiffer = (w a b : ℕ) (u v : List Bool) → a < 2 ^ w → b < 2 ^ w → binary w a ++ u ≡ binary w b ++ v
+    → (a ≡ b) × (u ≡ v)
 
 -- codewords have the lengths that their names say
 pub record CodewordLengths : Type 0 where
@@ -87,11 +88,13 @@ pub record PiecesAreTheCut (X : Type 0) : Type 0 where
   pub join : (n : ℕ) (xs : List X) → 0 < n → flat_map (λ (piece : List X). piece) (pieces_of n xs) ≡ xs
   pub cut : (n : ℕ) (xs : List X) → 0 < n → AreCut n (pieces_of n xs)
   pub count : (n : ℕ) (xs : List X) → 0 < n → length (pieces_of n xs) ≡ div_ceil (length xs) n
-  pub unique : (n : ℕ) (pieces : List (List X)) → 0 < n → AreCut n pieces → pieces_of n (flat_map (λ (piece : List X). piece) pieces) ≡ pieces
+  pub unique : (n : ℕ) (pieces : List (List X)) → 0 < n → AreCut n pieces
+      → pieces_of n (flat_map (λ (piece : List X). piece) pieces) ≡ pieces
 
 -- whole pieces in front of a list are its first pieces
 abbrev pub WholePiecesComeFirst : Type 0 → Type 0
-WholePiecesComeFirst X = (n : ℕ) (pieces : List (List X)) (xs : List X) → 0 < n → AllByRecursion (λ (piece : List X). length piece ≡ n) pieces
+WholePiecesComeFirst X = (n : ℕ) (pieces : List (List X)) (xs : List X) → 0 < n
+    → AllByRecursion (λ (piece : List X). length piece ≡ n) pieces
     → pieces_of n (flat_map (λ (piece : List X). piece) pieces ++ xs) ≡ pieces ++ pieces_of n xs
 
 -- ---- bytes
@@ -102,24 +105,29 @@ pub record BytesAreBits : Type 0 where
   pub bits : (bits : List Bool) → bits_of_bytes (bytes_of bits) ≡ padded_to_byte bits
   pub count : (bits : List Bool) → length (bytes_of bits) ≡ div_ceil (length bits) 8
   pub below : (bits : List Bool) → AllByRecursion (λ (byte : ℕ). byte < 256) (bytes_of bits)
-  pub bytes : (bytes : List ℕ) → AllByRecursion (λ (byte : ℕ). byte < 256) bytes → bytes_of (bits_of_bytes bytes) ≡ bytes
+  pub bytes : (bytes : List ℕ) → AllByRecursion (λ (byte : ℕ). byte < 256) bytes
+      → bytes_of (bits_of_bytes bytes) ≡ bytes
 
 -- ---- samples and blocks
 
 -- held samples are known from their number and their blocks, those of one interval and all
 pub record BlocksTellSamples : Type 0 where
-  pub interval : (s : Settings) (xs ys : List ℤ) → IsAllowed s → AllByRecursion (IsHeld s) xs → AllByRecursion (IsHeld s) ys
+  pub interval : (s : Settings) (xs ys : List ℤ) → IsAllowed s → AllByRecursion (IsHeld s) xs
+      → AllByRecursion (IsHeld s) ys
       → length xs ≡ length ys → blocks_of s xs ≡ blocks_of s ys → xs ≡ ys
   pub all : (s : Settings) (xs ys : List ℤ) → IsAllowed s → AllByRecursion (IsHeld s) xs → AllByRecursion (IsHeld s) ys
       → length xs ≡ length ys → all_blocks_of s xs ≡ all_blocks_of s ys → xs ≡ ys
 
 -- the blocks of held samples are those in the format's shape, and no others
 pub record SamplesAreBlocks : Type 0 where
-  pub shape : (s : Settings) (xs : List ℤ) → IsAllowed s → AllByRecursion (IsHeld s) xs → AreBlocksFrom s 0 (all_blocks_of s xs)
-  pub onto : (s : Settings) (blocks : List Block) → IsAllowed s → AreBlocksFrom s 0 blocks → (samples : List ℤ) × FillBlocks s samples blocks
+  pub shape : (s : Settings) (xs : List ℤ) → IsAllowed s → AllByRecursion (IsHeld s) xs
+      → AreBlocksFrom s 0 (all_blocks_of s xs)
+  pub onto : (s : Settings) (blocks : List Block) → IsAllowed s → AreBlocksFrom s 0 blocks
+      → (samples : List ℤ) × FillBlocks s samples blocks
 
 -- each reading of blocks is one of samples, and of one list alone
 pub record ReadingsHaveSamples : Type 0 where
   pub samples : (s : Settings) (count : Option ℕ) (limit : ℕ) (bits : List Bool) (blocks : List Block) → IsAllowed s
       → IsBlockReading s count limit bits 0 0 blocks → (samples : List ℤ) × FillBlocks s samples blocks
-  pub unique : (s : Settings) (xs ys : List ℤ) (blocks : List Block) → IsAllowed s → FillBlocks s xs blocks → FillBlocks s ys blocks → xs ≡ ys
+  pub unique : (s : Settings) (xs ys : List ℤ) (blocks : List Block) → IsAllowed s → FillBlocks s xs blocks
+      → FillBlocks s ys blocks → xs ≡ ys

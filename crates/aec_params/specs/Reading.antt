@@ -85,7 +85,8 @@ kept_blocks s None i blocks = blocks
 
 -- the bits from block i at position b on are read as these blocks (§12; that coded data sets for
 -- them exist)
-pub record IsBlockReading (s : Settings) (count : Option ℕ) (limit : ℕ) (bits : List Bool) (i b : ℕ) (blocks : List Block) : Type 0 where
+pub record IsBlockReading (s : Settings) (count : Option ℕ) (limit : ℕ) (bits : List Bool) (i b : ℕ)
+    (blocks : List Block) : Type 0 where
   pub sets : List CodedDataSet
   pub end_block : ℕ
   pub end_bit : ℕ

@@ -28,7 +28,8 @@ with_zero_block reference groups = zero_run reference 1 ∷ groups
 -- finished list from the right, where the code counts from the left as blocks come)
 abbrev pub groups_of : List Block → List Group
 groups_of [] = []
-groups_of (b ∷ blocks) = if is_zero_block b then with_zero_block b.reference (groups_of blocks) else single_block b ∷ groups_of blocks
+groups_of (b ∷ blocks) = if is_zero_block b then with_zero_block b.reference (groups_of blocks)
+    else single_block b ∷ groups_of blocks
 
 -- the number that is written for a run of z blocks; the remainder code, 4, only where the run ends
 -- the coded blocks of its segment (§8)
