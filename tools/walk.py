@@ -37,21 +37,21 @@ WAYS = [
         "A coded sample, of a whole block that is split",
         ["aec_engine::engine::coding::encode", "StreamCoder::feed", "pieces::join_judged", "shortest::write_shortest_of", "writing::put_split",
          "packed::push_reserved_number"],
-        32,
-        14,
+        23,
+        13,
     ),
     Way(
         "A decoded sample, of a block read at once",
         ["aec_engine::engine::decoding::decode", "StreamReader::next_few", "reading::plain::fill_plain_block", "plain::read_plain", "BitReader::read_sequences", "BitBuf::word_from"],
-        30,
-        14,
+        26,
+        12,
     ),
     Way(
         "A line of a script, an overwrite",
         ["aec_engine::engine::editing::edit", "Workspace::apply", "Workspace::overwrite", "Codec::code", "shortest::write_shortest_of", "writing::put_split",
          "packed::push_reserved_number"],
-        39,
-        19,
+        28,
+        16,
     ),
 ]  # fmt: skip
 

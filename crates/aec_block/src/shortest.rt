@@ -53,7 +53,7 @@ fn write_others<const N: usize>(
     write_chosen::<N, WITHOUT_REFERENCE>(params, &BlockRef::new(None, values), values, out)
 }
 
-/// The same of a block of `N` values with a reference.
+/// `write_others` for a block of `N` values with a reference.
 #[inline(always)]
 fn write_first<const N: usize>(
     params: &Params,

@@ -57,7 +57,7 @@ fn pass(
     ensures refuses { IfErr result (λ fault. (k : ℕ) → IsOnWay k intervals reader.old
         → IsFaultOnWay k reader.old fault) }
 {
-    // What the parameters promise is told by their calls.
+    // For its clause `allowed`.
     let _len = params.interval_len();
     let mut left = intervals;
     let mut total = before;
@@ -110,7 +110,7 @@ impl HeldReader {
         ensures settings { result ≡ self.now.place.settings }
         ensures allowed { IsAllowed result }
     {
-        // What the parameters promise is told by their calls.
+        // For its clause `allowed`.
         let _len = self.params.interval_len();
         self.params
     }
@@ -162,7 +162,7 @@ impl HeldReader {
           before = self.old.before + len;
         } }
     {
-        // What the parameters promise is told by their calls.
+        // For its clause `allowed`.
         let _len = self.params.interval_len();
         self.at = Stand {
             place: end,

@@ -47,7 +47,7 @@ impl AecCodec {
         ensures calls { ⟦<AecCodec as Codec>⟧.called result ≡ calls }
         ensures reads { ⟦<AecCodec as Codec>⟧.read result ≡ 0 }
     {
-        // What the parameters promise is told by their calls.
+        // For its clause `allowed`.
         let _len = params.interval_len();
         AecCodec {
             params,
@@ -202,7 +202,7 @@ fn read_counted(
     ensures refuses { IfErr result
         (λ fault. RefusesReading params.now (Some count) count stream.now.list 0 pos fault) }
 {
-    // Called for its clause alone: the parameters are allowed.
+    // For its clause `allowed`.
     let _len = params.interval_len();
     let wanted = Wanted {
         first: 0,

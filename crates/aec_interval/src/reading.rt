@@ -89,7 +89,7 @@ pub(crate) fn has_reference(params: &Params, place: u64) -> bool
     ensures value { result ≡ is_reference_block params.now place }
     ensures allowed { IsAllowed params.now }
 {
-    // Called for its clause alone: the parameters are allowed.
+    // For its clause `allowed`.
     let _len = params.interval_len();
     params.preprocess() && place == 0
 }
@@ -143,7 +143,7 @@ pub(crate) fn place_next(
     ensures after { IfOk result (λ next. block ≤ next) }
     ensures within { IfOk result (λ next. next ≤ block + blocks_before_end params.now block) }
 {
-    // Called for its clause alone: the parameters are allowed.
+    // For its clause `allowed`.
     let _len = params.interval_len();
     let blocks = block_count(params, place, len);
     if blocks > blocks_left(params, place) {

@@ -51,7 +51,7 @@ impl StreamCoder {
     pub fn new(alloc: Global, params: Params, limit: u64) -> StreamCoder
         ensures { result ≡ fresh_coder params limit }
     {
-        // What the parameters promise is told by their calls.
+        // For its clause `allowed`.
         let _len = params.interval_len();
         StreamCoder {
             terms: Terms { params, limit },

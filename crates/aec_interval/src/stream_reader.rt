@@ -75,7 +75,7 @@ impl<'a> StreamReader<'a> {
         ensures { self.new ≡ place_at self.old.settings self.old.count self.old.limit self.old.bits
             0 0 }
     {
-        // What the parameters promise is told by their calls.
+        // For its clause `allowed`.
         let _len = self.params.interval_len();
         self.reader.seek(0);
         self.block = 0;
@@ -100,7 +100,7 @@ impl<'a> StreamReader<'a> {
         ensures { let old = self.old in
             self.new ≡ place_at old.settings old.count old.limit old.bits place.block place.bit }
     {
-        // What the parameters promise is told by their calls.
+        // For its clause `allowed`.
         let _len = self.params.interval_len();
         self.reader.seek(place.bit);
         self.block = place.block;

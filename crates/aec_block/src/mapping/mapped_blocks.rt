@@ -40,7 +40,7 @@ fn map_each_offset(top: u32, previous: u32, values: &mut [u32])
     }
 }
 
-/// The same, of eight offsets at once.
+/// Maps the offsets of a list in place: eight at once if it has eight, else one by one.
 #[inline(always)]
 fn map_offsets(top: u32, previous: u32, values: &mut [u32])
     requires prediction { previous ≤ top }
@@ -119,7 +119,7 @@ pub fn map_first(params: &Params, samples: &[i64], values: &mut [u32])
     requires len { length samples.now ≡ length values.old }
     ensures { values.new ≡ mapped_values params.now samples.now }
 {
-    // Called for its clause alone: the parameters are allowed.
+    // For its clause `allowed`.
     let _len = params.interval_len();
     map_list(params, samples[0], samples, values);
 }

@@ -33,7 +33,7 @@ fn put_each(params: &Params, offset: u32, values: &[u32], samples: &mut [i64]) -
     last
 }
 
-/// The same, called: values that aren't near are few, and their code out of the way of the others.
+/// `put_each`, out of line: values that aren't near are few, and their code would be in the way.
 #[inline(never)]
 fn put_far(params: &Params, offset: u32, values: &[u32], samples: &mut [i64]) -> u32
     requires on { params.now.preprocess ≡ true }

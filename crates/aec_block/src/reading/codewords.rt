@@ -47,7 +47,7 @@ pub(crate) fn read_numbers(
     reader.read_numbers(width, numbers)
 }
 
-/// The same of `N` numbers, compiled for that many.
+/// `read_numbers` for `N` numbers, out of line.
 #[inline(never)]
 fn read_known_numbers<const N: usize>(
     reader: &mut BitReader,
@@ -62,7 +62,7 @@ fn read_known_numbers<const N: usize>(
     read_numbers(reader, width, &mut numbers[..N])
 }
 
-/// The same of as many values as a block has, compiled for the usual numbers of them.
+/// Chooses the code of `read_numbers` by how many there are: usual numbers have their own code.
 #[inline(always)]
 pub(crate) fn read_block_numbers(
     reader: &mut BitReader,
@@ -87,7 +87,7 @@ pub(crate) fn read_block_numbers(
     }
 }
 
-/// The same, compiled into the place of the call where there are `N` numbers.
+/// `read_numbers`, inlined for `N` numbers, the usual number here; else by `read_block_numbers`.
 #[inline(always)]
 pub(crate) fn read_usual_numbers<const N: usize>(
     reader: &mut BitReader,

@@ -169,7 +169,7 @@ pub fn read_plain_first<const M: usize>(
     ensures len { length values.new ≡ length values.old }
     ensures list { reader.new.list ≡ reader.old.list }
 {
-    // What the parameters promise is told by their calls.
+    // For its clause `allowed`.
     let _len = params.interval_len();
     let start = reader.pos();
     values[0] = 0;

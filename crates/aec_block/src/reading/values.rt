@@ -188,7 +188,7 @@ fn join(values: &mut [u32], lows: &[u32], k: u32)
 
 /// Fills `values`, `M` at most, with the next values, split at bit `k`. Whether all are at most the
 /// greatest that the width has. Where `k` is at most the width, small high parts make small values.
-/// Each `COPY` has one caller: the compiler takes a large function into the place of its only call.
+/// Each `COPY` has one caller: the compiler inlines a large function only if it has one caller.
 #[inline(always)]
 fn read_split<const M: usize, const COPY: usize>(
     params: &Params,
@@ -214,7 +214,7 @@ fn read_split<const M: usize, const COPY: usize>(
     Ok(k <= params.bits() || are_below(values, limit))
 }
 
-/// The same of any number of values that a block has.
+/// `read_split` for any number of values that a block has, out of line.
 #[inline(never)]
 fn read_any_split(
     params: &Params,
@@ -230,7 +230,7 @@ fn read_any_split(
     read_split::<MOST_VALUES, 0>(params, reader, k, values)
 }
 
-/// The same of `N` values, compiled for that many into the place of the call.
+/// `read_split` for `N` values, inlined into its one caller.
 #[inline(always)]
 fn read_exact_split<const N: usize, const COPY: usize>(
     params: &Params,
@@ -247,7 +247,7 @@ fn read_exact_split<const N: usize, const COPY: usize>(
     read_split::<N, COPY>(params, reader, k, &mut values[..N])
 }
 
-/// The same, called.
+/// `read_split` for `N` values, out of line.
 #[inline(never)]
 fn read_known_split<const N: usize>(
     params: &Params,
@@ -264,7 +264,7 @@ fn read_known_split<const N: usize>(
     read_exact_split::<N, 1>(params, reader, k, values)
 }
 
-/// The same of as many values as a block has, compiled for the usual numbers of them.
+/// Chooses the code of `read_split` by the number of values: usual numbers have their own code.
 #[inline(always)]
 pub(crate) fn read_block_split(
     params: &Params,
@@ -290,7 +290,7 @@ pub(crate) fn read_block_split(
     }
 }
 
-/// The same, compiled into the place of the call where there are `N` values.
+/// `read_split`, inlined for `N` values, the usual number here; out of line for any other number.
 #[inline(always)]
 pub(crate) fn read_usual_split<const N: usize, const COPY: usize>(
     params: &Params,

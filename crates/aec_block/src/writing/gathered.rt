@@ -96,7 +96,7 @@ impl Gathered {
         Gathered::of_number(value, width)
     }
 
-    /// The same for `v` zeros and a one. Many zeros are appended at once.
+    /// `put` for `v` zeros and a one. Many zeros are appended at once.
     #[inline(always)]
     pub(crate) fn put_fs(self, v: u64, out: &mut BitBuf) -> Gathered
         requires room { length self + (v + 1) ≤ out.old.room }

@@ -67,7 +67,7 @@ fn fill_range(
     ensures filled { (xs : List ℤ) → AreSamplesOf reader.old xs
         → out.new ≡ all_stored params.now (samples_from first len xs) }
 {
-    // What the parameters promise is told by their calls.
+    // For its clause `allowed`.
     let _len = params.interval_len();
     let mut skip = first - before;
     let mut left = len;
@@ -204,7 +204,7 @@ fn decode_bits_into(
     ensures { FillsOne (DecodesBits params.now count limits.samples bits.now.list) out.old out.new
         result }
 {
-    // What the parameters promise is told by their calls.
+    // For its clause `allowed`.
     let _len = params.interval_len();
     let mut reader = StreamReader::new(alloc, *params, bits, count, limits.samples())?;
     let (mut samples, mut bytes) = first_buffers(alloc, params, count)?;
@@ -262,7 +262,7 @@ fn range_bits_into(
     ensures { FillsOne (CutsBits params.now count limits.samples first len bits.now.list) out.old
         out.new result }
 {
-    // What the parameters promise is told by their calls.
+    // For its clause `allowed`.
     let _len = params.interval_len();
     let mut reader = StreamReader::new(alloc, *params, bits, count, limits.samples())?;
     let judged = judge_samples(params, &mut reader, first)?;

@@ -67,7 +67,7 @@ fn fill_plain_block<const N: usize, const COPY: usize>(
     ensures count { length values.new ≡ length values.old }
     ensures len { length samples.new ≡ length samples.old }
 {
-    // Called for its clause alone: the parameters are allowed.
+    // For its clause `allowed`.
     let _len = params.interval_len();
     if !read_plain::<N, COPY>(params, reader, values) {
         return false;

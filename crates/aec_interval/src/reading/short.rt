@@ -50,7 +50,7 @@ fn fill_reference_block<const M: usize>(
     ensures count { length values.new ≡ length values.old }
     ensures len { length samples.new ≡ length samples.old }
 {
-    // Called for its clause alone: the parameters are allowed.
+    // For its clause `allowed`.
     let _len = params.interval_len();
     match read_plain_first::<M>(params, reader, values) {
         None => false,
@@ -80,7 +80,7 @@ fn fill_unpredicted_block<const N: usize>(
     ensures count { length values.new ≡ length values.old }
     ensures len { length samples.new ≡ length samples.old }
 {
-    // Called for its clause alone: the parameters are allowed.
+    // For its clause `allowed`.
     let _len = params.interval_len();
     if !read_plain::<N, FIRST_UNPREDICTED>(params, reader, values) {
         return false;
@@ -153,7 +153,7 @@ fn fill_plain_interval<const N: usize, const M: usize, const KIND: usize>(
     ensures count { length values.new ≡ length values.old }
     ensures len { length samples.new ≡ length samples.old }
 {
-    // What the parameters promise is told by their calls.
+    // For its clause `allowed`.
     let _len = params.interval_len();
     let start = reader.pos();
     if fill_first_block::<N, M, KIND>(params, reader, values, samples)
@@ -175,7 +175,7 @@ fn read_whole_run(params: &Params, reader: &mut BitReader) -> Option<i64>
     ensures stays { is_some result ≡ false → reader.new ≡ reader.old }
     ensures list { reader.new.list ≡ reader.old.list }
 {
-    // What the parameters promise is told by their calls.
+    // For its clause `allowed`.
     let _len = params.interval_len();
     let start = reader.pos();
     if let Some((reference, len)) = read_run(params, reader, params.preprocess()) {
