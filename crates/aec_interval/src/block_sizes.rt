@@ -18,8 +18,9 @@ macro_rules! by_block_size {
 
 pub(crate) use by_block_size;
 
-/// The copy of `read_plain` in the loop over the blocks of a long interval. Each copy has one caller
-/// for each block size: the compiler takes a large function only into the place of its only call.
+/// The copy of `read_plain` in the loop over the blocks of a long interval. Each copy has one
+/// caller for each block size: the compiler takes a large function only into the place of its only
+/// call.
 pub(crate) const IN_LONG_INTERVALS: usize = 3;
 
 /// The copy for the first block of a short interval without a reference sample. Those for the other
