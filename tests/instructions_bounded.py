@@ -44,14 +44,14 @@ INPUTS = {
 
 # The kind of samples, J and r; and the instructions for each sample that the proved program took, coding and decoding.
 MEASURED = {
-    ("detector", 8, 128): (45.9, 44.5),
-    ("detector", 16, 128): (35.7, 38.8),
-    ("detector", 64, 128): (35.4, 38.6),
-    ("detector", 8, 2): (52.9, 53.1),
-    ("detector", 8, 1): (60.1, 50.9),
+    ("detector", 8, 128): (45.9, 45.9),
+    ("detector", 16, 128): (35.7, 38.7),
+    ("detector", 64, 128): (35.4, 38.7),
+    ("detector", 8, 2): (52.9, 44.1),
+    ("detector", 8, 1): (60.1, 45.3),
     ("zeros", 8, 128): (16.2, 6.8),
-    ("walk", 16, 128): (41.0, 52.1),
-    ("ramp", 8, 128): (45.2, 44.2),
+    ("walk", 16, 128): (41.0, 51.8),
+    ("ramp", 8, 128): (45.2, 45.5),
 }
 
 
