@@ -44,14 +44,14 @@ INPUTS = {
 
 # The kind of samples, J and r; and the instructions for each sample that the proved program took, coding and decoding.
 MEASURED = {
-    ("detector", 8, 128): (47.6, 44.5),
-    ("detector", 16, 128): (37.1, 38.8),
-    ("detector", 64, 128): (36.1, 38.6),
-    ("detector", 8, 2): (47.8, 53.2),
-    ("detector", 8, 1): (48.0, 51.0),
+    ("detector", 8, 128): (47.6, 45.9),
+    ("detector", 16, 128): (37.1, 38.7),
+    ("detector", 64, 128): (36.1, 38.7),
+    ("detector", 8, 2): (47.8, 44.1),
+    ("detector", 8, 1): (48.0, 45.3),
     ("zeros", 8, 128): (19.1, 6.8),
-    ("walk", 16, 128): (42.2, 52.1),
-    ("ramp", 8, 128): (47.0, 44.2),
+    ("walk", 16, 128): (42.2, 51.8),
+    ("ramp", 8, 128): (47.0, 45.5),
 }
 
 
