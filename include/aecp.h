@@ -61,14 +61,14 @@ enum {
     AECP_BLOCK_SIZE = 2,
     AECP_INTERVAL = 3,
     AECP_RESTRICTED_WIDTH = 4,
-    AECP_SAMPLE_RANGE = 5,     /* place: index of the first sample that is out of range; in append, overwrite, insert and a script's line
-                                * it counts within the values of that call or line, in feed from the first of all samples */
+    AECP_SAMPLE_RANGE = 5,     /* place: index of the first sample that is out of range; counted in append, overwrite and insert from the
+                                * call's first value, in a script from its line's, in feed from the first of all samples */
     AECP_TRUNCATED = 6,        /* place: bit where the incomplete or missing coded data set begins */
     AECP_VALUE_TOO_LARGE = 7,  /* place: bit where the coded data set begins */
     AECP_RUN_TOO_LONG = 8,     /* place: bit where the coded data set begins */
     AECP_TOO_MANY_SAMPLES = 9, /* place: the greatest number, 2^32 */
     AECP_OUT_OF_RANGE = 10,    /* place: the number of samples */
-    AECP_SPENT = 11,           /* the edit needs more coder calls than are left of a workspace's 2^64 - 1 */
+    AECP_SPENT = 11,           /* a workspace codes at most 2^64 - 1 intervals in all; the edit needs more */
     AECP_MEMORY = 12,
     AECP_SCRIPT = 15,          /* place: the first line that isn't an edit, counted from 1 */
     AECP_STREAM_TOO_LONG = 16, /* place: the greatest length in bytes, 2^40; the command aec allows 2^35 */
@@ -86,9 +86,8 @@ enum {
  * number of bytes, but that of a buffer of int64_t is its number of samples. Below, 'options' means the faults 1 to 4 and 17. */
 
 /* Codes stored samples. Bytes at the end that don't fill a sample are dropped. Faults: options, SAMPLE_RANGE, TOO_MANY_SAMPLES, MEMORY,
- * NO_ROOM. Allocates up to twice the code's length and 72 KiB, and eight bytes for each of 4,096
- * samples, or of an interval that is longer. Traps: `samples_len` is bytes, but aecp_bound takes samples; keep
- * the sample count, which decoding needs. */
+ * NO_ROOM. Allocates up to twice the code's length and 72 KiB, and eight bytes a sample for 4,096 samples, or for an interval if that is
+ * longer. Traps: `samples_len` is bytes, but aecp_bound takes samples; keep the sample count, which decoding needs. */
 uint32_t aecp_encode(const aecp_options *options, const void *samples, size_t samples_len, uint8_t *out, size_t out_len,
                      aecp_reply *reply);
 
@@ -97,8 +96,8 @@ uint32_t aecp_encode(const aecp_options *options, const void *samples, size_t sa
  * NO_ROOM. Allocates:
  * - the samples of an interval, and their bytes;
  * - 64 KiB;
- * - the first aecp_bound(options, count) bytes of the stream, or all of it with AECP_ALL, if it is damaged, or if another coder wrote more;
- * - up to 16 MiB, if a block has at most 32 bytes.
+ * - the first aecp_bound(options, count) bytes of the stream; all of it with AECP_ALL, or if damaged, or if another coder wrote more;
+ * - up to 16 MiB, if a block's samples are stored in at most 32 bytes.
  * Trap: AECP_ALL decodes filler too, and accepts many cut streams; 1.5 MB can decode to 2^32 samples. */
 uint32_t aecp_decode(const aecp_options *options, uint64_t count, const uint8_t *coded, size_t coded_len, void *out,
                      size_t out_len, aecp_reply *reply);
@@ -192,8 +191,8 @@ uint64_t aecp_size(aecp_handle *handle);
 uint64_t aecp_calls(aecp_handle *handle);
 
 /* A coder that takes samples in pieces. Only the library uses its members. Initialize it with AECP_CODER or zeros. It is open from
- * aecp_coder_open to aecp_coder_close. Don't copy an open coder. One thread at a time may use a coder. The bytes taken are those of one
- * aecp_encode of all samples, wherever the pieces were cut. */
+ * aecp_coder_open to aecp_coder_close; after aecp_coder_finish only aecp_coder_take works. Don't copy an open coder. One thread at a time
+ * may use a coder. The bytes taken are those of one aecp_encode of all samples, wherever the pieces were cut. */
 typedef struct {
     void *at;
     bool full;
@@ -211,7 +210,7 @@ uint32_t aecp_coder_open(const aecp_options *options, aecp_coder *coder, aecp_re
 uint32_t aecp_coder_feed(aecp_coder *coder, const void *samples, size_t samples_len, aecp_reply *reply);
 
 /* Ends the stream. An incomplete sample is dropped. `reply->len` is the number of bytes left to take, the last of the stream. Faults: that
- * of an earlier feed, MEMORY, NOT_OPEN. Trap: afterwards feed and finish return NOT_OPEN, even after a fault. If finish fails, the samples
+ * of an earlier feed, MEMORY, NOT_OPEN. Trap: after finish, even a failed one, feed and finish return NOT_OPEN. If finish fails, the samples
  * of the last interval are lost. */
 uint32_t aecp_coder_finish(aecp_coder *coder, aecp_reply *reply);
 
@@ -225,7 +224,8 @@ void aecp_coder_close(aecp_coder *coder);
 /* A reader returns the samples of a stream interval by interval, and keeps a copy of the stream. Only the library uses its members.
  * Initialize it with AECP_READER or zeros. It is open from aecp_reader_open to aecp_reader_close. Don't copy an open reader. One thread at
  * a time may use a reader. The bytes of all intervals, joined, are those of one aecp_decode. This loop reads them:
- * while (!aecp_reader_next(&reader, out, out_len, &reply) && reply.len) fwrite(out, 1, reply.len, file); */
+ * while (!aecp_reader_next(&reader, out, out_len, &reply) && reply.len) fwrite(out, 1, reply.len, file);
+ * After it `reply.fault` says whether all were read. */
 typedef struct {
     void *at;
     bool full;

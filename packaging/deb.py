@@ -84,7 +84,7 @@ def packed(data):
 def changelog(version, moment):
     """The changelog of the packages. CHANGELOG.md has what users get."""
     date = time.strftime("%a, %d %b %Y %H:%M:%S +0000", time.gmtime(moment))
-    change = f"  * Version {version}. CHANGELOG.md has the changes."
+    change = f"  * Version {version}. CHANGELOG.md of the source has the changes."
     return f"aec-proved ({version}) unstable; urgency=low\n\n{change}\n\n -- {MAINTAINER}  {date}\n"
 
 

@@ -16,13 +16,13 @@ TOP = os.path.abspath(os.path.join(os.path.dirname(os.path.abspath(__file__)), "
 GATE = "bin/gate"
 
 HEAD = """aec {version} for Linux on x86-64. A checker has proved that each function of the program and of the library keeps its
-contract. The page PROOFS lists what the contracts say, and what isn't proved.
+contract. The page docs/PROOFS.md of the source lists what the contracts say, and what isn't proved.
 
 kit     {kit}
 commit  {commit}
 gate    {gate}
 
-SHA-256 of each binary. `grep -E '^[0-9a-f]{{64}} ' PROVED | sha256sum -c` compares them, in the folder of their paths.
+SHA-256 of each binary. `grep -E '^[0-9a-f]{{64}} ' PROVED | sha256sum -c` compares them: run it where these paths begin.
 """
 UNPROVED = """aec {version} for Linux on x86-64. NOTHING IS PROVED of these binaries. They were built for trying the packages.
 

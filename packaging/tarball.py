@@ -35,14 +35,15 @@ def fill(top, folder, version, proved):
         stage.write(os.path.join(folder, place), stage.notices(top))
     readme = README.format(version=version).encode()
     stage.write(os.path.join(folder, "README"), readme)
-    stage.write(os.path.join(folder, "PROVED"), proved.encode())
+    for place in ("PROVED", "share/doc/aec/PROVED"):
+        stage.write(os.path.join(folder, place), proved.encode())
 
 
 README = """aec {version} for Linux on x86-64-v2 (SSE4.2), glibc 2.34 or newer.
 
     sh install.sh PREFIX              installs, for example below /usr/local or $HOME/.local
     sh install.sh uninstall PREFIX    removes what was installed
-    PROGRAM=aec-proved sh install.sh PREFIX    installs the program as aec-proved, beside libaec's aec; uninstall with it too
+    PROGRAM=aec-proved sh install.sh PREFIX    installs the program as aec-proved, beside libaec's aec; set PROGRAM for uninstall too
 
 bin/aec also runs in this folder. share/doc/aec/README.md is the first page. PROVED lists the binaries and says what was proved.
 LICENSE is the licence, and NOTICES has the licence of crates whose code is in the binaries.

@@ -17,7 +17,7 @@ use Rattle.aec_edit.specs.Runs.{AnswersAll, all_left, all_coded}
 
 -- ---- one edit
 
--- an overwrite that is made has called the coder once for each interval that it touches
+-- an overwrite that is made counts one coder call for each interval that it touches
 abbrev pub OverwritesCodeWhatTheyTouch : Type 0
 OverwritesCodeWhatTheyTouch = (f : Format) (limit : ℕ) (s : List ℤ) (calls first : ℕ) (values : Samples)
     (coded after : ℕ)
