@@ -210,8 +210,8 @@ uint32_t aecp_coder_open(const aecp_options *options, aecp_coder *coder, aecp_re
 uint32_t aecp_coder_feed(aecp_coder *coder, const void *samples, size_t samples_len, aecp_reply *reply);
 
 /* Ends the stream. An incomplete sample is dropped. `reply->len` is the number of bytes left to take, the last of the stream. Faults: that
- * of an earlier feed, MEMORY, NOT_OPEN. Trap: after finish, even a failed one, feed and finish return NOT_OPEN. If finish fails, the samples
- * of the last interval are lost. */
+ * of an earlier feed, MEMORY, NOT_OPEN. Trap: after finish, even a failed one, feed and finish return NOT_OPEN. If finish fails, the
+ * samples of the last interval are lost. */
 uint32_t aecp_coder_finish(aecp_coder *coder, aecp_reply *reply);
 
 /* Moves all bytes that are left to take to `out`. Faults: MEMORY, NO_ROOM, NOT_OPEN. Allocates as much as it writes. Trap: after a fault of
