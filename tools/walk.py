@@ -36,8 +36,8 @@ WAYS = [
     Way(
         "A coded sample, of a whole block that is split",
         ["aec_engine::engine::coding::encode", "StreamCoder::feed", "pieces::join_judged", "shortest::write_shortest_of", "writing::put_split",
-         "packed::push_reserved_number"],
-        23,
+         "writing::put_low_groups", "Gathered::put", "packed::push_reserved_number"],
+        28,
         13,
     ),
     Way(
@@ -49,8 +49,8 @@ WAYS = [
     Way(
         "A line of a script, an overwrite",
         ["aec_engine::engine::editing::edit", "Workspace::apply", "Workspace::overwrite", "Codec::code", "shortest::write_shortest_of", "writing::put_split",
-         "packed::push_reserved_number"],
-        28,
+         "writing::put_low_groups", "Gathered::put", "packed::push_reserved_number"],
+        33,
         16,
     ),
 ]  # fmt: skip

@@ -102,8 +102,8 @@ fn within_limit(params: &Params, wanted: Wanted, blocks: u64) -> bool
     wanted.count.is_some() || blocks * u64::from(params.block_size()) <= wanted.limit
 }
 
-/// After a full interval, with padding, goes to the next byte: the padding skip. Blocks after
-/// which it might be due are left to it by `untested_end` of `plain`.
+/// After a full interval, with padding, goes to the next byte: the padding skip. `untested_end` of
+/// `plain` leaves to it the blocks that padding may follow.
 pub(crate) fn skip_padding(params: &Params, reader: &mut BitReader, block: u64)
     ensures list { reader.new.list ≡ reader.old.list }
     ensures pos { reader.new.pos ≡ begin_of params.now reader.old.list block reader.old.pos }

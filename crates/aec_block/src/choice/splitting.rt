@@ -151,8 +151,8 @@ fn best_of_three(all: &[u32], values: &[u32], first: u32) -> Splitting
 /// The k below `options` with which values below `2^bits` have the fewest bits, and of equal ones
 /// the least; 0 where there are no options. The sums fall by half at least with each k, so what one
 /// more low bit gains never grows: at the first k that one more doesn't make shorter, no later one
-/// does. The sum of the values as they are says where to begin, and two further k are enough where
-/// it says so below the last. The sums are taken of `all`: a 0 in the reference place, which adds
+/// does. The sum of the values as they are says where to begin; if two further k exist after that
+/// one, they are enough. The sums are taken of `all`: a 0 in the reference place, which adds
 /// nothing, makes the values fill lanes.
 #[inline(always)]
 pub(crate) fn best_split(all: &[u32], values: &[u32], bits: u32, options: u32) -> Splitting

@@ -111,7 +111,7 @@ pub(crate) fn fill_plain_blocks<const N: usize, const COPY: usize>(
     count
 }
 
-/// The same of blocks of `N` samples, compiled for that size.
+/// `fill_plain_blocks` for blocks of `N` samples, out of line.
 #[inline(never)]
 fn fill_known_blocks<const N: usize>(
     params: &Params,
@@ -135,7 +135,7 @@ fn fill_known_blocks<const N: usize>(
     fill_plain_blocks::<N, IN_LONG_INTERVALS>(&own, reader, most, &mut values, samples, from)
 }
 
-/// The same of blocks of any size.
+/// `fill_plain_blocks` for blocks of any size, out of line.
 #[inline(never)]
 fn fill_any_blocks(
     params: &Params,
@@ -157,7 +157,7 @@ fn fill_any_blocks(
     fill_plain_blocks::<0, IN_LONG_INTERVALS>(&own, reader, most, values, samples, from)
 }
 
-/// The same, compiled for the usual block sizes.
+/// Chooses the code of `fill_plain_blocks` by the block size: usual sizes have code of their own.
 fn fill_usual_blocks(
     params: &Params,
     reader: &mut BitReader,

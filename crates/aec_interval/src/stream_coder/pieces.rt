@@ -122,8 +122,8 @@ fn join_each(
     Ok(())
 }
 
-/// Takes the bytes of some samples, with those that are held no more than an interval has or those
-/// of whole intervals, of which none is refused. `Memory` where a growth was refused.
+/// Takes the bytes of some samples, of which none is refused. With those that are held they are at
+/// most one interval, or whole intervals. `Memory` where a growth was refused.
 fn join_judged(
     terms: &Terms,
     progress: &mut Progress,
@@ -145,8 +145,8 @@ fn join_judged(
     Ok(())
 }
 
-/// Takes the bytes of some samples, with those that are held no more than an interval has or those
-/// of whole intervals: at once where none is refused, else up to the first that is.
+/// Takes the bytes of some samples: at once if none is refused, else up to the first that is. With
+/// those that are held they are at most one interval, or whole intervals.
 fn join_part(
     terms: &Terms,
     progress: &mut Progress,
