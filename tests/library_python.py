@@ -125,7 +125,7 @@ def try_types(tally):
     wrong = [bytes(8), bytearray(8), memoryview(bytes(8)), "12345678", True, 1.0, None, [1, True], [1.5], ["1"], array.array("d", [1.0])]
     right = {"array": array.array("H", [1, 2]), "list": [1, 2], "tuple": (1, 2), "iterator": iter([1, 2]), "range": range(1, 3), "dict": {1: 0, 2: 0}}
     if numpy is not None:
-        wrong += [numpy.ones(2), numpy.ones(2, bool), numpy.ma.masked_array([1, 2], [0, 1]), numpy.ones((2, 2), int), numpy.float32(1), numpy.bool_(1)]
+        wrong += [numpy.ones(2), numpy.ones(2, bool), numpy.ma.masked_array([1, 2], [0, 1]), numpy.ones((2, 2), int), numpy.float32(1), numpy.bool_(1), [numpy.bool_(1)]]
         right.update({f"numpy {name}": numpy.array([1, 2], name) for name in ("u1", "<u2", ">u2", "<i4", ">i8", "u8")})
         right.update({"apart": numpy.array([1, 0, 2, 0])[::2], "numpy numbers": list(numpy.array([1, 2], "u2"))})
         frozen = numpy.array([1, 2])
@@ -264,6 +264,34 @@ def try_out(tally):
     tally.holds((numpy.asarray(aecp.Workspace(options, array_of)) == array_of).all(), "a workspace as an array")
 
 
+def try_undone(tally):
+    """A slice that takes two edits: if the second fails, the first is undone. With steps, the index of a refused sample is its own."""
+
+    class Short(aecp.Workspace):
+        """Fails with NoMemory at one of its edits."""
+
+        left = None
+
+        def _call(self, name, *words, front=False):
+            if self.left is not None and name in ("aecp_insert", "aecp_overwrite", "aecp_remove"):
+                self.left -= 1
+                if self.left == -1:
+                    raise aecp.NoMemory(12, 0, "out of memory")
+            return super()._call(name, *words, front=front)
+
+    options, before = aecp.Options(8, block_size=8, interval=1), list(range(100))
+    for part, new in ((slice(2, 20), [100] * 9), (slice(2, 10), [100] * 9), (slice(3, 40, 2), None)):
+        for number in (0, 1):
+            work = Short(options, before)
+            work.left = number
+            said = raised(lambda: work.__delitem__(part) if new is None else work.__setitem__(part, new))
+            tally.holds(isinstance(said, aecp.NoMemory) and list(work) == before, f"{part}, edit {number} fails: {said}, {list(work)[:12]}")
+    work = aecp.Workspace(options, before[:10])
+    for part, new, index in ((slice(None, None, 2), [1, 2, 300, 4, 5], 2), (slice(None, None, -1), [300] + [1] * 9, 0)):
+        said = raised(lambda: work.__setitem__(part, new))
+        tally.check(f"the refused sample of {part}", (type(said), getattr(said, "index", None)), (aecp.SampleRefused, index))
+
+
 def try_imports(tally, folder):
     """No library, a file that is none, and a library without the calls."""
     empty = os.path.join(folder, "empty.so")
@@ -314,6 +342,7 @@ def main():
     try_types(tally)
     try_memory(tally)
     try_out(tally)
+    try_undone(tally)
     for number in range(asked.cases) if asked.only is None else [asked.only]:
         try_lists(tally, asked.seed, number)
     with tempfile.TemporaryDirectory() as folder:

@@ -77,7 +77,8 @@ class Options:
 
 
 def whole(value: object, name: str) -> int:
-    """A whole number as an int. TypeError for anything else, a bool too."""
-    if isinstance(value, bool) or not hasattr(value, "__index__"):
+    """A whole number as an int. TypeError for anything else, a bool too, also numpy's."""
+    is_bool = isinstance(value, bool) or getattr(getattr(value, "dtype", None), "kind", "") == "b"
+    if is_bool or not hasattr(value, "__index__"):
         raise TypeError(f"{name} must be a whole number, not {value!r}")
     return operator.index(value)

@@ -245,6 +245,7 @@ class Workspace(MutableSequence[int]):
             part = self.read(first, length)
             if new.len != len(part[::step]):
                 raise ValueError(f"a slice with steps of {len(part[::step])} samples can't become {new.len}")
+            self._judge(new)
             part[::step] = array("q", new.samples)
             self._call("aecp_overwrite", first, Held(part).at, len(part))
 
@@ -278,16 +279,32 @@ class Workspace(MutableSequence[int]):
         return least, most - least + 1, places.step
 
     def _replace(self, first: int, length: int, new: Held) -> None:
-        """Replaces a part by any number of samples. Samples out of range are refused before anything is changed."""
+        """Replaces a part by any number of samples. Samples out of range are refused before anything is changed.
+
+        Another number of samples takes two edits. If the second fails, the first is undone, which memory may be too short for.
+        """
+        if new.len == length:
+            if length:
+                self._call("aecp_overwrite", first, new.at, length)
+            return
+        self._judge(new)
         same = min(length, new.len)
-        if new.len != length:
-            self._judge(new)
+        old = Held(self.read(first, same))
+        edits: list[tuple[Any, ...]] = [("aecp_overwrite", first, new.at, same)] if same else []
         if new.len > length:
-            self._call("aecp_insert", first + length, new.at + 8 * length, new.len - length)
-        if same:
-            self._call("aecp_overwrite", first, new.at, same)
-        if new.len < length:
-            self._call("aecp_remove", first + new.len, length - new.len)
+            more = new.len - length
+            edits.insert(0, ("aecp_insert", first + length, new.at + 8 * length, more))
+            undo: tuple[Any, ...] = ("aecp_remove", first + length, more)
+        else:
+            edits.append(("aecp_remove", first + new.len, length - new.len))
+            undo = ("aecp_overwrite", first, old.at, same)
+        self._call(*edits[0])
+        try:
+            for edit in edits[1:]:
+                self._call(*edit)
+        except Fault:
+            self._call(*undo)
+            raise
 
     def _judge(self, new: Held) -> None:
         """Raises SampleRefused for the first sample that is out of range."""
