@@ -45,7 +45,7 @@ typedef struct {
 } aecp_options;
 
 /* Options to begin with. Trap: `preprocess` is false in `aecp_options o = {0}`. */
-#define AECP_OPTIONS(n) {(n), 16, 128, false, false, false, true, false, false, false}
+#define AECP_OPTIONS(n) {(uint32_t)(n), 16, 128, false, false, false, true, false, false, false}
 
 /* How a call ended. If `fault` is 0, `len` is the length of the result, in bytes unless the call says otherwise. If `fault` is
  * AECP_NO_ROOM, `len` is the length that the result needs. For other faults `place` is what the fault's comment says, or 0. */

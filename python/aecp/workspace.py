@@ -31,7 +31,7 @@ class Workspace(MutableSequence[int]):
     Iteration, `index` and `count` decode all samples once.
 
     Any number of threads may use a workspace: its calls run one after the other. A copy, also by pickle, has samples of its own.
-    After close, which the end of the block calls, it has length 0 and its calls raise a Fault.
+    After close, which the end of the block calls, it has length 0 and its edits raise a Fault.
     """
 
     __hash__ = None  # type: ignore[assignment]
@@ -68,7 +68,7 @@ class Workspace(MutableSequence[int]):
     # Edits. Each returns how many intervals it has coded.
 
     def append(self, samples: Samples) -> int:  # type: ignore[override]
-        """Adds a sample, or several, after the last one. Raises SampleRefused, LimitPassed, NoMemory."""
+        """Adds a sample, or several, after the last one. Raises SampleRefused, LimitPassed, NoMemory; OverflowError for a number past 64 bits."""
         held = Held(samples)
         return self._call("aecp_append", held.at, held.len)
 
