@@ -1,6 +1,6 @@
 /* aecp.h: lossless coding of integer samples in the format CCSDS 121.0-B-3, from buffer to buffer.
  *
- * A coded stream contains neither its options nor its sample count. Keep both with the stream: no call can tell that they are wrong.
+ * A coded stream contains neither its options nor its sample count. Keep both with the stream: no call is sure to notice wrong ones.
  *
  * Every caller must ensure, since no call can check: no pointer is NULL, except to an empty buffer; each length is its buffer's; `out` and
  * `reply` overlap nothing else that is passed; a bool is 0 or 1; if you replace malloc, replace realloc and free too. Make no call in a
@@ -61,8 +61,8 @@ enum {
     AECP_BLOCK_SIZE = 2,
     AECP_INTERVAL = 3,
     AECP_RESTRICTED_WIDTH = 4,
-    AECP_SAMPLE_RANGE = 5,     /* place: index of the first sample that is out of range; counted in append, overwrite and insert from the
-                                * call's first value, in a script from its line's, in feed from the first of all samples */
+    AECP_SAMPLE_RANGE = 5,     /* place: index of the first sample that is out of range. Index 0 is the first value of the call (append,
+                                * overwrite, insert) or of the script's line; in feed it is the first of all samples */
     AECP_TRUNCATED = 6,        /* place: bit where the incomplete or missing coded data set begins */
     AECP_VALUE_TOO_LARGE = 7,  /* place: bit where the coded data set begins */
     AECP_RUN_TOO_LONG = 8,     /* place: bit where the coded data set begins */
@@ -86,8 +86,8 @@ enum {
  * number of bytes, but that of a buffer of int64_t is its number of samples. Below, 'options' means the faults 1 to 4 and 17. */
 
 /* Codes stored samples. Bytes at the end that don't fill a sample are dropped. Faults: options, SAMPLE_RANGE, TOO_MANY_SAMPLES, MEMORY,
- * NO_ROOM. Allocates up to twice the code's length and 72 KiB, and eight bytes a sample for 4,096 samples, or for an interval if that is
- * longer. Traps: `samples_len` is bytes, but aecp_bound takes samples; keep the sample count, which decoding needs. */
+ * NO_ROOM. Allocates up to twice the code's length and 72 KiB, and eight bytes for each sample of an interval, at least for 4,096.
+ * Traps: `samples_len` is bytes, but aecp_bound takes samples; keep the sample count, which decoding needs. */
 uint32_t aecp_encode(const aecp_options *options, const void *samples, size_t samples_len, uint8_t *out, size_t out_len,
                      aecp_reply *reply);
 
@@ -96,7 +96,7 @@ uint32_t aecp_encode(const aecp_options *options, const void *samples, size_t sa
  * NO_ROOM. Allocates:
  * - the samples of an interval, and their bytes;
  * - 64 KiB;
- * - the first aecp_bound(options, count) bytes of the stream; all of it with AECP_ALL, or if damaged, or if another coder wrote more;
+ * - the first aecp_bound(options, count) bytes of the stream; all of it with AECP_ALL, or if those don't yield `count` samples;
  * - up to 16 MiB, if a block's samples are stored in at most 32 bytes.
  * Trap: AECP_ALL decodes filler too, and accepts many cut streams; 1.5 MB can decode to 2^32 samples. */
 uint32_t aecp_decode(const aecp_options *options, uint64_t count, const uint8_t *coded, size_t coded_len, void *out,
@@ -118,8 +118,9 @@ typedef struct {
 
 /* Applies a script of edits, as docs/COMMAND.md describes it, to the first `count` samples of a stream, or to all with AECP_ALL, and writes
  * the edited stream to `out`. All lines apply, or none. Returns `reply->reply.fault`. Faults, in this order: options; SCRIPT; those of
- * aecp_decode; those of one edit, with its line: OUT_OF_RANGE, SAMPLE_RANGE, TOO_MANY_SAMPLES, SPENT, MEMORY. Allocates up to three times
- * the stream, and the script. Trap: keep `samples` with the edited stream. With AECP_ALL the filler of the last block becomes samples. */
+ * aecp_decode; those of one edit, with its line: OUT_OF_RANGE, TOO_MANY_SAMPLES, SAMPLE_RANGE, SPENT, MEMORY. Allocates at most three
+ * times the stream, three intervals of samples, twice the script, and 16 bytes for each interval and for each value of the longest line.
+ * Trap: keep `samples` with the edited stream. With AECP_ALL the filler of the last block becomes samples. */
 uint32_t aecp_edit(const aecp_options *options, uint64_t count, const void *script, size_t script_len, const uint8_t *coded,
                    size_t coded_len, uint8_t *out, size_t out_len, aecp_edit_reply *reply);
 
@@ -132,8 +133,9 @@ uint64_t aecp_bound(const aecp_options *options, uint64_t samples);
 size_t aecp_text(const aecp_reply *reply, char *out, size_t out_len);
 
 /* A handle, whose members only the library uses. Initialize it with AECP_HANDLE or zeros. From aecp_open or aecp_load to aecp_close it
- * holds a workspace: a list of samples in coded form. Don't copy a handle that holds one. One thread at a time may use a handle. In calls
- * with a handle samples are numbers, not stored bytes, and a refused edit changes no sample. */
+ * holds a workspace: a list of samples in coded form. Don't copy a handle that holds one. One thread at a time may use a handle, even to
+ * read: every call takes the workspace out of the handle and puts it back. In calls with a handle samples are numbers, not stored bytes,
+ * and a refused edit changes no sample. */
 typedef struct {
     void *at;
     bool full;
@@ -166,7 +168,7 @@ uint32_t aecp_append(aecp_handle *handle, const int64_t *values, size_t values_l
 uint32_t aecp_truncate(aecp_handle *handle, uint64_t count, aecp_reply *reply);
 
 /* Removes `len` samples, from sample `first` on. Faults: OUT_OF_RANGE, SPENT, MEMORY, NOT_OPEN. Trap: if `len` isn't whole intervals, all
- * later intervals are coded again; so with aecp_insert. */
+ * later intervals are coded again. This is true of aecp_insert too. */
 uint32_t aecp_remove(aecp_handle *handle, uint64_t first, uint64_t len, aecp_reply *reply);
 
 /* Replaces `values_len` samples by the values, from sample `first` on. Faults: OUT_OF_RANGE, SAMPLE_RANGE, SPENT, MEMORY, NOT_OPEN.
@@ -205,8 +207,8 @@ typedef struct {
 uint32_t aecp_coder_open(const aecp_options *options, aecp_coder *coder, aecp_reply *reply);
 
 /* Codes more stored samples; a sample may be cut in two. `reply->len` is the number of bytes left to take. Faults: SAMPLE_RANGE,
- * TOO_MANY_SAMPLES, MEMORY, NOT_OPEN. Each later feed returns the first fault again. Keeps the code until it is taken, and less than an
- * interval of samples. Trap: bytes come interval by interval, so a call may yield none. */
+ * TOO_MANY_SAMPLES, MEMORY, NOT_OPEN. Each later feed returns the first fault again. Keeps the code that isn't taken yet, and less than
+ * an interval of samples. Trap: bytes come interval by interval, so a call may yield none. */
 uint32_t aecp_coder_feed(aecp_coder *coder, const void *samples, size_t samples_len, aecp_reply *reply);
 
 /* Ends the stream. An incomplete sample is dropped. `reply->len` is the number of bytes left to take, the last of the stream. Faults: that
@@ -241,8 +243,8 @@ uint32_t aecp_reader_open(const aecp_options *options, uint64_t count, const uin
                           aecp_reply *reply);
 
 /* Writes the stored samples of the next interval to `out`. `reply->len` is 0 if all samples were read. Faults: TRUNCATED, VALUE_TOO_LARGE,
- * RUN_TOO_LONG, TOO_MANY_SAMPLES, NO_ROOM, NOT_OPEN. Allocates nothing. After a fault the reader is where it was. Trap: a fault comes only
- * where its interval is read, so earlier samples may be those of a bad stream. */
+ * RUN_TOO_LONG, TOO_MANY_SAMPLES, NO_ROOM, NOT_OPEN. Allocates nothing. After a fault the reader is where it was. Trap: a fault is returned
+ * only when its interval is read, so earlier samples may be wrong. */
 uint32_t aecp_reader_next(aecp_reader *reader, void *out, size_t out_len, aecp_reply *reply);
 
 /* Goes to the start of `interval`, counted from 0, or to the end if the stream has fewer intervals. `reply->len` is the number of samples

@@ -119,6 +119,15 @@ def try_copies(tally):
     tally.check("a pickled fault", (type(fault), fault.bit), (aecp.StreamRefused, 0))
 
 
+def try_closed(tally):
+    """What a closed workspace and a finished encoder say."""
+    work, coder = aecp.Workspace(aecp.Options(8)), aecp.Encoder(aecp.Options(8))
+    work.close()
+    coder.finish()
+    for name, call in (("workspace", lambda: work.append(1)), ("encoder", lambda: coder.feed(b"\1"))):
+        tally.check(f"a closed {name}", str(raised(call)), "the handle, coder or reader isn't open")
+
+
 def try_types(tally):
     """What isn't a whole number, one by one and in lists."""
     options = aecp.Options(16)
@@ -163,6 +172,7 @@ def some_slice(chance, count):
 def some_step(chance, work, samples, new):
     """One thing that lists do, done to both. Returns what each answers, or which kind of exception it raises."""
     key, place, value = some_slice(chance, len(samples)), chance.randint(-len(samples) - 1, len(samples)), chance.choice(new or [0])
+    far = place * chance.choice([1, 1, 2, 10**9])
     steps = {
         "get": lambda it: list(it[key]),
         "set": lambda it: it.__setitem__(key, list(new)),
@@ -170,7 +180,7 @@ def some_step(chance, work, samples, new):
         "get one": lambda it: it[place],
         "set one": lambda it: it.__setitem__(place, value),
         "del one": lambda it: it.__delitem__(place),
-        "insert": lambda it: it.insert(place, value) and None,
+        "insert": lambda it: it.insert(far, value) and None,
         "extend": lambda it: it.extend(list(new)),
         "+=": lambda it: it.__iadd__(new) and None,
         "pop": lambda it: it.pop(*chance_of(place)),
@@ -193,7 +203,7 @@ def some_step(chance, work, samples, new):
         out = []
         fault = raised(lambda: out.append(steps[name](it)))
         answers.append(type(fault).__name__ if fault is not None else out[0])
-    return f"{name} {key} {place} {value} {new}", answers
+    return f"{name} {key} {place} {far} {value} {new}", answers
 
 
 def try_lists(tally, seed, number):
@@ -339,6 +349,7 @@ def main():
     asked, tally = words(), Tally()
     try_threads(tally)
     try_copies(tally)
+    try_closed(tally)
     try_types(tally)
     try_memory(tally)
     try_out(tally)

@@ -58,6 +58,11 @@ else:
 TYPED = """
 import aecp
 
+stored: bytearray = aecp.decode_bytes(b"", 0, aecp.Options(8))
+part: bytearray = aecp.decode_range_bytes(b"", 0, 0, 0, aecp.Options(8))
+front: memoryview = aecp.decode_bytes(b"", 0, aecp.Options(8), out=bytearray(1))
+aecp.decode(b"", 0, aecp.Options(8)).no_such_method()  # type: ignore[attr-defined]
+
 
 def coded(samples: bytes, options: aecp.Options) -> bytes:
     return bytes(aecp.encode(samples, options))

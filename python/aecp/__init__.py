@@ -7,7 +7,7 @@
     >>> aecp.decode_range(coded, len(samples), 100, 50, options)
     >>> coded, count = aecp.edit(coded, len(samples), "insert 100 7 8 9\nremove 0 5\n", options)
 
-A coded stream contains neither its options nor its sample count. Keep both with the stream: no call can tell that they are wrong.
+A coded stream contains neither its options nor its sample count. Keep both with the stream: no call is sure to notice wrong ones.
 `encode`, `decode_bytes` and `decode_range_bytes` need the standard library alone; `decode` and `decode_range` return numpy arrays.
 Several threads may call at once, and their calls run in parallel. While a call runs, no thread may change the memory that it was given.
 """

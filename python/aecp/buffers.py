@@ -5,7 +5,17 @@ from __future__ import annotations
 import ctypes
 import mmap
 import sys
-from typing import Any, Optional
+from typing import TYPE_CHECKING, Any, Optional, Union
+
+if TYPE_CHECKING:
+    from _typeshed import WriteableBuffer
+    from numpy import integer
+    from numpy.typing import NDArray
+
+    Array = NDArray[integer[Any]]  # a numpy array of whole numbers
+    Writable = Union[WriteableBuffer, NDArray[Any]]  # memory that a call can fill
+else:
+    Array = Writable = Any
 
 SMALL = 1 << 20  # bytes that take no time to clear
 

@@ -3,9 +3,9 @@
 from __future__ import annotations
 
 import ctypes
-from typing import Any, Optional
+from typing import Any, Optional, Union, overload
 
-from aecp.buffers import Source, Target, numpy_if_there, numpy_type, room_for
+from aecp.buffers import Array, Source, Target, Writable, numpy_if_there, numpy_type, room_for
 from aecp.faults import NO_ROOM, fault_of
 from aecp.library import LIBRARY, Reply, c_options, text_of
 from aecp.options import Options, whole
@@ -40,7 +40,7 @@ def native(samples: Any, options: Options) -> Any:
     return numpy.ascontiguousarray(samples.astype(options.dtype, order="C", casting="equiv", copy=False))
 
 
-def decode(coded: Any, count: Optional[int], options: Options, out: Any = None) -> Any:
+def decode(coded: Any, count: Optional[int], options: Options, out: Optional[Array] = None) -> Array:
     """The first `count` samples of coded bytes, as a numpy array of one dimension with the dtype of the options; with count None
     all, filler of the last block too. Raises as decode_bytes does; ImportError where there is no numpy.
 
@@ -49,13 +49,21 @@ def decode(coded: Any, count: Optional[int], options: Options, out: Any = None) 
     return array_of(decode_bytes(coded, count, options, of_dtype(out, options)), options)
 
 
-def decode_range(coded: Any, count: Optional[int], first: int, length: int, options: Options, out: Any = None) -> Any:
+def decode_range(coded: Any, count: Optional[int], first: int, length: int, options: Options, out: Optional[Array] = None) -> Array:
     """`length` of the first `count` samples, from place `first` on, as decode returns them. The whole stream is judged. Raises as
     decode does, and RangeRefused."""
     return array_of(decode_range_bytes(coded, count, first, length, options, of_dtype(out, options)), options)
 
 
-def decode_bytes(coded: Any, count: Optional[int], options: Options, out: Any = None) -> Any:
+@overload
+def decode_bytes(coded: Any, count: Optional[int], options: Options, out: None = None) -> bytearray: ...
+
+
+@overload
+def decode_bytes(coded: Any, count: Optional[int], options: Options, out: Writable) -> memoryview: ...
+
+
+def decode_bytes(coded: Any, count: Optional[int], options: Options, out: Optional[Writable] = None) -> Union[bytearray, memoryview]:
     """What decode returns, as a bytearray of stored samples, or as a memoryview of the front of `out`.
 
     coded: bytes, or what has a buffer of bytes that lie one after the other, also one that can't be written.
@@ -69,7 +77,17 @@ def decode_bytes(coded: Any, count: Optional[int], options: Options, out: Any = 
     return filled("aecp_decode", before, source, most_stored(source, count, options))
 
 
-def decode_range_bytes(coded: Any, count: Optional[int], first: int, length: int, options: Options, out: Any = None) -> Any:
+@overload
+def decode_range_bytes(coded: Any, count: Optional[int], first: int, length: int, options: Options, out: None = None) -> bytearray: ...
+
+
+@overload
+def decode_range_bytes(coded: Any, count: Optional[int], first: int, length: int, options: Options, out: Writable) -> memoryview: ...
+
+
+def decode_range_bytes(
+    coded: Any, count: Optional[int], first: int, length: int, options: Options, out: Optional[Writable] = None
+) -> Union[bytearray, memoryview]:
     """What decode_range returns, as decode_bytes returns it."""
     source = Source(coded)
     before = [c_options(options), number_of(count), place(first, "first"), place(length, "length")]
@@ -140,9 +158,10 @@ def of_dtype(out: Any, options: Options) -> Any:
     raise TypeError(f"out must be a numpy array of the dtype {options.dtype} in C order")
 
 
-def array_of(stored: Any, options: Options) -> Any:
+def array_of(stored: Any, options: Options) -> Array:
     """Stored samples as an array over the same memory."""
-    return needed_numpy().frombuffer(stored, options.dtype)
+    made: Array = needed_numpy().frombuffer(stored, options.dtype)
+    return made
 
 
 def needed_numpy() -> Any:

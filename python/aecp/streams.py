@@ -5,7 +5,7 @@ from __future__ import annotations
 import threading
 from typing import Any, Optional, Union
 
-from aecp.buffers import Source, Target, room_for
+from aecp.buffers import Array, Source, Target, room_for
 from aecp.calls import native, needed_numpy, number_of, place
 from aecp.faults import NO_ROOM, fault_of
 from aecp.library import LIBRARY, Coder, EditReply, Reader, Reply, c_options, text_of
@@ -118,13 +118,14 @@ class Decoder(Alone):
     def __iter__(self) -> "Decoder":
         return self
 
-    def __next__(self) -> Any:
+    def __next__(self) -> Array:
         # What these raise, they raise before the reader moves.
         numpy, dtype = needed_numpy(), self.options.dtype
         stored = self.next_bytes()
         if not stored:
             raise StopIteration
-        return numpy.frombuffer(stored, dtype)
+        samples: Array = numpy.frombuffer(stored, dtype)
+        return samples
 
     def next_bytes(self) -> bytearray:
         """The stored samples of the next interval; none after the last one. Needs no numpy."""

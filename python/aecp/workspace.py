@@ -11,7 +11,7 @@ from aecp.buffers import Source, Target, numpy_if_there, room_for
 from aecp.calls import number_of, place
 from aecp.faults import NO_ROOM, NOT_OPEN, SAMPLE_RANGE, Fault, fault_of
 from aecp.library import LIBRARY, Handle, Reply, c_options, text_of
-from aecp.options import Options
+from aecp.options import Options, whole
 from aecp.samples import Held, Samples
 
 SHOWN = 6  # samples that repr shows
@@ -90,11 +90,12 @@ class Workspace(MutableSequence[int]):
         return self._call("aecp_overwrite", place(first, "first"), held.at, held.len)
 
     def insert(self, first: int, samples: Samples) -> int:  # type: ignore[override]
-        """Puts a sample, or several, before the one at place `first`, or after the last. A negative place counts from the end, as in
-        a list. Raises what append and overwrite raise."""
-        held = Held(samples)
+        """Puts a sample, or several, before the one at place `first`, or after the last. As in a list, a negative place counts from the
+        end, and one outside the samples means the nearer end. Raises what append raises."""
+        held, first = Held(samples), whole(first, "first")
         with self._lock:
-            first = max(first + len(self), 0) if first < 0 else place(first, "first")
+            count = len(self)
+            first = max(first + count, 0) if first < 0 else min(first, count)
             return self._call("aecp_insert", first, held.at, held.len)
 
     def extend(self, samples: Iterable[int]) -> None:

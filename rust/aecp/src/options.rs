@@ -7,9 +7,11 @@ use crate::raw;
 ///
 /// let options = Options::new(12).signed(true).block_size(32);
 /// assert_eq!((options.bits(), options.storage()), (12, 2));
+/// assert_eq!((options.get_signed(), options.get_block_size()), (true, 32));
 /// ```
 ///
-/// The calls that take options check them. A setter accepts every value.
+/// The calls that take options check them. A setter accepts every value. For each setter a function
+/// `get_..` returns its value.
 #[derive(Clone, Copy, Debug, PartialEq, Eq, Hash)]
 pub struct Options(pub(crate) raw::Options);
 
@@ -89,6 +91,51 @@ impl Options {
     /// Returns the number of bits per sample.
     pub fn bits(&self) -> u32 {
         self.0.bits
+    }
+
+    /// Returns the number of samples in a block.
+    pub fn get_block_size(&self) -> u32 {
+        self.0.block_size
+    }
+
+    /// Returns the number of blocks in a reference sample interval.
+    pub fn get_interval(&self) -> u32 {
+        self.0.interval
+    }
+
+    /// Returns whether samples are signed.
+    pub fn get_signed(&self) -> bool {
+        self.0.is_signed
+    }
+
+    /// Returns whether stored samples are big-endian.
+    pub fn get_msb_first(&self) -> bool {
+        self.0.msb_first
+    }
+
+    /// Returns whether samples of 17 to 24 bits are stored in three bytes.
+    pub fn get_three_byte(&self) -> bool {
+        self.0.three_byte
+    }
+
+    /// Returns whether each sample is predicted from the one before.
+    pub fn get_preprocess(&self) -> bool {
+        self.0.preprocess
+    }
+
+    /// Returns whether each interval is filled up to a byte boundary.
+    pub fn get_pad(&self) -> bool {
+        self.0.pad
+    }
+
+    /// Returns whether only the restricted set of code options is used.
+    pub fn get_restricted(&self) -> bool {
+        self.0.restricted
+    }
+
+    /// Returns whether a block may have any even number of samples from 8 to 64.
+    pub fn get_even_blocks(&self) -> bool {
+        self.0.even_blocks
     }
 
     /// Returns the number of bytes of a stored sample.

@@ -77,6 +77,51 @@ fn another_type_is_refused() {
 }
 
 #[test]
+fn big_endian_samples_are_coded_as_bytes() {
+    let samples = walk(500, 16);
+    let stored: Vec<u8> = samples.iter().flat_map(|&it| (it as u16).to_be_bytes()).collect();
+    let options = Options::new(16).msb_first(true);
+    let coded = encode(&stored, &options).unwrap();
+    assert_eq!(decode::<u8>(&coded, Some(500), &options).unwrap(), stored);
+    let numbers: Vec<u8> = samples.iter().flat_map(|&it| (it as u16).to_le_bytes()).collect();
+    assert_eq!(encode(&numbers, &Options::new(16)).unwrap(), coded);
+}
+
+#[test]
+fn options_return_what_was_set() {
+    let plain = Options::new(20);
+    assert_eq!((plain.bits(), plain.get_block_size(), plain.get_interval()), (20, 16, 128));
+    let flags = |it: &Options| {
+        [
+            it.get_signed(),
+            it.get_msb_first(),
+            it.get_three_byte(),
+            it.get_preprocess(),
+            it.get_pad(),
+            it.get_restricted(),
+            it.get_even_blocks(),
+        ]
+    };
+    assert_eq!(flags(&plain), [false, false, false, true, false, false, false]);
+    let setters: [fn(Options, bool) -> Options; 7] = [
+        Options::signed,
+        Options::msb_first,
+        Options::three_byte,
+        Options::preprocess,
+        Options::pad,
+        Options::restricted,
+        Options::even_blocks,
+    ];
+    for (place, set) in setters.iter().enumerate() {
+        let mut expected = flags(&plain);
+        expected[place] = !expected[place];
+        assert_eq!(flags(&set(plain, expected[place])), expected);
+    }
+    let sized = plain.block_size(32).interval(7);
+    assert_eq!((sized.get_block_size(), sized.get_interval()), (32, 7));
+}
+
+#[test]
 fn refusals_have_their_kind_and_place() {
     assert_eq!(encode(&[0u8], &Options::new(0)), Err(Error::Options { number: 1 }));
     assert_eq!(encode(&[0u8], &Options::new(8).block_size(10)), Err(Error::Options { number: 2 }));
