@@ -30,15 +30,15 @@ HEAD = """<!-- Written by `make pages` from the sentences over the definitions. 
 For whoever checks that the proofs speak of the right thing: each definition of `crates/*/specs` with its sentence. Ask
 of each whether it says what its sentence says. A sentence that is a rule of the format names its section of
 [FORMAT.md](FORMAT.md) (§), or its part of [COMMAND.md](COMMAND.md). Brackets also say how a definition differs from the
-code: a copy of the program would prove nothing.
+code, since a mere copy of the program would prove nothing.
 
 The definitions are lists, tables and relations over whole numbers without bound (ℕ, ℤ). `s` is the settings.
-[CHECK.md](CHECK.md) says what stands against a wrong one: worked values (`Worked..` in `proofs/`, `..Examples` in
+[CHECK.md](CHECK.md) says what would expose a wrong definition: worked values (`Worked..` in `proofs/`, `..Examples` in
 `specs/`), which the checker computes, the laws of each crate's `laws.rt`, and independent programs.
 """
 PUBLIC = """## What public contracts cite
 
-A reader of the contracts of calls and types needs these, and no others. Read them from the lowest crate upwards, the files of a crate in
+A reader of public contracts needs these, and no others. Read them from the lowest crate upwards, the files of a crate in
 this order: what is cited mostly stands before what cites it."""
 LAWS = """## What laws alone cite
 

@@ -35,23 +35,23 @@ LIBRARIES = ("aec_params", "aec_bits", "aec_block", "aec_interval", "aec_edit", 
 WAYS = [
     Way(
         "A coded sample, of a whole block that is split",
-        ["aec_engine::engine::coding::encode", "StreamCoder::feed", "pieces::join_judged", "shortest::write_shortest_of", "writing::put_split",
+        ["aec_engine::engine::coding::encode", "StreamCoder::feed", "pieces::take_part", "shortest::write_shortest_of", "writing::put_split",
          "writing::put_low_groups", "Gathered::put", "packed::push_reserved_number"],
-        28,
-        13,
+        22,
+        11,
     ),
     Way(
         "A decoded sample, of a block read at once",
-        ["aec_engine::engine::decoding::decode", "StreamReader::next_few", "reading::plain::fill_plain_block", "plain::read_plain", "BitReader::read_sequences", "BitBuf::word_from"],
-        26,
-        12,
+        ["aec_engine::engine::decoding::decode", "StreamReader::next_few", "reading::plain::fill_plain_blocks", "plain::read_plain", "BitReader::read_sequences", "BitBuf::word_from"],
+        21,
+        11,
     ),
     Way(
         "A line of a script, an overwrite",
         ["aec_engine::engine::editing::edit", "Workspace::apply", "Workspace::overwrite", "Codec::code", "shortest::write_shortest_of", "writing::put_split",
          "writing::put_low_groups", "Gathered::put", "packed::push_reserved_number"],
-        33,
-        16,
+        30,
+        14,
     ),
 ]  # fmt: skip
 

@@ -3,7 +3,7 @@ use Rattle.std.proofs.Common.{◌≡◌, ℕ, zero, suc, ◌+◌, ◌-◌, ◌*�
 use Rattle.std.specs.Prelude.{◌==◌, MatchOption}
 use Rattle.std.specs.Int.{div_ceil}
 use Rattle.std.proofs.lemmas.Bool.{cases_lt}
-use Rattle.std.proofs.lemmas.List.{length-replicate, append-nil, drop-append-le, drop-take, take-replicate, drop-replicate, drop-drop, get_or-take, get_or-drop, get_or-replicate}
+use Rattle.std.proofs.lemmas.List.{length-replicate, append-nil, drop-append-le, drop-take, take-replicate, drop-replicate, drop-drop, get_or-drop, get_or-replicate}
 use Rattle.aec_params.specs.Codewords.{fs, binary, bits_number, bytes_of, padded_to_byte}
 use Rattle.aec_params.specs.Cutting.{pieces_of, up_to_multiple}
 use Rattle.aec_params.proofs.CodewordLaws.{length-binary, length-fs}
@@ -12,7 +12,7 @@ use Rattle.aec_bits.specs.Words.{bits_of_words}
 use Rattle.aec_bits.specs.Packed.{ArePacked}
 use Rattle.aec_bits.proofs.CodewordLemmas.{byte_at, has_one-zeros, length-bytes_of}
 use Rattle.aec_bits.proofs.OverwriteLemmas.{take-append-add}
-use Rattle.aec_bits.proofs.WordLemmas.{binary-join}
+use Rattle.aec_bits.proofs.WordLemmas.{binary-join, length-bits_of_words}
 use Rattle.aec_bits.proofs.PackedLemmas.{length-packed, packed_bits}
 use Rattle.aec_bits.proofs.ZeroLemmas.{binary-zero}
 
@@ -80,12 +80,12 @@ one_within words len start v held within stands =
 
 pub zeros_within : (r : Option ℕ) (words : List ℕ) (len start : ℕ) → ArePacked words len → start ≤ len
     → MatchOption r (has_one (drop start (bits_of_words words)) ≡ false)
-    (λ v. (start + v < 64 * length words) × (drop start (bits_of_words words) ≡ fs v ++ drop (start + v + 1) (bits_of_words words)))
+    (λ v. (start + v < length (bits_of_words words)) × (drop start (bits_of_words words) ≡ fs v ++ drop (start + v + 1) (bits_of_words words)))
     → MatchOption r (has_one (drop start (take len (bits_of_words words))) ≡ false)
     (λ v. (start + v < len) × (drop start (take len (bits_of_words words)) ≡ fs v ++ drop (start + v + 1) (take len (bits_of_words words))))
 zeros_within None words len start held within none = sym (has_one_within words len start held within) ∙ none
 zeros_within (Some v) words len start held within found =
-    let before = one_within words len start v held found.0 found.1 in
+    let before = one_within words len start v held (omega (arith, found.0, length-bits_of_words words)) found.1 in
     let place : start + v + 1 ≡ start + (v + 1) = omega arith in (
       before,
       stands_within (bits_of_words words) (fs v) len start (v + 1) (length-fs v) (omega arith)

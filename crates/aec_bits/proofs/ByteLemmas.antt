@@ -1,11 +1,10 @@
 -- Bytes as words, and words as bytes.
-use Rattle.std.proofs.Common.{◌≡◌, ℕ, zero, suc, ◌+◌, ◌*◌, ◌/◌, ◌%◌, ◌^◌, ◌<◌, Bool, List, [], ◌++◌, length, take, drop, get_or, refl, sym, ap, ◌∙◌, subst, arith, append_assoc, take-add, div-one, pow-suc}
+use Rattle.std.proofs.Common.{◌≡◌, ℕ, zero, suc, ◌+◌, ◌*◌, ◌/◌, ◌%◌, ◌^◌, ◌<◌, Bool, List, ◌++◌, length, take, drop, get_or, refl, sym, ap, ◌∙◌, subst, arith, append_assoc, take-add, div-one, pow-suc}
 use Rattle.std.specs.Int.{w64, from_be_bytes, bytes_high_first, byte_at}
 use Rattle.std.proofs.lemmas.Nat.{be_bytes_8, pow-add}
-use Rattle.std.proofs.lemmas.List.{append-nil}
 use Rattle.aec_params.specs.Codewords.{binary, bits_of_bytes}
 use Rattle.aec_bits.specs.Words.{bits_of_words}
-use Rattle.aec_bits.specs.Packed.{ArePacked, Keep}
+use Rattle.aec_bits.specs.Packed.{Keep}
 use Rattle.aec_bits.proofs.CodewordLemmas.{bits_of_bytes-append}
 use Rattle.aec_bits.proofs.WordLemmas.{binary-add, binary-mod}
 

@@ -2,8 +2,7 @@
 use Rattle.std.proofs.Common.{◌≡◌, ℕ, zero, suc, ◌+◌, ◌*◌, ◌<◌, ◌≤◌, ◌^◌, Bool, true, List, [], ◌∷◌, ◌++◌, length, take, drop, get_or, ℤ, pos, nat_abs, refl, sym, ap, ◌∙◌, arith, append_assoc, length-append}
 use Rattle.std.proofs.lemmas.Bool.{and_parts}
 use Rattle.std.specs.List.{list_all, flat_map}
-use Rattle.std.proofs.lemmas.List.{take_more, drop_more, drop-drop, length-drop, append-nil, take_at, drop_at}
-use Rattle.std.proofs.lemmas.List.Concat.{flat_map-append}
+use Rattle.std.proofs.lemmas.List.{take_more, drop_more, drop-drop, length-drop, take_at, drop_at}
 use Rattle.aec_params.specs.Codewords.{binary}
 use Rattle.aec_bits.specs.Codec.{BeginsAt}
 use Rattle.aec_bits.specs.Octets.{octet_bits, is_octet, octets}

@@ -1,13 +1,12 @@
 -- Codewords that are read one after the other into a list of numbers.
-use Rattle.std.proofs.Common.{◌≡◌, ℕ, zero, suc, ◌+◌, ◌<◌, ◌≤◌, Bool, true, false, List, [], ◌∷◌, ◌++◌, length, take, replicate, set, refl, sym, ap, ◌∙◌, arith, append_assoc}
+use Rattle.std.proofs.Common.{◌≡◌, ℕ, zero, suc, ◌+◌, ◌<◌, Bool, true, false, List, [], ◌∷◌, ◌++◌, length, take, set, refl, sym, ap, ◌∙◌, arith, append_assoc}
 use Rattle.std.specs.List.{flat_map}
-use Rattle.std.proofs.lemmas.List.{take_more_set, take_all, length-take-le, append-nil, take-append-le, length-replicate, take-replicate}
+use Rattle.std.proofs.lemmas.List.{take_more_set, length-take-le, append-nil}
 use Rattle.std.proofs.lemmas.List.Concat.{flat_map-append}
 use Rattle.aec_params.specs.Codewords.{fs}
 use Rattle.aec_params.proofs.ListLaws.{all-append}
 use Rattle.aec_bits.specs.BitReader.{has_one, StopsBefore}
 use Rattle.aec_bits.specs.Windows.{StandsBefore}
-use Rattle.aec_bits.proofs.CodewordLemmas.{has_one-zeros}
 
 -- one more number
 pub stands_more : (codeword : ℕ → List Bool) (limit : ℕ) (items : List ℕ) (i v : ℕ) (rest now bits : List Bool) → i < length items → v < limit

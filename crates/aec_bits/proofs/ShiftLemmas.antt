@@ -1,8 +1,6 @@
 -- Laws of stretches of bits that are moved or copied in parts.
-use Rattle.std.proofs.Common.{◌≡◌, ℕ, ◌+◌, ◌-◌, ◌*◌, ◌<◌, ◌≤◌, Bool, List, [], ◌++◌, length, take, drop, set, get_or, refl, sym, ap, ap₂, ◌∙◌, arith, append_assoc}
+use Rattle.std.proofs.Common.{◌≡◌, ℕ, ◌+◌, ◌-◌, ◌*◌, ◌<◌, ◌≤◌, Bool, List, ◌++◌, length, take, drop, set, get_or, refl, sym, ap, ap₂, ◌∙◌, arith, append_assoc}
 use Rattle.std.proofs.lemmas.List.{take_at, drop_at, take-append-drop, drop-drop, drop-take, length-take-le, length-drop, take-append-le, take-take}
-use Rattle.aec_params.specs.Codewords.{binary}
-use Rattle.aec_params.proofs.CodewordLaws.{length-binary}
 use Rattle.aec_bits.specs.Words.{bits_of_words}
 use Rattle.aec_bits.specs.WordBits.{word_bits}
 use Rattle.aec_bits.proofs.OverwriteLemmas.{overwritten, drop-overwritten, overwritten-overwritten, take-append-add}

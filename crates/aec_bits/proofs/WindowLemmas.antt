@@ -10,7 +10,7 @@ use Rattle.std.proofs.lemmas.Nat.{shr-shr, shr_high, mod_low, and_mask, one_shl,
 use Rattle.std.proofs.lemmas.Nat.Bits.{and_high_mask}
 use Rattle.std.proofs.lemmas.List.{take_at, drop_at, take-append-drop, take-append-le, drop-append-le, drop-drop, drop-take, take-take, take-replicate, length-replicate, length-drop, replicate-append-replicate, get_or-take, get_or-append_right, get_or_past}
 use Rattle.aec_params.specs.Codewords.{fs, binary}
-use Rattle.aec_params.proofs.CodewordLaws.{length-binary, length-fs, binary-same}
+use Rattle.aec_params.proofs.CodewordLaws.{length-fs, binary-same}
 use Rattle.aec_bits.specs.BitReader.{has_one}
 use Rattle.aec_bits.specs.Words.{bits_of_words}
 use Rattle.aec_bits.specs.WordBits.{word_bits}

@@ -7,5 +7,7 @@ pub mod Octets
 pub mod Laws
 pub mod Words
 pub mod WordBits
+pub mod Stretches
 pub mod Packed
+pub mod Ones
 pub mod Windows

@@ -1,5 +1,5 @@
 -- Words that keep a list of bits.
-use Rattle.std.specs.Prelude.{ℕ, ◌≡◌, ◌-◌, ◌*◌, Bool, false, List, length, take, drop, replicate}
+use Rattle.std.specs.Prelude.{ℕ, ◌≡◌, ◌+◌, ◌-◌, ◌*◌, ◌^◌, ◌≤◌, Bool, false, List, Vec, ◌++◌, length, take, drop, replicate, vec_capacity}
 use Rattle.std.specs.Int.{div_ceil}
 use Rattle.aec_bits.specs.Words.{bits_of_words}
 
@@ -12,3 +12,20 @@ ArePacked words len =
 -- past its end
 abbrev pub Keep : List ℕ → ℕ → List Bool → Type 0
 Keep words len list = (take len (bits_of_words words) ≡ list) × ArePacked words len
+
+-- there is room for so many bits in all, at most 2^62
+pub record HasRoomFor {Z : Type 0} (total : ℕ) (words : Vec ℕ Z) : Type 0 where
+  pub bound : total ≤ 2 ^ 62
+  pub room : total ≤ 64 * vec_capacity words
+
+-- words keep a list of `len` bits, and there is room for so many more
+pub record CanGrow {Z : Type 0} (len more : ℕ) (words : Vec ℕ Z) : Type 0 where
+  pub bound : len + more ≤ 2 ^ 62
+  pub room : len + more ≤ 64 * vec_capacity words
+  pub packed : ArePacked words.items len
+
+-- words that kept a list of `len` bits keep it with a part of `more` bits after it, and their
+-- capacity does not shrink
+pub record Extends {Z : Type 0} (len more : ℕ) (part : List Bool) (old new : Vec ℕ Z) : Type 0 where
+  pub list : Keep new.items (len + more) (take len (bits_of_words old.items) ++ part)
+  pub capacity : vec_capacity old ≤ vec_capacity new

@@ -1,9 +1,7 @@
 //! A list of bits that grows.
 
 use crate::words::octets::append_octets;
-use crate::words::packed::{
-    append_bits, cut, push_number, push_reserved_number, push_unary, splice_bits,
-};
+use crate::words::packed::{append_bits, cut, push_reserved_number, push_unary, splice_bits};
 use crate::words::{number_at, padded_word_at, zeros_at};
 use aec_params::Fault;
 use byteorder::{BigEndian, ByteOrder};
@@ -42,12 +40,13 @@ impl Model for BitBuf {
 
 #[tactic(auto, using(crate::proofs::PackedLemmas::packed_lengths))]
 impl BitBuf {
-    ghost use Rattle.std.specs.Prelude.{◌≡◌, ◌+◌, ◌-◌, ◌*◌, ◌%◌, ◌<◌, ◌≤◌, ◌^◌, [], ◌∷◌, ◌++◌, List, Bool, true, false, length, take, drop, replicate, slice_index, slice_index_or, IfOk, IsOk, OnOk, OnErr, IfErr, MatchOption, is_some};
+    ghost use Rattle.std.specs.Prelude.{◌≡◌, ◌+◌, ◌-◌, ◌*◌, ◌%◌, ◌<◌, ◌≤◌, ◌^◌, [], ◌∷◌, ◌++◌, List, Bool, true, false, length, take, drop, replicate, slice_index, slice_index_or, IfOk, IsOk, OnOk, OnErr, IfErr};
     ghost use Rattle.std.specs.Int.{div_ceil};
     ghost use Rattle.aec_params.specs.declared.fault.Fault.TheVariants.{Memory};
     ghost use Rattle.aec_params.specs.Codewords.{fs, binary, bytes_of, bits_of_bytes, padded_to_byte};
     ghost use Rattle.aec_params.specs.Cutting.{up_to_multiple};
-    ghost use Rattle.aec_bits.specs.BitReader.{has_one};
+    ghost use Rattle.aec_bits.specs.BitBuf.{FitsWidth, AppendsBits};
+    ghost use Rattle.aec_bits.specs.BitReader.{BeginsWithNumber, CountsZeros};
     ghost use Rattle.aec_bits.specs.WordBits.{word_bits};
     ghost use Rattle.aec_bits.specs.Windows.{bits_from};
 
@@ -121,9 +120,8 @@ impl BitBuf {
     pub(crate) fn number(&self, start: u64, width: u32) -> u64
         requires width { width ≤ 64 }
         requires within { start + width ≤ length self.now.list }
-        ensures fits { result < 2 ^ width }
-        ensures bits { drop start self.now.list
-            ≡ binary width result ++ drop (start + width) self.now.list }
+        ensures { BeginsWithNumber width result (drop start self.now.list)
+            (drop (start + width) self.now.list) }
     {
         number_at(&self.words, start, width)
     }
@@ -141,11 +139,7 @@ impl BitBuf {
     /// How many zeros come from place `start` on before a 1 bit; `None` if no 1 bit follows.
     pub(crate) fn zeros_before_one(&self, start: u64) -> Option<u64>
         requires { start ≤ length self.now.list }
-        ensures cases { MatchOption result
-            (has_one (drop start self.now.list) ≡ false)
-            (λ v. (start + v < length self.now.list)
-            × (drop start self.now.list ≡ fs v ++ drop (start + v + 1) self.now.list)) }
-        ensures some { is_some result ≡ has_one (drop start self.now.list) }
+        ensures zeros { CountsZeros self.now.list start result }
         ensures bound { length self.now.list ≤ 2 ^ 62 }
     {
         zeros_at(&self.words, start)
@@ -196,19 +190,11 @@ impl BitBuf {
 
     /// Appends the bits of `value` in `width` bits, the most significant first.
     pub fn push_bits(&mut self, value: u64, width: u32) -> Result<(), Fault>
-        requires width { width ≤ 64 }
-        requires fits { value < 2 ^ width }
-        ensures ok { OnOk result (self.new.list ≡ self.old.list ++ binary width value) }
-        ensures room { OnOk result (self.old.room ≤ self.new.room + width) }
-        ensures err { OnErr result (self.new ≡ self.old) }
-        ensures full { OnErr result (self.old.room < width) }
-        ensures fault { IfErr result (λ e. e ≡ Memory) }
+        requires { FitsWidth width value }
+        ensures { AppendsBits width (binary width value) self.old self.new result }
     {
-        if u64::from(width) > MOST_BITS - self.len {
-            return Err(Fault::Memory);
-        }
-        push_number(&mut self.words, self.len, value, width)?;
-        self.len += u64::from(width);
+        self.reserve(u64::from(width))?;
+        self.push_reserved(value, width);
         Ok(())
     }
 
@@ -216,8 +202,7 @@ impl BitBuf {
     /// first. Takes no memory.
     #[inline(always)]
     pub fn push_reserved(&mut self, value: u64, width: u32)
-        requires width { width ≤ 64 }
-        requires fits { value < 2 ^ width }
+        requires number { FitsWidth width value }
         requires room { width ≤ self.old.room }
         ensures list { self.new.list ≡ self.old.list ++ binary width value }
         ensures room { self.old.room ≡ self.new.room + width }
@@ -228,11 +213,7 @@ impl BitBuf {
 
     /// Appends `v` zeros and a one.
     pub fn push_fs(&mut self, v: u64) -> Result<(), Fault>
-        ensures ok { OnOk result (self.new.list ≡ self.old.list ++ fs v) }
-        ensures room { OnOk result (self.old.room ≤ self.new.room + (v + 1)) }
-        ensures err { OnErr result (self.new ≡ self.old) }
-        ensures full { OnErr result (self.old.room < v + 1) }
-        ensures fault { IfErr result (λ e. e ≡ Memory) }
+        ensures { AppendsBits (v + 1) (fs v) self.old self.new result }
     {
         if v < 64 {
             return self.push_bits(1, v as u32 + 1);
@@ -248,11 +229,7 @@ impl BitBuf {
 
     /// Appends the bits of another list.
     pub fn append(&mut self, other: &BitBuf) -> Result<(), Fault>
-        ensures ok { OnOk result (self.new.list ≡ self.old.list ++ other.now.list) }
-        ensures room { OnOk result (self.old.room ≤ self.new.room + length other.now.list) }
-        ensures err { OnErr result (self.new ≡ self.old) }
-        ensures full { OnErr result (self.old.room < length other.now.list) }
-        ensures fault { IfErr result (λ e. e ≡ Memory) }
+        ensures { AppendsBits (length other.now.list) other.now.list self.old self.new result }
     {
         self.reserve(other.len)?;
         append_bits(&mut self.words, self.len, &other.words, other.len);
@@ -262,11 +239,8 @@ impl BitBuf {
 
     /// Appends the bits of bytes, the most significant bit of each first.
     pub fn append_bytes(&mut self, bytes: &[u8]) -> Result<(), Fault>
-        ensures ok { OnOk result (self.new.list ≡ self.old.list ++ bits_of_bytes bytes.now) }
-        ensures room { OnOk result (self.old.room ≤ self.new.room + 8 * length bytes.now) }
-        ensures err { OnErr result (self.new ≡ self.old) }
-        ensures full { OnErr result (self.old.room < 8 * length bytes.now) }
-        ensures fault { IfErr result (λ e. e ≡ Memory) }
+        ensures { AppendsBits (8 * length bytes.now) (bits_of_bytes bytes.now)
+            self.old self.new result }
     {
         if bytes.len() as u64 > (MOST_BITS - self.len) / 8 {
             return Err(Fault::Memory);
@@ -337,7 +311,7 @@ ghost use Rattle.std.specs.Prelude.{◌≡◌};
 ghost use Rattle.aec_params.specs.Cutting.{up_to_multiple};
 
 /// How many bits are missing up to a multiple of 8.
-fn missing_bits(len: u64) -> u64
+pub(crate) fn missing_bits(len: u64) -> u64
     ensures { result ≡ up_to_multiple 8 len }
 {
     (8 - len % 8) % 8

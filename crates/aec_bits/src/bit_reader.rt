@@ -3,7 +3,7 @@
 mod counted_ones;
 mod windows;
 
-use crate::bit_buf::BitBuf;
+use crate::bit_buf::{BitBuf, missing_bits};
 use crate::bit_reader::counted_ones::bits_to_one;
 use crate::bit_reader::windows::{numbers_from, sequences_from};
 use aec_params::Fault;
@@ -34,7 +34,7 @@ impl<'a> BitReader<'a> {
     ghost use Rattle.aec_params.specs.Codewords.{fs, binary};
     ghost use Rattle.aec_params.specs.Cutting.{up_to_multiple};
     ghost use Rattle.std.specs.List.{flat_map};
-    ghost use Rattle.aec_bits.specs.BitReader.{has_one, behind_ones, AreBelow, StopsBefore};
+    ghost use Rattle.aec_bits.specs.BitReader.{StaysWithin, MovesBy, has_one, behind_ones, AreBelow, StopsBefore};
 
     /// Returns a reader at the first bit.
     pub fn new(buf: &'a BitBuf) -> BitReader<'a>
@@ -72,13 +72,7 @@ impl<'a> BitReader<'a> {
         ensures bits { IfOk result (λ v.
             drop self.old.pos self.old.list
             ≡ binary width v ++ drop (self.old.pos + width) self.old.list) }
-        ensures moves { OnOk result (self.new.pos ≡ self.old.pos + width) }
-        ensures refuses { MatchResult result
-            (λ _. self.old.pos + width ≤ length self.old.list)
-            (λ e. (length self.old.list < self.old.pos + width) × (e ≡ Truncated self.old.pos)) }
-        ensures within { self.new.pos ≤ length self.new.list }
-        ensures list { self.new.list ≡ self.old.list }
-        ensures err { OnErr result (self.new ≡ self.old) }
+        ensures takes { MovesBy width self.old self.new result }
     {
         let start = self.pos;
         if u64::from(width) > self.buf.len() - start {
@@ -97,9 +91,7 @@ impl<'a> BitReader<'a> {
         ensures moves { IfOk result (λ v. self.new.pos ≡ self.old.pos + v + 1) }
         ensures refuses { IfErr result (λ e.
             (has_one (drop self.old.pos self.old.list) ≡ false) × (e ≡ Truncated self.old.pos)) }
-        ensures within { self.new.pos ≤ length self.new.list }
-        ensures list { self.new.list ≡ self.old.list }
-        ensures err { OnErr result (self.new ≡ self.old) }
+        ensures stays { StaysWithin self.old self.new result }
     {
         let start = self.pos;
         match self.buf.zeros_before_one(start) {
@@ -147,15 +139,9 @@ impl<'a> BitReader<'a> {
             (drop self.old.pos self.old.list
             ≡ flat_map (binary width) numbers.new ++ drop self.new.pos self.old.list) }
         ensures below { OnOk result (AreBelow (2 ^ width) numbers.new) }
-        ensures moves { OnOk result (self.new.pos ≡ self.old.pos + width * length numbers.old) }
-        ensures refuses { MatchResult result
-            (λ _. self.old.pos + width * length numbers.old ≤ length self.old.list)
-            (λ e. (length self.old.list < self.old.pos + width * length numbers.old)
-            × (e ≡ Truncated self.old.pos)) }
+        ensures takes { MovesBy (width * length numbers.old) self.old self.new result }
         ensures len { length numbers.new ≡ length numbers.old }
-        ensures within { self.new.pos ≤ length self.new.list }
-        ensures list { self.new.list ≡ self.old.list }
-        ensures err { OnErr result ((self.new ≡ self.old) × (numbers.new ≡ numbers.old)) }
+        ensures err { OnErr result (numbers.new ≡ numbers.old) }
     {
         let start = self.pos;
         let bits = u64::from(width).saturating_mul(numbers.len() as u64);
@@ -170,13 +156,7 @@ impl<'a> BitReader<'a> {
 
     /// Skips the next `count` bits. Fails with `Truncated` and the present place if fewer are left.
     pub fn skip_bits(&mut self, count: u64) -> Result<(), Fault>
-        ensures moves { OnOk result (self.new.pos ≡ self.old.pos + count) }
-        ensures refuses { MatchResult result
-            (λ _. self.old.pos + count ≤ length self.old.list)
-            (λ e. (length self.old.list < self.old.pos + count) × (e ≡ Truncated self.old.pos)) }
-        ensures within { self.new.pos ≤ length self.new.list }
-        ensures list { self.new.list ≡ self.old.list }
-        ensures err { OnErr result (self.new ≡ self.old) }
+        ensures { MovesBy count self.old self.new result }
     {
         let start = self.pos;
         if count > self.buf.len() - start {
@@ -195,9 +175,7 @@ impl<'a> BitReader<'a> {
             (λ e. (behind_ones count (drop self.old.pos self.old.list) ≡ None)
             × (e ≡ Truncated self.old.pos)) }
         ensures moves { IfOk result (λ gone. self.new.pos ≡ self.old.pos + gone) }
-        ensures within { self.new.pos ≤ length self.new.list }
-        ensures list { self.new.list ≡ self.old.list }
-        ensures err { OnErr result (self.new ≡ self.old) }
+        ensures stays { StaysWithin self.old self.new result }
     {
         let start = self.pos;
         if count == 0 {
@@ -220,8 +198,7 @@ impl<'a> BitReader<'a> {
             ≡ min (self.old.pos + up_to_multiple 8 self.old.pos) (length self.old.list) }
     {
         let len = self.buf.len();
-        let missing = (8 - self.pos % 8) % 8;
-        self.pos = (self.pos + missing).min(len);
+        self.pos = (self.pos + missing_bits(self.pos)).min(len);
     }
 
     /// Returns whether no bit that is left is a 1. True at the end.

@@ -5,9 +5,11 @@ mod copying_fours;
 pub(crate) mod octets;
 pub(crate) mod packed;
 
-ghost use Rattle.std.specs.Prelude.{◌≡◌, ◌+◌, ◌-◌, ◌*◌, ◌<◌, ◌≤◌, ◌^◌, ◌++◌, false, length, take, drop, replicate, slice_index_or, MatchOption, is_some};
+ghost use Rattle.std.specs.Prelude.{◌≡◌, ◌+◌, ◌-◌, ◌*◌, ◌<◌, ◌≤◌, ◌^◌, ◌++◌, false, length, take, drop, replicate, slice_index_or, MatchOption};
 ghost use Rattle.aec_params.specs.Codewords.{fs, binary};
-ghost use Rattle.aec_bits.specs.BitReader.{has_one};
+ghost use Rattle.aec_bits.specs.BitBuf.{FitsWidth};
+ghost use Rattle.aec_bits.specs.BitReader.{BeginsWithNumber, CountsZeros};
+ghost use Rattle.aec_bits.specs.Stretches.{IsPartOfWord, IsInnerPlace, AreOverwritten};
 ghost use Rattle.aec_bits.specs.Words.{bits_of_words};
 ghost use Rattle.aec_bits.specs.WordBits.{word_bits};
 ghost use Rattle.aec_bits.specs.Windows.{bits_from};
@@ -15,11 +17,9 @@ ghost use Rattle.aec_bits.specs.Windows.{bits_from};
 /// The number that `width` bits of a word spell from place `at` on.
 #[inline(always)]
 fn part_of(word: u64, at: u32, width: u32) -> u64
-    requires some { 0 < width }
-    requires within { at + width ≤ 64 }
-    ensures fits { result < 2 ^ width }
-    ensures bits { drop at (word_bits word)
-        ≡ binary width result ++ drop (at + width) (word_bits word) }
+    requires { IsPartOfWord at width }
+    ensures { BeginsWithNumber width result (drop at (word_bits word))
+        (drop (at + width) (word_bits word)) }
 {
     (word << at) >> (64 - width)
 }
@@ -27,9 +27,8 @@ fn part_of(word: u64, at: u32, width: u32) -> u64
 /// The word that begins at place `at` of a word, with another one after it.
 #[inline(always)]
 fn joined(first: u64, second: u64, at: u32) -> u64
-    requires some { 0 < at }
-    requires within { at < 64 }
-    ensures bits { word_bits result ≡ drop at (word_bits first) ++ take at (word_bits second) }
+    requires { IsInnerPlace at }
+    ensures { word_bits result ≡ drop at (word_bits first) ++ take at (word_bits second) }
 {
     (first << at) | (second >> (64 - at))
 }
@@ -39,9 +38,8 @@ fn joined(first: u64, second: u64, at: u32) -> u64
 pub(crate) fn number_at(words: &[u64], start: u64, width: u32) -> u64
     requires width { width ≤ 64 }
     requires within { start + width ≤ 64 * length words.now }
-    ensures fits { result < 2 ^ width }
-    ensures bits { drop start (bits_of_words words.now)
-        ≡ binary width result ++ drop (start + width) (bits_of_words words.now) }
+    ensures { BeginsWithNumber width result (drop start (bits_of_words words.now))
+        (drop (start + width) (bits_of_words words.now)) }
 {
     if width == 0 {
         return 0;
@@ -97,10 +95,9 @@ pub(crate) fn padded_word_at(words: &[u64], start: u64) -> u64
 /// A word of which `width` bits from place `at` on were overwritten by a number.
 #[inline(always)]
 fn put_in_word(word: u64, at: u32, width: u32, value: u64) -> u64
-    requires some { 0 < width }
-    requires within { at + width ≤ 64 }
+    requires part { IsPartOfWord at width }
     requires fits { value < 2 ^ width }
-    ensures bits { word_bits result
+    ensures { word_bits result
         ≡ take at (word_bits word) ++ (binary width value ++ drop (at + width) (word_bits word)) }
 {
     let behind = 64 - at - width;
@@ -111,13 +108,9 @@ fn put_in_word(word: u64, at: u32, width: u32, value: u64) -> u64
 
 /// Overwrites `width` bits from place `start` on by a number, the most significant bit first.
 pub(crate) fn put_number(words: &mut [u64], start: u64, width: u32, value: u64)
-    requires width { width ≤ 64 }
-    requires fits { value < 2 ^ width }
+    requires number { FitsWidth width value }
     requires within { start + width ≤ 64 * length words.old }
-    ensures bits { bits_of_words words.new
-        ≡ take start (bits_of_words words.old)
-        ++ (binary width value ++ drop (start + width) (bits_of_words words.old)) }
-    ensures len { length words.new ≡ length words.old }
+    ensures { AreOverwritten start width (binary width value) words.old words.new }
 {
     if width == 0 {
         return;
@@ -155,12 +148,7 @@ fn zeros_in_word(word: u64, at: u32) -> Option<u32>
 pub(crate) fn zeros_at(words: &[u64], start: u64) -> Option<u64>
     requires within { start ≤ 64 * length words.now }
     requires bound { 64 * length words.now ≤ 2 ^ 63 }
-    ensures cases { MatchOption result
-        (has_one (drop start (bits_of_words words.now)) ≡ false)
-        (λ v. (start + v < 64 * length words.now)
-        × (drop start (bits_of_words words.now)
-        ≡ fs v ++ drop (start + v + 1) (bits_of_words words.now))) }
-    ensures some { is_some result ≡ has_one (drop start (bits_of_words words.now)) }
+    ensures { CountsZeros (bits_of_words words.now) start result }
 {
     let mut at = (start % 64) as u32;
     for i in (start / 64) as usize..words.len() {

@@ -154,7 +154,7 @@ names-split s b options k best next named count is_best is =
 -- ---- where the second extension can't win
 
 -- beyond the limit it is longer than any choice so far
-pub pairs-too_long : (pairs : ℕ) (best : Choice) (c : Choice) → 2 ^ 31 ≤ pairs → best.bits ≤ 2 ^ 31
+pub pairs-too_long : (pairs : ℕ) (best : Choice) (c : Choice) → 2 ^ 31 < pairs → best.bits ≤ 2 ^ 31
     → best ≡ (if nat_lt pairs best.bits then c else best)
 pairs-too_long pairs best c long short = sym (cond-false (nat_lt pairs best.bits) c best (le-ltb pairs best.bits (omega arith)))
 

@@ -8,7 +8,7 @@ use Rattle.std.proofs.lemmas.Grind.{flat_map-append}
 use Rattle.aec_params.specs.Codewords.{fs, binary}
 use Rattle.aec_bits.proofs.BitBufLemmas.{binary-one}
 use Rattle.aec_block.specs.HighWords.{GoesOn}
-use Rattle.aec_block.specs.Written.{high_parts}
+use Rattle.aec_block.specs.Written.{high_parts, Spells}
 use Rattle.aec_block.proofs.LengthLemmas.{length-fs}
 use Rattle.aec_block.proofs.GatheredLemmas.{IsJoined, is_joined_number, one_below}
 
@@ -155,16 +155,12 @@ few-rest k w values few =
       length-high_parts_append k (take w values) (take (length values - w) (drop w values)),
     )
 
--- a number that the codewords of values spell
-pub record IsHighWord (k : ℕ) (values : List ℕ) (word : ℕ) : Type 0 where
-  pub below : word < 2 ^ length (high_parts k values)
-  pub bits : binary (length (high_parts k values)) word ≡ high_parts k values
-
+-- the codewords of all values
 pub is_high_word : (k w front : ℕ) (values : List ℕ) (word next : ℕ) → front ≡ w → length (high_parts k values) < 64
     → GoesOn k 0 0 (take front values) word
     → let rest = take (length values - w) (drop w values) in
     ((used : ℕ) → used + length (high_parts k rest) ≤ 64 → word < 2 ^ used → GoesOn k used word rest next)
-    → IsHighWord k values next
+    → Spells (length (high_parts k values)) (high_parts k values) next
 is_high_word k w front values word next is few begun later =
     let so_far : GoesOn k 0 0 (take w values) word = subst (λ n. GoesOn k 0 0 (take n values) word) is begun in
     let rest = take (length values - w) (drop w values) in

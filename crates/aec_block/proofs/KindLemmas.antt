@@ -7,7 +7,6 @@ use Rattle.aec_params.specs.Codewords.{binary}
 use Rattle.aec_block.specs.declared.reading.Kind.{Kind}
 use Rattle.aec_block.specs.declared.reading.Kind.TheVariants.{ZeroBlocks, SecondExtension, Split, NoCompression}
 use Rattle.aec_bits.specs.BitReader.{has_one}
-use Rattle.aec_block.specs.ReadCds.{is_plain}
 use Rattle.aec_block.specs.ReadAt.{taken, map_taken, binary_at, kind_of_last, kind_of_number, kind_after, kind_at}
 use Rattle.aec_block.proofs.CodewordLemmas.{then_at-passed, map_taken-mapped, binary-add, binary_at-binary, binary_at-spelled}
 

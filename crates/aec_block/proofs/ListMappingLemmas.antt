@@ -1,6 +1,6 @@
 -- Lists of samples mapped one behind the other, and samples taken back from lists of values.
-use Rattle.std.proofs.Common.{◌≡◌, ℕ, zero, suc, Bool, if◌then◌else◌, ◌+◌, ◌-◌, ◌<◌, ◌≤◌, ◌^◌, Option, Some, true, false, ℤ, pos, List, [], ◌∷◌, ◌++◌, length, map, take, drop, get_or, slice_set, unwrap_or, refl, sym, ap, ap₂, ◌∙◌, subst, append_assoc, append-nil, drop-cons, arith, w64, FitsSigned}
-use Rattle.std.proofs.lemmas.List.{take_more, take_more_set, take_all, drop_all, drop-set-lt, length-set, map-append}
+use Rattle.std.proofs.Common.{◌≡◌, ℕ, zero, suc, Bool, if◌then◌else◌, ◌+◌, ◌-◌, ◌<◌, ◌≤◌, ◌^◌, min, Option, Some, true, false, ℤ, pos, List, [], ◌∷◌, ◌++◌, length, map, take, drop, get_or, slice_set, unwrap_or, refl, sym, ap, ap₂, ◌∙◌, subst, append_assoc, append-nil, arith, w64, FitsSigned}
+use Rattle.std.proofs.lemmas.List.{length-take, take_more, take_more_set, length-set, map-append}
 use Rattle.std.proofs.lemmas.Bool.Decides.{nat_tests}
 use Rattle.std.proofs.lemmas.Int.{ints, fits_signed_from_abs}
 use Rattle.std.specs.Prelude.{◌+ℤ◌, ◌-ℤ◌, ◌≤ℤ◌, neg_ℤ, unsigned_abs}
@@ -198,3 +198,7 @@ unmaps-pattern s kept x values i old mid new off within e held pattern pushed so
     (subst (λ values. Unmaps s p values old (mid ++ x ∷ [])) (sym (take_more values i 0 within))
     (unmaps-more s p x (take i values) (get_or values i 0) old mid (so_far p) held
     (mapped_value-pattern s (unwrap_or (last_or (Some p) (so_far p).more) (pos 0)) x off ∙ pattern)))
+
+-- as many items in front
+pub length-take_equal : (n : ℕ) (xs ys : List ℤ) → length xs ≡ length ys → length (take n xs) ≡ length (take n ys)
+length-take_equal n xs ys same = length-take n xs ∙ ap (min n) same ∙ sym (length-take n ys)

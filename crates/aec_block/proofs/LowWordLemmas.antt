@@ -78,6 +78,10 @@ low_parts-group width n i values word before is =
 
 -- ---- eight at once
 
+-- a number of n bits, which are those of values of k bits each
+abbrev pub SpellsEach : ℕ → ℕ → List ℕ → ℕ → Type 0
+SpellsEach k n values number = Spells n (flat_map (binary k) values) number
+
 -- two numbers of n bits each, joined as one of m
 joined_value : (n m x y : ℕ) → n + n ≡ m → m ≤ 32 → x < 2 ^ n → y < 2 ^ n → (x * 2 ^ n % 4294967296 + y) % 4294967296 ≡ x * 2 ^ n % 2 ^ 64 + y
 joined_value n m x y sum short high low =
@@ -87,7 +91,8 @@ joined_value n m x y sum short high low =
     let most : 2 ^ (n + n) ≤ 2 ^ 32 = pow_mono {i = n + n} {j = 32} (omega (arith, sum, short)) in
     omega (arith, narrow, wide, next.below, most)
 
-join_word : (k n m : ℕ) (vs us : List ℕ) (x y : ℕ) → n + n ≡ m → m ≤ 64 → Spells k n vs x → Spells k n us y → Spells k m (vs ++ us) (x * 2 ^ n % 2 ^ 64 + y)
+join_word : (k n m : ℕ) (vs us : List ℕ) (x y : ℕ) → n + n ≡ m → m ≤ 64 → SpellsEach k n vs x → SpellsEach k n us y
+    → SpellsEach k m (vs ++ us) (x * 2 ^ n % 2 ^ 64 + y)
 join_word k n m vs us x y sum short first second =
     let next = is_joined_number n n x y (omega (arith, sum, short)) first.below second.below in
     let value : ℕ = x * 2 ^ n % 2 ^ 64 + y in
@@ -96,13 +101,13 @@ join_word k n m vs us x y sum short first second =
       bits = ap (λ (b : ℕ). binary b value) (sym sum) ∙ next.bits ∙ ap₂ ◌++◌ first.bits second.bits ∙ sym (flat_map-append (binary k) vs us);
     }
 
-join_lane : (k n m : ℕ) (vs us : List ℕ) (x y : ℕ) → n + n ≡ m → m ≤ 32 → Spells k n vs x → Spells k n us y
-    → Spells k m (vs ++ us) ((x * 2 ^ n % 4294967296 + y) % 4294967296)
+join_lane : (k n m : ℕ) (vs us : List ℕ) (x y : ℕ) → n + n ≡ m → m ≤ 32 → SpellsEach k n vs x → SpellsEach k n us y
+    → SpellsEach k m (vs ++ us) ((x * 2 ^ n % 4294967296 + y) % 4294967296)
 join_lane k n m vs us x y sum short first second =
-    subst (Spells k m (vs ++ us)) (sym (joined_value n m x y sum short first.below second.below))
+    subst (SpellsEach k m (vs ++ us)) (sym (joined_value n m x y sum short first.below second.below))
     (join_word k n m vs us x y sum (omega (arith, short)) first second)
 
-one_spells : (k v : ℕ) → v < 2 ^ k → Spells k k (v ∷ []) v
+one_spells : (k v : ℕ) → v < 2 ^ k → SpellsEach k k (v ∷ []) v
 one_spells k v small = record { below = small; bits = sym (append-nil (binary k v)) }
 
 abbrev two_of : ℕ → ℕ → ℕ → ℕ
@@ -111,16 +116,16 @@ two_of n x y = (x * 2 ^ n % 4294967296 + y) % 4294967296
 pub eight_spell : (k : ℕ) (xs : List ℕ) (high low : ℕ) → k ≤ 7 → length xs ≡ 8 → AllByRecursion (λ v. v < 2 ^ k) xs
     → high ≡ two_of (2 * k) (two_of k (get_or (xs ++ xs) 0 0) (get_or (xs ++ xs) 1 0)) (two_of k (get_or (xs ++ xs) 2 0) (get_or (xs ++ xs) 3 0))
     → low ≡ two_of (2 * k) (two_of k (get_or (xs ++ xs) 4 0) (get_or (xs ++ xs) 5 0)) (two_of k (get_or (xs ++ xs) 6 0) (get_or (xs ++ xs) 7 0))
-    → Spells k (8 * k) xs (high * 2 ^ (4 * k) % 2 ^ 64 + low)
+    → SpellsEach k (8 * k) xs (high * 2 ^ (4 * k) % 2 ^ 64 + low)
 eight_spell k (a ∷ b ∷ c ∷ d ∷ e ∷ f ∷ g ∷ h ∷ []) high low few long all high_is low_is =
     let first = join_lane k k (2 * k) (a ∷ []) (b ∷ []) a b (omega arith) (omega arith) (one_spells k a all.0) (one_spells k b all.1.0) in
     let second = join_lane k k (2 * k) (c ∷ []) (d ∷ []) c d (omega arith) (omega arith) (one_spells k c all.1.1.0) (one_spells k d all.1.1.1.0) in
     let third = join_lane k k (2 * k) (e ∷ []) (f ∷ []) e f (omega arith) (omega arith) (one_spells k e all.1.1.1.1.0) (one_spells k f all.1.1.1.1.1.0) in
     let fourth = join_lane k k (2 * k) (g ∷ []) (h ∷ []) g h (omega arith) (omega arith)
     (one_spells k g all.1.1.1.1.1.1.0) (one_spells k h all.1.1.1.1.1.1.1.0) in
-    let front : Spells k (4 * k) (a ∷ b ∷ c ∷ d ∷ []) high = subst (Spells k (4 * k) (a ∷ b ∷ c ∷ d ∷ [])) (sym high_is)
+    let front : SpellsEach k (4 * k) (a ∷ b ∷ c ∷ d ∷ []) high = subst (SpellsEach k (4 * k) (a ∷ b ∷ c ∷ d ∷ [])) (sym high_is)
     (join_lane k (2 * k) (4 * k) (a ∷ b ∷ []) (c ∷ d ∷ []) _ _ (omega arith) (omega arith) first second) in
-    let back : Spells k (4 * k) (e ∷ f ∷ g ∷ h ∷ []) low = subst (Spells k (4 * k) (e ∷ f ∷ g ∷ h ∷ [])) (sym low_is)
+    let back : SpellsEach k (4 * k) (e ∷ f ∷ g ∷ h ∷ []) low = subst (SpellsEach k (4 * k) (e ∷ f ∷ g ∷ h ∷ [])) (sym low_is)
     (join_lane k (2 * k) (4 * k) (e ∷ f ∷ []) (g ∷ h ∷ []) _ _ (omega arith) (omega arith) third fourth) in
     join_word k (4 * k) (8 * k) (a ∷ b ∷ c ∷ d ∷ []) (e ∷ f ∷ g ∷ h ∷ []) high low (omega arith) (omega arith) front back
 eight_spell k [] high low few long all high_is low_is = absurd (omega arith)
@@ -157,10 +162,11 @@ lows_spell : (k : ℕ) (xs : List ℕ) → flat_map (binary k) (map (λ v. v % 2
 lows_spell k [] = refl
 lows_spell k (x ∷ xs) = ap (λ l. binary k (x % 2 ^ k) ++ l) (lows_spell k xs)
 
-pub eight_low_word : (k n : ℕ) (xs lows : List ℕ) (number : ℕ) → n ≡ 8 → lows ≡ map (λ v. v % 2 ^ k) xs → Spells k (8 * k) lows number
-    → (number < 2 ^ (n * k)) × (binary (n * k) number ≡ low_parts k xs)
+pub eight_low_word : (k n : ℕ) (xs lows : List ℕ) (number : ℕ) → n ≡ 8 → lows ≡ map (λ v. v % 2 ^ k) xs → SpellsEach k (8 * k) lows number
+    → Spells (n * k) (low_parts k xs) number
 eight_low_word k n xs lows number count is spelled =
-    let e : 8 * k ≡ n * k = ap (λ m. m * k) (sym count) in (
-      subst (λ m. number < 2 ^ m) e spelled.below,
-      ap (λ m. binary m number) (sym e) ∙ spelled.bits ∙ ap (flat_map (binary k)) is ∙ lows_spell k xs,
-    )
+    let e : 8 * k ≡ n * k = ap (λ m. m * k) (sym count) in
+    record {
+      below = subst (λ m. number < 2 ^ m) e spelled.below;
+      bits = ap (λ m. binary m number) (sym e) ∙ spelled.bits ∙ ap (flat_map (binary k)) is ∙ lows_spell k xs;
+    }

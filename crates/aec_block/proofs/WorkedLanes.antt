@@ -2,7 +2,7 @@
 -- one number. Each value is worked out by hand.
 use Rattle.std.proofs.Common.{◌≡◌, ◌+◌, ◌*◌, ◌^◌, [], ◌∷◌, map, refl, arith}
 use Rattle.aec_block.specs.Offsets.{near_difference, places_before, places_after}
-use Rattle.aec_block.specs.Written.{Spells}
+use Rattle.aec_block.proofs.LowWordLemmas.{SpellsEach}
 
 -- 0, -1, 1, -2, 2 and -3
 pub differences_of_near_values : map near_difference (0 ∷ 1 ∷ 2 ∷ 3 ∷ 4 ∷ 5 ∷ [])
@@ -21,9 +21,9 @@ pub places_past_the_ends : places_after 4294967295 (2 ∷ 4294967294 ∷ []) ≡
 places_past_the_ends = refl
 
 -- 101 000 000 000 000 000 000 011
-pub three_bits_each : Spells 3 24 (5 ∷ 0 ∷ 0 ∷ 0 ∷ 0 ∷ 0 ∷ 0 ∷ 3 ∷ []) 0xA00003
+pub three_bits_each : SpellsEach 3 24 (5 ∷ 0 ∷ 0 ∷ 0 ∷ 0 ∷ 0 ∷ 0 ∷ 3 ∷ []) 0xA00003
 three_bits_each = record { below = omega arith; bits = refl }
 
 -- the greatest of seven bits in front, and a 1 at the end
-pub seven_bits_each : Spells 7 56 (127 ∷ 0 ∷ 0 ∷ 0 ∷ 0 ∷ 0 ∷ 0 ∷ 1 ∷ []) (127 * 2 ^ 49 + 1)
+pub seven_bits_each : SpellsEach 7 56 (127 ∷ 0 ∷ 0 ∷ 0 ∷ 0 ∷ 0 ∷ 0 ∷ 1 ∷ []) (127 * 2 ^ 49 + 1)
 seven_bits_each = record { below = omega arith; bits = refl }

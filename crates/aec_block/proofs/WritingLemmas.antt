@@ -1,5 +1,5 @@
 -- Codewords appended one after another into reserved room.
-use Rattle.std.proofs.Common.{◌≡◌, ℕ, zero, suc, ◌+◌, ◌-◌, ◌*◌, ◌/◌, ◌%◌, ◌^◌, ◌<◌, ◌≤◌, refl, ap, ◌∙◌, sym, arith, Bool, Option, Some, None, List, [], ◌∷◌, ◌++◌, length, take, drop, get_or, drop-cons, append_assoc, append-nil, length-append, length-drop, if◌then◌else◌, nat_le, lit<}
+use Rattle.std.proofs.Common.{◌≡◌, ℕ, zero, suc, ◌+◌, ◌-◌, ◌*◌, ◌/◌, ◌%◌, ◌^◌, ◌<◌, ◌≤◌, refl, ap, ◌∙◌, sym, subst, arith, Bool, Option, Some, None, List, [], ◌∷◌, ◌++◌, length, take, drop, get_or, drop-cons, append_assoc, append-nil, length-append, length-drop, if◌then◌else◌, nat_le, lit<}
 use Rattle.std.specs.List.{flat_map, AllByRecursion}
 use Rattle.std.proofs.lemmas.List.{take_rest}
 use Rattle.std.proofs.lemmas.Bool.{cond_both}
@@ -9,32 +9,27 @@ use Rattle.aec_params.specs.CodedDataSets.{pair_number, pair_bits, reference_bit
 use Rattle.aec_params.specs.declared.settings.Settings.{Settings}
 use Rattle.aec_params.specs.Params.{id_len}
 use Rattle.aec_params.specs.Blocks.{Block}
-use Rattle.aec_params.specs.Spellings.{after_reference, written_values, uncompressed}
+use Rattle.aec_params.specs.Spellings.{after_reference, written_values, uncompressed, paired, split}
 use Rattle.std.proofs.Math.Nat.{mod-eq_of_lt}
 use Rattle.aec_block.specs.Choices.{IsFull}
-use Rattle.aec_block.specs.Written.{high_parts, low_parts}
+use Rattle.aec_bits.specs.BitBuf.{Bits}
+use Rattle.aec_block.specs.Written.{high_parts, low_parts, split_parts, Adds, Gathers}
 use Rattle.aec_block.proofs.LengthLemmas.{length-fs, length-binary, length-reference_bits}
 
--- what stands in a list so far, with what is still to be appended, makes a whole; and there is room
--- for what is still to come
-pub record Appending (old new done todo : List Bool) (before after : ℕ) : Type 0 where
-  pub list : new ++ todo ≡ old ++ done
-  pub room : before + length todo ≤ after + length done
-
 -- the next codeword is gathered: what was held before may be in the list now
-pub gathering-more : (old new next done held kept todo codeword rest : List Bool) (before after later n : ℕ)
-    → Appending old new done (held ++ todo) before after
-    → todo ≡ codeword ++ rest → next ++ kept ≡ new ++ (held ++ codeword) → length codeword ≡ n → after + length kept ≤ later + (length held + n)
-    → Appending old next done (kept ++ rest) before later
-gathering-more old new next done held kept todo codeword rest before after later n so_far split is len room = record {
+pub gathering-more : (old new next : Bits) (done held kept todo codeword rest : List Bool) → Gathers done old (held ++ todo) new
+    → todo ≡ codeword ++ rest → Gathers (held ++ codeword) new kept next → Gathers done old (kept ++ rest) next
+gathering-more old new next done held kept todo codeword rest so_far split step = record {
   list =
-      sym (append_assoc next kept rest) ∙ ap (λ (bits : List Bool). bits ++ rest) is ∙ append_assoc new (held ++ codeword) rest
-      ∙ ap (λ (bits : List Bool). new ++ bits) (append_assoc held codeword rest ∙ sym (ap (λ (bits : List Bool). held ++ bits) split)) ∙ so_far.list;
+      sym (append_assoc next.list kept rest) ∙ ap (λ (bits : List Bool). bits ++ rest) step.list ∙ append_assoc new.list (held ++ codeword) rest
+      ∙ ap (λ (bits : List Bool). new.list ++ bits) (append_assoc held codeword rest ∙ sym (ap (λ (bits : List Bool). held ++ bits) split)) ∙ so_far.list;
   room =
       let total = ap (length {A = Bool}) split ∙ length-append codeword rest in
       let ahead = length-append held todo in
       let behind = length-append kept rest in
+      let both = length-append held codeword in
       let so_much = so_far.room in
+      let more = step.room in
       omega arith;
 }
 
@@ -45,11 +40,31 @@ parts-joined old middle new held between kept first second begun added =
     added ∙ sym (append_assoc middle between second) ∙ ap (λ (bits : List Bool). bits ++ second) begun
     ∙ append_assoc old (held ++ first) second ∙ ap (λ (bits : List Bool). old ++ bits) (append_assoc held first second)
 
--- a head and its values
-pub gathered-part : (old at_head at_part new head_held part_held head part : List Bool) → at_head ++ head_held ≡ old ++ head
-    → at_part ++ part_held ≡ at_head ++ (head_held ++ part) → new ≡ at_part ++ part_held → new ≡ old ++ (head ++ part)
-gathered-part old at_head at_part new head_held part_held head part begun added is =
-    is ∙ added ∙ sym (append_assoc at_head head_held part) ∙ ap (λ (bits : List Bool). bits ++ part) begun ∙ append_assoc old head part
+-- bits are gathered after others
+pub gathers-then : (old middle new : Bits) (done held more kept : List Bool) → Gathers done old held middle → Gathers (held ++ more) middle kept new
+    → Gathers (done ++ more) old kept new
+gathers-then old middle new done held more kept first second = record {
+  list =
+      second.list ∙ sym (append_assoc middle.list held more) ∙ ap (λ (bits : List Bool). bits ++ more) first.list ∙ append_assoc old.list done more;
+  room =
+      let total = length-append done more in
+      let both = length-append held more in
+      let so_much = first.room in
+      let later = second.room in
+      omega arith;
+}
+
+-- what is held is appended: these are the bits
+pub gathers-added : (old middle new : Bits) (done held bits : List Bool) → Gathers done old held middle → Adds held middle new → done ≡ bits
+    → Adds bits old new
+gathers-added old middle new done held bits first last is = record {
+  list = last.list ∙ first.list ∙ ap (λ (bits : List Bool). old.list ++ bits) is;
+  room =
+      let so_much = first.room in
+      let later = last.room in
+      let same = ap (length {A = Bool}) is in
+      omega arith;
+}
 
 flat_map-drop : (f : ℕ → List Bool) (values : List ℕ) (i j : ℕ) → j ≡ i + 1 → i < length values
     → flat_map f (drop i values) ≡ f (get_or values i 0) ++ flat_map f (drop j values)
@@ -75,9 +90,9 @@ pair_bits-drop values i j k next after within =
     rw (at_j, at_k) (ap pair_bits (drop-cons values i 0 here)
     ∙ ap (λ (rest : List ℕ). pair_bits (get_or values i 0 ∷ rest)) (drop-cons values (suc i) 0 there))
 
-pub room-for_next : (old new done held todo codeword rest : List Bool) (before after n : ℕ) → Appending old new done (held ++ todo) before after
-    → length done ≤ before → todo ≡ codeword ++ rest → length codeword ≡ n → length held + n ≤ after
-room-for_next old new done held todo codeword rest before after n so_far reserved split is =
+pub room-for_next : (old new : Bits) (done held todo codeword rest : List Bool) (n : ℕ) → Gathers done old (held ++ todo) new
+    → length done ≤ old.room → todo ≡ codeword ++ rest → length codeword ≡ n → length held + n ≤ new.room
+room-for_next old new done held todo codeword rest n so_far reserved split is =
     let total = ap (length {A = Bool}) split ∙ length-append codeword rest in
     let ahead = length-append held todo in
     let so_much = so_far.room in
@@ -89,10 +104,9 @@ length-parts todo codeword rest n split is =
     omega arith
 
 -- nothing is left
-pub gathered-all : (old new done held todo : List Bool) (before after : ℕ) → Appending old new done (held ++ todo) before after → todo ≡ []
-    → new ++ held ≡ old ++ done
-gathered-all old new done held todo before after so_far none =
-    sym (ap (λ (bits : List Bool). new ++ bits) (ap (λ (bits : List Bool). held ++ bits) none ∙ append-nil held)) ∙ so_far.list
+pub gathered-all : (old new : Bits) (done held todo : List Bool) → Gathers done old (held ++ todo) new → todo ≡ [] → Gathers done old held new
+gathered-all old new done held todo so_far none =
+    subst (λ bits. Gathers done old bits new) (ap (λ (bits : List Bool). held ++ bits) none ∙ append-nil held) so_far
 
 pair_bits-short : (values : List ℕ) → length values ≤ 1 → pair_bits values ≡ []
 pair_bits-short [] few = refl
@@ -138,6 +152,21 @@ uncompressed-parts s b width n reference values full is_width is_n is_reference 
     ∙ (ap (λ (power : ℕ). binary (id_len s) (power - 1) ++ (reference_bits s b.reference ++ low)) ones
     ∙ ap (λ (bits : List Bool). binary (id_len s) (2 ^ id_len s - 1) ++ (reference_bits s b.reference ++ bits)) (low_parts-written s b full))
     )
+
+-- the identifier, the reference sample, and the values split at bit k
+pub split-parts : (s : Settings) (b : Block) (k width : ℕ) (reference : Option ℕ) (values : List ℕ) → width ≡ id_len s → reference ≡ b.reference
+    → values ≡ written_values b
+    → (binary width (k + 1) ++ reference_bits s reference) ++ split_parts k values ≡ cds_bits s (split b k)
+split-parts s b k width reference values is_width is_reference is_values =
+    rw (is_width, is_reference, is_values)
+    (append_assoc (binary (id_len s) (k + 1)) (reference_bits s b.reference) (split_parts k (written_values b)))
+
+-- the identifier of the second extension, the reference sample and the pairs
+pub paired-parts : (s : Settings) (b : Block) (width : ℕ) (reference : Option ℕ) (values : List ℕ) → width ≡ id_len s → reference ≡ b.reference
+    → values ≡ b.values
+    → (binary (width + 1) 1 ++ reference_bits s reference) ++ pair_bits values ≡ cds_bits s (paired b)
+paired-parts s b width reference values is_width is_reference is_values =
+    rw (is_width, is_reference, is_values) (append_assoc (binary (id_len s + 1) 1) (reference_bits s b.reference) (pair_bits b.values))
 
 pub ruleset behind = (take_rest)
 

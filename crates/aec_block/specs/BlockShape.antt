@@ -1,6 +1,6 @@
 -- Blocks in code: what holds of every one, the invariant of `Block` and `BlockRef`, and the block
 -- of a reference and of values.
-use Rattle.std.specs.Prelude.{ℕ, ◌≤◌, Option, List, length}
+use Rattle.std.specs.Prelude.{◌≡◌, ℕ, ◌≤◌, Option, List, ◌∷◌, drop, length}
 use Rattle.aec_params.specs.Blocks.{Block}
 use Rattle.aec_params.specs.BlockShapes.{HasReferencePlace}
 
@@ -11,6 +11,11 @@ most_values = 64
 -- the block of a reference, where there is one, and of values with the one in the reference place
 abbrev pub block_with : Option ℕ → List ℕ → Block
 block_with reference values = record { reference = reference; values = values }
+
+-- eight values, of which the first is 0: the reference place
+pub record AreSevenAfterZero (all : List ℕ) : Type 0 where
+  pub eight : length all ≡ 8
+  pub first : all ≡ 0 ∷ drop 1 all
 
 -- at most `most_values` values, of which the first is 0 if there is a reference
 pub record IsSound (b : Block) : Type 0 where

@@ -1,10 +1,12 @@
 -- The choice of a block's coding: which spelling each names, and the one that is made.
-use Rattle.std.specs.Prelude.{◌≡◌, ℕ, ◌^◌, ◌<◌, nat_lt, if◌then◌else◌, Option, is_some, length}
+use Rattle.std.specs.Prelude.{◌≡◌, ℕ, ◌^◌, ◌<◌, ◌≤◌, nat_lt, if◌then◌else◌, Option, is_some, List, length}
 use Rattle.std.specs.List.{AllByRecursion}
 use Rattle.aec_params.specs.declared.settings.Settings.{Settings}
+use Rattle.aec_params.specs.Params.{IsAllowed, id_len}
 use Rattle.aec_params.specs.Blocks.{Block}
 use Rattle.aec_params.specs.CodedDataSets.{CodedDataSet, cds_bits, HasReference}
-use Rattle.aec_params.specs.Spellings.{uncompressed, paired, split, shortest_spelling}
+use Rattle.aec_params.specs.Spellings.{written_values, uncompressed, paired, split, shortest_spelling}
+use Rattle.aec_block.specs.BlockShape.{most_values, IsSound}
 use Rattle.aec_block.specs.declared.choice.Coding.{Coding}
 use Rattle.aec_block.specs.declared.choice.Coding.TheVariants.{NoCompression, SecondExtension, Split}
 use Rattle.aec_block.specs.declared.choice.Choice.{Choice}
@@ -18,6 +20,21 @@ pub record IsFull (s : Settings) (b : Block) : Type 0 where
   pub len : length b.values ≡ s.block_size
   pub values : AllByRecursion (λ v. v < 2 ^ s.bits) b.values
   pub reference : FitsReference s b.reference
+
+-- a block that these settings have, of n values
+pub record IsWhole (s : Settings) (n : ℕ) (b : Block) : Type 0 where
+  pub full : IsFull s b
+  pub sound : IsSound b
+  pub len_is : length b.values ≡ n
+
+-- a block that allowed settings have, with what is computed once for it: the length of identifiers,
+-- and the values that are written one by one
+pub record IsPrepared (s : Settings) (identifier : ℕ) (b : Block) (values : List ℕ) : Type 0 where
+  pub allowed : IsAllowed s
+  pub id_len_is : identifier ≡ id_len s
+  pub full : IsFull s b
+  pub written : values ≡ written_values b
+  pub few : length values ≤ most_values
 
 -- the block by a coding
 abbrev pub spelling_by : Block → Coding → CodedDataSet

@@ -7,7 +7,7 @@ use Rattle.aec_params.specs.declared.settings.Settings.{Settings}
 use Rattle.aec_params.specs.Blocks.{Block}
 use Rattle.aec_params.specs.Places.{block_of_values, block_of_members}
 use Rattle.aec_params.specs.CodedDataSets.{value_pairs, judged_in}
-use Rattle.aec_block.specs.ReadAt.{Taken, nothing, taken, map_taken, binary_at, values_at, split_at}
+use Rattle.aec_block.specs.ReadAt.{Taken, nothing, taken, map_taken, fs_at, binary_at, values_at, split_at}
 
 -- the bits that are left at a cursor
 abbrev pub bits_at : Cursor → List Bool
@@ -57,6 +57,26 @@ small_block limit reference values = when (all_below limit values) (block_of_val
 abbrev pub pair_block : ℕ → Option ℕ → List ℕ → Option Block
 pair_block limit reference members =
     when (all_below limit (judged_in reference (value_pairs members))) (block_of_members reference members)
+
+-- what `there` takes at the old cursor is what the result says, with the bits at the new cursor
+-- after it. The bits are unchanged, and the new place is within them
+pub record Takes {Y : Type 0} (there : List Bool → Taken Y) (old : Cursor) (told : List Bool → Taken Y) (new : Cursor)
+    : Type 0 where
+  pub taken : there (bits_at old) ≡ told (bits_at new)
+  pub list : new.list ≡ old.list
+  pub within : new.pos ≤ length new.list
+
+-- as many fundamental sequences come next as the list before has, and their numbers take its place,
+-- where all are below a limit, which the result tells; an error where fewer come. The bits stay,
+-- and the place is within them
+pub record PutsHighs {E : Type 0} (limit : ℕ) (old : Cursor) (before : List ℕ) (result : Result Bool E)
+    (new : Cursor) (highs : List ℕ)
+    : Type 0 where
+  pub taken : map_taken (small_values limit) (values_at fs_at (length before) (bits_at old))
+      ≡ as_taken_by (λ fit. when fit highs) result (bits_at new)
+  pub len : length highs ≡ length before
+  pub list : new.list ≡ old.list
+  pub within : new.pos ≤ length new.list
 
 -- as many numbers come next as the list before has, of so many bits each, and take its place; an
 -- error where fewer come. The bits stay, and the place is within them

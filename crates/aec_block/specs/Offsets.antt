@@ -2,7 +2,7 @@
 -- What the private functions of `mapping` and `mapping::small_differences` compute: the mapping on
 -- offsets from the least sample, of which `top` is the greatest. The contracts of `map`,
 -- `map_list`, `unmap` and `unmap_into` cite `mapped_value` and `mapped_after` instead.
-use Rattle.std.specs.Prelude.{ℕ, ◌+◌, ◌-◌, ◌*◌, ◌/◌, ◌%◌, ◌^◌, ◌≤◌, ◌==◌, min, ◌&&◌, nat_le, nat_lt, if◌then◌else◌, ℤ, ◌-ℤ◌, unsigned_abs, ⊤, List, [], ◌∷◌}
+use Rattle.std.specs.Prelude.{ℕ, ◌+◌, ◌-◌, ◌*◌, ◌/◌, ◌%◌, ◌^◌, ◌≤◌, ◌==◌, min, ◌&&◌, nat_le, nat_lt, if◌then◌else◌, ℤ, ◌-ℤ◌, unsigned_abs, ⊤, List, [], ◌∷◌, ◌≡◌}
 use Rattle.aec_params.specs.declared.settings.Settings.{Settings}
 use Rattle.aec_params.specs.Params.{x_min}
 
@@ -24,6 +24,12 @@ mapped_offset top p x =
     if nat_le p x && nat_le (x - p) (offset_room top p) then 2 * (x - p)
     else (if nat_lt x p && nat_le (p - x) (offset_room top p) then 2 * (p - x) - 1
     else offset_room top p + ((x - p) + (p - x)))
+
+-- x is the only offset for which m is coded at the prediction p
+pub record IsUnmapped (top p m x : ℕ) : Type 0 where
+  pub held : x ≤ top
+  pub undone : mapped_offset top p x ≡ m
+  pub only : (y : ℕ) → y ≤ top → mapped_offset top p y ≡ m → y ≡ x
 
 -- what is coded for offsets, each at the one before it, which is p for the first
 abbrev pub mapped_offsets : ℕ → ℕ → List ℕ → List ℕ

@@ -1,9 +1,11 @@
--- Samples taken back from values, one after the other.
-use Rattle.std.specs.Prelude.{◌≡◌, ℕ, ℤ, List, ◌++◌, Some}
+-- Lists of samples and of the values that stand for them: places for both, and samples taken back
+-- from values, one after the other.
+use Rattle.std.specs.Prelude.{◌≡◌, ℕ, ◌^◌, ◌<◌, ◌≤◌, true, ℤ, pos, ◌+ℤ◌, List, [], ◌++◌, Some, length}
 use Rattle.std.specs.List.{AllByRecursion, last_or}
 use Rattle.aec_params.specs.declared.settings.Settings.{Settings}
-use Rattle.aec_params.specs.Params.{IsHeld}
-use Rattle.aec_params.specs.Mapping.{mapped_after}
+use Rattle.aec_params.specs.Params.{IsHeld, x_min}
+use Rattle.aec_params.specs.Mapping.{mapped_value, mapped_after}
+use Rattle.aec_block.specs.Offsets.{top_offset}
 
 -- new samples are the old ones and those that values stand for, the first of them predicted from p
 -- (held samples whose mapped values are these, where the code undoes the mapping)
@@ -18,3 +20,38 @@ pub record Unmaps (s : Settings) (p : ℤ) (values : List ℕ) (old new : List �
 pub record UnmapsTo (s : Settings) (p last : ℤ) (values : List ℕ) (old new : List ℤ) : Type 0 where
   pub so_far : Unmaps s p values old new
   pub last_is : last_or (Some p) so_far.more ≡ Some last
+
+-- x is the only held sample for which m is coded at the prediction p
+pub record IsOnlySample (s : Settings) (p : ℤ) (m : ℕ) (x : ℤ) : Type 0 where
+  pub held : IsHeld s x
+  pub undone : mapped_value s p x ≡ m
+  pub only : (y : ℤ) → IsHeld s y → mapped_value s p y ≡ m → y ≡ x
+
+-- held samples, and as many places for their values
+pub record HaveValuePlaces (s : Settings) (samples : List ℤ) (places : List ℕ) : Type 0 where
+  pub held : AllByRecursion (IsHeld s) samples
+  pub len : length samples ≡ length places
+
+-- values of n bits, and as many places for their samples
+pub record HaveSamplePlaces (s : Settings) (values : List ℕ) (places : List ℤ) : Type 0 where
+  pub mapped : AllByRecursion (λ v. v < 2 ^ s.bits) values
+  pub len : length places ≡ length values
+
+-- the samples of values are put in the places of others, the first of them predicted from p
+pub record PutsSamples (s : Settings) (p : ℤ) (values : List ℕ) (old new : List ℤ) : Type 0 where
+  pub items : Unmaps s p values [] new
+  pub len : length new ≡ length old
+
+-- where samples are predicted, values that stand for samples after the one at an offset, and as
+-- many places for these
+pub record CanUnmap (s : Settings) (offset : ℕ) (values : List ℕ) (places : List ℤ) : Type 0 where
+  pub on : s.preprocess ≡ true
+  pub within : offset ≤ top_offset s
+  pub fits : HaveSamplePlaces s values places
+
+-- the samples of values are put in the places of others, predicted from the sample at one offset;
+-- the last of them lies at another
+pub record PutsUnmapped (s : Settings) (first last : ℕ) (values : List ℕ) (old new : List ℤ) : Type 0 where
+  pub within : last ≤ top_offset s
+  pub items : UnmapsTo s (x_min s +ℤ pos first) (x_min s +ℤ pos last) values [] new
+  pub len : length new ≡ length old

@@ -1,15 +1,15 @@
 -- What is written for a block's values and for a run, in parts.
-use Rattle.std.specs.Prelude.{◌≡◌, ◌+◌, ◌<◌, ◌≤◌, ℕ, ◌/◌, ◌%◌, ◌^◌, Bool, Option, List, ◌++◌, length, Result, OnOk, OnErr, IfErr}
+use Rattle.std.specs.Prelude.{◌≡◌, ◌+◌, ◌*◌, ◌<◌, ◌≤◌, ℕ, ◌/◌, ◌%◌, ◌^◌, Bool, Option, List, ◌++◌, length, Result}
 use Rattle.std.specs.List.{flat_map}
 use Rattle.aec_params.specs.declared.fault.Fault.{Fault}
-use Rattle.aec_params.specs.declared.fault.Fault.TheVariants.{Memory}
 use Rattle.aec_params.specs.declared.settings.Settings.{Settings}
 use Rattle.aec_params.specs.Codewords.{fs, binary}
 use Rattle.aec_params.specs.Blocks.{Block}
 use Rattle.aec_params.specs.CodedDataSets.{zero_blocks, cds_bits}
 use Rattle.aec_params.specs.Spellings.{shortest_spelling}
 use Rattle.aec_params.specs.Runs.{run_code}
-use Rattle.aec_bits.specs.BitBuf.{Bits}
+use Rattle.aec_bits.specs.BitBuf.{Bits, AppendsBits}
+use Rattle.aec_block.specs.BlockShape.{most_values}
 
 -- the fundamental sequences of the values without their k low bits
 abbrev pub high_parts : ℕ → List ℕ → List Bool
@@ -19,13 +19,35 @@ high_parts k values = flat_map (λ v. fs (v / 2 ^ k)) values
 abbrev pub low_parts : ℕ → List ℕ → List Bool
 low_parts k values = flat_map (λ v. binary k (v % 2 ^ k)) values
 
--- a number whose n bits are those of values of k bits each (a step of the code; the clauses of
--- `write_block` state the bits of the whole)
-pub record Spells (k n : ℕ) (values : List ℕ) (number : ℕ) : Type 0 where
-  pub below : number < 2 ^ n
-  pub bits : binary n number ≡ flat_map (binary k) values
+-- a number of less than 64 bits
+pub record FitsWidth (width value : ℕ) : Type 0 where
+  pub narrow : width < 64
+  pub fits : value < 2 ^ width
 
--- both: what splitting with k writes of values
+-- the values can be split at bit k, and take so many bits without their k low bits (computed once)
+pub record IsHighLen (k : ℕ) (values : List ℕ) (len : ℕ) : Type 0 where
+  pub k_below : k < 32
+  pub len_is : len ≡ length (high_parts k values)
+
+-- values whose codewords without their k low bits are fewer than 64 bits
+pub record FitsHighWord (k : ℕ) (values : List ℕ) : Type 0 where
+  pub k_below : k < 32
+  pub few : length (high_parts k values) < 64
+
+-- a number of n bits, which are the given ones (a step of the code; the clauses of `write_block`
+-- state the bits of the whole)
+pub record Spells (n : ℕ) (spelled : List Bool) (number : ℕ) : Type 0 where
+  pub below : number < 2 ^ n
+  pub bits : binary n number ≡ spelled
+
+-- a count of values, from 1 to `most_values`, whose low bits of this width are fewer than 64 in all
+pub record FillsWord (count width : ℕ) : Type 0 where
+  pub some : 0 < count
+  pub most : count ≤ most_values
+  pub narrow : width ≤ 32
+  pub few : count * width < 64
+
+-- what splitting with k writes of values: high parts, then low parts
 abbrev pub split_parts : ℕ → List ℕ → List Bool
 split_parts k values = high_parts k values ++ low_parts k values
 
@@ -38,11 +60,18 @@ shortest_bits s b = cds_bits s (shortest_spelling s b)
 abbrev pub run_bits : Settings → Option ℕ → ℕ → Bool → List Bool
 run_bits s reference z is_last = cds_bits s (record { reference = reference; body = zero_blocks (run_code z is_last) })
 
--- bits are appended whole or not at all. If they are, they use no more of the room than they take.
--- Else memory was refused, there was no room for them, and nothing has changed
-pub record Appends (bits : List Bool) (old : Bits) (result : Result (Unit {0}) Fault) (new : Bits) : Type 0 where
-  pub ok : OnOk result (new.list ≡ old.list ++ bits)
-  pub room : OnOk result (old.room ≤ new.room + length bits)
-  pub err : OnErr result (new ≡ old)
-  pub full : OnErr result (old.room < length bits)
-  pub fault : IfErr result (λ e. e ≡ Memory)
+-- bits are appended whole or not at all
+abbrev pub Appends : List Bool → Bits → Result (Unit {0}) Fault → Bits → Type 0
+Appends bits old result new = AppendsBits (length bits) bits old new result
+
+-- bits for which there was room are appended, and the room shrinks by at most their number
+pub record Adds (added : List Bool) (old new : Bits) : Type 0 where
+  pub list : new.list ≡ old.list ++ added
+  pub room : old.room ≤ new.room + length added
+
+-- Bits are gathered, those that were held before among them: the new list, with the bits that are
+-- held now after it, is the old list with the gathered bits after it. The room shrinks by at most
+-- the number of bits that were appended.
+pub record Gathers (gathered : List Bool) (old : Bits) (held : List Bool) (new : Bits) : Type 0 where
+  pub list : new.list ++ held ≡ old.list ++ gathered
+  pub room : old.room + length held ≤ new.room + length gathered

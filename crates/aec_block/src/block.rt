@@ -18,6 +18,7 @@ pub struct Block {
 
 ghost use Rattle.std.specs.Prelude.{◌≡◌, ◌≤◌, [], length};
 ghost use Rattle.aec_params.specs.Places.{placed_values};
+ghost use Rattle.aec_block.specs.BlockShape.{most_values};
 
 /// How many values stand in the reference place.
 pub(crate) fn places_before(reference: Option<u32>) -> usize
@@ -25,6 +26,20 @@ pub(crate) fn places_before(reference: Option<u32>) -> usize
     ensures most { result ≤ 1 }
 {
     usize::from(reference.is_some())
+}
+
+/// The values of a block of zeros, which are copied faster than they are pushed.
+static ZEROS: [u32; MOST_VALUES] = [0; MOST_VALUES];
+
+/// Replaces values by so many zeros.
+fn set_len(values: &mut SmallVec<u32, MOST_VALUES>, len: usize)
+    requires most { len ≤ most_values }
+    requires room { values.old.capacity ≡ most_values }
+    ensures len { length values.new.items ≡ len }
+    ensures room { values.new.capacity ≡ most_values }
+{
+    values.clear();
+    values.extend_from_slice(&ZEROS[..len]).unwrap();
 }
 
 impl Model for Block {
@@ -70,7 +85,7 @@ impl Block {
     {
         self.reference = reference;
         if self.values.len() != len {
-            self.values.resize(len, 0).unwrap();
+            set_len(&mut self.values, len);
         }
         if reference.is_some() {
             self.values.as_mut_slice()[0] = 0;

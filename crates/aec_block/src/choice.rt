@@ -11,8 +11,8 @@ ghost use Rattle.aec_params.specs.Params.{IsAllowed, split_count, id_len as iden
 ghost use Rattle.aec_params.specs.Spellings.{written_values};
 ghost use Rattle.aec_block.specs.declared.choice.Coding.TheVariants.{SecondExtension, Split};
 ghost use Rattle.aec_block.specs.BlockShape.{most_values};
-ghost use Rattle.aec_block.specs.Lengths.{split_values_length, paired_length, split_length};
-ghost use Rattle.aec_block.specs.Choices.{IsFull, IsChoice, shorter_choice};
+ghost use Rattle.aec_block.specs.Lengths.{paired_length, split_length, IsCounted};
+ghost use Rattle.aec_block.specs.Choices.{IsPrepared, IsChoice, shorter_choice};
 
 use crate::block::BlockRef;
 use crate::choice::lengths::{head_len, paired_len, uncompressed_len};
@@ -95,8 +95,7 @@ fn shorter_of_split(
     split: Splitting,
 ) -> Choice
     requires id_len { id_len ≡ identifier_len params.now }
-    requires bits { split.bits ≡ split_values_length split.k (written_values block.now) }
-    requires bound { split.bits ≤ 2 ^ 40 }
+    requires counted { IsCounted (written_values block.now) split }
     ensures { result ≡ shorter_choice best (Split split.k)
         (split_length params.now block.now split.k) }
 {
@@ -108,11 +107,7 @@ fn shorter_of_split(
 /// their number can be known where this is inlined.
 #[inline(always)]
 pub(crate) fn choose_among(params: &Params, id_len: u32, block: &BlockRef, values: &[u32]) -> Choice
-    requires allowed { IsAllowed params.now }
-    requires id_len { id_len ≡ identifier_len params.now }
-    requires full { IsFull params.now block.now }
-    requires values { values.now ≡ written_values block.now }
-    requires len { length values.now ≤ most_values }
+    requires { IsPrepared params.now id_len block.now values.now }
     ensures { IsChoice params.now block.now result }
 {
     let uncompressed = Choice {

@@ -9,7 +9,8 @@ ghost use Rattle.std.specs.Prelude.{◌≡◌, ℕ, ◌+◌, ◌<◌, ◌≤◌,
 ghost use Rattle.std.specs.List.{AllByRecursion};
 ghost use Rattle.aec_params.specs.Params.{IsAllowed, IsHeld, x_min};
 ghost use Rattle.aec_params.specs.Mapping.{mapped_value};
-ghost use Rattle.aec_block.specs.Offsets.{sample_offset, top_offset, mapped_offset};
+ghost use Rattle.aec_block.specs.Offsets.{sample_offset, top_offset, mapped_offset, IsUnmapped};
+ghost use Rattle.aec_block.specs.Unmapping.{IsOnlySample};
 
 use aec_params::Params;
 
@@ -32,9 +33,7 @@ pub(crate) fn map_offset(top: u32, p: u32, x: u32) -> u32
 pub(crate) fn unmap_offset(top: u32, p: u32, m: u32) -> u32
     requires prediction { p ≤ top }
     requires mapped { m ≤ top }
-    ensures held { result ≤ top }
-    ensures undone { mapped_offset top p result ≡ m }
-    ensures only { (x : ℕ) → x ≤ top → mapped_offset top p x ≡ m → x ≡ result }
+    ensures { IsUnmapped top p m result }
 {
     let room = p.min(top - p);
     let half = m / 2;
@@ -107,9 +106,7 @@ pub fn map(params: &Params, p: i64, x: i64) -> u32
 pub fn unmap(params: &Params, p: i64, m: u32) -> i64
     requires prediction { IsHeld params.now p }
     requires mapped { m < 2 ^ params.now.bits }
-    ensures held { IsHeld params.now result }
-    ensures undone { mapped_value params.now p result ≡ m }
-    ensures only { (x : ℤ) → IsHeld params.now x → mapped_value params.now p x ≡ m → x ≡ result }
+    ensures { IsOnlySample params.now p m result }
 {
     let top = greatest_offset(params);
     if params.preprocess() {

@@ -13,7 +13,7 @@ ghost use Rattle.aec_params.specs.CodedDataSets.{CodedDataSet};
 ghost use Rattle.aec_bits.specs.BitReader.{has_one};
 ghost use Rattle.aec_block.specs.declared.cds.Found.TheVariants.{Single};
 ghost use Rattle.aec_block.specs.ReadAt.{map_taken, binary_at, kind_at, reference_at, body_at, cds_at};
-ghost use Rattle.aec_block.specs.Gathering.{bits_at, as_taken, as_taken_by, when};
+ghost use Rattle.aec_block.specs.Gathering.{bits_at, as_taken, as_taken_by, when, Takes};
 ghost use Rattle.aec_block.specs.ReadCds.{run_len_of, checked, checked_body, as_cds, as_read, HasShortSplit, is_plain, IsReadAs};
 ghost use Rattle.aec_params.specs.Faults.{IsNotRead};
 
@@ -38,13 +38,10 @@ pub(crate) enum Kind {
 #[inline(always)]
 pub(crate) fn read_kind(params: &Params, reader: &mut BitReader) -> Result<Kind, Fault>
     requires within { reader.old.pos ≤ length reader.old.list }
-    ensures taken { kind_at (id_len params.now) (bits_at reader.old)
-        ≡ as_taken result (bits_at reader.new) }
+    ensures taken { Takes (kind_at (id_len params.now)) reader.old (as_taken result) reader.new }
     ensures short { IfOk result HasShortSplit }
     ensures one { IfOk result (λ kind. is_plain kind ≡ true → has_one (bits_at reader.old) ≡ true) }
     ensures allowed { IsAllowed params.now }
-    ensures list { reader.new.list ≡ reader.old.list }
-    ensures within { reader.new.pos ≤ length reader.new.list }
 {
     let len = params.id_len();
     let number = read_number(reader, len)?;
@@ -67,11 +64,8 @@ pub(crate) fn read_kind(params: &Params, reader: &mut BitReader) -> Result<Kind,
 #[inline(always)]
 pub(crate) fn read_pattern(params: &Params, reader: &mut BitReader) -> Result<u32, Fault>
     requires within { reader.old.pos ≤ length reader.old.list }
-    ensures taken { binary_at params.now.bits (bits_at reader.old)
-        ≡ as_taken result (bits_at reader.new) }
+    ensures taken { Takes (binary_at params.now.bits) reader.old (as_taken result) reader.new }
     ensures below { IfOk result (λ pattern. pattern < 2 ^ params.now.bits) }
-    ensures list { reader.new.list ≡ reader.old.list }
-    ensures within { reader.new.pos ≤ length reader.new.list }
 {
     let pattern = read_number(reader, params.bits())?;
     Ok(pattern as u32)
@@ -85,11 +79,8 @@ pub(crate) fn read_reference(
     is_ref: bool,
 ) -> Result<Option<u32>, Fault>
     requires within { reader.old.pos ≤ length reader.old.list }
-    ensures taken { reference_at params.now is_ref (bits_at reader.old)
-        ≡ as_taken result (bits_at reader.new) }
+    ensures taken { Takes (reference_at params.now is_ref) reader.old (as_taken result) reader.new }
     ensures due { IfOk result (λ reference. is_some reference ≡ is_ref) }
-    ensures list { reader.new.list ≡ reader.old.list }
-    ensures within { reader.new.pos ≤ length reader.new.list }
 {
     if !is_ref {
         return Ok(None);
@@ -128,11 +119,9 @@ pub(crate) fn read_body(
 ) -> Result<Option<Found>, Fault>
     requires within { reader.old.pos ≤ length reader.old.list }
     requires short { HasShortSplit kind }
-    ensures taken { map_taken (checked_body params.now reference)
-        (body_at params.now (is_some reference) kind (bits_at reader.old))
-        ≡ as_taken_by (λ found. as_read found block.new) result (bits_at reader.new) }
-    ensures list { reader.new.list ≡ reader.old.list }
-    ensures within { reader.new.pos ≤ length reader.new.list }
+    ensures { Takes (λ bits. map_taken (checked_body params.now reference)
+        (body_at params.now (is_some reference) kind bits)) reader.old
+        (as_taken_by (λ found. as_read found block.new) result) reader.new }
 {
     match kind {
         Kind::ZeroBlocks => {
@@ -158,11 +147,9 @@ fn read_set(
     block: &mut Block,
 ) -> Result<Option<Found>, Fault>
     requires within { reader.old.pos ≤ length reader.old.list }
-    ensures taken { map_taken (checked params.now) (cds_at params.now is_ref (bits_at reader.old))
-        ≡ as_taken_by (λ found. as_read found block.new) result (bits_at reader.new) }
+    ensures taken { Takes (λ bits. map_taken (checked params.now) (cds_at params.now is_ref bits))
+        reader.old (as_taken_by (λ found. as_read found block.new) result) reader.new }
     ensures allowed { IsAllowed params.now }
-    ensures list { reader.new.list ≡ reader.old.list }
-    ensures within { reader.new.pos ≤ length reader.new.list }
 {
     let kind = read_kind(params, reader)?;
     let reference = read_reference(params, reader, is_ref)?;

@@ -1,56 +1,34 @@
 //! The shortest coded data set of a block, compiled for each number of values that is known.
 
-ghost use Rattle.std.specs.Prelude.{◌≡◌, ◌≤◌, Some, None, length};
-ghost use Rattle.aec_params.specs.Spellings.{written_values};
-ghost use Rattle.aec_block.specs.BlockShape.{block_with, most_values, IsSound};
-ghost use Rattle.aec_block.specs.Choices.{IsFull};
+ghost use Rattle.std.specs.Prelude.{Some, None};
+ghost use Rattle.aec_block.specs.BlockShape.{block_with};
+ghost use Rattle.aec_block.specs.Choices.{IsWhole};
 ghost use Rattle.aec_block.specs.Written.{shortest_bits, Appends};
 
 use crate::block::BlockRef;
 use crate::choice::choose_among;
-use crate::writing::by_choice::write_values;
+use crate::writing::{WITH_REFERENCE, WITHOUT_REFERENCE, write_values};
 use aec_bits::BitBuf;
 use aec_params::{Fault, Params};
 
-/// The copies of `write_values` here: for blocks of `N` values without a reference, and with one.
-const WITHOUT_REFERENCE: usize = 1;
-
-const WITH_REFERENCE: usize = 2;
-
-/// Appends the shortest coded data set of a block whose values after the reference place are given
-/// too. `Memory` where a growth was refused. `N` and `COPY` are those of `write_values`.
-#[inline(always)]
-fn write_chosen<const N: usize, const COPY: usize>(
-    params: &Params,
-    block: &BlockRef,
-    values: &[u32],
-    out: &mut BitBuf,
-) -> Result<(), Fault>
-    requires full { IsFull params.now block.now }
-    requires values { values.now ≡ written_values block.now }
-    requires few { length values.now ≤ most_values }
-    ensures { Appends (shortest_bits params.now block.now) out.old result out.new }
-{
-    let id_len = params.id_len();
-    let choice = choose_among(params, id_len, block, values);
-    write_values::<N, COPY>(params, id_len, block, values, choice, out)
-}
-
-/// Appends the shortest coded data set of a block of `N` values without a reference.
+/// Appends the shortest coded data set of a block of `N` values without a reference. Blocks with a
+/// reference have a function of their own: in a single one the compiler joins code of both kinds,
+/// and blocks of 8 values take up to 5 % more instructions.
 #[inline(always)]
 fn write_others<const N: usize>(
     params: &Params,
     values: &[u32],
     out: &mut BitBuf,
 ) -> Result<(), Fault>
-    requires full { IsFull params.now (block_with None values.now) }
-    requires sound { IsSound (block_with None values.now) }
-    requires len { length values.now ≡ N }
+    requires { IsWhole params.now N (block_with None values.now) }
     ensures { Appends (shortest_bits params.now (block_with None values.now))
         out.old result out.new }
 {
+    let id_len = params.id_len();
     let values = &values[..N];
-    write_chosen::<N, WITHOUT_REFERENCE>(params, &BlockRef::new(None, values), values, out)
+    let block = BlockRef::new(None, values);
+    let choice = choose_among(params, id_len, &block, values);
+    write_values::<N, WITHOUT_REFERENCE>(params, id_len, &block, values, choice, out)
 }
 
 /// `write_others` for a block of `N` values with a reference.
@@ -61,14 +39,16 @@ fn write_first<const N: usize>(
     values: &[u32],
     out: &mut BitBuf,
 ) -> Result<(), Fault>
-    requires full { IsFull params.now (block_with (Some pattern) values.now) }
-    requires sound { IsSound (block_with (Some pattern) values.now) }
-    requires len { length values.now ≡ N }
+    requires { IsWhole params.now N (block_with (Some pattern) values.now) }
     ensures { Appends (shortest_bits params.now (block_with (Some pattern) values.now))
         out.old result out.new }
 {
+    let id_len = params.id_len();
     let all = &values[..N];
-    write_chosen::<N, WITH_REFERENCE>(params, &BlockRef::new(Some(pattern), all), &all[1..N], out)
+    let after = &all[1..N];
+    let block = BlockRef::new(Some(pattern), all);
+    let choice = choose_among(params, id_len, &block, after);
+    write_values::<N, WITH_REFERENCE>(params, id_len, &block, after, choice, out)
 }
 
 /// Appends the shortest coded data set of the block of a reference, where there is one, and of `N`
@@ -82,9 +62,7 @@ pub fn write_shortest_of<const N: usize>(
     values: &[u32],
     out: &mut BitBuf,
 ) -> Result<(), Fault>
-    requires full { IsFull params.now (block_with reference values.now) }
-    requires sound { IsSound (block_with reference values.now) }
-    requires len { length values.now ≡ N }
+    requires { IsWhole params.now N (block_with reference values.now) }
     ensures { Appends (shortest_bits params.now (block_with reference values.now))
         out.old result out.new }
 {

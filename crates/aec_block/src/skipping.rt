@@ -10,7 +10,7 @@ ghost use Rattle.aec_params.specs.CodedDataSets.{CodedDataSet};
 ghost use Rattle.aec_params.specs.Faults.{IsNotRead};
 ghost use Rattle.aec_block.specs.declared.cds.RunLen.TheVariants.{Blocks};
 ghost use Rattle.aec_block.specs.ReadAt.{map_taken, body_at, cds_at};
-ghost use Rattle.aec_block.specs.Gathering.{bits_at, as_taken, when};
+ghost use Rattle.aec_block.specs.Gathering.{as_taken, when, Takes};
 ghost use Rattle.aec_block.specs.ReadCds.{as_cds, as_read, HasShortSplit};
 ghost use Rattle.aec_block.specs.SkipCds.{read_len, judged_len, judged_body_len, IsSkippedAs};
 
@@ -50,11 +50,9 @@ fn skip_body(
 ) -> Result<Option<RunLen>, Fault>
     requires within { reader.old.pos ≤ length reader.old.list }
     requires short { HasShortSplit kind }
-    ensures taken { map_taken (judged_body_len params.now reference)
-        (body_at params.now (is_some reference) kind (bits_at reader.old))
-        ≡ as_taken result (bits_at reader.new) }
-    ensures list { reader.new.list ≡ reader.old.list }
-    ensures within { reader.new.pos ≤ length reader.new.list }
+    ensures { Takes (λ bits. map_taken (judged_body_len params.now reference)
+        (body_at params.now (is_some reference) kind bits))
+        reader.old (as_taken result) reader.new }
 {
     let is_ref = reference.is_some();
     match kind {
@@ -78,11 +76,10 @@ fn skip_set(
     values: &mut Block,
 ) -> Result<Option<RunLen>, Fault>
     requires within { reader.old.pos ≤ length reader.old.list }
-    ensures taken { map_taken (judged_len params.now)
-        (cds_at params.now is_ref (bits_at reader.old)) ≡ as_taken result (bits_at reader.new) }
+    ensures taken { Takes
+        (λ bits. map_taken (judged_len params.now) (cds_at params.now is_ref bits))
+        reader.old (as_taken result) reader.new }
     ensures allowed { IsAllowed params.now }
-    ensures list { reader.new.list ≡ reader.old.list }
-    ensures within { reader.new.pos ≤ length reader.new.list }
 {
     let kind = read_kind(params, reader)?;
     let reference = read_reference(params, reader, is_ref)?;

@@ -1,29 +1,25 @@
 //! What is written for one block, and for a run of zero blocks.
 
 mod after_reference;
-pub(crate) mod by_choice;
 mod gathered;
 mod high_parts;
 mod joined_high_parts;
 mod joined_low_parts;
 
-ghost use Rattle.std.specs.Prelude.{◌≡◌, ◌+◌, ◌-◌, ◌*◌, ◌/◌, ◌<◌, ◌≤◌, ◌^◌, ◌++◌, false, length, drop, if◌then◌else◌, OnOk, OnErr, IfErr};
-ghost use Rattle.aec_params.specs.declared.fault.Fault.TheVariants.{Memory};
-ghost use Rattle.aec_params.specs.Params.{IsAllowed, split_count, id_len as identifier_len};
-ghost use Rattle.aec_params.specs.Codewords.{fs, binary};
+ghost use Rattle.std.specs.Prelude.{◌≡◌, ◌+◌, ◌-◌, ◌*◌, ◌<◌, ◌≤◌, ◌^◌, ◌++◌, length, if◌then◌else◌};
+ghost use Rattle.aec_params.specs.Params.{split_count};
+ghost use Rattle.aec_params.specs.Codewords.{binary};
 ghost use Rattle.aec_params.specs.CodedDataSets.{pair_bits, reference_bits, cds_bits};
 ghost use Rattle.aec_params.specs.Spellings.{written_values, uncompressed, paired, split};
 ghost use Rattle.aec_params.specs.Runs.{segment_len, run_code};
-ghost use Rattle.aec_block.specs.BlockShape.{most_values};
 ghost use Rattle.aec_block.specs.Lengths.{reference_len};
-ghost use Rattle.aec_block.specs.Choices.{FitsReference, IsFull, IsChoice};
-ghost use Rattle.aec_block.specs.Written.{high_parts, low_parts, split_parts, shortest_bits, run_bits, Appends};
+ghost use Rattle.aec_block.specs.Choices.{FitsReference, IsFull, IsPrepared, IsChoice};
+ghost use Rattle.aec_block.specs.Written.{high_parts, low_parts, split_parts, shortest_bits, run_bits, IsHighLen, FillsWord, FitsWidth, Appends, Adds, Gathers};
 
 use crate::block::{Block, BlockRef};
 use crate::choice::lengths::{head_len, pair_len};
 use crate::choice::{Choice, Coding};
 use crate::writing::after_reference::put_seven;
-use crate::writing::by_choice::write_values;
 use crate::writing::gathered::Gathered;
 use crate::writing::high_parts::put_high_parts;
 use crate::writing::joined_low_parts::low_word;
@@ -40,10 +36,7 @@ fn put_reference(
 ) -> Gathered
     requires reference { FitsReference params.now reference }
     requires room { length gathered + reference_len params.now reference ≤ out.old.room }
-    ensures list { out.new.list ++ result
-        ≡ out.old.list ++ (gathered ++ reference_bits params.now reference) }
-    ensures room { out.old.room + length result
-        ≤ out.new.room + (length gathered + reference_len params.now reference) }
+    ensures { Gathers (gathered ++ reference_bits params.now reference) out.old result out.new }
 {
     match reference {
         None => gathered,
@@ -61,14 +54,11 @@ fn put_head(
     width: u32,
     out: &mut BitBuf,
 ) -> Gathered
-    requires width { width < 64 }
-    requires fits { id < 2 ^ width }
+    requires id { FitsWidth width id }
     requires reference { FitsReference params.now reference }
     requires room { width + reference_len params.now reference ≤ out.old.room }
-    ensures list { out.new.list ++ result
-        ≡ out.old.list ++ (binary width id ++ reference_bits params.now reference) }
-    ensures room { out.old.room + length result
-        ≤ out.new.room + (width + reference_len params.now reference) }
+    ensures { Gathers (binary width id ++ reference_bits params.now reference)
+        out.old result out.new }
 {
     let id = Gathered::of_number(u64::from(id), width);
     put_reference(params, reference, id, out)
@@ -83,10 +73,7 @@ fn put_each_low_part(
 ) -> Gathered
     requires width { width ≤ 32 }
     requires room { length (gathered ++ low_parts width values.now) ≤ out.old.room }
-    ensures list { out.new.list ++ result
-        ≡ out.old.list ++ (gathered ++ low_parts width values.now) }
-    ensures room { out.old.room + length result
-        ≤ out.new.room + length (gathered ++ low_parts width values.now) }
+    ensures { Gathers (gathered ++ low_parts width values.now) out.old result out.new }
 {
     for v in values {
         gathered = gathered.put(u64::from(*v) % (1 << width), width, out);
@@ -104,15 +91,9 @@ fn put_low_groups<const N: usize>(
     mut gathered: Gathered,
     out: &mut BitBuf,
 ) -> Gathered
-    requires some { 0 < N }
-    requires most { N ≤ most_values }
-    requires width { width ≤ 32 }
-    requires few { N * width < 64 }
+    requires group { FillsWord N width }
     requires room { length (gathered ++ low_parts width values.now) ≤ out.old.room }
-    ensures list { out.new.list ++ result
-        ≡ out.old.list ++ (gathered ++ low_parts width values.now) }
-    ensures room { out.old.room + length result
-        ≤ out.new.room + length (gathered ++ low_parts width values.now) }
+    ensures { Gathers (gathered ++ low_parts width values.now) out.old result out.new }
 {
     for i in 0..values.len() / N {
         let word = low_word(&values[N * i..N * (i + 1)], width);
@@ -128,10 +109,7 @@ fn put_low_groups<const N: usize>(
 fn put_low_parts(values: &[u32], width: u32, gathered: Gathered, out: &mut BitBuf) -> Gathered
     requires width { width ≤ 32 }
     requires room { length (gathered ++ low_parts width values.now) ≤ out.old.room }
-    ensures list { out.new.list ++ result
-        ≡ out.old.list ++ (gathered ++ low_parts width values.now) }
-    ensures room { out.old.room + length result
-        ≤ out.new.room + length (gathered ++ low_parts width values.now) }
+    ensures { Gathers (gathered ++ low_parts width values.now) out.old result out.new }
 {
     if width < 10 && values.len() == 7 {
         return put_low_groups::<7>(values, width, gathered, out);
@@ -148,31 +126,11 @@ fn put_low_parts(values: &[u32], width: u32, gathered: Gathered, out: &mut BitBu
     put_each_low_part(values, width, gathered, out)
 }
 
-/// Gathers the values split at bit `k`: each without its `k` low bits, which are `len` bits in all,
-/// and then the low bits.
+/// Gathers the values of a block that are written one by one, split at bit `k`: first their
+/// codewords without the `k` low bits, `len` bits in all, then the low bits. Seven values after a
+/// reference have code of their own.
 #[inline(always)]
 #[tactic(auto, using(crate::proofs::WritingLemmas::both))]
-fn put_split_values(
-    values: &[u32],
-    k: u32,
-    len: u64,
-    gathered: Gathered,
-    out: &mut BitBuf,
-) -> Gathered
-    requires k { k < 32 }
-    requires len { len ≡ length (high_parts k values.now) }
-    requires room { length gathered + length (split_parts k values.now) ≤ out.old.room }
-    ensures list { out.new.list ++ result ≡ out.old.list ++ (gathered ++ split_parts k values.now) }
-    ensures room { out.old.room + length result
-        ≤ out.new.room + (length gathered + length (split_parts k values.now)) }
-{
-    let high = put_high_parts(values, k, len, gathered, out);
-    put_low_parts(values, k, high, out)
-}
-
-/// Gathers the values of a block that are written one by one, split at bit `k`, by code for seven
-/// values after a reference if they are so many.
-#[inline(always)]
 fn put_written(
     block: &BlockRef,
     values: &[u32],
@@ -182,26 +140,22 @@ fn put_written(
     out: &mut BitBuf,
 ) -> Gathered
     requires values { values.now ≡ written_values block.now }
-    requires k { k < 32 }
-    requires len { len ≡ length (high_parts k values.now) }
+    requires len { IsHighLen k values.now len }
     requires room { length gathered + length (split_parts k values.now) ≤ out.old.room }
-    ensures list { out.new.list ++ result ≡ out.old.list ++ (gathered ++ split_parts k values.now) }
-    ensures room { out.old.room + length result
-        ≤ out.new.room + (length gathered + length (split_parts k values.now)) }
+    ensures { Gathers (gathered ++ split_parts k values.now) out.old result out.new }
 {
     if values.len() == 7 && block.reference().is_some() && len < 64 && k < 8 {
         return put_seven(block.values(), k, len, gathered, out);
     }
-    put_split_values(values, k, len, gathered, out)
+    let high = put_high_parts(values, k, len, gathered, out);
+    put_low_parts(values, k, high, out)
 }
 
 /// Gathers the codewords of consecutive pairs.
 fn put_pairs(values: &[u32], mut gathered: Gathered, out: &mut BitBuf) -> Gathered
     requires fits { length (pair_bits values.now) < 2 ^ 64 }
     requires room { length (gathered ++ pair_bits values.now) ≤ out.old.room }
-    ensures list { out.new.list ++ result ≡ out.old.list ++ (gathered ++ pair_bits values.now) }
-    ensures room { out.old.room + length result
-        ≤ out.new.room + length (gathered ++ pair_bits values.now) }
+    ensures { Gathers (gathered ++ pair_bits values.now) out.old result out.new }
 {
     for i in 0..values.len() / 2 {
         let number = pair_len(values[2 * i], values[2 * i + 1]) - 1;
@@ -220,14 +174,9 @@ fn put_uncompressed(
     values: &[u32],
     out: &mut BitBuf,
 )
-    requires allowed { IsAllowed params.now }
-    requires id_len { id_len ≡ identifier_len params.now }
-    requires full { IsFull params.now block.now }
-    requires values { values.now ≡ written_values block.now }
+    requires prepared { IsPrepared params.now id_len block.now values.now }
     requires room { length (cds_bits params.now (uncompressed block.now)) ≤ out.old.room }
-    ensures list { out.new.list ≡ out.old.list ++ cds_bits params.now (uncompressed block.now) }
-    ensures room { out.old.room
-        ≤ out.new.room + length (cds_bits params.now (uncompressed block.now)) }
+    ensures { Adds (cds_bits params.now (uncompressed block.now)) out.old out.new }
 {
     let all_ones = (1 << id_len) - 1;
     let head = put_head(params, block.reference(), all_ones, id_len, out);
@@ -238,13 +187,10 @@ fn put_uncompressed(
 #[inline(never)]
 #[tactic(auto, using(crate::proofs::WritingLemmas::parts))]
 fn put_paired(params: &Params, id_len: u32, block: &BlockRef, out: &mut BitBuf)
-    requires allowed { IsAllowed params.now }
-    requires id_len { id_len ≡ identifier_len params.now }
-    requires full { IsFull params.now block.now }
+    requires prepared { IsPrepared params.now id_len block.now (written_values block.now) }
     requires fits { length (cds_bits params.now (paired block.now)) < 2 ^ 64 }
     requires room { length (cds_bits params.now (paired block.now)) ≤ out.old.room }
-    ensures list { out.new.list ≡ out.old.list ++ cds_bits params.now (paired block.now) }
-    ensures room { out.old.room ≤ out.new.room + length (cds_bits params.now (paired block.now)) }
+    ensures { Adds (cds_bits params.now (paired block.now)) out.old out.new }
 {
     let head = put_head(params, block.reference(), 1, id_len + 1, out);
     put_pairs(block.values(), head, out).append_to(out);
@@ -261,12 +207,10 @@ fn high_len(
     k: u32,
     bits: u64,
 ) -> u64
-    requires id_len { id_len ≡ identifier_len params.now }
-    requires values { values.now ≡ written_values block.now }
-    requires few { length values.now ≤ most_values }
+    requires prepared { IsPrepared params.now id_len block.now values.now }
     requires k { k < 32 }
     requires bits { bits ≡ length (cds_bits params.now (split block.now k)) }
-    ensures { result ≡ length (high_parts k (written_values block.now)) }
+    ensures { result ≡ length (high_parts k values.now) }
 {
     let head = u64::from(head_len(params, id_len, block.reference()));
     bits - head - values.len() as u64 * u64::from(k)
@@ -284,20 +228,53 @@ fn put_split(
     bits: u64,
     out: &mut BitBuf,
 )
-    requires allowed { IsAllowed params.now }
-    requires id_len { id_len ≡ identifier_len params.now }
-    requires full { IsFull params.now block.now }
-    requires values { values.now ≡ written_values block.now }
-    requires few { length values.now ≤ most_values }
+    requires prepared { IsPrepared params.now id_len block.now values.now }
     requires k { k < split_count params.now }
     requires bits { bits ≡ length (cds_bits params.now (split block.now k)) }
     requires room { length (cds_bits params.now (split block.now k)) ≤ out.old.room }
-    ensures list { out.new.list ≡ out.old.list ++ cds_bits params.now (split block.now k) }
-    ensures room { out.old.room ≤ out.new.room + length (cds_bits params.now (split block.now k)) }
+    ensures { Adds (cds_bits params.now (split block.now k)) out.old out.new }
 {
     let len = high_len(params, id_len, block, values, k, bits);
     let head = put_head(params, block.reference(), k + 1, id_len, out);
     put_written(block, values, k, len, head, out).append_to(out);
+}
+
+/// The copy of `write_values` for a block of any number of values.
+const OF_ANY_BLOCK: usize = 0;
+
+/// The copy for blocks of a known number of values without a reference.
+pub(crate) const WITHOUT_REFERENCE: usize = 1;
+
+/// The copy for blocks of a known number of values with a reference.
+pub(crate) const WITH_REFERENCE: usize = 2;
+
+/// Appends the coded data set of a block whose values after the reference place are given too, by
+/// the option of `choose`. `Memory` where a growth was refused. `N` and `COPY` are for the compiler
+/// alone: it inlines this much code only into a single caller, so each caller has its own copy.
+#[inline(always)]
+pub(crate) fn write_values<const N: usize, const COPY: usize>(
+    params: &Params,
+    id_len: u32,
+    block: &BlockRef,
+    values: &[u32],
+    choice: Choice,
+    out: &mut BitBuf,
+) -> Result<(), Fault>
+    requires prepared { IsPrepared params.now id_len block.now values.now }
+    requires choice { IsChoice params.now block.now choice }
+    ensures { Appends (shortest_bits params.now block.now) out.old result out.new }
+{
+    out.reserve(choice.bits)?;
+    match choice.coding {
+        Coding::NoCompression => put_uncompressed(params, id_len, block, values, out),
+        Coding::SecondExtension => {
+            let own = *params;
+            let lent = BlockRef::new(block.reference(), block.values());
+            put_paired(&own, id_len, &lent, out);
+        },
+        Coding::Split(k) => put_split(params, id_len, block, values, k, choice.bits, out),
+    }
+    Ok(())
 }
 
 /// Appends the coded data set of a block that is in no run, by the option of `choose`. `Memory`
@@ -314,7 +291,7 @@ pub fn write_block(
     ensures { Appends (shortest_bits params.now block.now) out.old result out.new }
 {
     let lent = block.lent();
-    write_values::<0, 0>(params, params.id_len(), &lent, lent.written(), choice, out)
+    write_values::<0, OF_ANY_BLOCK>(params, params.id_len(), &lent, lent.written(), choice, out)
 }
 
 /// The number that the code of a run of `z` blocks spells: 4, the remainder code, for a run of five

@@ -5,11 +5,8 @@ pub mod BoundLemmas
 pub mod CodeLengthLemmas
 pub mod SufficesLemmas
 pub mod HandleSteps
-pub mod BoxedWorkspace
-pub mod CoderHandleSteps
-pub mod BoxedCoder
-pub mod ReaderHandleSteps
-pub mod BoxedReader
+pub mod BoxedValues
+pub mod HandleWalks
 pub mod HandleLemmas
 pub mod HandleLoadLemmas
 pub mod StreamEditLemmas

@@ -14,7 +14,7 @@ use Rattle.aec_c.specs.Replies.{done, refused_for}
 abbrev pub format_of : OpenWorkspace → Format
 format_of w = interval_format w.workspace.codec.params
 
--- the reply of a call on a handle that holds no workspace
+-- the reply of a call on a handle, coder or reader that isn't open
 abbrev pub not_open : Reply
 not_open = record { fault = 19; place = 0; len = 0 }
 

@@ -9,7 +9,7 @@ ghost use Rattle.aec_engine.specs.Buffers.{FillsOne, OrMemory};
 ghost use Rattle.aec_c.specs.Calls.{settings_of, count_of, most, IsCoding, IsDecoding, IsRanging};
 
 use crate::bound::bound;
-use crate::options::{Options, asked, counted};
+use crate::options::{MOST_CODED_BYTES, MOST_SAMPLES, Options, asked, counted};
 use aec_engine::{decode_into, encode_into, range_into};
 use aec_params::{Fault, Limits, Params};
 use std::alloc::Global;
@@ -18,7 +18,7 @@ use std::alloc::Global;
 pub(crate) fn limits() -> Limits
     ensures { result ≡ most }
 {
-    Limits::new(1 << 32, 1 << 40).unwrap()
+    Limits::new(MOST_SAMPLES, MOST_CODED_BYTES).unwrap()
 }
 
 /// The parameters that options are.
@@ -83,7 +83,7 @@ fn decoded_shortly(
 {
     let whole = bytes.len() as u64;
     if suffice < whole
-        && whole <= 1 << 40
+        && whole <= MOST_CODED_BYTES
         && let Some(count) = count
     {
         if let Some(len) = decoded_front(alloc, params, count, suffice as usize, bytes, out) {
@@ -157,7 +157,7 @@ fn ranged_shortly(
 {
     let whole = bytes.len() as u64;
     if suffice < whole
-        && whole <= 1 << 40
+        && whole <= MOST_CODED_BYTES
         && let Some(count) = count
     {
         let front = suffice as usize;

@@ -4,7 +4,7 @@ ghost use Rattle.std.specs.Prelude.{◌≡◌, ◌≤◌, ◌^◌};
 ghost use Rattle.aec_c.specs.Calls.{settings_of};
 ghost use Rattle.aec_c.specs.Bounds.{bound_of, most_bytes};
 
-use crate::options::{Options, asked};
+use crate::options::{MOST_SAMPLES, Options, asked};
 use aec_params::Params;
 
 /// Of settings that the format has: five bits and the plain samples for each block, and a byte for
@@ -23,7 +23,7 @@ pub(crate) fn bound(options: &Options, samples: u64) -> u64
     ensures { result ≡ bound_of (settings_of options.now) samples }
 {
     match Params::new(asked(options)) {
-        Ok(params) if samples <= 1 << 32 => bound_within(&params, samples),
+        Ok(params) if samples <= MOST_SAMPLES => bound_within(&params, samples),
         _ => 0,
     }
 }

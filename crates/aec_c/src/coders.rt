@@ -12,7 +12,7 @@ ghost use Rattle.aec_c.specs.Coders.{OpensCoder, FeedsPiece, FinishesStream, Tak
 use crate::answers::params_of;
 use crate::coder_handle::{CoderHandle, OpenCoder};
 use crate::handle_edits::not_open;
-use crate::options::Options;
+use crate::options::{MOST_SAMPLES, Options};
 use crate::reply::{Reply, answered, refused};
 use crate::settling::settle_bytes;
 use aec_bits::{BitBuf, WriteSink};
@@ -30,7 +30,7 @@ fn fresh_coder(alloc: Global, options: &Options) -> Result<Box<OpenCoder>, Fault
         (λ fault. (fault ≡ Memory) ⊎ (settings_fault (settings_of options.now) ≡ Some fault)) }
 {
     let params = params_of(options)?;
-    let coder = Some(StreamCoder::new(alloc, params, 1 << 32));
+    let coder = Some(StreamCoder::new(alloc, params, MOST_SAMPLES));
     let bits = BitBuf::new(alloc);
     match Box::new(alloc, OpenCoder { coder, bits }) {
         Ok(made) => Ok(made),

@@ -11,7 +11,7 @@ use aec_params::{Edit, Fault, Samples};
 use std::alloc::Global;
 use std::mem;
 
-/// The number of a reply where a handle holds no workspace.
+/// The number of the reply to a call on a handle, coder or reader that isn't open.
 pub(crate) const NOT_OPEN: u32 = 19;
 
 pub(crate) fn not_open() -> Reply

@@ -6,7 +6,7 @@ ghost use Rattle.aec_c.specs.HandleLoads.{AreRead, CannotRead, Holds, CannotHold
 
 use crate::handle::{Handle, OpenWorkspace};
 use crate::handle_reads::{closed, fresh};
-use crate::options::{Options, asked, counted};
+use crate::options::{MOST_SAMPLES, Options, asked, counted};
 use crate::reply::{Reply, answered, refused};
 use aec_bits::BitBuf;
 use aec_interval::decode_all;
@@ -22,7 +22,7 @@ fn reading(alloc: Global, options: &Options, count: u64, bytes: &[u8]) -> Result
 {
     let params = Params::new(asked(options))?;
     let bits = BitBuf::from_bytes(alloc, bytes)?;
-    decode_all(alloc, &params, &bits, counted(count), 1 << 32)
+    decode_all(alloc, &params, &bits, counted(count), MOST_SAMPLES)
 }
 
 /// A workspace with these samples.

@@ -14,7 +14,7 @@ ghost use Rattle.aec_c.specs.HandleReads.{IsFresh, Opens, size_in, calls_in, Wri
 
 use crate::handle::{Handle, OpenWorkspace};
 use crate::handle_edits::not_open;
-use crate::options::{Options, asked};
+use crate::options::{MOST_SAMPLES, Options, asked};
 use crate::reply::{Reply, answered, refused, too_long};
 use crate::settling::settle;
 use aec_bits::WriteSink;
@@ -31,7 +31,7 @@ pub(crate) fn fresh(alloc: Global, options: &Options) -> Result<Box<OpenWorkspac
         (λ fault. (fault ≡ Memory) ⊎ (settings_fault (settings_of options.now) ≡ Some fault)) }
 {
     let params = Params::new(asked(options))?;
-    let workspace = Workspace::new(alloc, AecCodec::new(alloc, params), 1 << 32);
+    let workspace = Workspace::new(alloc, AecCodec::new(alloc, params), MOST_SAMPLES);
     match Box::new(alloc, OpenWorkspace { workspace }) {
         Ok(work) => Ok(work),
         Err(_) => Err(Fault::Memory),

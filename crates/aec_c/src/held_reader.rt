@@ -3,6 +3,7 @@
 ghost use Rattle.std.specs.Prelude.{◌≡◌, ◌<◌, ◌^◌, ℕ, IfOk, IfErr, OnOk};
 ghost use Rattle.aec_c.specs.Standing.{place_in, HasCounted, IsOnWay, BeginsInterval, IsFaultOnWay};
 
+use crate::options::MOST_SAMPLES;
 use aec_bits::BitBuf;
 use aec_interval::{ReachedPlace, StreamReader};
 use aec_params::{Fault, Params};
@@ -96,7 +97,7 @@ impl HeldReader {
             (λ fault. (fault ≡ Memory) ⊎ (count_refusal (2 ^ 32) count ≡ Some fault)) }
     {
         let bits = BitBuf::from_bytes(alloc, coded)?;
-        let place = StreamReader::new(alloc, params, &bits, count, 1 << 32)?.place();
+        let place = StreamReader::new(alloc, params, &bits, count, MOST_SAMPLES)?.place();
         Ok(HeldReader {
             params,
             count,
@@ -122,7 +123,13 @@ impl HeldReader {
         ensures ok { IfOk result
             (λ reader. reader ≡ place_in self.now.place place.block place.bit) }
     {
-        let mut reader = StreamReader::new(alloc, self.params, &self.bits, self.count, 1 << 32)?;
+        let mut reader = StreamReader::new(
+            alloc,
+            self.params,
+            &self.bits,
+            self.count,
+            MOST_SAMPLES,
+        )?;
         reader.go_back(place);
         Ok(reader)
     }

@@ -47,7 +47,9 @@ pub(crate) fn text_of(alloc: Global, reply: &Reply) -> Result<String, AllocError
                 reply.len
             )
         }
-        None if reply.fault == NOT_OPEN => format!(in alloc; "the handle holds no workspace"),
+        None if reply.fault == NOT_OPEN => format!(in alloc;
+            "the handle, coder or reader isn't open"
+        ),
         None => format!(in alloc; "no fault has the number {}", reply.fault),
     }
 }

@@ -1,5 +1,5 @@
-//! Tests of workspaces: what no clause of `aec_edit` says, and values from outside. Most are rows
-//! of a text.
+//! Tests of workspaces: what no clause of `aec_edit` says, and values from outside. Most are lines
+//! of text tables.
 #![tactic(auto)]
 
 #[cfg(test)]

@@ -1,14 +1,19 @@
 -- The front of a stream whose bytes are kept, and the rest of it that is put behind them.
-use Rattle.std.proofs.Common.{◌≡◌, ℕ, ◌+◌, ◌*◌, ◌-◌, ◌%◌, ◌<◌, ◌≤◌, ◌^◌, max, Bool, true, Option, None, Result, ℤ, List, [], ◌++◌, length, take, drop, refl, sym, ap, ap₂, ◌∙◌, subst, arith}
-use Rattle.std.proofs.Math.Nat.{zero-mod}
+use Rattle.std.proofs.Common.{◌≡◌, ℕ, ◌+◌, ◌*◌, ◌-◌, ◌%◌, ◌<◌, ◌≤◌, ◌^◌, max, Bool, true, false, Option, None, Some, Result, Ok, ℤ, List, [], ◌++◌, length, take, drop, refl, sym, ap, ap₂, ◌∙◌, subst, arith, ⊎_elim}
+use Rattle.std.specs.List.{AllByRecursion}
+use Rattle.std.specs.Int.{div_ceil}
+use Rattle.std.proofs.Math.Nat.{zero-mod, add-mul, mul-le-mul_right}
+use Rattle.std.proofs.lemmas.Bool.{cases_Bool, cases_lt, le-ltb}
+use Rattle.std.proofs.lemmas.Grind.{div_ceil_times}
 use Rattle.std.proofs.lemmas.List.{length-append, take_all}
 use Rattle.aec_params.specs.declared.settings.Settings.{Settings}
 use Rattle.aec_params.specs.declared.fault.Fault.{Fault}
-use Rattle.aec_params.specs.Params.{IsAllowed, interval_len}
-use Rattle.aec_params.specs.Reading.{IsReading}
+use Rattle.aec_params.specs.Params.{IsAllowed, IsHeld, interval_len}
+use Rattle.aec_params.specs.Reading.{is_wanted, IsReading}
+use Rattle.aec_params.proofs.SettingLaws.{block_size-positive}
 use Rattle.aec_interval.specs.Reached.{count_refusal, RefusesReading, RefusesDecoding}
 use Rattle.aec_interval.specs.Pieces.{Place, IsPlace, place_at, is_wanted_at, ReadsIntervals}
-use Rattle.aec_interval.proofs.PieceReadingLemmas.{has_read_nothing, has_read_several, has_read_front}
+use Rattle.aec_interval.proofs.PieceReadingLemmas.{has_read_nothing, has_read_several, has_read_front, has_read_few, has_read_all, piece_is_held}
 use Rattle.aec_interval.proofs.ReachedPlaceLemmas.{place-within}
 use Rattle.aec_engine.specs.Output.{all_stored, samples_from}
 use Rattle.aec_engine.specs.ReadingTwice.{AreFewKept, AreSamplesOf, HaveSamples, KeepsFront, DecodesBits, SettlesOne}
@@ -56,6 +61,68 @@ keeps_more start p q s before len more bytes room bytes_then ys part a same keep
   few = few;
   begins = begins;
 }
+
+-- ---- what is read first
+
+module _ (start q : Place) (s : Settings) (more : Bool) (ys : List ℤ) (a : IsAllowed s) (settings : start.settings ≡ s)
+    (read : more ≡ true → ReadsIntervals start ys q) (done : more ≡ false → q ≡ start) (empty : more ≡ false → ys ≡ []) where
+  allowed : IsAllowed start.settings
+  allowed = subst IsAllowed (sym settings) a
+
+  -- the bytes of the samples that come at once
+  pub first_kept : (n : ℕ) → start.block ≡ 0 → start.bit ≡ 0 → q.block < 2 ^ 34 → (is_wanted_at q ≡ true → q.block % q.settings.interval ≡ 0)
+      → n ≡ length ys → KeepsFront q s n (all_stored s ys)
+  first_kept n block bit few begins counts =
+      ⊎_elim (λ (h : more ≡ true).
+      keeps_more start start q s 0 n n [] [] (all_stored s ys) ys ys allowed refl (keeps_none start s [] block bit refl) (read h) few begins refl refl
+      refl counts (omega arith))
+      (λ (h : more ≡ false).
+      let none : ys ≡ [] = empty h in
+      subst (λ (p : Place). KeepsFront p s n (all_stored s ys)) (sym (done h))
+      (subst (λ k. KeepsFront start s k (all_stored s ys)) (sym (counts ∙ ap length none))
+      (keeps_none start s (all_stored s ys) block bit (ap (all_stored s) none))))
+      (cases_Bool more)
+
+  -- they are samples of the settings
+  pub first_held : AllByRecursion (IsHeld s) ys
+  first_held =
+      ⊎_elim (λ (h : more ≡ true). subst (λ s. AllByRecursion (IsHeld s) ys) settings (piece_is_held start q ys (read h).piece))
+      (λ (h : more ≡ false). subst (AllByRecursion (IsHeld s)) (sym (empty h)) tt) (cases_Bool more)
+
+  -- and the reader goes on under the same terms
+  pub first_same : q ≡ place_from start q.block q.bit
+  first_same =
+      ⊎_elim (λ (h : more ≡ true). (read h).piece.same)
+      (λ (h : more ≡ false). subst (λ (p : Place). p ≡ place_from start p.block p.bit) (sym (done h)) refl) (cases_Bool more)
+
+-- all that are asked for were read
+pub first_are_all : (s : Settings) (count : Option ℕ) (limit : ℕ) (bits : List Bool) (q : Place) (n : ℕ) (bytes : List ℕ) → IsAllowed s
+    → q ≡ place_at s count limit bits q.block q.bit → None ≡ count_refusal limit count → KeepsFront q s n bytes → count ≡ Some n
+    → DecodesBits s count limit bits (Ok bytes)
+first_are_all s count limit bits q n bytes a same none keeps is =
+    subst (λ l. DecodesBits s count limit bits (Ok l)) (sym keeps.kept) (twice.read keeps.samples (sym none) reading)
+  where
+    allowed : IsAllowed q.settings
+    allowed = subst IsAllowed (sym (ap (λ (p : Place). p.settings) same)) a
+
+    few : n ≤ q.block * q.settings.block_size
+    few = omega (arith, keeps.counted, has_read_few q keeps.samples allowed keeps.read)
+
+    needed : div_ceil n q.settings.block_size ≤ q.block
+    needed = ⊎_elim (λ (h : q.block < div_ceil n q.settings.block_size).
+        let more : (q.block + 1) * q.settings.block_size ≤ div_ceil n q.settings.block_size * q.settings.block_size =
+        mul-le-mul_right q.settings.block_size (omega (arith, h)) in
+        let bound = (div_ceil_times n q.settings.block_size (block_size-positive q.settings allowed)).1 in
+        absurd (omega (arith, more, bound, few, add-mul q.block 1 q.settings.block_size)))
+        (λ (h : div_ceil n q.settings.block_size ≤ q.block). h) (cases_lt q.block (div_ceil n q.settings.block_size))
+
+    done : is_wanted_at q ≡ false
+    done = subst (λ c. is_wanted q.settings c q.bits q.block q.bit ≡ false) (sym (ap (λ (p : Place). p.count) same ∙ is))
+        (le-ltb q.block (div_ceil n q.settings.block_size) needed)
+
+    reading : IsReading s count limit bits keeps.samples
+    reading = subst (λ (p : Place). IsReading p.settings p.count p.limit p.bits keeps.samples) same
+        (has_read_all q keeps.samples allowed keeps.read done)
 
 -- ---- how many bytes are kept
 

@@ -19,7 +19,7 @@ use Rattle.aec_engine.specs.ReadingTwice.{GaveWhole, AreSamplesOf, HaveSamples, 
 use Rattle.aec_engine.specs.Buffers.{FillsOne}
 use Rattle.aec_engine.proofs.ReadTwiceLemmas.{place_from}
 use Rattle.aec_engine.proofs.PutRangeLemmas.{samples_from-most}
-use Rattle.aec_engine.proofs.SettlingLemmas.{samples_there}
+use Rattle.aec_engine.proofs.SettlingLemmas.{samples_there, refuses_reading}
 use Rattle.aec_engine.proofs.BufferLemmas.{HasRange, size_of, fills_map}
 use Rattle.aec_engine.proofs.KeepingLemmas.{kept_and_rest}
 
@@ -48,7 +48,7 @@ given_none (Err fault) coded limit is = subst (RefusesIntake (Some coded) (Some 
 abbrev pub IsOnly : List ℕ → Result (List ℕ) Fault → Type 0
 IsOnly bytes answer = answer ≡ Ok bytes
 
-only_not : (bytes before : List ℕ) (size : ℕ) → length bytes ≡ size → length before < size → FillsOne (IsOnly bytes) before before (Ok size)
+pub only_not : (bytes before : List ℕ) (size : ℕ) → length bytes ≡ size → length before < size → FillsOne (IsOnly bytes) before before (Ok size)
 only_not bytes before size same long = record {
   answer = Ok bytes;
   answered = refl;
@@ -57,7 +57,7 @@ only_not bytes before size same long = record {
       (lt-leb (length bytes) (length before) (omega (arith, same, long))));
 }
 
-only_front : (bytes before after : List ℕ) (size : ℕ) → length bytes ≡ size → size ≤ length before → after ≡ bytes ++ drop size before
+pub only_front : (bytes before after : List ℕ) (size : ℕ) → length bytes ≡ size → size ≤ length before → after ≡ bytes ++ drop size before
     → FillsOne (IsOnly bytes) before after (Ok size)
 only_front bytes before after size same short put = record {
   answer = Ok bytes;
@@ -113,6 +113,13 @@ rest_range start p kept left total same have is =
 pub refused_there : (start p : Place) (fault : Fault) → p ≡ place_from start p.block p.bit → RefusesReading p.settings p.count p.limit p.bits 0 0 fault
     → RefusesReading start.settings start.count start.limit start.bits 0 0 fault
 refused_there start p fault same refuses = subst (λ (p : Place). RefusesReading p.settings p.count p.limit p.bits 0 0 fault) same refuses
+
+-- a refusal under the same terms
+pub refused_under : (s : Settings) (p : Place) (fault : Fault) → p.settings ≡ s → None ≡ count_refusal p.limit p.count
+    → RefusesReading p.settings p.count p.limit p.bits 0 0 fault → DecodesBits s p.count p.limit p.bits (Err fault)
+refused_under s p fault settings none refuses =
+    twice.unread fault (refuses_reading s p.count p.limit p.bits (place_at s p.count p.limit p.bits 0 0) fault refl none
+    (subst (λ s. RefusesReading s p.count p.limit p.bits 0 0 fault) settings refuses))
 
 pub decodes_kept : (s : Settings) (count : Option ℕ) (limit most : ℕ) (bits : List Bool) (start p q : Place) (before total left : ℕ)
     (bytes old new : List ℕ) (r : Result ℕ Fault) → IsAllowed s → limit ≡ most → start ≡ place_at s count limit bits 0 0

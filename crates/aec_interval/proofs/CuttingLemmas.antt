@@ -8,7 +8,6 @@ use Rattle.std.proofs.lemmas.Grind.{div_ceil_times}
 use Rattle.std.proofs.lemmas.Bool.{cases_lt}
 use Rattle.std.specs.Int.{div_ceil}
 use Rattle.std.specs.Simd.{first_chunks}
-use Rattle.std.specs.List.{flat_map}
 use Rattle.aec_params.specs.Cutting.{pieces_of, up_to_multiple}
 pub use Rattle.aec_params.proofs.CuttingLaws.{div_ceil-zero, div_ceil-step, pieces_of-nil, pieces_of-one}
 

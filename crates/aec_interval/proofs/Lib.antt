@@ -49,6 +49,8 @@ pub mod PieceLemmas
 pub mod TakingLemmas
 pub mod FeedingLemmas
 pub mod HeldLemmas
-pub mod JoiningLemmas
+pub mod JudgingLemmas
+pub mod PartLemmas
+pub mod NextPartLemmas
 pub mod CutLemmas
 pub mod WorkedFeeding

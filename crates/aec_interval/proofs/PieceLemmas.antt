@@ -91,7 +91,7 @@ stream_of-append s k front back a whole = code_of-append (interval_format s) k f
 
 -- ---- groups of bytes
 
-byte_groups-whole : (s : Settings) (k : ℕ) (front back : List ℕ) → IsAllowed s → length front ≡ k * storage_len s
+pub byte_groups-whole : (s : Settings) (k : ℕ) (front back : List ℕ) → IsAllowed s → length front ≡ k * storage_len s
     → byte_groups s (front ++ back) ≡ byte_groups s front ++ byte_groups s back
 byte_groups-whole s zero front back a whole =
     let none : front ≡ [] = nil_from_length front (omega arith) in
@@ -122,9 +122,3 @@ byte_groups-append s xs ys a =
     ∙ ap (λ l. byte_groups s front ++ l) (byte_groups-short s left (left_behind-few n xs some)) ∙ append-nil (byte_groups s front) in
     ap (λ l. byte_groups s (l ++ ys)) (sym (whole_and_left n xs)) ∙ ap (byte_groups s) (append_assoc front left ys)
     ∙ byte_groups-whole s (length xs / n) front (left ++ ys) a whole ∙ ap (λ l. l ++ byte_groups s (left ++ ys)) (sym alone)
-
--- the bytes of one sample
-pub byte_groups-one : (s : Settings) (g : List ℕ) → IsAllowed s → length g ≡ storage_len s → byte_groups s g ≡ g ∷ []
-byte_groups-one s g a whole =
-    let some = storage-least s a in
-    ap (byte_groups s) (sym (append-nil g)) ∙ byte_groups-group s g [] a whole ∙ ap (λ l. g ∷ l) (byte_groups-short s [] (omega arith))

@@ -1,9 +1,11 @@
 -- Plain blocks: coded data sets of their own without a reference sample, which need no test of
 -- their place.
-use Rattle.std.proofs.Common.{length, take, ◌≡◌, ℕ, ◌+◌, ◌-◌, ◌*◌, ◌/◌, ◌%◌, ◌<◌, ◌≤◌, ◌==◌, ◌&&◌, Bool, true, false, if◌then◌else◌, min, Option, Some, None, IfSome, unwrap_or, ⊎_elim, ◌^◌, Ok, Err, ℤ, List, [], ◌∷◌, refl, sym, ap, ◌∙◌, subst, arith}
+use Rattle.std.proofs.Common.{length, take, ◌≡◌, ℕ, ◌+◌, ◌-◌, ◌*◌, ◌/◌, ◌%◌, ◌<◌, ◌≤◌, ◌==◌, ◌&&◌, Bool, true, false, if◌then◌else◌, min, Option, Some, None, IfSome, unwrap_or, ⊎_elim, ◌^◌, Ok, Err, ℤ, List, [], ◌∷◌, ◌++◌, refl, sym, ap, ◌∙◌, subst, arith}
 use Rattle.std.proofs.Math.Nat.{mod-lt, mul-le-mul_right, le-mul_of_pos_right, div-mul-le_self, add-mul}
 use Rattle.std.proofs.lemmas.Grind.{div_ceil_times}
 use Rattle.std.proofs.lemmas.Bool.{cases_lt, and_right, ne_eqb, lt-ltb, le-ltb, le-leb, leb-true}
+use Rattle.std.proofs.Math.Seq.{take-append_seam}
+use Rattle.std.proofs.lemmas.List.{take_all}
 use Rattle.std.proofs.lemmas.Slice.{take-put_mid}
 use borrow.Rule.Slice.PartMut.{put_mid}
 use Rattle.std.specs.List.{AllByRecursion}
@@ -194,18 +196,19 @@ more_read s n m old mid new samples front more first second = record {
       (second.leads wanted end (i + n) (omega (arith, some)) (first.leads wanted end i (omega (arith, some)) here));
 }
 
--- the same by cursors that are equal
-pub read_between : (s : Settings) (n : ℕ) (old start new end : Cursor) (samples more : List ℤ) → start ≡ old → end ≡ new → ReadsPlain s n old samples new more
-    → ReadsPlain s n start samples end more
-read_between s n old start new end samples more begins ends read = rw (begins, ends) read
+-- the samples before the places that were added
+front_of_extended : (items more extended all : List ℤ) (b : Bool) (from : ℕ) → extended ≡ (if b then items ++ more else items) → all ≡ extended
+    → from ≡ length items → take from all ≡ items
+front_of_extended items more extended all true from is same place = rw (same, is, place) (take-append_seam items more)
+front_of_extended items more extended all false from is same place = rw (same, is) (take_all from items (omega (arith, place)))
 
--- one block more, of which the samples have their places in a list
-pub one_more_read : (s : Settings) (n at size : ℕ) (old mid new : Cursor) (samples front more : List ℤ) → size ≡ s.block_size
-    → ReadsPlain s n old samples mid front → ReadsPlain s 1 mid front new (take (at + s.block_size) more)
-    → ReadsPlain s (n + 1) old samples new (take (at + size) more)
-one_more_read s n at size old mid new samples front more is first second =
-    subst (λ j. ReadsPlain s (n + 1) old samples new (take (at + j) more)) (sym is)
-    (more_read s n 1 old mid new samples front (take (at + s.block_size) more) first second)
+-- what was read into places that were added after samples, of which those that are filled are kept
+pub reads_kept : (s : Settings) (n j from : ℕ) (old new : Cursor) (items more extended all filled kept : List ℤ) (b : Bool)
+    → extended ≡ (if b then items ++ more else items) → all ≡ extended → from ≡ length items → j ≡ s.block_size → kept ≡ take (from + n * j) filled
+    → ReadsPlain s n old (take from all) new (take (from + n * s.block_size) filled) → ReadsPlain s n old items new kept
+reads_kept s n j from old new items more extended all filled kept b is same place size cut read =
+    subst (λ items. ReadsPlain s n old items new kept) (front_of_extended items more extended all b from is same place)
+    (subst (ReadsPlain s n old (take from all) new) (sym (cut ∙ ap (λ j. take (from + n * j) filled) size)) read)
 
 -- ---- how many samples
 
@@ -215,9 +218,23 @@ few_places blocks size j is small few =
     let both : (2 + 120 / j) * j ≡ 2 * j + 120 / j * j = add-mul 2 (120 / j) j in
     omega (arith, ap (λ n. blocks * n) is, most, both, div-mul-le_self 120 j, small)
 
+pub block_fits : (from at count most size all : ℕ) → at ≡ from + count * size → count < most → from + most * size ≤ all → at + size ≤ all
+block_fits from at count most size all is below room =
+    let more : (count + 1) * size ≤ most * size = mul-le-mul_right size (omega (arith, below)) in
+    omega (arith, is, more, room, add-mul count 1 size)
+
 pub one_block_more : (from at count size : ℕ) → at ≡ from + count * size → at + size ≡ from + (count + 1) * size
 one_block_more from at count size is =
     let both : (count + 1) * size ≡ count * size + size = omega (arith, add-mul count 1 size) in omega (arith, is, both)
 
-pub len-joined : (old mid new count read size : ℕ) → mid ≤ old + count * size → new ≤ mid + read * size → new ≤ old + (count + read) * size
-len-joined old mid new count read size front more = omega (arith, front, more, add-mul count read size)
+pub len-joined : (old mid new block next read size : ℕ) → block ≤ next → mid ≤ old + (next - block) * size → new ≤ mid + read * size
+    → new ≤ old + (next + read - block) * size
+len-joined old mid new block next read size forward front more =
+    let sum : next + read - block ≡ next - block + read = omega (arith, forward) in
+    omega (arith, ap (λ n. n * size) sum, front, more, add-mul (next - block) read size)
+
+-- a step of a reading from an untested block to the next
+pub untested_further : (s : Settings) (wanted : Wanted) (last next n : ℕ) (old start new : Cursor) (samples more : List ℤ) → start ≡ old
+    → IsUntestedAt s wanted last next old samples → n ≤ last - next → ReadsPlain s n start samples new more → IsUntestedAt s wanted last (next + n) new more
+untested_further s wanted last next n old start new samples more same here few read =
+    read.leads wanted last next few (subst (λ cursor. IsUntestedAt s wanted last next cursor samples) (sym same) here)

@@ -7,16 +7,15 @@ use Rattle.std.specs.List.{flat_map}
 use Rattle.std.specs.Simd.{first_chunks}
 use Rattle.aec_params.specs.Params.{interval_len}
 use Rattle.aec_params.specs.Blocks.{blocks_of, all_blocks_of}
-use Rattle.std.proofs.lemmas.Bool.{ltb-true, ltb-false}
+use Rattle.std.proofs.lemmas.Bool.{ltb-true}
 use Rattle.std.specs.Int.{div_ceil}
 use Rattle.aec_params.specs.declared.settings.Settings.{Settings}
 use Rattle.aec_params.specs.declared.fault.Fault.{Fault}
-use Rattle.aec_params.specs.declared.fault.Fault.TheVariants.{TooManySamples, Memory}
+use Rattle.aec_params.specs.declared.fault.Fault.TheVariants.{Memory}
 use Rattle.aec_params.specs.Params.{IsAllowed}
-use Rattle.std.proofs.Common.{nat_lt, if◌then◌else◌}
 use Rattle.aec_params.specs.CodedDataSets.{Body, uncompressed_values, value_pairs, split_values, zero_blocks, CodedDataSet, HasShape}
 use Rattle.aec_params.specs.Places.{block_count, is_reference_block, cds_blocks}
-use Rattle.aec_params.specs.Reading.{next_block, next_begin, begin_of, is_wanted, kept_blocks, stream_blocks, counted_samples, IsReading}
+use Rattle.aec_params.specs.Reading.{next_block, next_begin, begin_of, is_wanted, kept_blocks, stream_blocks, counted_samples}
 use Rattle.aec_bits.specs.BitReader.{Cursor}
 use Rattle.aec_block.specs.declared.cds.Cds.{Cds}
 use Rattle.aec_block.specs.ReadCds.{IsReadAs}

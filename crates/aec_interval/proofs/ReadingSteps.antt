@@ -1,16 +1,16 @@
 -- Reading goes on by one coded data set: what was reached with one more behind it.
 use Rattle.std.proofs.Common.{add-one, ◌≡◌, ℕ, ◌+◌, ◌*◌, ◌%◌, ◌<◌, Bool, true, Option, ℤ, List, [], ◌∷◌, ◌++◌, length, refl, sym, ap, ap₂, append-nil, append_assoc, ◌∙◌, subst}
 use Rattle.std.proofs.lemmas.List.{length-append}
-use Rattle.std.proofs.Math.Nat.{suc-mul, zero-mul}
+use Rattle.std.proofs.Math.Nat.{suc-mul}
 use Rattle.std.specs.List.{AllByRecursion}
 use Rattle.aec_params.specs.declared.settings.Settings.{Settings}
-use Rattle.aec_params.specs.Params.{IsHeld, interval_len}
+use Rattle.aec_params.specs.Params.{IsHeld}
 use Rattle.aec_params.specs.Blocks.{Block}
 use Rattle.aec_params.specs.CodedDataSets.{CodedDataSet}
 use Rattle.aec_params.specs.Places.{cds_blocks, IsLawfulAt}
 use Rattle.aec_params.specs.Reading.{StandsAt, next_block, next_begin, is_wanted, keeps_limit, LeadsTo, stream_blocks, FillBlocks}
 use Rattle.aec_interval.specs.NextBlock.{next_block_of}
-use Rattle.aec_interval.proofs.NextBlockLemmas.{all_blocks_of-push, all_blocks_of-nil}
+use Rattle.aec_interval.proofs.NextBlockLemmas.{all_blocks_of-push}
 
 -- ---- samples that fill blocks
 

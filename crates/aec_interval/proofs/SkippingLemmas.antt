@@ -16,7 +16,6 @@ use Rattle.aec_params.proofs.SettingLaws.{block_size-positive, interval-positive
 use Rattle.aec_params.proofs.BlockShapeLaws.{AreBlocksFrom-front, AreBlocksFrom-interval}
 use Rattle.aec_params.proofs.StreamLaws.{stream_blocks-shape}
 use Rattle.aec_params.proofs.FillLaws.{samples-of_blocks}
-use Rattle.aec_interval.specs.Reached.{IsReached}
 use Rattle.aec_interval.specs.Pieces.{Place, place_at, counted_from}
 use Rattle.aec_interval.specs.Skipping.{IsLedTo, asked_len, HasInterval, AllSetsStandForSamples}
 use Rattle.aec_interval.proofs.CuttingLemmas.{div_ceil-bounds}

@@ -75,7 +75,7 @@ bad_step (Some x) i k (Err m) ih e =
     omega (arith, ih m refl)
 
 -- a bad sample is none before the first
-bad_behind : (s : Settings) (i k : ℕ) (gs : List (List ℕ)) → samples_of_groups s i gs ≡ Err k → i ≤ k
+pub bad_behind : (s : Settings) (i k : ℕ) (gs : List (List ℕ)) → samples_of_groups s i gs ≡ Err k → i ≤ k
 bad_behind s i k [] e = absurd (cc)
 bad_behind s i k (g ∷ gs) e =
     bad_step (sample_of_number s (number_in s g)) i k (samples_of_groups s (i + 1) gs) (λ m f. bad_behind s (i + 1) m gs f) e
@@ -170,7 +170,7 @@ length-samples s i (group ∷ groups) samples e =
     by_first (Some x) (Err k) all e = absurd (cc)
     by_first (Some x) (Ok xs) all e = let is : x ∷ xs ≡ samples = cc in sym (ap length is) ∙ ap suc (all xs refl)
 
-length-groups : (n k : ℕ) (bytes : List ℕ) → length (first_chunks n k bytes) ≡ k
+pub length-groups : (n k : ℕ) (bytes : List ℕ) → length (first_chunks n k bytes) ≡ k
 length-groups n zero bytes = refl
 length-groups n (suc k) bytes = ap suc (length-groups n k (drop n bytes))
 
@@ -195,7 +195,7 @@ counted_step None i j later there xs e ih = absurd (cc)
 counted_step (Some x) i j (Ok ys) there xs e ih = ap (sample_before (Some x) j) (ih ys refl) ∙ e
 counted_step (Some x) i j (Err k) there xs e ih = absurd (cc)
 
-counted_from : (s : Settings) (i j : ℕ) (gs : List (List ℕ)) (xs : List ℤ) → samples_of_groups s i gs ≡ Ok xs → samples_of_groups s j gs ≡ Ok xs
+pub counted_from : (s : Settings) (i j : ℕ) (gs : List (List ℕ)) (xs : List ℤ) → samples_of_groups s i gs ≡ Ok xs → samples_of_groups s j gs ≡ Ok xs
 counted_from s i j [] xs e = e
 counted_from s i j (g ∷ gs) xs e =
     counted_step (sample_of_number s (number_in s g)) i j (samples_of_groups s (i + 1) gs) (samples_of_groups s (j + 1) gs) xs e

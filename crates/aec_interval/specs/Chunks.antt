@@ -2,10 +2,10 @@
 -- What the private functions of `interval::filled_blocks` compute: the blocks of samples after
 -- others of their interval, or at its start. The contract of `append_interval` cites
 -- `interval_bits` instead.
-use Rattle.std.specs.Prelude.{◌≡◌, ℕ, ◌*◌, ◌≤◌, ⊤, Option, Some, None, ℤ, List, length}
+use Rattle.std.specs.Prelude.{◌≡◌, ℕ, ◌*◌, ◌<◌, ◌≤◌, ⊤, Option, Some, None, ℤ, List, length}
 use Rattle.std.specs.List.{AllByRecursion}
 use Rattle.aec_params.specs.declared.settings.Settings.{Settings}
-use Rattle.aec_params.specs.Params.{IsHeld}
+use Rattle.aec_params.specs.Params.{IsAllowed, IsHeld}
 use Rattle.aec_params.specs.Cutting.{pieces_of}
 use Rattle.aec_params.specs.Mapping.{mapped_after, mapped_values}
 use Rattle.aec_params.specs.Blocks.{Block, filled_samples, reference_of, with_reference}
@@ -49,3 +49,9 @@ pub record AreSamplesAfter (s : Settings) (previous : Option ℤ) (most : ℕ) (
   pub previous_held : HoldsPrevious s previous
   pub held : AllByRecursion (IsHeld s) v
   pub few : length v ≤ s.block_size * most
+
+-- samples of one block, at least one, after the one before them
+pub record AreBlockAfter (s : Settings) (previous : Option ℤ) (v : List ℤ) : Type 0 where
+  pub allowed : IsAllowed s
+  pub some : 0 < length v
+  pub samples : AreSamplesAfter s previous 1 v

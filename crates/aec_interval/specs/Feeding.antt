@@ -23,8 +23,7 @@ pub record Coder : Type 0 where
 abbrev pub fresh_coder : Settings → ℕ → Coder
 fresh_coder s limit = record { settings = s; limit = limit; held = []; rest = []; count = 0; refusal = None }
 
--- the front of a list that is whole pieces of n (cut by division, where the code counts up to an
--- interval)
+-- the front of a list that is whole pieces of n
 abbrev pub whole_front : {X : Type 0} → ℕ → List X → List X
 whole_front n xs = take (length xs / n * n) xs
 
@@ -41,8 +40,7 @@ abbrev pub samples_with : Coder → List ℕ → List ℤ
 samples_with c piece = c.held ++ (taken_of c piece).samples
 
 -- the coder after a piece: it holds what is left of the samples and of the bytes (of the whole
--- piece, where the code takes up to an interval at once, and goes sample by sample where one is
--- refused)
+-- piece, where the code takes it in parts)
 abbrev pub fed : Coder → List ℕ → Coder
 fed c piece = record {
   settings = c.settings;

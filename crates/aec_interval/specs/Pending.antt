@@ -2,12 +2,11 @@
 -- What the private functions of `interval::zero_runs` and `interval` compute: what is still to be
 -- written after zero blocks that are counted. The contract of `append_interval` cites
 -- `interval_bits` instead.
-use Rattle.std.specs.Prelude.{◌≡◌, ℕ, ℤ, zero, suc, ◌+◌, ◌-◌, ◌==◌, ◌<◌, ◌≤◌, Bool, length, take, if◌then◌else◌, Option, List, [], ◌∷◌, ◌++◌, Result, IfOk, IfErr}
+use Rattle.std.specs.Prelude.{◌≡◌, ℕ, ℤ, zero, suc, ◌+◌, ◌-◌, ◌==◌, ◌≤◌, Bool, length, take, if◌then◌else◌, Option, List, [], ◌∷◌, ◌++◌, Result, OnOk, OnErr, IfOk, IfErr}
 use Rattle.std.specs.List.{flat_map}
 use Rattle.aec_params.specs.declared.fault.Fault.{Fault}
 use Rattle.aec_params.specs.declared.fault.Fault.TheVariants.{Memory}
 use Rattle.aec_params.specs.declared.settings.Settings.{Settings}
-use Rattle.aec_params.specs.Params.{IsAllowed}
 use Rattle.aec_params.specs.Blocks.{Block}
 use Rattle.aec_params.specs.CodedDataSets.{cds_bits}
 use Rattle.aec_params.specs.Runs.{Group, zero_run, groups_of, segment_len}
@@ -15,7 +14,7 @@ use Rattle.aec_params.specs.Intervals.{group_sets}
 use Rattle.aec_bits.specs.BitBuf.{Bits}
 use Rattle.aec_block.specs.Choices.{FitsReference}
 use Rattle.aec_block.specs.Written.{run_bits}
-use Rattle.aec_interval.specs.Chunks.{AreSamplesAfter}
+use Rattle.aec_interval.specs.Chunks.{AreBlockAfter}
 use Rattle.aec_interval.specs.declared.interval.zero_runs.Run.{Run}
 
 -- a run of z blocks before groups: it joins a run that comes first
@@ -51,12 +50,22 @@ pub record IsRun (s : Settings) (most : ℕ) (run : Run) : Type 0 where
 abbrev pub IsKept : List Bool → List Bool → Type 0
 IsKept old new = take (length old) new ≡ old
 
+-- a code is appended; or memory is refused, and the bits from before stay in front
+pub record Writes (code old : List Bool) (result : Result (Unit {0}) Fault) (new : List Bool) : Type 0 where
+  pub ok : OnOk result (new ≡ old ++ code)
+  pub kept : IsKept old new
+  pub fault : IfErr result (λ e. e ≡ Memory)
+
+-- a code is appended; or memory is refused, and the bits are as before
+pub record WritesAll (code old : List Bool) (result : Result (Unit {0}) Fault) (new : List Bool) : Type 0 where
+  pub ok : OnOk result (new ≡ old ++ code)
+  pub err : OnErr result (new ≡ old)
+  pub fault : IfErr result (λ e. e ≡ Memory)
+
 -- the samples of one block more of a segment stand after a run
 pub record AreNext (s : Settings) (previous : Option ℤ) (samples : List ℤ) (before : Run) : Type 0 where
-  pub allowed : IsAllowed s
+  pub block : AreBlockAfter s previous samples
   pub run : IsRun s (segment_len - 1) before
-  pub some : 0 < length samples
-  pub after : AreSamplesAfter s previous 1 samples
 
 -- a block is taken after a run: whatever blocks come next, what is written with what is then still
 -- to be written are the bits of all. The bits from before stay, and memory alone is refused

@@ -2,7 +2,7 @@
 -- Plain blocks read one after the other: what the private functions of `reading::plain` do for
 -- every reading that comes to the first of them. The contract of `decode_all` cites `IsReading` and
 -- `IsFault` instead.
-use Rattle.std.specs.Prelude.{◌≡◌, ◌<◌, ◌≤◌, ℕ, ◌+◌, ◌-◌, ◌/◌, ◌%◌, ℤ, List}
+use Rattle.std.specs.Prelude.{◌≡◌, ◌<◌, ◌≤◌, ℕ, ◌+◌, ◌-◌, ◌*◌, ◌/◌, ◌%◌, ℤ, List, length, take}
 use Rattle.std.specs.List.{AllByRecursion}
 use Rattle.aec_params.specs.declared.settings.Settings.{Settings}
 use Rattle.aec_params.specs.Params.{IsHeld}
@@ -28,6 +28,14 @@ pub record ReadsPlain (s : Settings) (n : ℕ) (old : Cursor) (samples : List �
   pub held : AllByRecursion (IsHeld s) more
   pub leads : (wanted : Wanted) (end i : ℕ) → n ≤ end - i → IsUntestedAt s wanted end i old samples
       → IsUntestedAt s wanted end (i + n) new more
+
+-- `count` plain blocks were read, at most `most`: their samples come after the first `from`
+-- samples; the list keeps its length
+pub record FillsBlocks (s : Settings) (most from : ℕ) (old : Cursor) (before : List ℤ) (count : ℕ) (new : Cursor)
+    (after : List ℤ) : Type 0 where
+  pub reads : ReadsPlain s count old (take from before) new (take (from + count * s.block_size) after)
+  pub within : count ≤ most
+  pub len : length after ≡ length before
 
 -- for how many blocks room is made at once, at most: `BLOCKS_AT_FIRST`, and those of
 -- `SAMPLES_AT_ONCE` samples

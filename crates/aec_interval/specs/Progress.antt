@@ -1,13 +1,14 @@
 -- What the private functions of `stream_coder::pieces` keep: a coder that was not refused anything,
 -- by its parts. `StreamCoder::feed` cites none of this.
-use Rattle.std.specs.Prelude.{◌≡◌, ℕ, ◌+◌, ◌*◌, ◌%◌, ◌<◌, ◌≤◌, ◌⊎◌, Bool, Option, None, Result, MatchResult, OnOk, OnErr, IfErr, ℤ, List, [], ◌++◌, length}
+use Rattle.std.specs.Prelude.{◌≡◌, ℕ, ◌+◌, ◌*◌, ◌/◌, ◌%◌, ◌<◌, ◌≤◌, ◌⊎◌, nat_lt, if◌then◌else◌, Bool, Option, None, Result, MatchResult, ℤ, List, [], ◌++◌, length}
+use Rattle.std.specs.Result.{result_err}
 use Rattle.std.specs.List.{AllByRecursion}
 use Rattle.aec_params.specs.declared.settings.Settings.{Settings}
 use Rattle.aec_params.specs.declared.fault.Fault.{Fault}
-use Rattle.aec_params.specs.declared.fault.Fault.TheVariants.{Memory}
+use Rattle.aec_params.specs.declared.fault.Fault.TheVariants.{SampleRange, TooManySamples}
 use Rattle.aec_params.specs.Params.{IsAllowed, IsHeld, interval_len, storage_len}
-use Rattle.aec_params.specs.Streams.{stream_of}
-use Rattle.aec_interval.specs.Feeding.{Coder, Feeds, StopsFeeding, whole_front, left_behind}
+use Rattle.aec_params.specs.Stored.{samples_of_bytes}
+use Rattle.aec_interval.specs.Feeding.{Coder, Feeds, StopsFeeding}
 use Rattle.aec_interval.specs.declared.stream_coder.pieces.Progress.{Progress}
 use Rattle.aec_interval.specs.declared.stream_coder.pieces.Terms.{Terms}
 
@@ -37,41 +38,42 @@ pub record IsProgress (terms : Terms) (progress : Progress) : Type 0 where
   pub held : AreHeldFew terms.params progress.held
   pub within : progress.count ≤ terms.limit
 
+-- samples of an incomplete interval, and bytes of an incomplete sample after them, maybe none
+pub record IsBegun (terms : Terms) (so_far : Progress) (rest : List ℕ) : Type 0 where
+  pub progress : IsProgress terms so_far
+  pub short : length rest < storage_len terms.params
+
 -- so many samples are fewer than an interval has, or those of whole intervals
 abbrev pub IsFewOrWhole : ℕ → ℕ → Type 0
 IsFewOrWhole interval count = (count < interval) ⊎ (count % interval ≡ 0)
 
--- of these samples those of whole intervals are coded, and the others held; where memory is
--- refused, nothing is coded
-pub record CodesWhole (s : Settings) (samples : List ℤ) (before : List Bool) (result : Result (Unit {0}) Fault)
-    (held : List ℤ) (after : List Bool)
-    : Type 0 where
-  pub ok : OnOk result (held ≡ left_behind (interval_len s) samples)
-  pub bits : OnOk result (after ≡ before ++ stream_of s (whole_front (interval_len s) samples))
-  pub few : AreHeldFew s held
-  pub err : OnErr result (after ≡ before)
-  pub fault : IfErr result (λ e. e ≡ Memory)
+-- why sample i is refused, if it is
+abbrev pub refusal_at : ℕ → ℕ → Fault
+refusal_at limit i = if nat_lt i limit then SampleRange i else TooManySamples limit
 
--- bytes of whole samples, at least one, which with those that are held are fewer than an interval
--- has, or those of whole intervals
-pub record ArePart (s : Settings) (held : List ℤ) (bytes : List ℕ) : Type 0 where
+-- bytes of whole samples, at least one, of which none is refused; with those that are held they are
+-- fewer than an interval has, or those of whole intervals
+pub record IsPart (terms : Terms) (progress : Progress) (bytes : List ℕ) : Type 0 where
   pub samples : ℕ
-  pub whole : length bytes ≡ samples * storage_len s
+  pub whole : length bytes ≡ samples * storage_len terms.params
   pub some : 0 < samples
-  pub fills : IsFewOrWhole (interval_len s) (length held + samples)
+  pub fills : IsFewOrWhole (interval_len terms.params) (length progress.held + samples)
+  pub good : result_err (samples_of_bytes terms.params bytes) ≡ None
+  pub within : progress.count + length bytes / storage_len terms.params ≤ terms.limit
 
 -- the answer to a piece: it is taken, and the coder is d then, or it is refused
 abbrev pub AnswersPiece : {X : Type 0} → Coder → List ℕ → List Bool → Result X Fault → Coder → List Bool → Type 0
 AnswersPiece c piece before result d after =
     MatchResult result (λ _. Feeds c piece before after d) (λ fault. StopsFeeding c piece before after fault)
 
--- the same, where no sample is begun
-abbrev pub Joins : {X : Type 0} → Terms → Progress → List ℕ → List Bool → Result X Fault → Progress → List Bool → Type 0
-Joins terms old bytes before result new after =
-    AnswersPiece (coder_at terms old []) bytes before result (coder_at terms new []) after
+-- bytes are taken or refused if no sample is begun; samples of an incomplete interval are held then
+pub record Takes (terms : Terms) (old : Progress) (bytes : List ℕ) (before : List Bool)
+    (result : Result (Unit {0}) Fault) (new : Progress) (after : List Bool) : Type 0 where
+  pub takes : AnswersPiece (coder_at terms old []) bytes before result (coder_at terms new []) after
+  pub progress : IsProgress terms new
 
--- a piece completes a sample that was begun, if one was: what it completes comes before `behind`
-pub record CompletesRest (c : Coder) (piece behind : List ℕ) (before after : List Bool) (d : Coder) : Type 0 where
+-- the front of a piece is taken, and the coder is d then; `left` is what comes after that front
+pub record FeedsFront (c : Coder) (piece left : List ℕ) (before after : List Bool) (d : Coder) : Type 0 where
   pub front : List ℕ
-  pub cut : piece ≡ front ++ behind
+  pub cut : piece ≡ front ++ left
   pub feeds : Feeds c front before after d

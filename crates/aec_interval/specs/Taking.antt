@@ -7,7 +7,7 @@ use Rattle.aec_params.specs.declared.fault.Fault.TheVariants.{SampleRange, TooMa
 use Rattle.aec_params.specs.Stored.{number_in, sample_of_number}
 
 -- the samples that were taken, and why no more were, if one was refused (§2, §12; one list with its
--- refusal, where the code pushes samples and codes between them)
+-- refusal, where the code counts the good samples of a part, and codes between parts)
 pub record TakenSamples : Type 0 where
   pub samples : List ℤ
   pub refusal : Option Fault

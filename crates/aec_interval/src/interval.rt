@@ -1,14 +1,13 @@
 //! The code of reference sample intervals, segment by segment, block by block.
 //!
 //! `short_blocks` codes a block of any size: it fills the block up, chooses the shortest option and
-//! writes it. `zero_runs::write_next` writes the same bits faster, by code compiled for the block
-//! size.
+//! writes it. `write_next` writes the same bits faster, by code compiled for the block size.
 
 mod filled_blocks;
 mod short_blocks;
 mod zero_runs;
 
-ghost use Rattle.std.specs.Prelude.{◌≡◌, ◌-◌, ◌%◌, ◌<◌, ◌≤◌, ◌++◌, true, false, if◌then◌else◌, length, take, drop, OnOk, OnErr, IfErr};
+ghost use Rattle.std.specs.Prelude.{◌≡◌, ◌-◌, ◌%◌, ◌<◌, ◌≤◌, ◌++◌, true, false, if◌then◌else◌, length, take, drop, OnOk, IfErr};
 ghost use Rattle.aec_params.specs.declared.fault.Fault.TheVariants.{Memory};
 ghost use Rattle.std.specs.List.{AllByRecursion};
 ghost use Rattle.aec_params.specs.Params.{IsAllowed, IsHeld};
@@ -19,13 +18,15 @@ ghost use Rattle.aec_params.specs.Codewords.{padded_to_byte};
 ghost use Rattle.aec_params.specs.Intervals.{interval_bits};
 ghost use Rattle.aec_interval.specs.Laws.{AreOfInterval};
 ghost use Rattle.aec_interval.specs.Chunks.{block_after};
-ghost use Rattle.aec_interval.specs.Pending.{IsKept, AreNext, TakesBlock};
+ghost use Rattle.aec_interval.specs.Pending.{IsKept, AreNext, TakesBlock, Writes, WritesAll};
 
 use crate::block_sizes::by_block_size;
+use crate::interval::filled_blocks::map_block;
 use crate::interval::short_blocks::write_short;
-use crate::interval::zero_runs::{NO_RUN, Run, write_next};
+use crate::interval::zero_runs::{NO_RUN, Run, are_zero};
 use crate::segment::SEGMENT_BLOCKS;
 use aec_bits::BitBuf;
+use aec_block::write_shortest_of;
 use aec_params::{Fault, Params};
 use std::alloc::Global;
 
@@ -39,9 +40,11 @@ fn segment_goes_on(blocks: u32, interval: u32) -> bool
 }
 
 /// Takes the samples of the next block of a segment, after a run: by code compiled for `N` if they
-/// are a whole block of `N`, else by `write_short`.
+/// are a whole block of `N`, else by `write_short`. A zero block joins the run, any other one is
+/// written after it. Returns the run that is then still to be written. Fails with `Memory` if an
+/// allocation fails.
 #[inline(always)]
-fn write_chunk<const N: usize>(
+fn write_next<const N: usize>(
     alloc: Global,
     params: &Params,
     previous: Option<i64>,
@@ -58,7 +61,13 @@ fn write_chunk<const N: usize>(
         return write_short(alloc, &own, previous, samples, run, out);
     }
     let mut values = [0u32; N];
-    write_next::<N>(params, previous, &samples[..N], &mut values, run, out)
+    let reference = map_block(params, previous, &samples[..N], &mut values);
+    if are_zero(&values) {
+        return Ok(run.longer(reference));
+    }
+    run.write(params, false, out)?;
+    write_shortest_of::<N>(params, reference, &values, out)?;
+    Ok(NO_RUN)
 }
 
 /// How many zero bits pad the bits from `start` up to `end` to whole bytes.
@@ -70,8 +79,8 @@ fn missing_bits(start: u64, end: u64) -> u32
     ((8 - (end - start) % 8) % 8) as u32
 }
 
-/// Pads the interval that begins at bit `start` by its own length, where the parameters pad.
-/// `Memory` where a growth was refused.
+/// Pads the interval that begins at bit `start` by its own length, if the parameters say so. Fails
+/// with `Memory` if an allocation fails; `out` then still begins with its old bits.
 #[inline(always)]
 fn end_interval(params: &Params, start: u64, out: &mut BitBuf) -> Result<(), Fault>
     requires { start ≤ length out.old.list }
@@ -98,11 +107,8 @@ fn write_known_intervals<const N: usize>(
     samples: &[i64],
     out: &mut BitBuf,
 ) -> Result<(), Fault>
-    requires { AllByRecursion (IsHeld params.now) samples.now }
-    ensures ok { OnOk result (out.new.list ≡ out.old.list ++ stream_of params.now samples.now) }
-    ensures allowed { IsAllowed params.now }
-    ensures kept { IsKept out.old.list out.new.list }
-    ensures fault { IfErr result (λ e. e ≡ Memory) }
+    requires held { AllByRecursion (IsHeld params.now) samples.now }
+    ensures { Writes (stream_of params.now samples.now) out.old.list result out.new.list }
 {
     // Calls that stay out of line are lent copies of this copy, so that the compiler can keep it in
     // registers.
@@ -113,7 +119,7 @@ fn write_known_intervals<const N: usize>(
     let mut run = NO_RUN;
     let mut place = 0u32;
     for chunk in samples.chunks(own.block_size() as usize) {
-        run = write_chunk::<N>(alloc, &own, preceding, chunk, run, out)?;
+        run = write_next::<N>(alloc, &own, preceding, chunk, run, out)?;
         place += 1;
         if segment_goes_on(place, interval) {
             preceding = chunk.last().copied();
@@ -143,10 +149,8 @@ pub(crate) fn write_intervals(
     out: &mut BitBuf,
 ) -> Result<(), Fault>
     requires { AllByRecursion (IsHeld params.now) samples.now }
-    ensures ok { OnOk result (out.new.list ≡ out.old.list ++ stream_of params.now samples.now) }
+    ensures written { Writes (stream_of params.now samples.now) out.old.list result out.new.list }
     ensures allowed { IsAllowed params.now }
-    ensures kept { IsKept out.old.list out.new.list }
-    ensures fault { IfErr result (λ e. e ≡ Memory) }
 {
     // For speed alone: `write_short` codes blocks of each size.
     by_block_size!(
@@ -166,9 +170,7 @@ pub(crate) fn append_intervals(
     out: &mut BitBuf,
 ) -> Result<(), Fault>
     requires { AllByRecursion (IsHeld params.now) samples.now }
-    ensures ok { OnOk result (out.new.list ≡ out.old.list ++ stream_of params.now samples.now) }
-    ensures err { OnErr result (out.new.list ≡ out.old.list) }
-    ensures fault { IfErr result (λ e. e ≡ Memory) }
+    ensures { WritesAll (stream_of params.now samples.now) out.old.list result out.new.list }
 {
     let start = out.len();
     let written = write_intervals(alloc, params, samples, out);
@@ -187,9 +189,7 @@ pub(crate) fn append_interval(
     out: &mut BitBuf,
 ) -> Result<(), Fault>
     requires { AreOfInterval params.now samples.now }
-    ensures ok { OnOk result (out.new.list ≡ out.old.list ++ interval_bits params.now samples.now) }
-    ensures err { OnErr result (out.new.list ≡ out.old.list) }
-    ensures fault { IfErr result (λ e. e ≡ Memory) }
+    ensures { WritesAll (interval_bits params.now samples.now) out.old.list result out.new.list }
 {
     append_intervals(alloc, params, samples, out)
 }

@@ -26,17 +26,14 @@ pub struct StreamCoder {
 }
 
 impl Model for StreamCoder {
-    ghost use Rattle.std.specs.Prelude.{◌<◌, length};
-    ghost use Rattle.aec_params.specs.Params.{IsAllowed, storage_len};
     ghost use Rattle.aec_interval.specs.Feeding.{Coder};
-    ghost use Rattle.aec_interval.specs.Progress.{IsProgress, coder_with};
+    ghost use Rattle.aec_interval.specs.Progress.{IsBegun, coder_with};
 
     ghost Value = { Coder };
 
     ghost view = { λ c. coder_with c.terms c.progress c.rest c.refusal };
 
-    ghost invariant = { λ c.
-        (length c.rest < storage_len c.terms.params) × IsProgress c.terms c.progress };
+    ghost invariant = { λ c. IsBegun c.terms c.progress c.rest };
 }
 
 impl StreamCoder {

@@ -1,5 +1,5 @@
-//! A program for tests: calls of the libraries that can lack memory, and a line for each, with its
-//! result and what is there then.
+//! A program for tests: it makes each library call that can lack memory, and prints its result and
+//! the state after it.
 #![tactic(auto)]
 
 mod bits;

@@ -57,7 +57,7 @@ body_bits s (split_values k values) = flat_map (λ v. fs (v / 2 ^ k)) values
 body_bits s (zero_blocks m) = fs m
 
 -- the bits of a coded data set (§7; one function from a value to bits. Reading has no such
--- function: it is that a value with these bits stands here)
+-- function: it is stated as the value with these bits)
 abbrev pub cds_bits : Settings → CodedDataSet → List Bool
 cds_bits s c = identifier s c.body ++ (reference_bits s c.reference ++ body_bits s c.body)
 
@@ -72,8 +72,8 @@ HasReference s false None = ⊤
 abbrev pub written_count : Settings → Bool → ℕ
 written_count s is_reference = if is_reference then s.block_size - 1 else s.block_size
 
--- a body of single values has `written_count` of them, one of pairs as many members as a block has
--- values; values without compression fit n bits, and k is that of an option (§7)
+-- a body of single values has `written_count` of them, a body of pairs as many members as a block
+-- has values; values without compression fit n bits, and k is that of an option (§7)
 abbrev pub HasBody : Settings → Bool → Body → Type 0
 HasBody s is_reference (uncompressed_values values) =
     (length values ≡ written_count s is_reference) × AllByRecursion (λ v. v < 2 ^ s.bits) values
@@ -81,8 +81,8 @@ HasBody s is_reference (value_pairs values) = length values ≡ s.block_size
 HasBody s is_reference (split_values k values) = (k < split_count s) × (length values ≡ written_count s is_reference)
 HasBody s is_reference (zero_blocks m) = ⊤
 
--- the shape of a coded data set, for any numbers as values, of a reference block or of another (§7;
--- k may be n or more)
+-- the shape of a coded data set, of a reference block or of another, whatever its values are (§7; k
+-- may be n or more)
 pub record HasShape (s : Settings) (is_reference : Bool) (c : CodedDataSet) : Type 0 where
   pub reference : HasReference s is_reference c.reference
   pub body : HasBody s is_reference c.body

@@ -28,14 +28,14 @@ pub record Stretch : Type 0 where
 abbrev pub reached_intervals : ℕ → Stretch → List ℕ
 reached_intervals n places = range_with_len (places.first / n) (div_ceil places.stop n - places.first / n)
 
--- how many intervals a cut to count samples codes: one where the count differs and is no multiple
--- of n
+-- how many intervals a truncate to `count` samples codes: one if the count changes and is no
+-- multiple of n
 abbrev pub cut_calls : ℕ → ℕ → ℕ → ℕ
 cut_calls n old count = if count == old then 0 else (if count % n == 0 then 0 else 1)
 
 -- the intervals that are cut anew where len samples come or go: none if len is 0. If len fills
 -- whole intervals, later samples keep their grouping, so only the intervals that the places reach.
--- Otherwise all of count samples, from that of the first place on
+-- Otherwise all intervals of `count` samples, from the first place's on
 abbrev pub moved_intervals : ℕ → ℕ → ℕ → Stretch → List ℕ
 moved_intervals n len count places =
     if len == 0 then [] else reached_intervals n
@@ -58,7 +58,7 @@ needed_calls n old (Remove first len) = length
 abbrev pub keeps_a_sample : ℕ → ℕ → Stretch → ℕ → Bool
 keeps_a_sample n old places k = nat_lt (k * n) places.first || nat_lt places.stop (min (k * n + n) old)
 
--- the numbers of those among some intervals that have one
+-- the numbers of those intervals that keep a sample
 abbrev pub keeping_intervals : ℕ → ℕ → Stretch → List ℕ → List ℕ
 keeping_intervals n old places intervals = filter (keeps_a_sample n old places) intervals
 

@@ -22,8 +22,8 @@ pub data IsNotRead (s : Settings) (is_reference : Bool) (bits : List Bool) (b : 
   too_large : (c : CodedDataSet) → IsSetAt s is_reference bits b c → has_small_values s c ≡ false
       → IsNotRead s is_reference bits b (ValueTooLarge b)
 
--- what is wrong at block i of the stream and position b (§12; none is read there, or the one that
--- is breaks a rule. The first in the table's order counts)
+-- what is wrong at block i of the stream and position b (§12; none is read there, or the set that
+-- is read breaks a rule. The first in the table's order counts)
 pub data IsWrongAt (s : Settings) (count : Option ℕ) (limit : ℕ) (bits : List Bool) (i b : ℕ) : Fault → Type 0 where
   -- no coded data set is read there
   not_read : (fault : Fault) → IsNotRead s (is_reference_block s (i % s.interval)) bits b fault

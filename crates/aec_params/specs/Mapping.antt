@@ -10,8 +10,8 @@ abbrev pub room_around : Settings → ℤ → ℤ
 room_around s p = int_min (p -ℤ x_min s) (x_max s -ℤ p)
 
 -- the prediction error d of a sample as a number without sign, t being the room around the
--- prediction: differences within t count in turn on both sides, those beyond it go on from there
--- (§4; numbers as in `room_around`. Undoing has no definition: `unmap` is stated by this one)
+-- prediction: differences within t alternate between both sides, and larger ones are numbered after
+-- them (§4; numbers as in `room_around`. Undoing has no definition: `unmap` is stated by this one)
 abbrev pub mapped_error : ℤ → ℤ → ℕ
 mapped_error t d =
     if int_le (pos 0) d && int_le d t then 2 * nat_abs d

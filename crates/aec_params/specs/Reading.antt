@@ -11,7 +11,7 @@ use Rattle.aec_params.specs.Places.{block_count, IsLawfulAt, cds_blocks}
 
 -- ---- one interval
 
--- lawful coded data sets from block p of an interval on that reach block n; the last may go past it
+-- lawful coded data sets that reach from block p of an interval to block n; the last may go past it
 -- in its segment (§12; by any option for any block, cut into any runs. No function reads by this or
 -- by `ReadsBlocks`: they serve the clause `shortest` of `encode_all` and the laws
 -- `intervals_are_read` and `codes_are_shortest` of aec_interval; `each_code_is_read` relates them
@@ -58,7 +58,7 @@ abbrev pub is_wanted : Settings → Option ℕ → List Bool → ℕ → ℕ →
 is_wanted s (Some count) bits i b = nat_lt i (div_ceil count s.block_size)
 is_wanted s None bits i b = list_any (λ bit. bit) (drop b bits)
 
--- whether the samples of i blocks keep the limit; with a count that is judged beforehand (§12)
+-- whether the samples of i blocks keep the limit; with a count, this is judged beforehand (§12)
 abbrev pub keeps_limit : Settings → Option ℕ → ℕ → ℕ → Bool
 keeps_limit s (Some count) limit i = true
 keeps_limit s None limit i = nat_le (i * s.block_size) limit

@@ -4,7 +4,7 @@ use Rattle.std.specs.Prelude.{ℕ, ◌+◌, ◌-◌, Bool, nat_le, if◌then◌e
 use Rattle.aec_params.specs.Blocks.{Block, is_zero_block}
 use Rattle.aec_params.specs.Cutting.{pieces_of}
 
--- a run of zero blocks, with the reference of its first and how many they are; or one other block
+-- a run of zero blocks, with the reference of its first block and its length; or one other block
 -- (§8)
 pub data Group : Type 0 where
   zero_run : Option ℕ → ℕ → Group
@@ -14,12 +14,12 @@ pub data Group : Type 0 where
 abbrev pub segment_len : ℕ
 segment_len = 64
 
--- blocks in consecutive segments (§8; of the blocks that are coded, so the last of these ends a
+-- blocks in consecutive segments (§8; only of blocks that are coded, so the last coded block ends a
 -- segment)
 abbrev pub segments_of : List Block → List (List Block)
 segments_of blocks = pieces_of segment_len blocks
 
--- a zero block, with its reference, before groups: it joins a run that comes first (§8)
+-- groups with a zero block and its reference put before them: it joins a run that comes first (§8)
 abbrev pub with_zero_block : Option ℕ → List Group → List Group
 with_zero_block reference (zero_run later z ∷ groups) = zero_run reference (z + 1) ∷ groups
 with_zero_block reference groups = zero_run reference 1 ∷ groups

@@ -27,8 +27,8 @@ paired b = record { reference = b.reference; body = value_pairs b.values }
 abbrev pub split : Block → ℕ → CodedDataSet
 split b k = record { reference = b.reference; body = split_values k (written_values b) }
 
--- the options after no compression, in the order in which the first of the shortest is taken (§9; k
--- = 0, k = 1 and so on after the second extension)
+-- the compressed spellings, in the order in which the first of the shortest is taken (§9; k = 0, k
+-- = 1 and so on after the second extension)
 abbrev pub compressed_spellings : Settings → Block → List CodedDataSet
 compressed_spellings s b = paired b ∷ map (split b) (range_with_len 0 (split_count s))
 

@@ -31,8 +31,8 @@ abbrev pub has_sign_above : Settings → ℕ → Bool
 has_sign_above s u =
     (u / 2 ^ (s.bits - 1) == 2 ^ (8 * storage_len s - (s.bits - 1)) - 1)
 
--- the sample that a stored number is: its unused bits are zero, or where samples are signed copies
--- of its sign (§2)
+-- the sample that a stored number is: its unused bits are zero, or copies of its sign if samples
+-- are signed (§2)
 abbrev pub sample_of_number : Settings → ℕ → Option ℤ
 sample_of_number s u =
     if nat_lt u (2 ^ s.bits) then Some (pattern_value s u)
@@ -43,29 +43,30 @@ sample_of_number s u =
 abbrev pub byte_groups : Settings → List ℕ → List (List ℕ)
 byte_groups s bytes = first_chunks (storage_len s) (length bytes / storage_len s) bytes
 
--- one sample, where there is one, before what comes after it (§2)
+-- a sample, if there is one, put before the samples that come after it (§2)
 abbrev pub sample_before : Option ℤ → ℕ → Result (List ℤ) ℕ → Result (List ℤ) ℕ
 sample_before None i later = Err i
 sample_before (Some x) i (Ok xs) = Ok (x ∷ xs)
 sample_before (Some x) i (Err k) = Err k
 
--- the samples of the groups, or the place of the first group that is none, counted from i (§2)
+-- the samples of the groups, or the place, counted from i, of the first group that is no sample
+-- (§2)
 abbrev pub samples_of_groups : Settings → ℕ → List (List ℕ) → Result (List ℤ) ℕ
 samples_of_groups s i [] = Ok []
 samples_of_groups s i (g ∷ gs) = sample_before (sample_of_number s (number_in s g)) i (samples_of_groups s (i + 1) gs)
 
--- the samples that bytes are, or the index of the first that is none (§2; one function with both
--- answers, where the code goes over the bytes twice, to judge and to take)
+-- the samples that bytes are, or the index of the first that is no sample (§2; one function with
+-- both answers, where the code goes over the bytes twice, to judge and to take)
 abbrev pub samples_of_bytes : Settings → List ℕ → Result (List ℤ) ℕ
 samples_of_bytes s bytes = samples_of_groups s 0 (byte_groups s bytes)
 
--- samples in front of those that bytes are, where these are samples
+-- given samples, and behind them those of the bytes, if all these are samples
 abbrev pub samples_behind : List ℤ → Result (List ℤ) ℕ → Result (List ℤ) ℕ
 samples_behind xs (Ok ys) = Ok (xs ++ ys)
 samples_behind xs (Err k) = Err k
 
--- The result of a call that reads stored samples, whose value `view` shows: the samples, or
--- `Memory` instead of them; if a sample is none of the settings, its index and nothing else. (§2)
+-- What a call that reads stored samples returns, seen through `view`: all samples, or `Memory`; if
+-- one isn't allowed by the settings, only its index. (§2)
 abbrev pub AnswersSamples : {X : Type 0} → (X → List ℤ) → Result (List ℤ) ℕ → Result X Fault → Type 0
 AnswersSamples view (Ok xs) (Ok answer) = view answer ≡ xs
 AnswersSamples view (Ok xs) (Err e) = e ≡ Memory

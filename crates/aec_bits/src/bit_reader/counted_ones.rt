@@ -4,6 +4,7 @@ ghost use Rattle.std.specs.Prelude.{◌≡◌, ◌+◌, ◌*◌, ◌<◌, ◌≤
 ghost use Rattle.aec_params.specs.Codewords.{binary};
 ghost use Rattle.aec_bits.specs.BitReader.{further, behind_ones};
 ghost use Rattle.aec_bits.specs.WordBits.{word_bits};
+ghost use Rattle.aec_bits.specs.Ones.{HasNthOne};
 
 use crate::bit_buf::BitBuf;
 
@@ -20,14 +21,8 @@ struct Stretch {
 #[inline(always)]
 fn half_with_one(stretch: Stretch, width: u32) -> Stretch
     requires width { width ≤ 32 }
-    requires fits { stretch.bits < 2 ^ (2 * width) }
-    requires some { 0 < stretch.nth }
-    requires there { stretch.nth ≤ count_ones stretch.bits }
-    requires place { stretch.before + 2 * width ≤ 64 }
-    ensures fits { result.bits < 2 ^ width }
-    ensures some { 0 < result.nth }
-    ensures there { result.nth ≤ count_ones result.bits }
-    ensures place { result.before + width ≤ 64 }
+    requires one { HasNthOne (2 * width) stretch }
+    ensures one { HasNthOne width result }
     ensures same { further stretch.before
         (behind_ones stretch.nth (binary (2 * width) stretch.bits))
         ≡ further result.before (behind_ones result.nth (binary width result.bits)) }

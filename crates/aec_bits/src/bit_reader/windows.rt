@@ -4,7 +4,7 @@ ghost use Rattle.std.specs.Prelude.{◌≡◌, ◌+◌, ◌-◌, ◌*◌, ◌/�
 ghost use Rattle.aec_params.specs.Codewords.{fs, binary};
 ghost use Rattle.aec_bits.specs.BitReader.{has_one, StopsBefore};
 ghost use Rattle.aec_bits.specs.WordBits.{word_bits};
-ghost use Rattle.aec_bits.specs.Windows.{IsWindow, StandsBefore, StandsBehind, moved_to_top, numbers_of_word};
+ghost use Rattle.aec_bits.specs.Windows.{IsClearWindow, IsWholeWindow, IsTopOne, BeginsWindow, FitWord, StandsBefore, FillsNumbers, ReadsSequences, moved_to_top, numbers_of_word};
 
 use crate::bit_buf::BitBuf;
 use std::simd::prelude::*;
@@ -30,9 +30,7 @@ fn place_of(window: Window) -> u64
 #[inline(always)]
 fn window_from(buf: &BitBuf, start: u64) -> Window
     requires { start ≤ length buf.now.list }
-    ensures window { IsWindow buf.now.list result.word result.left result.end }
-    ensures size { result.left ≡ 64 }
-    ensures place { result.end ≡ start + 64 }
+    ensures whole { IsWholeWindow buf.now.list start result }
     ensures bound { length buf.now.list ≤ 2 ^ 62 }
 {
     Window {
@@ -45,10 +43,8 @@ fn window_from(buf: &BitBuf, start: u64) -> Window
 /// A window, or if it has no 1 bit left the window of the 64 bits at its place.
 #[inline(always)]
 fn with_one(buf: &BitBuf, window: Window) -> Window
-    requires window { IsWindow buf.now.list window.word window.left window.end }
-    requires fits { window.word < 2 ^ window.left }
-    ensures window { IsWindow buf.now.list result.word result.left result.end }
-    ensures fits { result.word < 2 ^ result.left }
+    requires { IsClearWindow buf.now.list window }
+    ensures window { IsClearWindow buf.now.list result }
     ensures place { result.end - result.left ≡ window.end - window.left }
     ensures none { result.word ≡ 0
         → has_one (take 64 (drop (window.end - window.left) buf.now.list)) ≡ false }
@@ -63,9 +59,7 @@ fn with_one(buf: &BitBuf, window: Window) -> Window
 #[inline(always)]
 fn top_one(word: u64) -> u32
     requires { 0 < word }
-    ensures least { 2 ^ result ≤ word }
-    ensures most { word < 2 ^ (result + 1) }
-    ensures small { result < 64 }
+    ensures { IsTopOne word result }
 {
     word.leading_zeros() ^ 63
 }
@@ -76,12 +70,9 @@ fn next_sequence(window: Window) -> (u32, Window)
     requires size { window.left ≤ 64 }
     requires fits { window.word < 2 ^ window.left }
     requires some { 0 < window.word }
-    ensures stands { binary window.left window.word
-        ≡ fs result.0 ++ binary result.1.left result.1.word }
-    ensures left { result.1.left + (result.0 + 1) ≡ window.left }
+    ensures first { BeginsWindow (fs result.0) (result.0 + 1) window result.1 }
     ensures ones { count_ones window.word ≡ 1 + count_ones result.1.word }
     ensures fits { result.1.word < 2 ^ result.1.left }
-    ensures end { result.1.end ≡ window.end }
 {
     let top = top_one(window.word);
     let rest = Window {
@@ -96,13 +87,9 @@ fn next_sequence(window: Window) -> (u32, Window)
 /// window after them; `None` if the 64 bits at one of them have no 1.
 #[inline(never)]
 fn sequences_one_by_one(buf: &BitBuf, window: Window, numbers: &mut [u32]) -> Option<Window>
-    requires window { IsWindow buf.now.list window.word window.left window.end }
-    requires fits { window.word < 2 ^ window.left }
-    ensures cases { MatchOption result
-        (StopsBefore (length numbers.old) (drop (window.end - window.left) buf.now.list))
-        (λ next. StandsBehind buf.now.list (window.end - window.left) numbers.new
-        next.word next.left next.end) }
-    ensures len { length numbers.new ≡ length numbers.old }
+    requires { IsClearWindow buf.now.list window }
+    ensures { ReadsSequences buf.now.list (window.end - window.left)
+        numbers.old numbers.new result }
 {
     let mut rest = window;
     for number in numbers.iter_mut() {
@@ -124,9 +111,8 @@ fn sequences_within(window: Window, numbers: &mut [u32]) -> Window
     requires size { window.left ≤ 64 }
     requires fits { window.word < 2 ^ window.left }
     requires some { length numbers.old ≤ count_ones window.word }
-    ensures stand { StandsBefore fs 64 numbers.new (binary result.left result.word)
+    ensures put { FillsNumbers fs 64 numbers.old numbers.new (binary result.left result.word)
         (binary window.left window.word) }
-    ensures len { length numbers.new ≡ length numbers.old }
     ensures fits { result.word < 2 ^ result.left }
     ensures end { result.end ≡ window.end }
 {
@@ -150,10 +136,8 @@ fn has_ones(window: Window, count: usize) -> bool
 /// A window, or if it has fewer than `count` 1 bits left the window of the 64 bits at its place.
 #[inline(always)]
 fn with_ones(buf: &BitBuf, window: Window, count: usize) -> Window
-    requires window { IsWindow buf.now.list window.word window.left window.end }
-    requires fits { window.word < 2 ^ window.left }
-    ensures window { IsWindow buf.now.list result.word result.left result.end }
-    ensures fits { result.word < 2 ^ result.left }
+    requires { IsClearWindow buf.now.list window }
+    ensures window { IsClearWindow buf.now.list result }
     ensures place { result.end - result.left ≡ window.end - window.left }
 {
     if has_ones(window, count) {
@@ -167,13 +151,9 @@ fn with_ones(buf: &BitBuf, window: Window, count: usize) -> Window
 /// no 1.
 #[inline(always)]
 fn next_sequences(buf: &BitBuf, window: Window, numbers: &mut [u32]) -> Option<Window>
-    requires window { IsWindow buf.now.list window.word window.left window.end }
-    requires fits { window.word < 2 ^ window.left }
-    ensures cases { MatchOption result
-        (StopsBefore (length numbers.old) (drop (window.end - window.left) buf.now.list))
-        (λ next. StandsBehind buf.now.list (window.end - window.left) numbers.new
-        next.word next.left next.end) }
-    ensures len { length numbers.new ≡ length numbers.old }
+    requires { IsClearWindow buf.now.list window }
+    ensures { ReadsSequences buf.now.list (window.end - window.left)
+        numbers.old numbers.new result }
 {
     let ready = with_ones(buf, window, numbers.len());
     if has_ones(ready, numbers.len()) {
@@ -214,12 +194,9 @@ fn next_number(window: Window, width: u32) -> (u32, Window)
     requires width { width ≤ 32 }
     requires there { width ≤ window.left }
     requires size { window.left ≤ 64 }
-    ensures stands { binary window.left window.word
-        ≡ binary width result.0 ++ binary result.1.left result.1.word }
+    ensures first { BeginsWindow (binary width result.0) width window result.1 }
     ensures fits { result.0 < 2 ^ width }
-    ensures left { result.1.left + width ≡ window.left }
     ensures word { result.1.word ≡ window.word }
-    ensures end { result.1.end ≡ window.end }
 {
     let left = window.left - width;
     let mask = (1 << width) - 1;
@@ -304,11 +281,9 @@ fn four_numbers(word: u64, width: u32) -> [u32; 4]
 /// one by one.
 #[inline(always)]
 fn any_numbers_within(word: u64, width: u32, numbers: &mut [u32])
-    requires width { width ≤ 32 }
-    requires there { width * length numbers.old ≤ 64 }
-    ensures stand { StandsBefore (binary width) (2 ^ width) numbers.new
+    requires { FitWord width (length numbers.old) }
+    ensures { FillsNumbers (binary width) (2 ^ width) numbers.old numbers.new
         (binary (64 - width * length numbers.old) word) (word_bits word) }
-    ensures len { length numbers.new ≡ length numbers.old }
 {
     let mut window = Window {
         word,
@@ -325,11 +300,9 @@ fn any_numbers_within(word: u64, width: u32, numbers: &mut [u32])
 /// The same: up to eight or four at once.
 #[inline(always)]
 fn numbers_within(word: u64, width: u32, numbers: &mut [u32])
-    requires width { width ≤ 32 }
-    requires there { width * length numbers.old ≤ 64 }
-    ensures stand { StandsBefore (binary width) (2 ^ width) numbers.new
+    requires { FitWord width (length numbers.old) }
+    ensures { FillsNumbers (binary width) (2 ^ width) numbers.old numbers.new
         (binary (64 - width * length numbers.old) word) (word_bits word) }
-    ensures len { length numbers.new ≡ length numbers.old }
 {
     if width <= 8 && numbers.len() <= 8 {
         numbers.copy_from_slice(&eight_numbers(word, width)[..numbers.len()]);
@@ -344,12 +317,10 @@ fn numbers_within(word: u64, width: u32, numbers: &mut [u32])
 #[inline(always)]
 fn numbers_by<const N: usize>(buf: &BitBuf, start: u64, width: u32, numbers: &mut [u32])
     requires some { 0 < N }
-    requires width { width ≤ 32 }
-    requires there { width * N ≤ 64 }
+    requires fit { FitWord width N }
     requires within { start + width * length numbers.old ≤ length buf.now.list }
-    ensures stand { StandsBefore (binary width) (2 ^ width) numbers.new
+    ensures { FillsNumbers (binary width) (2 ^ width) numbers.old numbers.new
         (drop (start + width * length numbers.old) buf.now.list) (drop start buf.now.list) }
-    ensures len { length numbers.new ≡ length numbers.old }
 {
     let mut place = start;
     for i in 0..numbers.len() / N {
@@ -366,9 +337,8 @@ fn numbers_by<const N: usize>(buf: &BitBuf, start: u64, width: u32, numbers: &mu
 pub(crate) fn numbers_from(buf: &BitBuf, start: u64, width: u32, numbers: &mut [u32])
     requires width { width ≤ 32 }
     requires within { start + width * length numbers.old ≤ length buf.now.list }
-    ensures stand { StandsBefore (binary width) (2 ^ width) numbers.new
+    ensures { FillsNumbers (binary width) (2 ^ width) numbers.old numbers.new
         (drop (start + width * length numbers.old) buf.now.list) (drop start buf.now.list) }
-    ensures len { length numbers.new ≡ length numbers.old }
 {
     match width {
         0..=8 => numbers_by::<8>(buf, start, width, numbers),

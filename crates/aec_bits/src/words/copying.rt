@@ -1,19 +1,15 @@
 //! Stretches of bits in words, copied and moved.
 
-ghost use Rattle.std.specs.Prelude.{◌≡◌, ◌+◌, ◌*◌, ◌<◌, ◌≤◌, ◌^◌, ◌++◌, length, take, drop};
-ghost use Rattle.aec_bits.specs.Words.{bits_of_words, HaveCopied};
+ghost use Rattle.std.specs.Prelude.{◌*◌, ◌≤◌};
+ghost use Rattle.aec_bits.specs.Stretches.{HaveCopied, CanCopy};
 
 use crate::words::copying_fours::{copy_fours, move_fours_down, move_fours_up};
 use crate::words::{number_at, put_number, word_at};
 
 /// Overwrites `count` bits from place `at` on by the first bits of other words.
 pub(crate) fn copy_bits(words: &mut [u64], at: u64, with: &[u64], count: u64)
-    requires within { at + count ≤ 64 * length words.old }
-    requires there { count ≤ 64 * length with.now }
-    requires bound { 64 * length words.old ≤ 2 ^ 63 }
-    ensures bits { bits_of_words words.new ≡ take at (bits_of_words words.old)
-        ++ (take count (bits_of_words with.now) ++ drop (at + count) (bits_of_words words.old)) }
-    ensures len { length words.new ≡ length words.old }
+    requires { CanCopy 0 at count with.now words.old }
+    ensures { HaveCopied 0 at count with.now words.old words.new }
 {
     let head = (64 - at % 64) % 64;
     if count <= head {
@@ -35,21 +31,16 @@ pub(crate) fn copy_bits(words: &mut [u64], at: u64, with: &[u64], count: u64)
 /// Overwrites up to 64 bits from place `at` on by those of other words from place `from` on.
 fn copy_chunk(words: &mut [u64], at: u64, with: &[u64], from: u64, width: u32)
     requires width { width ≤ 64 }
-    requires within { at + width ≤ 64 * length words.old }
-    requires there { from + width ≤ 64 * length with.now }
-    ensures bits { HaveCopied from at width with.now words.old words.new }
-    ensures len { length words.new ≡ length words.old }
+    requires copy { CanCopy from at width with.now words.old }
+    ensures { HaveCopied from at width with.now words.old words.new }
 {
     put_number(words, at, width, number_at(with, from, width));
 }
 
 /// Overwrites words from word `place` on by the bits of other words from place `from` on.
 fn copy_words(words: &mut [u64], place: usize, with: &[u64], from: u64, count: usize)
-    requires within { place + count ≤ length words.old }
-    requires there { from + 64 * count ≤ 64 * length with.now }
-    requires bound { from + 64 * count ≤ 2 ^ 63 }
-    ensures bits { HaveCopied from (64 * place) (64 * count) with.now words.old words.new }
-    ensures len { length words.new ≡ length words.old }
+    requires { CanCopy from (64 * place) (64 * count) with.now words.old }
+    ensures { HaveCopied from (64 * place) (64 * count) with.now words.old words.new }
 {
     if from % 64 == 0 {
         copy_each(words, place, with, from, count);
@@ -68,11 +59,8 @@ fn copy_words(words: &mut [u64], place: usize, with: &[u64], from: u64, count: u
 
 /// The same word by word.
 fn copy_each(words: &mut [u64], place: usize, with: &[u64], from: u64, count: usize)
-    requires within { place + count ≤ length words.old }
-    requires there { from + 64 * count ≤ 64 * length with.now }
-    requires bound { from + 64 * count ≤ 2 ^ 63 }
-    ensures bits { HaveCopied from (64 * place) (64 * count) with.now words.old words.new }
-    ensures len { length words.new ≡ length words.old }
+    requires { CanCopy from (64 * place) (64 * count) with.now words.old }
+    ensures { HaveCopied from (64 * place) (64 * count) with.now words.old words.new }
 {
     for i in 0..count {
         words[place + i] = word_at(with, from + 64 * i as u64);
@@ -81,11 +69,8 @@ fn copy_each(words: &mut [u64], place: usize, with: &[u64], from: u64, count: us
 
 /// Moves `count` bits from place `from` on to place `to`; the two stretches may overlap.
 pub(crate) fn move_bits(words: &mut [u64], from: u64, to: u64, count: u64)
-    requires source { from + count ≤ 64 * length words.old }
-    requires target { to + count ≤ 64 * length words.old }
-    requires bound { 64 * length words.old ≤ 2 ^ 63 }
-    ensures bits { HaveCopied from to count words.old words.old words.new }
-    ensures len { length words.new ≡ length words.old }
+    requires { CanCopy from to count words.old words.old }
+    ensures { HaveCopied from to count words.old words.old words.new }
 {
     if from == to {
         return;
@@ -100,10 +85,8 @@ pub(crate) fn move_bits(words: &mut [u64], from: u64, to: u64, count: u64)
 /// The same towards the front.
 fn move_down(words: &mut [u64], from: u64, to: u64, count: u64)
     requires order { to ≤ from }
-    requires source { from + count ≤ 64 * length words.old }
-    requires bound { 64 * length words.old ≤ 2 ^ 63 }
-    ensures bits { HaveCopied from to count words.old words.old words.new }
-    ensures len { length words.new ≡ length words.old }
+    requires copy { CanCopy from to count words.old words.old }
+    ensures { HaveCopied from to count words.old words.old words.new }
 {
     let head = (64 - to % 64) % 64;
     if count <= head {
@@ -129,10 +112,8 @@ fn move_down(words: &mut [u64], from: u64, to: u64, count: u64)
 /// The same towards the end.
 fn move_up(words: &mut [u64], from: u64, to: u64, count: u64)
     requires order { from ≤ to }
-    requires target { to + count ≤ 64 * length words.old }
-    requires bound { 64 * length words.old ≤ 2 ^ 63 }
-    ensures bits { HaveCopied from to count words.old words.old words.new }
-    ensures len { length words.new ≡ length words.old }
+    requires copy { CanCopy from to count words.old words.old }
+    ensures { HaveCopied from to count words.old words.old words.new }
 {
     let tail = (to + count) % 64;
     if count <= tail {
@@ -158,10 +139,8 @@ fn move_up(words: &mut [u64], from: u64, to: u64, count: u64)
 /// Moves up to 64 bits.
 fn move_chunk(words: &mut [u64], from: u64, to: u64, width: u32)
     requires width { width ≤ 64 }
-    requires source { from + width ≤ 64 * length words.old }
-    requires target { to + width ≤ 64 * length words.old }
-    ensures bits { HaveCopied from to width words.old words.old words.new }
-    ensures len { length words.new ≡ length words.old }
+    requires copy { CanCopy from to width words.old words.old }
+    ensures { HaveCopied from to width words.old words.old words.new }
 {
     let value = number_at(words, from, width);
     put_number(words, to, width, value);
@@ -170,10 +149,8 @@ fn move_chunk(words: &mut [u64], from: u64, to: u64, width: u32)
 /// Moves bits from place `from` on to word `place` and those after it, the first first.
 fn move_words_down(words: &mut [u64], from: u64, place: usize, count: usize)
     requires order { 64 * place ≤ from }
-    requires source { from + 64 * count ≤ 64 * length words.old }
-    requires bound { from + 64 * count ≤ 2 ^ 63 }
-    ensures bits { HaveCopied from (64 * place) (64 * count) words.old words.old words.new }
-    ensures len { length words.new ≡ length words.old }
+    requires copy { CanCopy from (64 * place) (64 * count) words.old words.old }
+    ensures { HaveCopied from (64 * place) (64 * count) words.old words.old words.new }
 {
     if from % 64 == 0 {
         move_each_down(words, from, place, count);
@@ -192,10 +169,8 @@ fn move_words_down(words: &mut [u64], from: u64, place: usize, count: usize)
 /// The same word by word.
 fn move_each_down(words: &mut [u64], from: u64, place: usize, count: usize)
     requires order { 64 * place ≤ from }
-    requires source { from + 64 * count ≤ 64 * length words.old }
-    requires bound { from + 64 * count ≤ 2 ^ 63 }
-    ensures bits { HaveCopied from (64 * place) (64 * count) words.old words.old words.new }
-    ensures len { length words.new ≡ length words.old }
+    requires copy { CanCopy from (64 * place) (64 * count) words.old words.old }
+    ensures { HaveCopied from (64 * place) (64 * count) words.old words.old words.new }
 {
     for i in 0..count {
         words[place + i] = word_at(words, from + 64 * i as u64);
@@ -205,10 +180,8 @@ fn move_each_down(words: &mut [u64], from: u64, place: usize, count: usize)
 /// Moves bits from place `from` on to word `place` and those after it, the last first.
 fn move_words_up(words: &mut [u64], from: u64, place: usize, count: usize)
     requires order { from ≤ 64 * place }
-    requires target { place + count ≤ length words.old }
-    requires bound { from + 64 * count ≤ 2 ^ 63 }
-    ensures bits { HaveCopied from (64 * place) (64 * count) words.old words.old words.new }
-    ensures len { length words.new ≡ length words.old }
+    requires copy { CanCopy from (64 * place) (64 * count) words.old words.old }
+    ensures { HaveCopied from (64 * place) (64 * count) words.old words.old words.new }
 {
     if from % 64 == 0 {
         move_each_up(words, from, place, count);
@@ -222,10 +195,8 @@ fn move_words_up(words: &mut [u64], from: u64, place: usize, count: usize)
 /// The same word by word.
 fn move_each_up(words: &mut [u64], from: u64, place: usize, count: usize)
     requires order { from ≤ 64 * place }
-    requires target { place + count ≤ length words.old }
-    requires bound { from + 64 * count ≤ 2 ^ 63 }
-    ensures bits { HaveCopied from (64 * place) (64 * count) words.old words.old words.new }
-    ensures len { length words.new ≡ length words.old }
+    requires copy { CanCopy from (64 * place) (64 * count) words.old words.old }
+    ensures { HaveCopied from (64 * place) (64 * count) words.old words.old words.new }
 {
     let mut left = count;
     while left > 0 {

@@ -1,7 +1,8 @@
 //! Bits that begin within a word, copied and moved four words at a time.
 
 ghost use Rattle.std.specs.Prelude.{◌≡◌, ◌+◌, ◌*◌, ◌%◌, ◌<◌, ◌≤◌, length, take, drop};
-ghost use Rattle.aec_bits.specs.Words.{bits_of_words, HaveCopied};
+ghost use Rattle.aec_bits.specs.Words.{bits_of_words};
+ghost use Rattle.aec_bits.specs.Stretches.{IsInnerPlace, HaveCopied, CanCopy};
 
 use std::simd::prelude::*;
 
@@ -9,10 +10,8 @@ use std::simd::prelude::*;
 /// `from` on.
 pub(crate) fn copy_fours(words: &mut [u64], place: usize, with: &[u64], from: u64, fours: usize)
     requires shifted { 0 < from % 64 }
-    requires within { place + 4 * fours ≤ length words.old }
-    requires there { from + 256 * fours ≤ 64 * length with.now }
-    ensures bits { HaveCopied from (64 * place) (256 * fours) with.now words.old words.new }
-    ensures len { length words.new ≡ length words.old }
+    requires copy { CanCopy from (64 * place) (256 * fours) with.now words.old }
+    ensures { HaveCopied from (64 * place) (256 * fours) with.now words.old words.new }
 {
     let first = (from / 64) as usize;
     let at = (from % 64) as u32;
@@ -25,9 +24,8 @@ pub(crate) fn copy_fours(words: &mut [u64], place: usize, with: &[u64], from: u6
 pub(crate) fn move_fours_down(words: &mut [u64], from: u64, place: usize, fours: usize)
     requires shifted { 0 < from % 64 }
     requires order { 64 * place ≤ from }
-    requires source { from + 256 * fours ≤ 64 * length words.old }
-    ensures bits { HaveCopied from (64 * place) (256 * fours) words.old words.old words.new }
-    ensures len { length words.new ≡ length words.old }
+    requires copy { CanCopy from (64 * place) (256 * fours) words.old words.old }
+    ensures { HaveCopied from (64 * place) (256 * fours) words.old words.old words.new }
 {
     let first = (from / 64) as usize;
     let at = (from % 64) as u32;
@@ -40,9 +38,8 @@ pub(crate) fn move_fours_down(words: &mut [u64], from: u64, place: usize, fours:
 pub(crate) fn move_fours_up(words: &mut [u64], from: u64, place: usize, fours: usize)
     requires shifted { 0 < from % 64 }
     requires order { from ≤ 64 * place }
-    requires target { place + 4 * fours ≤ length words.old }
-    ensures bits { HaveCopied from (64 * place) (256 * fours) words.old words.old words.new }
-    ensures len { length words.new ≡ length words.old }
+    requires copy { CanCopy from (64 * place) (256 * fours) words.old words.old }
+    ensures { HaveCopied from (64 * place) (256 * fours) words.old words.old words.new }
 {
     let first = (from / 64) as usize;
     let at = (from % 64) as u32;
@@ -56,8 +53,7 @@ pub(crate) fn move_fours_up(words: &mut [u64], from: u64, place: usize, fours: u
 /// The four words that begin at place `at` of word `from` and of those after it.
 #[inline(always)]
 fn joined_four(words: &[u64], from: usize, at: u32) -> u64x4
-    requires some { 0 < at }
-    requires inside { at < 64 }
+    requires inside { IsInnerPlace at }
     requires within { from + 5 ≤ length words.now }
     ensures bits { bits_of_words result
         ≡ take 256 (drop (64 * from + at) (bits_of_words words.now)) }
@@ -71,12 +67,9 @@ fn joined_four(words: &[u64], from: usize, at: u32) -> u64x4
 /// Moves 256 bits from place `at` of word `from` on to word `place` and those after it.
 #[inline(always)]
 fn move_four(words: &mut [u64], from: usize, at: u32, place: usize)
-    requires some { 0 < at }
-    requires inside { at < 64 }
-    requires source { from + 5 ≤ length words.old }
-    requires target { place + 4 ≤ length words.old }
-    ensures bits { HaveCopied (64 * from + at) (64 * place) 256 words.old words.old words.new }
-    ensures len { length words.new ≡ length words.old }
+    requires inside { IsInnerPlace at }
+    requires copy { CanCopy (64 * from + at) (64 * place) 256 words.old words.old }
+    ensures { HaveCopied (64 * from + at) (64 * place) 256 words.old words.old words.new }
 {
     joined_four(words, from, at).copy_to_slice(&mut words[place..]);
 }
@@ -84,12 +77,9 @@ fn move_four(words: &mut [u64], from: usize, at: u32, place: usize)
 /// The same from other words.
 #[inline(always)]
 fn copy_four(words: &mut [u64], place: usize, with: &[u64], from: usize, at: u32)
-    requires some { 0 < at }
-    requires inside { at < 64 }
-    requires there { from + 5 ≤ length with.now }
-    requires target { place + 4 ≤ length words.old }
-    ensures bits { HaveCopied (64 * from + at) (64 * place) 256 with.now words.old words.new }
-    ensures len { length words.new ≡ length words.old }
+    requires inside { IsInnerPlace at }
+    requires copy { CanCopy (64 * from + at) (64 * place) 256 with.now words.old }
+    ensures { HaveCopied (64 * from + at) (64 * place) 256 with.now words.old words.new }
 {
     joined_four(with, from, at).copy_to_slice(&mut words[place..]);
 }

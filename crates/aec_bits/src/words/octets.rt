@@ -1,20 +1,15 @@
 //! Bytes as words, eight to a word, the first at the top.
 
-ghost use Rattle.std.specs.Prelude.{◌≡◌, ◌+◌, ◌*◌, ◌%◌, ◌≤◌, ◌^◌, ◌++◌, length, take, drop, vec_capacity};
+ghost use Rattle.std.specs.Prelude.{◌≡◌, ◌+◌, ◌*◌, ◌%◌, ◌≤◌, length, take, drop};
 ghost use Rattle.aec_params.specs.Codewords.{binary, bits_of_bytes};
-ghost use Rattle.aec_bits.specs.Words.{bits_of_words};
-ghost use Rattle.aec_bits.specs.Packed.{ArePacked, Keep};
+ghost use Rattle.aec_bits.specs.Packed.{CanGrow, Extends};
 
 use crate::words::packed::push_reserved_number;
 
 /// Appends the bits of bytes, for which there is room, to a list of `len` bits.
 pub(crate) fn append_octets(words: &mut Vec<u64>, len: u64, bytes: &[u8])
-    requires bound { len + 8 * length bytes.now ≤ 2 ^ 62 }
-    requires room { len + 8 * length bytes.now ≤ 64 * vec_capacity words.old }
-    requires packed { ArePacked words.old.items len }
-    ensures list { Keep words.new.items (len + 8 * length bytes.now)
-        (take len (bits_of_words words.old.items) ++ bits_of_bytes bytes.now) }
-    ensures capacity { vec_capacity words.old ≤ vec_capacity words.new }
+    requires { CanGrow len (8 * length bytes.now) words.old }
+    ensures { Extends len (8 * length bytes.now) (bits_of_bytes bytes.now) words.old words.new }
 {
     let (eights, behind) = bytes.split_at(bytes.len() / 8 * 8);
     append_eights(words, len, eights);
@@ -24,12 +19,8 @@ pub(crate) fn append_octets(words: &mut Vec<u64>, len: u64, bytes: &[u8])
 /// The same for bytes that are whole eights.
 fn append_eights(words: &mut Vec<u64>, len: u64, bytes: &[u8])
     requires eights { length bytes.now % 8 ≡ 0 }
-    requires bound { len + 8 * length bytes.now ≤ 2 ^ 62 }
-    requires room { len + 8 * length bytes.now ≤ 64 * vec_capacity words.old }
-    requires packed { ArePacked words.old.items len }
-    ensures list { Keep words.new.items (len + 8 * length bytes.now)
-        (take len (bits_of_words words.old.items) ++ bits_of_bytes bytes.now) }
-    ensures capacity { vec_capacity words.old ≤ vec_capacity words.new }
+    requires grow { CanGrow len (8 * length bytes.now) words.old }
+    ensures { Extends len (8 * length bytes.now) (bits_of_bytes bytes.now) words.old words.new }
 {
     for i in 0..bytes.len() / 8 {
         let word = word_of(eight_at(bytes, 8 * i));
@@ -39,12 +30,8 @@ fn append_eights(words: &mut Vec<u64>, len: u64, bytes: &[u8])
 
 /// The same byte by byte.
 fn append_each(words: &mut Vec<u64>, len: u64, bytes: &[u8])
-    requires bound { len + 8 * length bytes.now ≤ 2 ^ 62 }
-    requires room { len + 8 * length bytes.now ≤ 64 * vec_capacity words.old }
-    requires packed { ArePacked words.old.items len }
-    ensures list { Keep words.new.items (len + 8 * length bytes.now)
-        (take len (bits_of_words words.old.items) ++ bits_of_bytes bytes.now) }
-    ensures capacity { vec_capacity words.old ≤ vec_capacity words.new }
+    requires { CanGrow len (8 * length bytes.now) words.old }
+    ensures { Extends len (8 * length bytes.now) (bits_of_bytes bytes.now) words.old words.new }
 {
     for i in 0..bytes.len() {
         push_reserved_number(words, len + 8 * i as u64, u64::from(bytes[i]), 8);

@@ -1,20 +1,18 @@
 //! Vectors of words that hold a list of bits, and grow with it.
 
-ghost use Rattle.std.specs.Prelude.{◌∷◌, [], ◌≡◌, ◌+◌, ◌-◌, ◌*◌, ◌<◌, ◌≤◌, ◌^◌, ◌++◌, false, length, take, drop, replicate, max, slice_index_or, vec_len, vec_capacity, OnOk, OnErr, IfErr};
+ghost use Rattle.std.specs.Prelude.{◌∷◌, [], ◌≡◌, ◌+◌, ◌-◌, ◌*◌, ◌<◌, ◌≤◌, ◌^◌, ◌++◌, false, length, take, drop, replicate, max, slice_index_or, vec_len, vec_capacity};
 ghost use Rattle.std.specs.Int.{div_ceil};
-ghost use Rattle.aec_params.specs.declared.fault.Fault.TheVariants.{Memory};
 ghost use Rattle.aec_params.specs.Codewords.{fs, binary};
 ghost use Rattle.aec_bits.specs.Words.{bits_of_words};
-ghost use Rattle.aec_bits.specs.Packed.{ArePacked, Keep};
+ghost use Rattle.aec_bits.specs.BitBuf.{FitsWidth};
+ghost use Rattle.aec_bits.specs.Packed.{ArePacked, Keep, HasRoomFor, CanGrow, Extends};
 
 use crate::words::copying::{copy_bits, move_bits};
 use crate::words::put_number;
-use aec_params::Fault;
 
 /// Appends zero words, for which there is room, until there are as many as `len` bits need.
 pub(crate) fn grow(words: &mut Vec<u64>, len: u64)
-    requires bound { len ≤ 2 ^ 62 }
-    requires room { len ≤ 64 * vec_capacity words.old }
+    requires { HasRoomFor len words.old }
     ensures bits { bits_of_words words.new.items
         ≡ bits_of_words words.old.items
         ++ replicate (64 * (div_ceil len 64 - vec_len words.old)) false }
@@ -49,11 +47,8 @@ fn last_of(words: &Vec<u64>) -> u64
 /// Appends the bits of `value` in `width` bits, for which there is room, to a list of `len` bits.
 #[inline(always)]
 pub(crate) fn push_reserved_number(words: &mut Vec<u64>, len: u64, value: u64, width: u32)
-    requires width { width ≤ 64 }
-    requires fits { value < 2 ^ width }
-    requires bound { len + width ≤ 2 ^ 62 }
-    requires room { len + width ≤ 64 * vec_capacity words.old }
-    requires packed { ArePacked words.old.items len }
+    requires number { FitsWidth width value }
+    requires grow { CanGrow len width words.old }
     ensures list { Keep words.new.items (len + width)
         (take len (bits_of_words words.old.items) ++ binary width value) }
     ensures capacity { vec_capacity words.new ≡ vec_capacity words.old }
@@ -78,42 +73,10 @@ pub(crate) fn push_reserved_number(words: &mut Vec<u64>, len: u64, value: u64, w
     words.push_reserved(value << (64 - over));
 }
 
-/// Appends the bits of `value` in `width` bits to a list of `len` bits.
-#[inline]
-pub(crate) fn push_number(
-    words: &mut Vec<u64>,
-    len: u64,
-    value: u64,
-    width: u32,
-) -> Result<(), Fault>
-    requires width { width ≤ 64 }
-    requires fits { value < 2 ^ width }
-    requires bound { len + width ≤ 2 ^ 62 }
-    requires packed { ArePacked words.old.items len }
-    ensures list { OnOk result
-        (Keep words.new.items (len + width)
-        (take len (bits_of_words words.old.items) ++ binary width value)) }
-    ensures capacity { vec_capacity words.old ≤ vec_capacity words.new }
-    ensures err { OnErr result
-        ((words.new.items ≡ words.old.items) × (vec_capacity words.new ≡ vec_capacity words.old)) }
-    ensures full { OnErr result (64 * vec_capacity words.old < len + width) }
-    ensures fault { IfErr result (λ e. e ≡ Memory) }
-{
-    if len + u64::from(width) > 64 * words.len() as u64 {
-        words.reserve(1)?;
-    }
-    push_reserved_number(words, len, value, width);
-    Ok(())
-}
-
 /// Appends `v` zeros and a one, for which there is room, to a list of `len` bits.
 pub(crate) fn push_unary(words: &mut Vec<u64>, len: u64, v: u64)
-    requires bound { len + (v + 1) ≤ 2 ^ 62 }
-    requires room { len + (v + 1) ≤ 64 * vec_capacity words.old }
-    requires packed { ArePacked words.old.items len }
-    ensures list { Keep words.new.items (len + (v + 1))
-        (take len (bits_of_words words.old.items) ++ fs v) }
-    ensures capacity { vec_capacity words.old ≤ vec_capacity words.new }
+    requires { CanGrow len (v + 1) words.old }
+    ensures { Extends len (v + 1) (fs v) words.old words.new }
 {
     grow(words, len + (v + 1));
     put_number(words.as_mut_slice(), len + v, 1, 1);
@@ -121,13 +84,9 @@ pub(crate) fn push_unary(words: &mut Vec<u64>, len: u64, v: u64)
 
 /// Appends the first `count` bits of other words, for which there is room, to a list of `len` bits.
 pub(crate) fn append_bits(words: &mut Vec<u64>, len: u64, with: &[u64], count: u64)
-    requires bound { len + count ≤ 2 ^ 62 }
-    requires room { len + count ≤ 64 * vec_capacity words.old }
     requires count { count ≤ 64 * length with.now }
-    requires packed { ArePacked words.old.items len }
-    ensures list { Keep words.new.items (len + count)
-        (take len (bits_of_words words.old.items) ++ take count (bits_of_words with.now)) }
-    ensures capacity { vec_capacity words.old ≤ vec_capacity words.new }
+    requires grow { CanGrow len count words.old }
+    ensures { Extends len count (take count (bits_of_words with.now)) words.old words.new }
 {
     grow(words, len + count);
     copy_bits(words.as_mut_slice(), len, with, count);
@@ -146,8 +105,7 @@ pub(crate) fn splice_bits(
     requires order { start ≤ stop }
     requires within { stop ≤ len }
     requires before { len ≤ 2 ^ 62 }
-    requires bound { start + count + (len - stop) ≤ 2 ^ 62 }
-    requires room { start + count + (len - stop) ≤ 64 * vec_capacity words.old }
+    requires room { HasRoomFor (start + count + (len - stop)) words.old }
     requires count { count ≤ 64 * length with.now }
     requires packed { ArePacked words.old.items len }
     ensures list { Keep words.new.items (start + count + (len - stop))

@@ -1,11 +1,11 @@
 //! The length of each spelling of a block, as a sum, in bits of the whole coded data set.
 
-ghost use Rattle.std.specs.Prelude.{◌≡◌, ◌+◌, ◌*◌, ◌^◌, ◌≤◌, length, IfSome, IfNone};
-ghost use Rattle.aec_params.specs.Params.{IsAllowed, id_len as identifier_len};
+ghost use Rattle.std.specs.Prelude.{◌≡◌, ◌+◌, ◌*◌, ◌^◌, ◌≤◌, length};
+ghost use Rattle.aec_params.specs.Params.{id_len as identifier_len};
 ghost use Rattle.aec_params.specs.CodedDataSets.{pair_number};
-ghost use Rattle.aec_params.specs.Spellings.{written_values};
 ghost use Rattle.aec_block.specs.BlockShape.{most_values};
-ghost use Rattle.aec_block.specs.Lengths.{head_length, pairs_length, uncompressed_length, paired_length};
+ghost use Rattle.aec_block.specs.Lengths.{head_length, pairs_length, uncompressed_length, paired_length, IsLengthIfShort};
+ghost use Rattle.aec_block.specs.Choices.{IsPrepared};
 
 use crate::block::BlockRef;
 use aec_params::Params;
@@ -36,8 +36,7 @@ pub(crate) fn pair_len(a: u32, b: u32) -> u128
 /// no compression.
 #[tactic(auto, using(crate::proofs::LengthLemmas::great_pairs))]
 fn small_pair_len(a: u32, b: u32) -> Option<u64>
-    ensures some { IfSome result (λ len. (len ≡ pair_number a b + 1) × (len ≤ 2 ^ 32)) }
-    ensures none { IfNone result (2 ^ 31 ≤ pair_number a b) }
+    ensures { IsLengthIfShort (pair_number a b + 1) (2 ^ 32) result }
 {
     let sum = u64::from(a) + u64::from(b);
     if sum < 1 << 16 {
@@ -52,9 +51,7 @@ fn small_pair_len(a: u32, b: u32) -> Option<u64>
 #[inline(never)]
 fn pairs_len(values: &[u32]) -> Option<u64>
     requires { length values.now ≤ most_values }
-    ensures some { IfSome result
-        (λ len. (len ≡ pairs_length values.now) × (len ≤ most_values * 2 ^ 32)) }
-    ensures none { IfNone result (2 ^ 31 ≤ pairs_length values.now) }
+    ensures { IsLengthIfShort (pairs_length values.now) (most_values * 2 ^ 32) result }
 {
     let mut sum = 0u64;
     for i in 0..values.len() / 2 {
@@ -71,9 +68,7 @@ pub(crate) fn uncompressed_len(
     block: &BlockRef,
     values: &[u32],
 ) -> u64
-    requires id_len { id_len ≡ identifier_len params.now }
-    requires values { values.now ≡ written_values block.now }
-    requires few { length values.now ≤ most_values }
+    requires { IsPrepared params.now id_len block.now values.now }
     ensures len { result ≡ uncompressed_length params.now block.now }
     ensures bound { result ≤ 37 + 32 * most_values }
 {
@@ -86,8 +81,7 @@ pub(crate) fn uncompressed_len(
 #[inline(always)]
 pub(crate) fn paired_len(params: &Params, id_len: u32, block: &BlockRef) -> Option<u64>
     requires id_len { id_len ≡ identifier_len params.now }
-    ensures some { IfSome result (λ len. len ≡ paired_length params.now block.now) }
-    ensures none { IfNone result (2 ^ 31 ≤ paired_length params.now block.now) }
+    ensures { IsLengthIfShort (paired_length params.now block.now) (2 ^ 39) result }
 {
     let pairs = pairs_len(block.values())?;
     Some(u64::from(head_len(params, id_len, block.reference())) + 1 + pairs)

@@ -3,7 +3,7 @@
 ghost use Rattle.std.specs.Prelude.{◌≡◌, ◌+◌, ◌*◌, ◌^◌, ◌<◌, ◌≤◌, ℕ, nat_lt, length};
 ghost use Rattle.std.specs.List.{AllByRecursion};
 ghost use Rattle.aec_block.specs.BlockShape.{most_values};
-ghost use Rattle.aec_block.specs.Lengths.{sum_of_shifted, split_values_length, IsBestSplit};
+ghost use Rattle.aec_block.specs.Lengths.{sum_of_shifted, IsSum, AreBelow, HaveEqualSums, BeginsAt, IsBestSplit, IsCounted};
 
 use crate::choice::sums::shifted_sum;
 use crate::choice::sums_of_three::{small_shifted_sum, three_sums};
@@ -71,9 +71,7 @@ fn first_k(sum: u64, count: u64, last: u32) -> u32
     requires count { count ≤ most_values }
     requires none { count ≡ 0 → sum ≡ 0 }
     requires last { last < 32 }
-    ensures within { result ≤ last }
-    ensures before { (j : ℕ) → j < result → 3 * count * 2 ^ j < sum }
-    ensures there { result < last → sum ≤ 3 * count * 2 ^ result }
+    ensures { BeginsAt sum count last result }
 {
     let near = near_first(sum, count);
     if near >= last {
@@ -88,10 +86,8 @@ fn first_k(sum: u64, count: u64, last: u32) -> u32
 /// The sum of values below `2^bits`: in lanes of 32 bits where 64 of them fit these.
 #[inline(always)]
 fn sum_of_values(values: &[u32], bits: u32) -> u64
-    requires len { length values.now ≤ most_values }
-    requires below { AllByRecursion (λ v. v < 2 ^ bits) values.now }
-    ensures sum { result ≡ sum_of_shifted 0 values.now }
-    ensures bound { result ≤ 2 ^ 39 }
+    requires { AreBelow bits values.now }
+    ensures { IsSum 0 values.now (2 ^ 39) result }
 {
     if bits <= 26 {
         small_shifted_sum(values, 0)
@@ -104,13 +100,10 @@ fn sum_of_values(values: &[u32], bits: u32) -> u64
 /// are is known: in lanes of 32 bits where 64 of them fit these.
 #[inline(always)]
 fn sum_from(values: &[u32], bits: u32, total: u64, k: u32) -> u64
-    requires total { total ≡ sum_of_shifted 0 values.now }
-    requires bound { total ≤ 2 ^ 39 }
+    requires total { IsSum 0 values.now (2 ^ 39) total }
     requires k { k < 32 }
-    requires len { length values.now ≤ most_values }
-    requires below { AllByRecursion (λ v. v < 2 ^ bits) values.now }
-    ensures sum { result ≡ sum_of_shifted k values.now }
-    ensures bound { result ≤ 2 ^ 39 }
+    requires values { AreBelow bits values.now }
+    ensures { IsSum k values.now (2 ^ 39) result }
 {
     if k == 0 {
         return total;
@@ -127,15 +120,12 @@ fn sum_from(values: &[u32], bits: u32, total: u64, k: u32) -> u64
 #[inline(always)]
 fn best_of_three(all: &[u32], values: &[u32], first: u32) -> Splitting
     requires first { first < 30 }
-    requires len { length values.now ≤ most_values }
-    requires len_all { length all.now ≤ most_values }
-    requires sums { (k : ℕ) → sum_of_shifted k all.now ≡ sum_of_shifted k values.now }
+    requires equal { HaveEqualSums all.now values.now }
     requires before { (j : ℕ) → j < first
         → 3 * length values.now * 2 ^ j < sum_of_shifted 0 values.now }
     requires there { sum_of_shifted 0 values.now ≤ 3 * length values.now * 2 ^ first }
     ensures best { (options : ℕ) → first + 2 < options → IsBestSplit options result.k values.now }
-    ensures bits { result.bits ≡ split_values_length result.k values.now }
-    ensures bound { result.bits ≤ 2 ^ 40 }
+    ensures counted { IsCounted values.now result }
 {
     let sums = three_sums(all, first);
     let count = values.len();
@@ -158,12 +148,9 @@ fn best_of_three(all: &[u32], values: &[u32], first: u32) -> Splitting
 pub(crate) fn best_split(all: &[u32], values: &[u32], bits: u32, options: u32) -> Splitting
     requires below { AllByRecursion (λ v. v < 2 ^ bits) all.now }
     requires options { options ≤ 32 }
-    requires len { length values.now ≤ most_values }
-    requires len_all { length all.now ≤ most_values }
-    requires sums { (k : ℕ) → sum_of_shifted k all.now ≡ sum_of_shifted k values.now }
+    requires equal { HaveEqualSums all.now values.now }
     ensures best { 0 < options → IsBestSplit options result.k values.now }
-    ensures bits { result.bits ≡ split_values_length result.k values.now }
-    ensures bound { result.bits ≤ 2 ^ 40 }
+    ensures counted { IsCounted values.now result }
 {
     let last = options.saturating_sub(1);
     let total = sum_of_values(all, bits);

@@ -1,9 +1,9 @@
 //! The values of a block without their low bits, added up in eight lanes of 64 bits.
 
-ghost use Rattle.std.specs.Prelude.{ℕ, ◌≡◌, ◌+◌, ◌*◌, ◌/◌, ◌^◌, ◌<◌, ◌≤◌, length, take, drop};
+ghost use Rattle.std.specs.Prelude.{◌≡◌, ◌+◌, ◌*◌, ◌/◌, ◌^◌, ◌<◌, ◌≤◌, length, take, drop};
 ghost use Rattle.std.specs.Simd.Lanes.{sum_l};
 ghost use Rattle.aec_block.specs.BlockShape.{most_values};
-ghost use Rattle.aec_block.specs.Lengths.{sum_of_shifted};
+ghost use Rattle.aec_block.specs.Lengths.{CanSum, AddUpTo, IsSum};
 
 use std::simd::prelude::*;
 
@@ -14,8 +14,7 @@ fn shifted_lanes(values: &[u32], k: u32) -> u64x8
     requires k { k < 32 }
     requires len { length values.now ≡ 8 }
     ensures len { length result ≡ 8 }
-    ensures sum { sum_l result ≡ sum_of_shifted k values.now }
-    ensures bound { sum_l result ≤ 8 * 2 ^ 32 }
+    ensures sum { IsSum k values.now (8 * 2 ^ 32) (sum_l result) }
 {
     u32x8::from_slice(values).cast::<u64>() >> u64x8::splat(u64::from(k))
 }
@@ -26,8 +25,7 @@ fn shifted_lanes(values: &[u32], k: u32) -> u64x8
 fn added_lanes(sums: u64x8, values: u64x8) -> u64x8
     requires lens { (length sums ≡ 8) × (length values ≡ 8) }
     requires fits { sum_l sums + sum_l values < 2 ^ 64 }
-    ensures len { length result ≡ 8 }
-    ensures sum { sum_l result ≡ sum_l sums + sum_l values }
+    ensures { AddUpTo result (sum_l sums + sum_l values) }
 {
     sums.strict_add(values)
 }
@@ -45,10 +43,9 @@ fn sum_of_lanes(sums: u64x8) -> u64
 /// The sum of the values that fill lanes: all but the last few, fewer than eight.
 #[inline(always)]
 pub(crate) fn sum_by_eights(values: &[u32], k: u32) -> u64
-    requires k { k < 32 }
-    requires len { length values.now ≤ most_values }
-    ensures sum { result ≡ sum_of_shifted k (take (8 * (length values.now / 8)) values.now) }
-    ensures bound { result ≤ most_values * 2 ^ 32 }
+    requires { CanSum k values.now }
+    ensures { IsSum k (take (8 * (length values.now / 8)) values.now) (most_values * 2 ^ 32)
+        result }
 {
     let mut sums = u64x8::splat(0);
     for i in 0..values.len() / 8 {
@@ -69,10 +66,8 @@ pub(crate) fn rest_of_lanes(values: &[u32]) -> &[u32]
 /// The sum of a few values, one by one.
 #[inline(always)]
 pub(crate) fn sum_one_by_one(values: &[u32], k: u32) -> u64
-    requires k { k < 32 }
-    requires len { length values.now ≤ most_values }
-    ensures sum { result ≡ sum_of_shifted k values.now }
-    ensures bound { result ≤ most_values * 2 ^ 32 }
+    requires { CanSum k values.now }
+    ensures { IsSum k values.now (most_values * 2 ^ 32) result }
 {
     let mut sum = 0u64;
     for v in values {
@@ -86,10 +81,8 @@ pub(crate) fn sum_one_by_one(values: &[u32], k: u32) -> u64
 #[inline(always)]
 #[tactic(auto, using(crate::proofs::LanesLemmas::joined_sums))]
 pub(crate) fn shifted_sum(values: &[u32], k: u32) -> u64
-    requires k { k < 32 }
-    requires len { length values.now ≤ most_values }
-    ensures sum { result ≡ sum_of_shifted k values.now }
-    ensures bound { result ≤ 2 * (most_values * 2 ^ 32) }
+    requires { CanSum k values.now }
+    ensures { IsSum k values.now (2 * (most_values * 2 ^ 32)) result }
 {
     sum_by_eights(values, k) + sum_one_by_one(rest_of_lanes(values), k)
 }

@@ -1,10 +1,10 @@
 //! The sums of a block's values without k, k + 1 and k + 2 low bits, in one pass, where they fit
 //! eight lanes of 32 bits.
 
-ghost use Rattle.std.specs.Prelude.{◌≡◌, ◌+◌, ◌*◌, ◌/◌, ◌^◌, ◌<◌, ◌≤◌, length, take};
+ghost use Rattle.std.specs.Prelude.{◌≡◌, ◌+◌, ◌-◌, ◌*◌, ◌/◌, ◌^◌, ◌<◌, ◌≤◌, length, take};
 ghost use Rattle.std.specs.Simd.Lanes.{sum_l};
 ghost use Rattle.aec_block.specs.BlockShape.{most_values};
-ghost use Rattle.aec_block.specs.Lengths.{sum_of_shifted};
+ghost use Rattle.aec_block.specs.Lengths.{sum_of_shifted, AddUpTo, IsSum, FitsLanes, AreThreeSums};
 
 use crate::choice::sums::{rest_of_lanes, sum_one_by_one};
 use std::simd::prelude::*;
@@ -23,8 +23,7 @@ pub(crate) struct ThreeSums {
 fn small_lanes(values: &[u32], k: u32) -> u32x8
     requires k { k < 32 }
     requires len { length values.now ≡ 8 }
-    ensures len { length result ≡ 8 }
-    ensures sum { sum_l result ≡ sum_of_shifted k values.now }
+    ensures { AddUpTo result (sum_of_shifted k values.now) }
 {
     u32x8::from_slice(values) >> u32x8::splat(k)
 }
@@ -35,8 +34,7 @@ fn small_lanes(values: &[u32], k: u32) -> u32x8
 fn small_added(sums: u32x8, values: u32x8) -> u32x8
     requires lens { (length sums ≡ 8) × (length values ≡ 8) }
     requires fits { sum_l sums + sum_l values < 2 ^ 32 }
-    ensures len { length result ≡ 8 }
-    ensures sum { sum_l result ≡ sum_l sums + sum_l values }
+    ensures { AddUpTo result (sum_l sums + sum_l values) }
 {
     sums.strict_add(values)
 }
@@ -57,13 +55,7 @@ fn small_sum(sums: u32x8) -> u64
 fn three_by_eights(values: &[u32], k: u32) -> ThreeSums
     requires k { k < 30 }
     requires small { sum_of_shifted k values.now < 2 ^ 32 }
-    ensures first { result.first
-        ≡ sum_of_shifted k (take (8 * (length values.now / 8)) values.now) }
-    ensures second { result.second
-        ≡ sum_of_shifted (k + 1) (take (8 * (length values.now / 8)) values.now) }
-    ensures third { result.third
-        ≡ sum_of_shifted (k + 2) (take (8 * (length values.now / 8)) values.now) }
-    ensures bounds { (result.first < 2 ^ 32) × (result.second < 2 ^ 32) × (result.third < 2 ^ 32) }
+    ensures { AreThreeSums k (take (8 * (length values.now / 8)) values.now) (2 ^ 32 - 1) result }
 {
     let mut first = u32x8::splat(0);
     let mut second = u32x8::splat(0);
@@ -86,10 +78,7 @@ fn three_by_eights(values: &[u32], k: u32) -> ThreeSums
 fn three_of_few(values: &[u32], k: u32) -> ThreeSums
     requires k { k < 30 }
     requires few { length values.now < 8 }
-    ensures first { result.first ≡ sum_of_shifted k values.now }
-    ensures second { result.second ≡ sum_of_shifted (k + 1) values.now }
-    ensures third { result.third ≡ sum_of_shifted (k + 2) values.now }
-    ensures bounds { (result.first ≤ 2 ^ 38) × (result.second ≤ 2 ^ 38) × (result.third ≤ 2 ^ 38) }
+    ensures { AreThreeSums k values.now (2 ^ 38) result }
 {
     ThreeSums {
         first: sum_one_by_one(values, k),
@@ -105,10 +94,7 @@ pub(crate) fn three_sums(values: &[u32], k: u32) -> ThreeSums
     requires k { k < 30 }
     requires len { length values.now ≤ most_values }
     requires small { sum_of_shifted k values.now < 2 ^ 32 }
-    ensures first { result.first ≡ sum_of_shifted k values.now }
-    ensures second { result.second ≡ sum_of_shifted (k + 1) values.now }
-    ensures third { result.third ≡ sum_of_shifted (k + 2) values.now }
-    ensures bounds { (result.first ≤ 2 ^ 39) × (result.second ≤ 2 ^ 39) × (result.third ≤ 2 ^ 39) }
+    ensures { AreThreeSums k values.now (2 ^ 39) result }
 {
     let eights = three_by_eights(values, k);
     let few = three_of_few(rest_of_lanes(values), k);
@@ -122,10 +108,8 @@ pub(crate) fn three_sums(values: &[u32], k: u32) -> ThreeSums
 /// The sum of the values that fill lanes, of all but the last few, fewer than eight.
 #[inline(always)]
 fn small_by_eights(values: &[u32], k: u32) -> u64
-    requires k { k < 32 }
-    requires small { sum_of_shifted k values.now < 2 ^ 32 }
-    ensures sum { result ≡ sum_of_shifted k (take (8 * (length values.now / 8)) values.now) }
-    ensures bound { result < 2 ^ 32 }
+    requires { FitsLanes k values.now }
+    ensures { IsSum k (take (8 * (length values.now / 8)) values.now) (2 ^ 32 - 1) result }
 {
     let mut sums = u32x8::splat(0);
     for i in 0..values.len() / 8 {
@@ -138,11 +122,9 @@ fn small_by_eights(values: &[u32], k: u32) -> u64
 #[inline(always)]
 #[tactic(auto, using(crate::proofs::LanesLemmas::joined_sums))]
 pub(crate) fn small_shifted_sum(values: &[u32], k: u32) -> u64
-    requires k { k < 32 }
     requires len { length values.now ≤ most_values }
-    requires small { sum_of_shifted k values.now < 2 ^ 32 }
-    ensures sum { result ≡ sum_of_shifted k values.now }
-    ensures bound { result < 2 ^ 32 }
+    requires lanes { FitsLanes k values.now }
+    ensures { IsSum k values.now (2 ^ 32 - 1) result }
 {
     small_by_eights(values, k) + sum_one_by_one(rest_of_lanes(values), k)
 }

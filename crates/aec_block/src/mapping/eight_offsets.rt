@@ -67,8 +67,7 @@ fn differences_of(xs: &[u32; 8], ys: &[u32; 8]) -> [u32; 8]
 /// Below its prediction, an offset counts a place more of the room, and one less at the end.
 #[inline(always)]
 pub(crate) fn map_eight(top: u32, previous: u32, offsets: &[u32; 8]) -> [u32; 8]
-    requires prediction { previous ≤ top }
-    requires offsets { AllByRecursion (λ x. x ≤ top) offsets.now }
+    requires { AllByRecursion (λ x. x ≤ top) (previous ∷ offsets.now) }
     ensures { result ≡ mapped_offsets top previous offsets.now }
 {
     let before = predictions(previous, offsets);

@@ -1,10 +1,11 @@
 //! Maps samples into a list of values, overwriting what it held.
 
-ghost use Rattle.std.specs.Prelude.{◌≡◌, ◌<◌, ◌≤◌, true, length, map as list_map};
+ghost use Rattle.std.specs.Prelude.{◌≡◌, ◌<◌, ◌≤◌, ◌∷◌, true, length, map as list_map};
 ghost use Rattle.std.specs.List.{AllByRecursion};
 ghost use Rattle.aec_params.specs.Params.{IsHeld, sample_pattern};
 ghost use Rattle.aec_params.specs.Mapping.{mapped_after, mapped_values};
 ghost use Rattle.aec_block.specs.Offsets.{sample_offset, top_offset, mapped_offsets};
+ghost use Rattle.aec_block.specs.Unmapping.{HaveValuePlaces};
 
 use crate::mapping::eight_offsets::map_eight;
 use crate::mapping::{greatest_offset, map_offset, offset_above};
@@ -14,8 +15,7 @@ use std::simd::prelude::*;
 /// Puts how far samples lie above the least one into `values`.
 #[inline(always)]
 fn put_sample_offsets(params: &Params, samples: &[i64], values: &mut [u32])
-    requires held { AllByRecursion (IsHeld params.now) samples.now }
-    requires len { length samples.now ≡ length values.old }
+    requires { HaveValuePlaces params.now samples.now values.old }
     ensures { values.new ≡ list_map (sample_offset params.now) samples.now }
 {
     let least = params.x_min();
@@ -28,8 +28,7 @@ fn put_sample_offsets(params: &Params, samples: &[i64], values: &mut [u32])
 /// for the first: one by one.
 #[inline(always)]
 fn map_each_offset(top: u32, previous: u32, values: &mut [u32])
-    requires prediction { previous ≤ top }
-    requires offsets { AllByRecursion (λ x. x ≤ top) values.old }
+    requires { AllByRecursion (λ x. x ≤ top) (previous ∷ values.old) }
     ensures { values.new ≡ mapped_offsets top previous values.old }
 {
     let mut p = previous;
@@ -43,8 +42,7 @@ fn map_each_offset(top: u32, previous: u32, values: &mut [u32])
 /// Maps the offsets of a list in place: eight at once if it has eight, else one by one.
 #[inline(always)]
 fn map_offsets(top: u32, previous: u32, values: &mut [u32])
-    requires prediction { previous ≤ top }
-    requires offsets { AllByRecursion (λ x. x ≤ top) values.old }
+    requires { AllByRecursion (λ x. x ≤ top) (previous ∷ values.old) }
     ensures { values.new ≡ mapped_offsets top previous values.old }
 {
     if values.len() != 8 {
@@ -71,8 +69,7 @@ fn first_prediction(params: &Params, previous: i64) -> u32
 fn map_predicted(params: &Params, previous: i64, samples: &[i64], values: &mut [u32])
     requires on { params.now.preprocess ≡ true }
     requires prediction { IsHeld params.now previous }
-    requires held { AllByRecursion (IsHeld params.now) samples.now }
-    requires len { length samples.now ≡ length values.old }
+    requires samples { HaveValuePlaces params.now samples.now values.old }
     ensures { values.new ≡ mapped_after params.now previous samples.now }
 {
     let top = greatest_offset(params);
@@ -84,8 +81,7 @@ fn map_predicted(params: &Params, previous: i64, samples: &[i64], values: &mut [
 /// Puts the patterns of samples into `values`.
 #[inline(always)]
 fn put_patterns(params: &Params, samples: &[i64], values: &mut [u32])
-    requires held { AllByRecursion (IsHeld params.now) samples.now }
-    requires len { length samples.now ≡ length values.old }
+    requires { HaveValuePlaces params.now samples.now values.old }
     ensures { values.new ≡ list_map (sample_pattern params.now) samples.now }
 {
     for i in 0..samples.len() {
@@ -99,8 +95,7 @@ fn put_patterns(params: &Params, samples: &[i64], values: &mut [u32])
 #[inline(always)]
 pub fn map_list(params: &Params, previous: i64, samples: &[i64], values: &mut [u32])
     requires prediction { IsHeld params.now previous }
-    requires held { AllByRecursion (IsHeld params.now) samples.now }
-    requires len { length samples.now ≡ length values.old }
+    requires samples { HaveValuePlaces params.now samples.now values.old }
     ensures { values.new ≡ mapped_after params.now previous samples.now }
 {
     if params.preprocess() {
@@ -115,8 +110,7 @@ pub fn map_list(params: &Params, previous: i64, samples: &[i64], values: &mut [u
 #[inline(always)]
 pub fn map_first(params: &Params, samples: &[i64], values: &mut [u32])
     requires some { 0 < length samples.now }
-    requires held { AllByRecursion (IsHeld params.now) samples.now }
-    requires len { length samples.now ≡ length values.old }
+    requires samples { HaveValuePlaces params.now samples.now values.old }
     ensures { values.new ≡ mapped_values params.now samples.now }
 {
     // For its clause `allowed`.

@@ -1,10 +1,9 @@
 //! Unmaps values to samples, overwriting a list of samples.
 
-ghost use Rattle.std.specs.Prelude.{◌≡◌, ◌+◌, ◌*◌, ◌/◌, ◌<◌, ◌≤◌, ◌^◌, ◌+ℤ◌, ℤ, pos, true, false, [], length, take, map as list_map};
-ghost use Rattle.std.specs.List.{AllByRecursion};
-ghost use Rattle.aec_params.specs.Params.{IsHeld, x_min};
+ghost use Rattle.std.specs.Prelude.{◌≡◌, ◌*◌, ◌/◌, ℤ, true, false, length, take, map as list_map};
+ghost use Rattle.aec_params.specs.Params.{IsHeld};
 ghost use Rattle.aec_block.specs.Offsets.{top_offset, near_difference, places_after, AreNear};
-ghost use Rattle.aec_block.specs.Unmapping.{Unmaps, UnmapsTo};
+ghost use Rattle.aec_block.specs.Unmapping.{HaveSamplePlaces, PutsSamples, CanUnmap, PutsUnmapped};
 
 use crate::mapping::small_differences::{are_near, near_differences, next_places, running_places};
 use crate::mapping::{greatest_offset, offset_of, unmap_offset};
@@ -14,14 +13,8 @@ use aec_params::Params;
 /// offset on, and tells the offset of the last.
 #[inline(always)]
 fn put_each(params: &Params, offset: u32, values: &[u32], samples: &mut [i64]) -> u32
-    requires on { params.now.preprocess ≡ true }
-    requires within { offset ≤ top_offset params.now }
-    requires mapped { AllByRecursion (λ v. v < 2 ^ params.now.bits) values.now }
-    requires len { length samples.old ≡ length values.now }
-    ensures within { result ≤ top_offset params.now }
-    ensures items { UnmapsTo params.now (x_min params.now +ℤ pos offset)
-        (x_min params.now +ℤ pos result) values.now [] samples.new }
-    ensures len { length samples.new ≡ length samples.old }
+    requires { CanUnmap params.now offset values.now samples.old }
+    ensures { PutsUnmapped params.now offset result values.now samples.old samples.new }
 {
     let top = greatest_offset(params);
     let least = params.x_min();
@@ -36,14 +29,8 @@ fn put_each(params: &Params, offset: u32, values: &[u32], samples: &mut [i64]) -
 /// `put_each`, out of line: values that aren't near are few, and their code would be in the way.
 #[inline(never)]
 fn put_far(params: &Params, offset: u32, values: &[u32], samples: &mut [i64]) -> u32
-    requires on { params.now.preprocess ≡ true }
-    requires within { offset ≤ top_offset params.now }
-    requires mapped { AllByRecursion (λ v. v < 2 ^ params.now.bits) values.now }
-    requires len { length samples.old ≡ length values.now }
-    ensures within { result ≤ top_offset params.now }
-    ensures items { UnmapsTo params.now (x_min params.now +ℤ pos offset)
-        (x_min params.now +ℤ pos result) values.now [] samples.new }
-    ensures len { length samples.new ≡ length samples.old }
+    requires { CanUnmap params.now offset values.now samples.old }
+    ensures { PutsUnmapped params.now offset result values.now samples.old samples.new }
 {
     put_each(params, offset, values, samples)
 }
@@ -58,16 +45,11 @@ fn put_near(
     places: &[u32; 8],
     samples: &mut [i64],
 ) -> u32
-    requires on { params.now.preprocess ≡ true }
-    requires within { offset ≤ top_offset params.now }
+    requires can { CanUnmap params.now offset values.now samples.old }
     requires near { AreNear (top_offset params.now) offset values.now }
     requires eight { length values.now ≡ 8 }
     requires places { places.now ≡ places_after offset (list_map near_difference values.now) }
-    requires len { length samples.old ≡ 8 }
-    ensures within { result ≤ top_offset params.now }
-    ensures items { UnmapsTo params.now (x_min params.now +ℤ pos offset)
-        (x_min params.now +ℤ pos result) values.now [] samples.new }
-    ensures len { length samples.new ≡ length samples.old }
+    ensures { PutsUnmapped params.now offset result values.now samples.old samples.new }
 {
     let least = params.x_min();
     let mut place = offset;
@@ -82,15 +64,9 @@ fn put_near(
 /// else one by one, and tells the offset of the last.
 #[inline(always)]
 fn put_eight(params: &Params, offset: u32, values: &[u32], samples: &mut [i64]) -> u32
-    requires on { params.now.preprocess ≡ true }
-    requires within { offset ≤ top_offset params.now }
-    requires mapped { AllByRecursion (λ v. v < 2 ^ params.now.bits) values.now }
+    requires can { CanUnmap params.now offset values.now samples.old }
     requires eight { length values.now ≡ 8 }
-    requires len { length samples.old ≡ 8 }
-    ensures within { result ≤ top_offset params.now }
-    ensures items { UnmapsTo params.now (x_min params.now +ℤ pos offset)
-        (x_min params.now +ℤ pos result) values.now [] samples.new }
-    ensures len { length samples.new ≡ length samples.old }
+    ensures { PutsUnmapped params.now offset result values.now samples.old samples.new }
 {
     let differences = near_differences(values);
     let before = running_places(offset, &differences);
@@ -105,14 +81,11 @@ fn put_eight(params: &Params, offset: u32, values: &[u32], samples: &mut [i64]) 
 /// there are eight, and tells the offset of the last.
 #[inline(always)]
 fn put_eights(params: &Params, offset: u32, values: &[u32], samples: &mut [i64]) -> u32
-    requires on { params.now.preprocess ≡ true }
-    requires within { offset ≤ top_offset params.now }
-    requires mapped { AllByRecursion (λ v. v < 2 ^ params.now.bits) values.now }
-    requires len { length samples.old ≡ length values.now }
-    ensures within { result ≤ top_offset params.now }
-    ensures items { UnmapsTo params.now (x_min params.now +ℤ pos offset)
-        (x_min params.now +ℤ pos result) (take (8 * (length values.now / 8)) values.now)
-        [] (take (8 * (length values.now / 8)) samples.new) }
+    requires { CanUnmap params.now offset values.now samples.old }
+    ensures front { PutsUnmapped params.now offset result
+        (take (8 * (length values.now / 8)) values.now)
+        (take (8 * (length values.now / 8)) samples.old)
+        (take (8 * (length values.now / 8)) samples.new) }
     ensures len { length samples.new ≡ length samples.old }
 {
     let mut last = offset;
@@ -129,10 +102,8 @@ fn put_eights(params: &Params, offset: u32, values: &[u32], samples: &mut [i64])
 fn put_offsets(params: &Params, previous: i64, values: &[u32], samples: &mut [i64])
     requires on { params.now.preprocess ≡ true }
     requires prediction { IsHeld params.now previous }
-    requires mapped { AllByRecursion (λ v. v < 2 ^ params.now.bits) values.now }
-    requires len { length samples.old ≡ length values.now }
-    ensures items { Unmaps params.now previous values.now [] samples.new }
-    ensures len { length samples.new ≡ length samples.old }
+    requires values { HaveSamplePlaces params.now values.now samples.old }
+    ensures { PutsSamples params.now previous values.now samples.old samples.new }
 {
     let first = offset_of(params, previous);
     let last = put_eights(params, first, values, samples);
@@ -143,10 +114,8 @@ fn put_offsets(params: &Params, previous: i64, values: &[u32], samples: &mut [i6
 /// Puts the samples of patterns into `samples`.
 fn put_values(params: &Params, patterns: &[u32], samples: &mut [i64])
     requires off { params.now.preprocess ≡ false }
-    requires small { AllByRecursion (λ v. v < 2 ^ params.now.bits) patterns.now }
-    requires len { length samples.old ≡ length patterns.now }
-    ensures items { (p : ℤ) → Unmaps params.now p patterns.now [] samples.new }
-    ensures len { length samples.new ≡ length samples.old }
+    requires values { HaveSamplePlaces params.now patterns.now samples.old }
+    ensures { (p : ℤ) → PutsSamples params.now p patterns.now samples.old samples.new }
 {
     for i in 0..patterns.len() {
         samples[i] = params.value(patterns[i]);
@@ -159,10 +128,8 @@ fn put_values(params: &Params, patterns: &[u32], samples: &mut [i64])
 #[inline(always)]
 pub fn unmap_into(params: &Params, previous: i64, values: &[u32], samples: &mut [i64])
     requires prediction { IsHeld params.now previous }
-    requires mapped { AllByRecursion (λ v. v < 2 ^ params.now.bits) values.now }
-    requires len { length samples.old ≡ length values.now }
-    ensures items { Unmaps params.now previous values.now [] samples.new }
-    ensures len { length samples.new ≡ length samples.old }
+    requires values { HaveSamplePlaces params.now values.now samples.old }
+    ensures { PutsSamples params.now previous values.now samples.old samples.new }
 {
     if params.preprocess() {
         put_offsets(params, previous, values, samples);

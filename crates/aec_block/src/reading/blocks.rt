@@ -6,7 +6,7 @@ ghost use Rattle.aec_params.specs.CodedDataSets.{written_count};
 ghost use Rattle.aec_params.specs.Places.{placed_values, block_of_values};
 ghost use Rattle.aec_block.specs.BlockShape.{most_values};
 ghost use Rattle.aec_block.specs.ReadAt.{map_taken, binary_at, values_at, members_at, split_at};
-ghost use Rattle.aec_block.specs.Gathering.{bits_at, as_taken_by, when, small_block, pair_block};
+ghost use Rattle.aec_block.specs.Gathering.{as_taken_by, when, small_block, pair_block, Takes};
 
 use crate::block::{Block, places_before};
 use crate::reading::codewords::read_block_numbers;
@@ -33,12 +33,9 @@ pub(crate) fn fill_uncompressed(
     block: &mut Block,
 ) -> Result<(), Fault>
     requires within { reader.old.pos ≤ length reader.old.list }
-    ensures taken { map_taken (block_of_values reference)
-        (values_at (binary_at params.now.bits) (written_count params.now (is_some reference))
-        (bits_at reader.old))
-        ≡ as_taken_by (λ _. block.new) result (bits_at reader.new) }
-    ensures list { reader.new.list ≡ reader.old.list }
-    ensures within { reader.new.pos ≤ length reader.new.list }
+    ensures { Takes (λ bits. map_taken (block_of_values reference)
+        (values_at (binary_at params.now.bits) (written_count params.now (is_some reference)) bits))
+        reader.old (as_taken_by (λ _. block.new) result) reader.new }
 {
     block.restart(reference, block_len(params));
     let values = &mut block.values.as_mut_slice()[places_before(reference)..];
@@ -57,11 +54,9 @@ pub(crate) fn fill_split(
 ) -> Result<bool, Fault>
     requires within { reader.old.pos ≤ length reader.old.list }
     requires shift { k < 32 }
-    ensures taken { map_taken (small_block (2 ^ params.now.bits) reference)
-        (split_at k (written_count params.now (is_some reference)) (bits_at reader.old))
-        ≡ as_taken_by (λ fit. when fit block.new) result (bits_at reader.new) }
-    ensures list { reader.new.list ≡ reader.old.list }
-    ensures within { reader.new.pos ≤ length reader.new.list }
+    ensures { Takes (λ bits. map_taken (small_block (2 ^ params.now.bits) reference)
+        (split_at k (written_count params.now (is_some reference)) bits)) reader.old
+        (as_taken_by (λ fit. when fit block.new) result) reader.new }
 {
     block.restart(reference, block_len(params));
     let values = &mut block.values.as_mut_slice()[places_before(reference)..];
@@ -78,11 +73,9 @@ pub(crate) fn fill_pairs(
     block: &mut Block,
 ) -> Result<bool, Fault>
     requires within { reader.old.pos ≤ length reader.old.list }
-    ensures taken { map_taken (pair_block (2 ^ params.now.bits) reference)
-        (members_at (params.now.block_size / 2) (bits_at reader.old))
-        ≡ as_taken_by (λ fit. when fit block.new) result (bits_at reader.new) }
-    ensures list { reader.new.list ≡ reader.old.list }
-    ensures within { reader.new.pos ≤ length reader.new.list }
+    ensures { Takes (λ bits. map_taken (pair_block (2 ^ params.now.bits) reference)
+        (members_at (params.now.block_size / 2) bits)) reader.old
+        (as_taken_by (λ fit. when fit block.new) result) reader.new }
 {
     block.restart(reference, block_len(params));
     read_pairs(

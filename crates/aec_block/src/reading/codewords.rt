@@ -1,11 +1,9 @@
 //! Reads the codewords of a coded data set.
 
-ghost use Rattle.std.specs.Prelude.{◌≡◌, ◌≤◌, ◌<◌, ◌+◌, ◌^◌, true, false, length, IfOk, OnOk};
-ghost use Rattle.std.specs.List.{flat_map};
-ghost use Rattle.aec_params.specs.Codewords.{fs};
+ghost use Rattle.std.specs.Prelude.{◌≡◌, ◌≤◌, ◌<◌, ◌^◌, length, IfOk, OnOk};
 ghost use Rattle.aec_bits.specs.BitReader.{AreBelow};
-ghost use Rattle.aec_block.specs.ReadAt.{taken, fs_at, binary_at, values_at, pair_with_number};
-ghost use Rattle.aec_block.specs.Gathering.{bits_at, as_taken, PutsNumbers};
+ghost use Rattle.aec_block.specs.ReadAt.{fs_at, binary_at, pair_with_number};
+ghost use Rattle.aec_block.specs.Gathering.{as_taken, PutsNumbers, Takes};
 
 use aec_bits::BitReader;
 use aec_params::Fault;
@@ -15,9 +13,7 @@ use aec_params::Fault;
 pub(crate) fn read_number(reader: &mut BitReader, width: u32) -> Result<u64, Fault>
     requires width { width ≤ 64 }
     requires within { reader.old.pos ≤ length reader.old.list }
-    ensures taken { binary_at width (bits_at reader.old) ≡ as_taken result (bits_at reader.new) }
-    ensures list { reader.new.list ≡ reader.old.list }
-    ensures within { reader.new.pos ≤ length reader.new.list }
+    ensures taken { Takes (binary_at width) reader.old (as_taken result) reader.new }
     ensures bound { IfOk result (λ v. v < 2 ^ width) }
 {
     reader.read(width)
@@ -25,9 +21,7 @@ pub(crate) fn read_number(reader: &mut BitReader, width: u32) -> Result<u64, Fau
 
 /// The number of the fundamental sequence that comes next.
 pub(crate) fn read_sequence(reader: &mut BitReader) -> Result<u64, Fault>
-    ensures taken { fs_at (bits_at reader.old) ≡ as_taken result (bits_at reader.new) }
-    ensures list { reader.new.list ≡ reader.old.list }
-    ensures within { reader.new.pos ≤ length reader.new.list }
+    ensures { Takes fs_at reader.old (as_taken result) reader.new }
 {
     reader.read_fs()
 }
@@ -102,23 +96,6 @@ pub(crate) fn read_usual_numbers<const N: usize>(
         return read_numbers(reader, width, &mut numbers[..N]);
     }
     read_block_numbers(reader, width, numbers)
-}
-
-/// Puts the numbers of the fundamental sequences that come next into `numbers`, where all are
-/// short. Else false, and the reader stays.
-#[inline(always)]
-pub(crate) fn read_short_sequences(reader: &mut BitReader, numbers: &mut [u32]) -> bool
-    requires within { reader.old.pos ≤ length reader.old.list }
-    ensures taken { result ≡ true → values_at fs_at (length numbers.old) (bits_at reader.old)
-        ≡ taken numbers.new (bits_at reader.new) }
-    ensures gone { result ≡ true
-        → reader.new.pos ≡ reader.old.pos + length (flat_map fs numbers.new) }
-    ensures stays { result ≡ false → reader.new ≡ reader.old }
-    ensures len { length numbers.new ≡ length numbers.old }
-    ensures list { reader.new.list ≡ reader.old.list }
-    ensures within { reader.new.pos ≤ length reader.new.list }
-{
-    reader.read_sequences(numbers)
 }
 
 /// The two members of the pair with a number. As many steps are made as their sum is, fewer than

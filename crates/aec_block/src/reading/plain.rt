@@ -33,40 +33,6 @@ pub fn comes_plain(params: &Params, reader: &mut BitReader) -> bool
     matches!(kind, Ok(Kind::NoCompression | Kind::Split(_)))
 }
 
-/// Puts the values of the coded data set that comes next into `values`, if they are written one by
-/// one and all are at most the greatest that the width has. Else false, or a fault.
-#[inline(always)]
-fn fill_plain<const N: usize, const COPY: usize>(
-    params: &Params,
-    reader: &mut BitReader,
-    values: &mut [u32],
-) -> Result<bool, Fault>
-    requires within { reader.old.pos ≤ length reader.old.list }
-    requires count { length values.old ≡ params.now.block_size }
-    ensures none { IfOk result (λ plain. plain ≡ false
-        → HasNoPlain params.now (bits_at reader.old)) }
-    ensures cut { OnErr result (HasNoPlain params.now (bits_at reader.old)) }
-    ensures taken { IfOk result (λ plain. plain ≡ true
-        → map_taken (checked params.now) (cds_at params.now false (bits_at reader.old))
-        ≡ taken (Some (Single (block_of_values None values.new))) (bits_at reader.new)) }
-    ensures plain { IfOk result (λ plain. plain ≡ true
-        → begins_plain params.now (bits_at reader.old) ≡ true) }
-    ensures one { IfOk result (λ plain. plain ≡ true → has_one (bits_at reader.old) ≡ true) }
-    ensures allowed { IsAllowed params.now }
-    ensures len { length values.new ≡ length values.old }
-    ensures list { reader.new.list ≡ reader.old.list }
-    ensures within { reader.new.pos ≤ length reader.new.list }
-{
-    match read_kind(params, reader)? {
-        Kind::NoCompression => {
-            read_usual_numbers::<N>(reader, params.bits(), values)?;
-            Ok(true)
-        }
-        Kind::Split(k) => read_usual_split::<N, COPY>(params, reader, k, values),
-        _ => Ok(false),
-    }
-}
-
 /// Reads the coded data set that begins at the reader's place as one without a reference sample and
 /// moves past it, if it is plain and its values are at most the greatest that the width has:
 /// `values` then contains them. Else returns false, and the reader hasn't moved; what `values`
@@ -95,17 +61,18 @@ pub fn read_plain<const N: usize, const COPY: usize>(
     ensures list { reader.new.list ≡ reader.old.list }
 {
     let start = reader.pos();
-    match fill_plain::<N, COPY>(params, reader, values) {
-        Ok(true) => true,
-        Ok(false) => {
-            reader.seek(start);
-            false
+    let read = match read_kind(params, reader) {
+        Ok(Kind::NoCompression) => read_usual_numbers::<N>(reader, params.bits(), values).is_ok(),
+        Ok(Kind::Split(k)) => {
+            read_usual_split::<N, COPY>(params, reader, k, values).unwrap_or(false)
         }
-        Err(_) => {
-            reader.seek(start);
-            false
-        }
+        _ => false,
+    };
+    if !read {
+        reader.seek(start);
+        return false;
     }
+    true
 }
 
 /// Puts the values that are written of the coded data set that comes next, one with a reference
@@ -175,11 +142,7 @@ pub fn read_plain_first<const M: usize>(
     values[0] = 0;
     match fill_first::<M>(params, reader, &mut values[1..]) {
         Ok(Some(pattern)) => Some(pattern),
-        Ok(None) => {
-            reader.seek(start);
-            None
-        }
-        Err(_) => {
+        Ok(None) | Err(_) => {
             reader.seek(start);
             None
         }

@@ -9,7 +9,7 @@ ghost use Rattle.aec_bits.specs.BitReader.{has_one};
 ghost use Rattle.aec_block.specs.declared.cds.Cds.TheVariants.{Zeros};
 ghost use Rattle.aec_block.specs.declared.reading.Kind.TheVariants.{ZeroBlocks};
 ghost use Rattle.aec_block.specs.ReadAt.{taken, map_taken, body_at, cds_at};
-ghost use Rattle.aec_block.specs.Gathering.{bits_at, as_taken_by};
+ghost use Rattle.aec_block.specs.Gathering.{bits_at, as_taken_by, Takes};
 ghost use Rattle.aec_block.specs.ReadCds.{checked, checked_body, is_run_body, HasNoRun, IsReadAs};
 
 use crate::cds::RunLen;
@@ -27,11 +27,9 @@ fn read_len(
     reference: Option<u32>,
 ) -> Result<RunLen, Fault>
     requires within { reader.old.pos ≤ length reader.old.list }
-    ensures taken { map_taken (checked_body params.now reference)
-        (body_at params.now (is_some reference) ZeroBlocks (bits_at reader.old))
-        ≡ as_taken_by (λ len. Some (Zeros reference len)) result (bits_at reader.new) }
-    ensures list { reader.new.list ≡ reader.old.list }
-    ensures within { reader.new.pos ≤ length reader.new.list }
+    ensures { Takes (λ bits. map_taken (checked_body params.now reference)
+        (body_at params.now (is_some reference) ZeroBlocks bits)) reader.old
+        (as_taken_by (λ len. Some (Zeros reference len)) result) reader.new }
 {
     Ok(run_len(read_sequence(reader)?))
 }

@@ -6,11 +6,11 @@ ghost use Rattle.std.specs.List.{flat_map};
 ghost use Rattle.aec_params.specs.Codewords.{fs};
 ghost use Rattle.aec_bits.specs.BitReader.{AreBelow};
 ghost use Rattle.aec_block.specs.BlockShape.{most_values};
-ghost use Rattle.aec_block.specs.ReadAt.{map_taken, fs_at, values_at, members_at, joined_values};
-ghost use Rattle.aec_block.specs.Gathering.{bits_at, as_taken_by, when, all_below, small_values, kept_members, small_members, PutsSplit};
+ghost use Rattle.aec_block.specs.ReadAt.{map_taken, members_at, joined_values};
+ghost use Rattle.aec_block.specs.Gathering.{as_taken_by, when, all_below, kept_members, small_members, Takes, PutsHighs, PutsSplit};
 
 use crate::block::MOST_VALUES;
-use crate::reading::codewords::{pair_of, read_numbers, read_sequence, read_short_sequences};
+use crate::reading::codewords::{pair_of, read_numbers, read_sequence};
 use aec_bits::BitReader;
 use aec_params::{Fault, Params};
 
@@ -83,13 +83,11 @@ pub(crate) fn read_pairs(
     requires pairs { length values.old ≡ 2 * (length values.old / 2) }
     requires some { 0 < length values.old }
     requires placed { values.old ≡ kept_members is_ref values.old }
-    ensures taken { map_taken (small_members (2 ^ params.now.bits) is_ref)
-        (members_at (length values.old / 2) (bits_at reader.old))
-        ≡ as_taken_by (λ fit. when fit values.new) result (bits_at reader.new) }
+    ensures taken { Takes (λ bits. map_taken (small_members (2 ^ params.now.bits) is_ref)
+        (members_at (length values.old / 2) bits)) reader.old
+        (as_taken_by (λ fit. when fit values.new) result) reader.new }
     ensures placed { values.new ≡ kept_members is_ref values.new }
     ensures len { length values.new ≡ length values.old }
-    ensures list { reader.new.list ≡ reader.old.list }
-    ensures within { reader.new.pos ≤ length reader.new.list }
 {
     let limit = value_limit(params);
     let mut fit = true;
@@ -107,12 +105,7 @@ pub(crate) fn read_pairs(
 fn read_long_highs(reader: &mut BitReader, highs: &mut [u32], limit: u64) -> Result<bool, Fault>
     requires within { reader.old.pos ≤ length reader.old.list }
     requires limit { limit ≤ 2 ^ 32 }
-    ensures taken { map_taken (small_values limit)
-        (values_at fs_at (length highs.old) (bits_at reader.old))
-        ≡ as_taken_by (λ fit. when fit highs.new) result (bits_at reader.new) }
-    ensures len { length highs.new ≡ length highs.old }
-    ensures list { reader.new.list ≡ reader.old.list }
-    ensures within { reader.new.pos ≤ length reader.new.list }
+    ensures { PutsHighs limit reader.old highs.old result reader.new highs.new }
 {
     let mut fit = true;
     for high in highs.iter_mut() {
@@ -149,15 +142,10 @@ pub(crate) fn read_highs(
     requires within { reader.old.pos ≤ length reader.old.list }
     requires least { 0 < limit }
     requires limit { limit ≤ 2 ^ 32 }
-    ensures taken { map_taken (small_values limit)
-        (values_at fs_at (length highs.old) (bits_at reader.old))
-        ≡ as_taken_by (λ fit. when fit highs.new) result (bits_at reader.new) }
-    ensures len { length highs.new ≡ length highs.old }
-    ensures list { reader.new.list ≡ reader.old.list }
-    ensures within { reader.new.pos ≤ length reader.new.list }
+    ensures { PutsHighs limit reader.old highs.old result reader.new highs.new }
 {
     let start = reader.pos();
-    if read_short_sequences(reader, highs) {
+    if reader.read_sequences(highs) {
         return Ok(are_short(highs, reader.pos() - start, limit));
     }
     read_long_highs(reader, highs, limit)
@@ -216,7 +204,7 @@ fn read_split<const M: usize, const COPY: usize>(
 
 /// `read_split` for any number of values that a block has, out of line.
 #[inline(never)]
-fn read_any_split(
+fn read_split_apart(
     params: &Params,
     reader: &mut BitReader,
     k: u32,
@@ -230,67 +218,7 @@ fn read_any_split(
     read_split::<MOST_VALUES, 0>(params, reader, k, values)
 }
 
-/// `read_split` for `N` values, inlined into its one caller.
-#[inline(always)]
-fn read_exact_split<const N: usize, const COPY: usize>(
-    params: &Params,
-    reader: &mut BitReader,
-    k: u32,
-    values: &mut [u32],
-) -> Result<bool, Fault>
-    requires within { reader.old.pos ≤ length reader.old.list }
-    requires shift { k < 32 }
-    requires most { N ≤ most_values }
-    requires count { length values.old ≡ N }
-    ensures { PutsSplit params.now k reader.old values.old result reader.new values.new }
-{
-    read_split::<N, COPY>(params, reader, k, &mut values[..N])
-}
-
-/// `read_split` for `N` values, out of line.
-#[inline(never)]
-fn read_known_split<const N: usize>(
-    params: &Params,
-    reader: &mut BitReader,
-    k: u32,
-    values: &mut [u32],
-) -> Result<bool, Fault>
-    requires within { reader.old.pos ≤ length reader.old.list }
-    requires shift { k < 32 }
-    requires most { N ≤ most_values }
-    requires count { length values.old ≡ N }
-    ensures { PutsSplit params.now k reader.old values.old result reader.new values.new }
-{
-    read_exact_split::<N, 1>(params, reader, k, values)
-}
-
-/// Chooses the code of `read_split` by the number of values: usual numbers have their own code.
-#[inline(always)]
-pub(crate) fn read_block_split(
-    params: &Params,
-    reader: &mut BitReader,
-    k: u32,
-    values: &mut [u32],
-) -> Result<bool, Fault>
-    requires within { reader.old.pos ≤ length reader.old.list }
-    requires shift { k < 32 }
-    requires most { length values.old ≤ most_values }
-    ensures { PutsSplit params.now k reader.old values.old result reader.new values.new }
-{
-    match values.len() {
-        7 => read_known_split::<7>(params, reader, k, values),
-        8 => read_known_split::<8>(params, reader, k, values),
-        15 => read_known_split::<15>(params, reader, k, values),
-        16 => read_known_split::<16>(params, reader, k, values),
-        31 => read_known_split::<31>(params, reader, k, values),
-        32 => read_known_split::<32>(params, reader, k, values),
-        63 => read_known_split::<63>(params, reader, k, values),
-        64 => read_known_split::<64>(params, reader, k, values),
-        _ => read_any_split(params, reader, k, values),
-    }
-}
-
-/// `read_split`, inlined for `N` values, the usual number here; out of line for any other number.
+/// `read_split`, inlined for `N` values, the usual number; out of line for any other number.
 #[inline(always)]
 pub(crate) fn read_usual_split<const N: usize, const COPY: usize>(
     params: &Params,
@@ -304,7 +232,33 @@ pub(crate) fn read_usual_split<const N: usize, const COPY: usize>(
     ensures { PutsSplit params.now k reader.old values.old result reader.new values.new }
 {
     if values.len() == N {
-        return read_exact_split::<N, COPY>(params, reader, k, values);
+        return read_split::<N, COPY>(params, reader, k, &mut values[..N]);
     }
-    read_any_split(params, reader, k, values)
+    read_split_apart(params, reader, k, values)
+}
+
+/// `read_split`, which has code of its own for each usual number of values.
+#[inline(never)]
+pub(crate) fn read_block_split(
+    params: &Params,
+    reader: &mut BitReader,
+    k: u32,
+    values: &mut [u32],
+) -> Result<bool, Fault>
+    requires within { reader.old.pos ≤ length reader.old.list }
+    requires shift { k < 32 }
+    requires most { length values.old ≤ most_values }
+    ensures { PutsSplit params.now k reader.old values.old result reader.new values.new }
+{
+    match values.len() {
+        7 => read_usual_split::<7, 1>(params, reader, k, values),
+        8 => read_usual_split::<8, 1>(params, reader, k, values),
+        15 => read_usual_split::<15, 1>(params, reader, k, values),
+        16 => read_usual_split::<16, 1>(params, reader, k, values),
+        31 => read_usual_split::<31, 1>(params, reader, k, values),
+        32 => read_usual_split::<32, 1>(params, reader, k, values),
+        63 => read_usual_split::<63, 1>(params, reader, k, values),
+        64 => read_usual_split::<64, 1>(params, reader, k, values),
+        _ => read_split_apart(params, reader, k, values),
+    }
 }

@@ -4,7 +4,7 @@ ghost use Rattle.std.specs.Prelude.{◌≡◌, ◌≤◌, ◌<◌, ◌*◌, ◌^
 ghost use Rattle.aec_params.specs.CodedDataSets.{written_count};
 ghost use Rattle.aec_block.specs.BlockShape.{most_values};
 ghost use Rattle.aec_block.specs.ReadAt.{map_taken, fs_at, binary_at, values_at, split_at};
-ghost use Rattle.aec_block.specs.Gathering.{bits_at, as_taken, no_values, all_below};
+ghost use Rattle.aec_block.specs.Gathering.{as_taken, no_values, all_below, Takes};
 
 use crate::block::MOST_VALUES;
 use crate::reading::blocks::block_len;
@@ -34,10 +34,8 @@ fn skip_numbers(reader: &mut BitReader, width: u32, count: usize) -> Result<(), 
     requires width { width ≤ 32 }
     requires most { count ≤ most_values }
     requires within { reader.old.pos ≤ length reader.old.list }
-    ensures taken { map_taken no_values (values_at (binary_at width) count (bits_at reader.old))
-        ≡ as_taken result (bits_at reader.new) }
-    ensures list { reader.new.list ≡ reader.old.list }
-    ensures within { reader.new.pos ≤ length reader.new.list }
+    ensures { Takes (λ bits. map_taken no_values (values_at (binary_at width) count bits))
+        reader.old (as_taken result) reader.new }
 {
     reader.skip_bits(numbers_len(width, count))
 }
@@ -49,10 +47,8 @@ fn judge_highs(reader: &mut BitReader, count: usize, limit: u64) -> Result<bool,
     requires least { 0 < limit }
     requires limit { limit ≤ 2 ^ 32 }
     requires within { reader.old.pos ≤ length reader.old.list }
-    ensures taken { map_taken (all_below limit) (values_at fs_at count (bits_at reader.old))
-        ≡ as_taken result (bits_at reader.new) }
-    ensures list { reader.new.list ≡ reader.old.list }
-    ensures within { reader.new.pos ≤ length reader.new.list }
+    ensures { Takes (λ bits. map_taken (all_below limit) (values_at fs_at count bits)) reader.old
+        (as_taken result) reader.new }
 {
     let mut highs = [0u32; MOST_VALUES];
     read_highs(reader, &mut highs[..count], limit)
@@ -65,10 +61,8 @@ fn skip_highs(reader: &mut BitReader, count: usize, limit: u64) -> Result<bool, 
     requires least { 0 < limit }
     requires limit { limit ≤ 2 ^ 32 }
     requires within { reader.old.pos ≤ length reader.old.list }
-    ensures taken { map_taken (all_below limit) (values_at fs_at count (bits_at reader.old))
-        ≡ as_taken result (bits_at reader.new) }
-    ensures list { reader.new.list ≡ reader.old.list }
-    ensures within { reader.new.pos ≤ length reader.new.list }
+    ensures { Takes (λ bits. map_taken (all_below limit) (values_at fs_at count bits)) reader.old
+        (as_taken result) reader.new }
 {
     let start = reader.pos();
     let gone = reader.skip_ones(count as u64)?;
@@ -86,12 +80,9 @@ pub(crate) fn skip_uncompressed(
     is_ref: bool,
 ) -> Result<(), Fault>
     requires within { reader.old.pos ≤ length reader.old.list }
-    ensures taken { map_taken no_values
-        (values_at (binary_at params.now.bits) (written_count params.now is_ref)
-        (bits_at reader.old))
-        ≡ as_taken result (bits_at reader.new) }
-    ensures list { reader.new.list ≡ reader.old.list }
-    ensures within { reader.new.pos ≤ length reader.new.list }
+    ensures { Takes (λ bits. map_taken no_values
+        (values_at (binary_at params.now.bits) (written_count params.now is_ref) bits)) reader.old
+        (as_taken result) reader.new }
 {
     skip_numbers(reader, params.bits(), count_written(params, is_ref))
 }
@@ -107,11 +98,9 @@ pub(crate) fn skip_split(
     requires within { reader.old.pos ≤ length reader.old.list }
     requires shift { k < 32 }
     requires inside { k ≤ params.now.bits }
-    ensures taken { map_taken (all_below (2 ^ params.now.bits))
-        (split_at k (written_count params.now is_ref) (bits_at reader.old))
-        ≡ as_taken result (bits_at reader.new) }
-    ensures list { reader.new.list ≡ reader.old.list }
-    ensures within { reader.new.pos ≤ length reader.new.list }
+    ensures { Takes (λ bits. map_taken (all_below (2 ^ params.now.bits))
+        (split_at k (written_count params.now is_ref) bits))
+        reader.old (as_taken result) reader.new }
 {
     let count = count_written(params, is_ref);
     let fit = skip_highs(reader, count, high_limit(value_limit(params), k))?;

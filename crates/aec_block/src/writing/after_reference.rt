@@ -1,8 +1,8 @@
 //! Gathers the seven values after a reference, in lanes of eight with the 0 in the reference place.
 
-ghost use Rattle.std.specs.Prelude.{◌≡◌, ◌+◌, ◌*◌, ◌^◌, ◌<◌, ◌≤◌, ◌++◌, ◌∷◌, length, drop};
-ghost use Rattle.aec_params.specs.Codewords.{binary};
-ghost use Rattle.aec_block.specs.Written.{high_parts, low_parts, split_parts};
+ghost use Rattle.std.specs.Prelude.{◌≡◌, ◌+◌, ◌*◌, ◌^◌, ◌<◌, ◌≤◌, ◌++◌, length, drop};
+ghost use Rattle.aec_block.specs.BlockShape.{AreSevenAfterZero};
+ghost use Rattle.aec_block.specs.Written.{high_parts, low_parts, split_parts, FitsHighWord, Spells, Gathers};
 
 use crate::writing::gathered::Gathered;
 use crate::writing::joined_high_parts::eight_highs;
@@ -13,12 +13,10 @@ use aec_bits::BitBuf;
 /// where these are fewer than 64 bits.
 #[inline(always)]
 fn high_word_of_seven(all: &[u32], k: u32) -> u64
-    requires k { k < 32 }
     requires len { length all.now ≡ 8 }
-    requires few { length (high_parts k (drop 1 all.now)) < 64 }
-    ensures fits { result < 2 ^ length (high_parts k (drop 1 all.now)) }
-    ensures bits { binary (length (high_parts k (drop 1 all.now))) result
-        ≡ high_parts k (drop 1 all.now) }
+    requires few { FitsHighWord k (drop 1 all.now) }
+    ensures { Spells (length (high_parts k (drop 1 all.now))) (high_parts k (drop 1 all.now))
+        result }
 {
     let highs = eight_highs(all, k);
     let mut word = 0;
@@ -33,10 +31,8 @@ fn high_word_of_seven(all: &[u32], k: u32) -> u64
 #[inline(always)]
 fn low_word_of_seven(all: &[u32], width: u32) -> u64
     requires width { width < 8 }
-    requires len { length all.now ≡ 8 }
-    requires first { all.now ≡ 0 ∷ drop 1 all.now }
-    ensures fits { result < 2 ^ (7 * width) }
-    ensures bits { binary (7 * width) result ≡ low_parts width (drop 1 all.now) }
+    requires seven { AreSevenAfterZero all.now }
+    ensures { Spells (7 * width) (low_parts width (drop 1 all.now)) result }
 {
     low_word(all, width)
 }
@@ -52,15 +48,11 @@ pub(crate) fn put_seven(
     out: &mut BitBuf,
 ) -> Gathered
     requires k { k < 8 }
-    requires all { length all.now ≡ 8 }
-    requires first { all.now ≡ 0 ∷ drop 1 all.now }
+    requires seven { AreSevenAfterZero all.now }
     requires len { len ≡ length (high_parts k (drop 1 all.now)) }
     requires few { len < 64 }
     requires room { length gathered + length (split_parts k (drop 1 all.now)) ≤ out.old.room }
-    ensures list { out.new.list ++ result
-        ≡ out.old.list ++ (gathered ++ split_parts k (drop 1 all.now)) }
-    ensures room { out.old.room + length result
-        ≤ out.new.room + (length gathered + length (split_parts k (drop 1 all.now))) }
+    ensures { Gathers (gathered ++ split_parts k (drop 1 all.now)) out.old result out.new }
 {
     let high = gathered.put(high_word_of_seven(all, k), len as u32, out);
     high.put(low_word_of_seven(all, k), 7 * k, out)

@@ -25,6 +25,7 @@ impl Model for Gathered {
 impl Gathered {
     ghost use Rattle.std.specs.Prelude.{◌≡◌, ◌+◌, ◌<◌, ◌≤◌, ◌^◌, ◌++◌, [], length, nat_le};
     ghost use Rattle.aec_params.specs.Codewords.{fs, binary};
+    ghost use Rattle.aec_block.specs.Written.{FitsWidth, Adds, Gathers};
 
     /// No bits.
     #[inline(always)]
@@ -58,8 +59,7 @@ impl Gathered {
     /// These bits and those of a number, for which the word has a place.
     #[inline(always)]
     fn joined(self, value: u64, width: u32) -> Gathered
-        requires width { width < 64 }
-        requires fits { value < 2 ^ width }
+        requires number { FitsWidth width value }
         requires place { length self + width ≤ 64 }
         ensures { result ≡ self ++ binary width value }
     {
@@ -73,8 +73,7 @@ impl Gathered {
     #[inline(always)]
     pub(crate) fn append_to(self, out: &mut BitBuf)
         requires room { length self ≤ out.old.room }
-        ensures list { out.new.list ≡ out.old.list ++ self }
-        ensures room { out.old.room ≤ out.new.room + length self }
+        ensures { Adds self out.old out.new }
     {
         out.push_reserved(self.word, self.used);
     }
@@ -83,11 +82,9 @@ impl Gathered {
     /// appended to the list, which has room for all.
     #[inline(always)]
     pub(crate) fn put(self, value: u64, width: u32, out: &mut BitBuf) -> Gathered
-        requires width { width < 64 }
-        requires fits { value < 2 ^ width }
+        requires number { FitsWidth width value }
         requires room { length self + width ≤ out.old.room }
-        ensures list { out.new.list ++ result ≡ out.old.list ++ (self ++ binary width value) }
-        ensures room { out.old.room + length result ≤ out.new.room + (length self + width) }
+        ensures { Gathers (self ++ binary width value) out.old result out.new }
     {
         if self.has_place_for(width) {
             return self.joined(value, width);
@@ -100,8 +97,7 @@ impl Gathered {
     #[inline(always)]
     pub(crate) fn put_fs(self, v: u64, out: &mut BitBuf) -> Gathered
         requires room { length self + (v + 1) ≤ out.old.room }
-        ensures list { out.new.list ++ result ≡ out.old.list ++ (self ++ fs v) }
-        ensures room { out.old.room + length result ≤ out.new.room + (length self + (v + 1)) }
+        ensures { Gathers (self ++ fs v) out.old result out.new }
     {
         if v < 63 {
             return self.put(1, v as u32 + 1, out);

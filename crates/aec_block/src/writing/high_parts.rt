@@ -2,8 +2,8 @@
 
 ghost use Rattle.std.specs.Prelude.{◌≡◌, ◌+◌, ◌^◌, ◌<◌, ◌≤◌, ◌++◌, length};
 ghost use Rattle.aec_block.specs.BlockShape.{most_values};
-ghost use Rattle.aec_block.specs.Lengths.{sum_of_shifted};
-ghost use Rattle.aec_block.specs.Written.{high_parts};
+ghost use Rattle.aec_block.specs.Lengths.{FitsLanes};
+ghost use Rattle.aec_block.specs.Written.{high_parts, IsHighLen, Gathers};
 
 use crate::writing::gathered::Gathered;
 use crate::writing::joined_high_parts::{high_word, high_word_len};
@@ -13,9 +13,7 @@ use aec_bits::BitBuf;
 fn put_each_high_part(values: &[u32], k: u32, mut gathered: Gathered, out: &mut BitBuf) -> Gathered
     requires k { k < 32 }
     requires room { length (gathered ++ high_parts k values.now) ≤ out.old.room }
-    ensures list { out.new.list ++ result ≡ out.old.list ++ (gathered ++ high_parts k values.now) }
-    ensures room { out.old.room + length result
-        ≤ out.new.room + length (gathered ++ high_parts k values.now) }
+    ensures { Gathers (gathered ++ high_parts k values.now) out.old result out.new }
 {
     for v in values {
         gathered = gathered.put_fs(u64::from(*v >> k), out);
@@ -26,13 +24,10 @@ fn put_each_high_part(values: &[u32], k: u32, mut gathered: Gathered, out: &mut 
 /// Gathers each of a few values without its `k` low bits: as one number where these are fewer than
 /// 64 bits, else one by one.
 fn put_high_group(values: &[u32], k: u32, gathered: Gathered, out: &mut BitBuf) -> Gathered
-    requires k { k < 32 }
     requires len { length values.now ≤ most_values }
-    requires small { sum_of_shifted k values.now < 2 ^ 32 }
+    requires lanes { FitsLanes k values.now }
     requires room { length (gathered ++ high_parts k values.now) ≤ out.old.room }
-    ensures list { out.new.list ++ result ≡ out.old.list ++ (gathered ++ high_parts k values.now) }
-    ensures room { out.old.room + length result
-        ≤ out.new.room + length (gathered ++ high_parts k values.now) }
+    ensures { Gathers (gathered ++ high_parts k values.now) out.old result out.new }
 {
     let bits = high_word_len(values, k);
     if bits < 64 {
@@ -44,12 +39,9 @@ fn put_high_group(values: &[u32], k: u32, gathered: Gathered, out: &mut BitBuf) 
 /// Gathers each value without its `k` low bits: of eight values at a time, and one by one of the
 /// last few.
 fn put_high_groups(values: &[u32], k: u32, mut gathered: Gathered, out: &mut BitBuf) -> Gathered
-    requires k { k < 32 }
-    requires small { sum_of_shifted k values.now < 2 ^ 32 }
+    requires lanes { FitsLanes k values.now }
     requires room { length (gathered ++ high_parts k values.now) ≤ out.old.room }
-    ensures list { out.new.list ++ result ≡ out.old.list ++ (gathered ++ high_parts k values.now) }
-    ensures room { out.old.room + length result
-        ≤ out.new.room + length (gathered ++ high_parts k values.now) }
+    ensures { Gathers (gathered ++ high_parts k values.now) out.old result out.new }
 {
     for i in 0..values.len() / 8 {
         gathered = put_high_group(&values[8 * i..8 * i + 8], k, gathered, out);
@@ -67,12 +59,9 @@ pub(crate) fn put_high_parts(
     gathered: Gathered,
     out: &mut BitBuf,
 ) -> Gathered
-    requires k { k < 32 }
-    requires len { len ≡ length (high_parts k values.now) }
+    requires len { IsHighLen k values.now len }
     requires room { length (gathered ++ high_parts k values.now) ≤ out.old.room }
-    ensures list { out.new.list ++ result ≡ out.old.list ++ (gathered ++ high_parts k values.now) }
-    ensures room { out.old.room + length result
-        ≤ out.new.room + length (gathered ++ high_parts k values.now) }
+    ensures { Gathers (gathered ++ high_parts k values.now) out.old result out.new }
 {
     if len < 64 {
         return gathered.put(high_word(values, k), len as u32, out);

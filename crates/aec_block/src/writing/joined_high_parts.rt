@@ -1,11 +1,10 @@
 //! The values of a block without their low bits, as one number.
 
 ghost use Rattle.std.specs.Prelude.{◌≡◌, ℕ, ◌+◌, ◌/◌, ◌^◌, ◌<◌, ◌≤◌, length, map};
-ghost use Rattle.aec_params.specs.Codewords.{binary};
 ghost use Rattle.aec_block.specs.BlockShape.{most_values};
 ghost use Rattle.aec_block.specs.HighWords.{GoesOn};
-ghost use Rattle.aec_block.specs.Lengths.{sum_of_shifted};
-ghost use Rattle.aec_block.specs.Written.{high_parts};
+ghost use Rattle.aec_block.specs.Lengths.{FitsLanes};
+ghost use Rattle.aec_block.specs.Written.{high_parts, FitsHighWord, Spells};
 
 use crate::choice::sums_of_three::small_shifted_sum;
 use std::simd::prelude::*;
@@ -14,9 +13,8 @@ use std::simd::prelude::*;
 /// values adds up to less than 2^32.
 #[inline(always)]
 pub(crate) fn high_word_len(values: &[u32], k: u32) -> u64
-    requires k { k < 32 }
     requires len { length values.now ≤ most_values }
-    requires small { sum_of_shifted k values.now < 2 ^ 32 }
+    requires lanes { FitsLanes k values.now }
     ensures { result ≡ length (high_parts k values.now) }
 {
     small_shifted_sum(values, k) + values.len() as u64
@@ -36,9 +34,8 @@ pub(crate) fn eight_highs(values: &[u32], k: u32) -> u32x8
 /// A word of codewords, and after them those of eight values without their `k` low bits.
 #[inline(always)]
 fn with_eight(values: &[u32], k: u32, mut word: u64) -> u64
-    requires k { k < 32 }
     requires len { length values.now ≡ 8 }
-    requires few { length (high_parts k values.now) < 64 }
+    requires few { FitsHighWord k values.now }
     ensures { (used : ℕ) → used + length (high_parts k values.now) ≤ 64 → word < 2 ^ used
         → GoesOn k used word values.now result }
 {
@@ -52,8 +49,7 @@ fn with_eight(values: &[u32], k: u32, mut word: u64) -> u64
 /// A word of codewords, and after them those of a few values without their `k` low bits.
 #[inline(always)]
 fn with_each(values: &[u32], k: u32, mut word: u64) -> u64
-    requires k { k < 32 }
-    requires few { length (high_parts k values.now) < 64 }
+    requires { FitsHighWord k values.now }
     ensures { (used : ℕ) → used + length (high_parts k values.now) ≤ 64 → word < 2 ^ used
         → GoesOn k used word values.now result }
 {
@@ -68,10 +64,8 @@ fn with_each(values: &[u32], k: u32, mut word: u64) -> u64
 /// of the last few.
 #[inline(always)]
 pub(crate) fn high_word(values: &[u32], k: u32) -> u64
-    requires k { k < 32 }
-    requires few { length (high_parts k values.now) < 64 }
-    ensures fits { result < 2 ^ length (high_parts k values.now) }
-    ensures bits { binary (length (high_parts k values.now)) result ≡ high_parts k values.now }
+    requires { FitsHighWord k values.now }
+    ensures { Spells (length (high_parts k values.now)) (high_parts k values.now) result }
 {
     let mut word = 0;
     for i in 0..values.len() / 8 {

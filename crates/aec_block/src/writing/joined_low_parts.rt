@@ -1,7 +1,7 @@
 //! The low bits of several values as one number.
 
 ghost use Rattle.std.specs.Prelude.{◌≡◌, ◌*◌, ◌%◌, ◌^◌, ◌<◌, ◌≤◌, length, get_or, map as list_map};
-ghost use Rattle.std.specs.List.{AllByRecursion};
+ghost use Rattle.std.specs.List.{AllByRecursion, flat_map};
 ghost use Rattle.aec_params.specs.Codewords.{binary};
 ghost use Rattle.aec_block.specs.Written.{low_parts, Spells};
 
@@ -34,7 +34,7 @@ fn low_parts_of(values: &[u32], width: u32) -> [u32; 8]
 fn joined_eight(numbers: &[u32; 8], width: u32) -> u64
     requires width { width ≤ 7 }
     requires small { AllByRecursion (λ v. v < 2 ^ width) numbers.now }
-    ensures { Spells width (8 * width) numbers.now result }
+    ensures { Spells (8 * width) (flat_map (binary width) numbers.now) result }
 {
     let all = u32x8::from_array(*numbers);
     let evens: u32x4 = all.swizzle([0, 2, 4, 6]);
@@ -51,8 +51,7 @@ fn joined_eight(numbers: &[u32; 8], width: u32) -> u64
 pub(crate) fn low_word(values: &[u32], width: u32) -> u64
     requires width { width ≤ 32 }
     requires few { length values.now * width < 64 }
-    ensures fits { result < 2 ^ (length values.now * width) }
-    ensures bits { binary (length values.now * width) result ≡ low_parts width values.now }
+    ensures { Spells (length values.now * width) (low_parts width values.now) result }
 {
     if values.len() == 8 {
         return joined_eight(&low_parts_of(values, width), width);

@@ -91,10 +91,47 @@ fn has_room(bytes: &mut Vec<u8>, room: &mut usize, more: usize, most: u64) -> bo
     len <= *room && more <= *room - len
 }
 
+/// Reads the samples from where the reader is, after `before` samples whose bytes are kept, and
+/// keeps the bytes of those that come first, as many as there is room for. Returns how many samples
+/// are kept then: the reader is after them. The refusals are those of judging.
+pub(crate) fn keep_more(
+    params: &Params,
+    reader: &mut StreamReader,
+    before: u64,
+    samples: &mut Vec<i64>,
+    bytes: &mut Vec<u8>,
+) -> Result<u64, Fault>
+    requires settings { reader.old.settings ≡ params.now }
+    requires kept { KeepsFront reader.old params.now before bytes.old.items }
+    requires few { AreFewKept (vec_len bytes.old) (4 * interval_len params.now)
+        (length reader.old.bits) }
+    ensures kept { IfOk result (λ before. KeepsFront reader.new params.now before bytes.new.items) }
+    ensures few { AreFewKept (vec_len bytes.new) (4 * interval_len params.now)
+        (length reader.old.bits) }
+    ensures same { OnOk result (let old = reader.old in
+        reader.new ≡ place_at old.settings old.count old.limit old.bits reader.new.block
+        reader.new.bit) }
+    ensures refuses { IfErr result (λ fault. let old = reader.old in
+        RefusesReading old.settings old.count old.limit old.bits 0 0 fault) }
+    ensures room { vec_capacity samples.old ≤ vec_capacity samples.new }
+    ensures buffer { vec_capacity bytes.old ≤ vec_capacity bytes.new }
+{
+    let more = 4 * params.interval_len() as usize;
+    let mut room = 0;
+    let mut kept = before;
+    while has_room(bytes, &mut room, more, most_kept(params, reader))
+        && reader.next_few(samples_within(room - bytes.len()), samples)?
+    {
+        append_stored(params, samples, bytes);
+        kept += samples.len() as u64;
+    }
+    Ok(kept)
+}
+
 /// Reads the samples of a stream from its first bit on, and keeps the bytes of the first samples,
 /// as many as there is room for. Returns how many samples these are: the reader is after them. The
 /// refusals are those of judging.
-pub(crate) fn keep_front(
+fn keep_front(
     params: &Params,
     reader: &mut StreamReader,
     samples: &mut Vec<i64>,
@@ -113,16 +150,7 @@ pub(crate) fn keep_front(
     ensures room { vec_capacity samples.old ≤ vec_capacity samples.new }
     ensures buffer { vec_capacity bytes.old ≤ vec_capacity bytes.new }
 {
-    let more = 4 * params.interval_len() as usize;
-    let mut room = 0;
-    let mut before = 0;
-    while has_room(bytes, &mut room, more, most_kept(params, reader))
-        && reader.next_few(samples_within(room - bytes.len()), samples)?
-    {
-        append_stored(params, samples, bytes);
-        before += samples.len() as u64;
-    }
-    Ok(before)
+    keep_more(params, reader, 0, samples, bytes)
 }
 
 /// Reads the source whole, and writes the bytes of the samples that it codes: with a count the

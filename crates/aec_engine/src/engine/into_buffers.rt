@@ -1,20 +1,23 @@
-//! Decodes coded bytes in memory into a buffer: keeps the first samples' bytes while judging, and
-//! puts the rest into the buffer when reading again. The buffer can't be a `Sink`: contracts say
+//! Decodes coded bytes in memory into a buffer. Samples that come at once are put there at once if
+//! they are all that are asked for. Else the first samples' bytes are kept while judging, and the
+//! rest is put into the buffer when reading again. The buffer can't be a `Sink`: contracts say
 //! what the sink that an engine hands back has taken, and not that it still holds the same buffer.
 
-ghost use Rattle.std.specs.Prelude.{◌≡◌, ℕ, ◌+◌, ◌*◌, ◌<◌, ◌≤◌, ◌^◌, ◌++◌, List, [], ℤ, Some, Ok, false, length, take, drop, max, vec_len, vec_capacity, IsOk, IfOk, IfErr, OnOk};
+ghost use Rattle.std.specs.Prelude.{◌≡◌, ℕ, ◌+◌, ◌*◌, ◌<◌, ◌≤◌, ◌^◌, ◌++◌, List, [], ℤ, None, Some, Ok, true, false, length, take, drop, max, vec_len, vec_capacity, IsOk, IfOk, IfErr, OnOk};
 ghost use Rattle.std.specs.List.{AllByRecursion};
 ghost use Rattle.aec_params.specs.declared.fault.Fault.TheVariants.{Memory};
 ghost use Rattle.aec_params.specs.Params.{IsHeld, interval_len, storage_len};
 ghost use Rattle.aec_engine.specs.Transfers.{input_of, RefusesIntake};
 ghost use Rattle.aec_engine.specs.Output.{all_stored, samples_from, IsDecoded, IsRanged};
-ghost use Rattle.aec_engine.specs.ReadingTwice.{AreSamplesOf, GaveWhole, IsBegun, StoresPart, DecodesBits, CutsBits};
+ghost use Rattle.aec_interval.specs.Reached.{count_refusal, RefusesReading};
+ghost use Rattle.aec_interval.specs.Pieces.{place_at};
+ghost use Rattle.aec_engine.specs.ReadingTwice.{AreSamplesOf, GaveWhole, IsAtStart, IsBegun, KeepsFront, StoresPart, DecodesBits, CutsBits};
 ghost use Rattle.aec_engine.specs.Buffers.{FillsOne, OrMemory};
 
-use crate::engine::decoding::keep_front;
+use crate::engine::decoding::keep_more;
 use crate::engine::ranging::judge_range;
 use crate::engine::two_readings::{
-    AT_ONCE, WAITING, judge_from, judge_samples, part_of, room_at_once,
+    WAITING, append_stored, judge_from, judge_samples, part_of, room_at_once,
 };
 use aec_bits::BitBuf;
 use aec_interval::StreamReader;
@@ -151,33 +154,102 @@ fn put_kept(
     Ok(size as u64)
 }
 
+/// The first reading takes at most so many samples, or one interval if it is longer.
+const FIRST: u64 = 4096;
+
 /// Returns for how many samples room is made at first: for the blocks of those that are asked for,
-/// but at most for `AT_ONCE` samples, or an interval if it is longer.
+/// but at most for `FIRST` samples, or an interval if it is longer.
 fn first_samples(params: &Params, count: Option<u64>) -> usize
-    ensures { result ≤ max 2048 (interval_len params.now) }
+    ensures { result ≤ max 4096 (interval_len params.now) }
 {
-    let most = params.interval_len().max(AT_ONCE as u64);
+    let most = params.interval_len().max(FIRST);
     let asked = count.unwrap_or(most).min(most);
     let blocks = asked.div_ceil(u64::from(params.block_size()));
     (blocks * u64::from(params.block_size())).min(most) as usize
 }
 
-/// Returns room for the samples that are read at once at first, and room for their bytes with those
-/// of an interval, or for the bytes of an interval after a piece of `WAITING` bytes. So a short
-/// answer takes little memory.
-fn first_buffers(
-    alloc: Global,
-    params: &Params,
-    count: Option<u64>,
-) -> Result<(Vec<i64>, Vec<u8>), Fault>
-    ensures empty { IfOk result (λ made. vec_len made.1 ≡ 0) }
+/// Returns room for the samples of the first reading.
+fn first_room(alloc: Global, params: &Params, count: Option<u64>) -> Result<Vec<i64>, Fault>
     ensures fault { IfErr result (λ e. e ≡ Memory) }
 {
-    let most = first_samples(params, count);
-    let samples = Vec::with_capacity(alloc, most)?;
-    let kept = if most < AT_ONCE { 4 * most } else { WAITING };
-    let bytes = Vec::with_capacity(alloc, kept + 4 * params.interval_len() as usize)?;
-    Ok((samples, bytes))
+    let samples = Vec::with_capacity(alloc, first_samples(params, count))?;
+    Ok(samples)
+}
+
+/// Returns whether so many samples are all that are asked for.
+fn are_all(count: Option<u64>, samples: usize) -> bool
+    ensures { result ≡ true → count ≡ Some samples }
+{
+    match count {
+        Some(asked) => asked == samples as u64,
+        None => false,
+    }
+}
+
+/// Reads samples from the first bit on with one call of `next_few`: at most `FIRST` samples, or one
+/// interval if it is longer. The refusals are those of judging.
+fn read_first(
+    params: &Params,
+    reader: &mut StreamReader,
+    samples: &mut Vec<i64>,
+) -> Result<(), Fault>
+    requires start { IsAtStart reader.old params.now }
+    ensures kept { OnOk result (KeepsFront reader.new params.now (vec_len samples.new)
+        (all_stored params.now samples.new.items)) }
+    ensures held { OnOk result (AllByRecursion (IsHeld params.now) samples.new.items) }
+    ensures most { OnOk result (vec_len samples.new ≤ max 4096 (interval_len params.now)) }
+    ensures same { OnOk result (let old = reader.old in
+        reader.new ≡ place_at old.settings old.count old.limit old.bits reader.new.block
+        reader.new.bit) }
+    ensures refuses { IfErr result (λ fault. let old = reader.old in
+        RefusesReading old.settings old.count old.limit old.bits 0 0 fault) }
+{
+    // For its clause `allowed`.
+    let _len = params.interval_len();
+    let _more = reader.next_few(FIRST, samples)?;
+    Ok(())
+}
+
+/// Puts the bytes of samples to the front of a buffer, if there is room for them. Returns how many
+/// bytes they take.
+fn put_first(params: &Params, samples: &[i64], out: &mut [u8]) -> u64
+    requires held { AllByRecursion (IsHeld params.now) samples.now }
+    ensures { FillsOne (λ answer. answer ≡ Ok (all_stored params.now samples.now)) out.old out.new
+        (Ok result) }
+{
+    let size = params.storage() * samples.len();
+    if size > out.len() {
+        return size as u64;
+    }
+    let _end = put_behind(params, samples, 0, out);
+    size as u64
+}
+
+/// Returns the bytes of the samples that were read first into so many places, with room for those
+/// of an interval and for `WAITING` bytes, or for the bytes of the places if these are few. So a
+/// short answer takes little memory.
+fn first_bytes(
+    alloc: Global,
+    params: &Params,
+    samples: &[i64],
+    places: usize,
+) -> Result<Vec<u8>, Fault>
+    requires held { AllByRecursion (IsHeld params.now) samples.now }
+    requires most { length samples.now ≤ max 4096 (interval_len params.now) }
+    ensures items { IfOk result (λ bytes. bytes.items ≡ all_stored params.now samples.now) }
+    ensures few { IfOk result (λ bytes. vec_len bytes ≤ 65536 + 4 * interval_len params.now) }
+    ensures fault { IfErr result (λ e. e ≡ Memory) }
+{
+    let interval = params.interval_len() as usize;
+    let kept = if places < FIRST as usize {
+        4 * places
+    } else {
+        WAITING
+    };
+    let room = (kept + 4 * interval).max(4 * samples.len());
+    let mut bytes = Vec::with_capacity(alloc, room)?;
+    append_stored(params, samples, &mut bytes);
+    Ok(bytes)
 }
 
 /// Makes room for the samples of an interval if `left` samples have to be read again.
@@ -191,8 +263,48 @@ fn room_for_rest(params: &Params, left: u64, samples: &mut Vec<i64>) -> Result<(
     Ok(())
 }
 
-/// Judges coded bits and keeps the bytes of the samples in front, then puts these to the front of a
-/// buffer, where there is room, and behind them the bytes of the rest, read again.
+/// Keeps the bytes of the samples that were read first, and of those that come next, judges the
+/// bits after them, then puts these bytes to the front of a buffer, if there is room, and after
+/// them the bytes of the rest, read again.
+fn decode_rest_into(
+    alloc: Global,
+    params: &Params,
+    reader: &mut StreamReader,
+    samples: &mut Vec<i64>,
+    out: &mut [u8],
+) -> Result<u64, Fault>
+    requires settings { reader.old.settings ≡ params.now }
+    requires counted { count_refusal reader.old.limit reader.old.count ≡ None }
+    requires kept { KeepsFront reader.old params.now (vec_len samples.old)
+        (all_stored params.now samples.old.items) }
+    requires held { AllByRecursion (IsHeld params.now) samples.old.items }
+    requires most { vec_len samples.old ≤ max 4096 (interval_len params.now) }
+    requires limit { reader.old.limit ≤ 2 ^ 32 }
+    ensures { FillsOne (DecodesBits params.now reader.old.count reader.old.limit reader.old.bits)
+        out.old out.new result }
+{
+    // For its clause `allowed`.
+    let _len = params.interval_len();
+    let mut bytes = first_bytes(alloc, params, samples, samples.capacity())?;
+    let first = samples.len() as u64;
+    let kept = keep_more(params, reader, first, samples, &mut bytes)?;
+    let judged = judge_from(params, reader, kept, kept)?;
+    let left = judged.total.saturating_sub(kept);
+    room_for_rest(params, left, samples)?;
+    put_kept(
+        params,
+        reader,
+        &bytes,
+        judged.before,
+        kept,
+        left,
+        samples,
+        out,
+    )
+}
+
+/// Reads the samples that come at once, and puts their bytes to the front of a buffer, if there is
+/// room and they are all that are asked for; else goes on as `decode_rest_into` does.
 fn decode_bits_into(
     alloc: Global,
     params: &Params,
@@ -207,30 +319,22 @@ fn decode_bits_into(
     // For its clause `allowed`.
     let _len = params.interval_len();
     let mut reader = StreamReader::new(alloc, *params, bits, count, limits.samples())?;
-    let (mut samples, mut bytes) = first_buffers(alloc, params, count)?;
-    let kept = keep_front(params, &mut reader, &mut samples, &mut bytes)?;
-    let judged = judge_from(params, &mut reader, kept, kept)?;
-    let left = judged.total.saturating_sub(kept);
-    room_for_rest(params, left, &mut samples)?;
-    put_kept(
-        params,
-        &mut reader,
-        &bytes,
-        judged.before,
-        kept,
-        left,
-        &mut samples,
-        out,
-    )
+    let mut samples = first_room(alloc, params, count)?;
+    read_first(params, &mut reader, &mut samples)?;
+    if are_all(count, samples.len()) {
+        return Ok(put_first(params, &samples, out));
+    }
+    decode_rest_into(alloc, params, &mut reader, &mut samples, out)
 }
 
 /// Puts the stored bytes of the samples that coded bytes are read as to the front of a buffer,
 /// where there is room for all of them, and leaves the rest of it; else leaves all of it. How many
 /// bytes they are. The refusals are those of `decode_bytes`; the buffer is as it was then.
 ///
-/// Memory is taken for the coded bytes, for an interval of samples, or more but at most 2,048, and
-/// their bytes, and for up to 64 KiB of bytes that are kept while the coded bytes are judged. Of
-/// short blocks up to 16 MiB are kept, where there is memory. What lies behind is read twice.
+/// Memory is taken for the coded bytes, and for an interval of samples, or more but at most 4,096.
+/// Unless a count is given and the samples read first are all of them, memory is also taken for the
+/// bytes of an interval and 64 KiB, which are kept while the coded bytes are judged; of short
+/// blocks for up to 16 MiB, if there is memory. What comes after the kept bytes is read twice.
 pub fn decode_into(
     alloc: Global,
     params: &Params,

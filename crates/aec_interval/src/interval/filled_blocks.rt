@@ -2,9 +2,9 @@
 
 ghost use Rattle.std.specs.Prelude.{◌≡◌, ◌<◌, length};
 ghost use Rattle.std.specs.List.{AllByRecursion};
-ghost use Rattle.aec_params.specs.Params.{IsAllowed, IsHeld};
+ghost use Rattle.aec_params.specs.Params.{IsHeld};
 ghost use Rattle.aec_block.specs.BlockShape.{block_with};
-ghost use Rattle.aec_interval.specs.Chunks.{values_after, reference_after, HoldsPrevious, AreSamplesAfter, IsFilledBlock};
+ghost use Rattle.aec_interval.specs.Chunks.{values_after, reference_after, AreBlockAfter, IsFilledBlock};
 
 use aec_block::{map_first, map_list};
 use aec_params::Params;
@@ -26,11 +26,8 @@ pub(crate) fn reference_of(params: &Params, previous: Option<i64>, samples: &[i6
 /// Puts what is coded for samples after `previous`, or at an interval's start, into `values`.
 #[inline(always)]
 fn map_samples(params: &Params, previous: Option<i64>, samples: &[i64], values: &mut [u32])
-    requires previous { HoldsPrevious params.now previous }
-    requires some { 0 < length samples.now }
-    requires held { AllByRecursion (IsHeld params.now) samples.now }
+    requires block { AreBlockAfter params.now previous samples.now }
     requires len { length samples.now ≡ length values.old }
-    requires allowed { IsAllowed params.now }
     ensures { values.new ≡ values_after params.now previous samples.now }
 {
     match previous {
@@ -48,9 +45,7 @@ pub(crate) fn map_block(
     samples: &[i64],
     values: &mut [u32],
 ) -> Option<u32>
-    requires allowed { IsAllowed params.now }
-    requires some { 0 < length samples.now }
-    requires samples { AreSamplesAfter params.now previous 1 samples.now }
+    requires block { AreBlockAfter params.now previous samples.now }
     requires whole { length samples.now ≡ params.now.block_size }
     requires len { length values.old ≡ length samples.now }
     ensures filled { IsFilledBlock params.now previous samples.now

@@ -4,12 +4,12 @@
 
 ghost use Rattle.std.specs.Prelude.{◌≡◌, ◌+◌, ◌-◌, ◌<◌, ◌≤◌, ◌++◌, length, replicate};
 ghost use Rattle.std.specs.List.{AllByRecursion};
-ghost use Rattle.aec_params.specs.Params.{IsAllowed, IsHeld};
+ghost use Rattle.aec_params.specs.Params.{IsHeld};
 ghost use Rattle.aec_params.specs.Mapping.{mapped_after, mapped_value};
 ghost use Rattle.aec_params.specs.Runs.{segment_len};
 ghost use Rattle.aec_block.specs.BlockShape.{most_values};
 ghost use Rattle.aec_block.specs.Choices.{IsFull};
-ghost use Rattle.aec_interval.specs.Chunks.{values_after, reference_after, block_after, HoldsPrevious, AreSamplesAfter, IsFilledBlock};
+ghost use Rattle.aec_interval.specs.Chunks.{values_after, reference_after, block_after, AreBlockAfter, IsFilledBlock};
 ghost use Rattle.aec_interval.specs.Pending.{IsRun, AreNext, TakesBlock};
 
 use crate::interval::filled_blocks::reference_of;
@@ -50,10 +50,7 @@ fn push_repeated(block: &mut Block, value: u32, count: usize)
 
 /// The block of samples that follow `previous` or begin an interval, before it is filled up.
 fn mapped_block(alloc: Global, params: &Params, previous: Option<i64>, samples: &[i64]) -> Block
-    requires allowed { IsAllowed params.now }
-    requires previous { HoldsPrevious params.now previous }
-    requires some { 0 < length samples.now }
-    requires held { AllByRecursion (IsHeld params.now) samples.now }
+    requires block { AreBlockAfter params.now previous samples.now }
     requires few { length samples.now ≤ most_values }
     ensures reference { result.reference ≡ reference_after params.now previous samples.now }
     ensures values { result.values ≡ values_after params.now previous samples.now }
@@ -77,9 +74,7 @@ fn filler(params: &Params, last: i64) -> u32
 /// The block of samples that follow `previous` or begin an interval. It is filled up with the last
 /// of them.
 fn filled_block(alloc: Global, params: &Params, previous: Option<i64>, samples: &[i64]) -> Block
-    requires allowed { IsAllowed params.now }
-    requires some { 0 < length samples.now }
-    requires samples { AreSamplesAfter params.now previous 1 samples.now }
+    requires { AreBlockAfter params.now previous samples.now }
     ensures { IsFilledBlock params.now previous samples.now result }
 {
     let mut block = mapped_block(alloc, params, previous, samples);

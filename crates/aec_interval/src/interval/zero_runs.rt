@@ -1,20 +1,13 @@
 //! Runs of zero blocks: they are counted, and written where they end.
 
-ghost use Rattle.std.specs.Prelude.{◌≡◌, ◌+◌, ◌-◌, ◌==◌, ◌<◌, ◌++◌, ◌∷◌, List, length, OnOk, OnErr, IfOk, IfErr, if◌then◌else◌};
+ghost use Rattle.std.specs.Prelude.{◌≡◌, ◌-◌, ◌==◌, ◌<◌, if◌then◌else◌};
 ghost use Rattle.std.specs.List.{list_all};
-ghost use Rattle.aec_params.specs.declared.fault.Fault.TheVariants.{Memory};
-ghost use Rattle.aec_params.specs.Blocks.{Block as Values};
 ghost use Rattle.aec_params.specs.Runs.{segment_len};
-ghost use Rattle.aec_block.specs.BlockShape.{block_with};
-ghost use Rattle.aec_block.specs.Choices.{FitsReference};
 ghost use Rattle.aec_block.specs.Written.{Appends};
-ghost use Rattle.aec_interval.specs.Pending.{bits_of_run, longer_run, IsRun, AreNext, TakesBlock};
-ghost use Rattle.aec_params.specs.Params.{IsAllowed};
-ghost use Rattle.aec_interval.specs.Chunks.{block_after, AreSamplesAfter};
+ghost use Rattle.aec_interval.specs.Pending.{bits_of_run, longer_run, IsRun};
 
-use crate::interval::filled_blocks::map_block;
 use aec_bits::BitBuf;
-use aec_block::{write_run, write_shortest_of};
+use aec_block::write_run;
 use aec_params::{Fault, Params};
 
 /// Zero blocks that have been counted and not yet written: the reference of the first, and how many
@@ -65,37 +58,8 @@ impl Run {
 
 /// Whether all of some values are 0.
 #[inline(always)]
-fn are_zero(values: &[u32]) -> bool
+pub(crate) fn are_zero(values: &[u32]) -> bool
     ensures { result ≡ list_all (λ v. v == 0) values.now }
 {
     values.iter().all(|v| *v == 0)
-}
-
-/// Takes the samples of a whole block of a segment, after a run, by code compiled for `N` values: a
-/// zero block joins the run, any other one is written after it. The block's values are put into
-/// `values`. Returns the run that is then still to be written. Fails with `Memory` if an allocation
-/// fails.
-#[inline(always)]
-pub(crate) fn write_next<const N: usize>(
-    params: &Params,
-    previous: Option<i64>,
-    samples: &[i64],
-    values: &mut [u32],
-    run: Run,
-    out: &mut BitBuf,
-) -> Result<Run, Fault>
-    requires next { AreNext params.now previous samples.now run }
-    requires whole { length samples.now ≡ N }
-    requires len { length values.old ≡ N }
-    requires known { params.now.block_size ≡ N }
-    ensures { TakesBlock params.now (block_after params.now previous samples.now)
-        run out.old result out.new }
-{
-    let reference = map_block(params, previous, samples, values);
-    if are_zero(values) {
-        return Ok(run.longer(reference));
-    }
-    run.write(params, false, out)?;
-    write_shortest_of::<N>(params, reference, values, out)?;
-    Ok(NO_RUN)
 }

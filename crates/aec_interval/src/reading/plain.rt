@@ -1,7 +1,6 @@
 //! Reads plain blocks without a reference sample, one after the other, where none needs a test of
-//! its place: `read_most_plain` sets how many blocks, `push_plain_blocks` makes their places and
-//! keeps the filled, `fill_plain_blocks` reads while the next is plain, `fill_plain_block` reads
-//! one.
+//! its place: `read_plain_blocks` sets how many blocks, makes their places and keeps the filled,
+//! `fill_plain_blocks` reads while the next is plain.
 
 ghost use Rattle.std.specs.Prelude.{◌≡◌, ◌≤◌, ◌<◌, ◌+◌, ◌-◌, ◌*◌, ◌%◌, ◌^◌, true, false, max, length, take, vec_len, vec_capacity, IfSome};
 ghost use Rattle.std.specs.List.{AllByRecursion};
@@ -9,7 +8,7 @@ ghost use Rattle.aec_params.specs.Params.{IsAllowed, IsHeld};
 ghost use Rattle.aec_block.specs.BlockShape.{most_values};
 ghost use Rattle.aec_interval.specs.Reached.{IsReached};
 ghost use Rattle.aec_interval.specs.Steps.{IsUntestedEnd};
-ghost use Rattle.aec_interval.specs.PlainBlocks.{ReadsPlain, most_at_once};
+ghost use Rattle.aec_interval.specs.PlainBlocks.{FillsBlocks};
 
 use crate::block_sizes::{IN_LONG_INTERVALS, by_block_size};
 use crate::reading::Wanted;
@@ -47,37 +46,6 @@ fn untested_end(params: &Params, wanted: Wanted, end: u64) -> u64
     unpadded.min(samples / size)
 }
 
-/// Reads the block that comes next into `values`, if it is a plain one, and puts its samples after
-/// the first `at`. Else false, and the reader is where it was.
-#[inline(always)]
-fn fill_plain_block<const N: usize, const COPY: usize>(
-    params: &Params,
-    reader: &mut BitReader,
-    values: &mut [u32],
-    samples: &mut [i64],
-    at: usize,
-) -> bool
-    requires held { AllByRecursion (IsHeld params.now) (take at samples.old) }
-    requires count { length values.old ≡ params.now.block_size }
-    requires room { at + params.now.block_size ≤ length samples.old }
-    ensures ok { result ≡ true → ReadsPlain params.now 1 reader.old (take at samples.old)
-        reader.new (take (at + params.now.block_size) samples.new) }
-    ensures stays { result ≡ false → reader.new ≡ reader.old }
-    ensures same { result ≡ false → samples.new ≡ samples.old }
-    ensures count { length values.new ≡ length values.old }
-    ensures len { length samples.new ≡ length samples.old }
-{
-    // For its clause `allowed`.
-    let _len = params.interval_len();
-    if !read_plain::<N, COPY>(params, reader, values) {
-        return false;
-    }
-    let previous = previous_of(&samples[..at]);
-    let end = at + values.len();
-    unmap_into(params, previous, values, &mut samples[at..end]);
-    true
-}
-
 /// Reads the blocks that come next, `most` of them, as long as they are plain ones, each into
 /// `values`, and puts their samples after the first `from`. How many blocks were read. Each `COPY`
 /// has one caller for each `N`.
@@ -93,20 +61,23 @@ pub(crate) fn fill_plain_blocks<const N: usize, const COPY: usize>(
     requires held { AllByRecursion (IsHeld params.now) (take from samples.old) }
     requires count { length values.old ≡ params.now.block_size }
     requires room { from + most * params.now.block_size ≤ length samples.old }
-    ensures reads { ReadsPlain params.now result reader.old (take from samples.old) reader.new
-        (take (from + result * params.now.block_size) samples.new) }
-    ensures within { result ≤ most }
+    ensures fills { FillsBlocks params.now most from reader.old samples.old result reader.new
+        samples.new }
     ensures count { length values.new ≡ length values.old }
-    ensures len { length samples.new ≡ length samples.old }
 {
+    // For its clause `allowed`.
+    let _len = params.interval_len();
     let mut count = 0;
     let mut at = from;
     while count < most {
-        if !fill_plain_block::<N, COPY>(params, reader, values, samples, at) {
+        if !read_plain::<N, COPY>(params, reader, values) {
             return count;
         }
+        let previous = previous_of(&samples[..at]);
+        let end = at + values.len();
+        unmap_into(params, previous, values, &mut samples[at..end]);
         count += 1;
-        at += values.len();
+        at = end;
     }
     count
 }
@@ -124,10 +95,8 @@ fn fill_known_blocks<const N: usize>(
     requires size { N ≡ params.now.block_size }
     requires small { N ≤ most_values }
     requires room { from + most * params.now.block_size ≤ length samples.old }
-    ensures reads { ReadsPlain params.now result reader.old (take from samples.old) reader.new
-        (take (from + result * params.now.block_size) samples.new) }
-    ensures within { result ≤ most }
-    ensures len { length samples.new ≡ length samples.old }
+    ensures { FillsBlocks params.now most from reader.old samples.old result reader.new
+        samples.new }
 {
     // A copy that no other call can see stays in registers.
     let own = *params;
@@ -146,10 +115,8 @@ fn fill_any_blocks(
 ) -> usize
     requires held { AllByRecursion (IsHeld params.now) (take from samples.old) }
     requires room { from + most * params.now.block_size ≤ length samples.old }
-    ensures reads { ReadsPlain params.now result reader.old (take from samples.old) reader.new
-        (take (from + result * params.now.block_size) samples.new) }
-    ensures within { result ≤ most }
-    ensures len { length samples.new ≡ length samples.old }
+    ensures { FillsBlocks params.now most from reader.old samples.old result reader.new
+        samples.new }
 {
     let own = *params;
     let mut scratch = [0u32; MOST_VALUES];
@@ -167,10 +134,8 @@ fn fill_usual_blocks(
 ) -> usize
     requires held { AllByRecursion (IsHeld params.now) (take from samples.old) }
     requires room { from + most * params.now.block_size ≤ length samples.old }
-    ensures reads { ReadsPlain params.now result reader.old (take from samples.old) reader.new
-        (take (from + result * params.now.block_size) samples.new) }
-    ensures within { result ≤ most }
-    ensures len { length samples.new ≡ length samples.old }
+    ensures { FillsBlocks params.now most from reader.old samples.old result reader.new
+        samples.new }
 {
     by_block_size!(
         params.block_size(),
@@ -180,75 +145,10 @@ fn fill_usual_blocks(
     )
 }
 
-/// Reads the blocks that come next, `most` of them, as long as they are plain ones, and appends
-/// their samples. How many blocks were read: none where memory is refused.
-#[tactic(auto, using(crate::proofs::PlainLemmas::none_read))]
-fn push_plain_blocks(
-    params: &Params,
-    reader: &mut BitReader,
-    most: usize,
-    samples: &mut Vec<i64>,
-) -> usize
-    requires held { AllByRecursion (IsHeld params.now) samples.old.items }
-    requires few { most ≤ most_at_once params.now }
-    ensures reads { ReadsPlain params.now result reader.old samples.old.items reader.new
-        samples.new.items }
-    ensures within { result ≤ most }
-    ensures len { vec_len samples.new
-        ≤ vec_len samples.old + result * params.now.block_size }
-    ensures capacity { vec_capacity samples.old ≤ vec_capacity samples.new }
-{
-    let size = params.block_size() as usize;
-    let from = samples.len();
-    let places = &PLACES[..most * size];
-    if samples.extend_from_slice(places).is_err() {
-        return 0;
-    }
-    let all = samples.as_mut_slice();
-    let count = fill_usual_blocks(params, reader, most, all, from);
-    samples.truncate(from + count * size);
-    count
-}
-
-/// Reads the blocks that come next, `most` of them, as long as they are plain ones and memory for
-/// their samples isn't refused, and appends these. The first seems to be plain. How many blocks
-/// were read.
-#[inline(never)]
-fn read_most_plain(
-    params: &Params,
-    reader: &mut BitReader,
-    most: usize,
-    samples: &mut Vec<i64>,
-) -> usize
-    requires { AllByRecursion (IsHeld params.now) samples.old.items }
-    ensures reads { ReadsPlain params.now result reader.old samples.old.items reader.new
-        samples.new.items }
-    ensures within { result ≤ most }
-    ensures len { vec_len samples.new
-        ≤ vec_len samples.old + result * params.now.block_size }
-    ensures capacity { vec_capacity samples.old ≤ vec_capacity samples.new }
-{
-    let mut at_once = BLOCKS_AT_FIRST;
-    let mut count = 0;
-    while count < most {
-        let asked = at_once.min(most - count);
-        let read = push_plain_blocks(params, reader, asked, samples);
-        count += read;
-        if read < asked || count == most {
-            return count;
-        }
-        if !comes_plain(params, reader) {
-            return count;
-        }
-        at_once = BLOCKS_AT_FIRST + SAMPLES_AT_ONCE / params.block_size() as usize;
-    }
-    count
-}
-
 /// Reads the plain blocks that come next, before block `end`, where the interval ends, and appends
 /// their samples. The number of the block that comes then. Where memory is refused, no further one
 /// is read.
-#[inline(always)]
+#[inline(never)]
 pub(crate) fn read_plain_blocks(
     params: &Params,
     wanted: Wanted,
@@ -274,9 +174,28 @@ pub(crate) fn read_plain_blocks(
         ≤ vec_len samples.old + (result - block) * params.now.block_size }
     ensures capacity { vec_capacity samples.old ≤ vec_capacity samples.new }
 {
-    if block >= end || !comes_plain(params, reader) {
-        return block;
+    let size = params.block_size() as usize;
+    let last = untested_end(params, wanted, end);
+    let mut at_once = BLOCKS_AT_FIRST;
+    let mut next = block;
+    while next < last {
+        if !comes_plain(params, reader) {
+            return next;
+        }
+        let asked = at_once.min((last - next) as usize);
+        let from = samples.len();
+        let places = &PLACES[..asked * size];
+        if samples.extend_from_slice(places).is_err() {
+            return next;
+        }
+        let all = samples.as_mut_slice();
+        let read = fill_usual_blocks(params, reader, asked, all, from);
+        samples.truncate(from + read * size);
+        next += read as u64;
+        if read < asked {
+            return next;
+        }
+        at_once = BLOCKS_AT_FIRST + SAMPLES_AT_ONCE / size;
     }
-    let most = untested_end(params, wanted, end).saturating_sub(block);
-    block + read_most_plain(params, reader, most as usize, samples) as u64
+    next
 }

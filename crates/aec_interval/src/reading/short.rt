@@ -20,7 +20,7 @@ use aec_block::{comes_plain, read_plain, read_plain_first, read_run, unmap_into}
 use aec_params::Params;
 
 /// At most so many samples are read at a time.
-const AT_ONCE: u64 = 2048;
+const AT_ONCE: u64 = 4096;
 
 /// Intervals of more blocks are read one at a time: what is paid for each is little then.
 const MOST_BLOCKS: u32 = 8;
@@ -207,13 +207,11 @@ fn fill_zero_interval(params: &Params, reader: &mut BitReader, samples: &mut [i6
     ensures stays { result ≡ false → reader.new ≡ reader.old }
     ensures len { length samples.new ≡ length samples.old }
 {
-    match read_whole_run(params, reader) {
-        None => false,
-        Some(sample) => {
-            samples.fill(sample);
-            true
-        }
-    }
+    let Some(sample) = read_whole_run(params, reader) else {
+        return false;
+    };
+    samples.fill(sample);
+    true
 }
 
 /// Reads the interval that comes next, if it is of this kind, and puts its samples into `samples`.
@@ -352,7 +350,7 @@ fn intervals_at_once(params: &Params, wanted: Wanted, most: u64, capacity: usize
         (wanted.first + n * params.now.interval) }
     ensures short { 0 < result → params.now.interval ≤ 8 }
     ensures most { result * interval_len params.now ≤ most }
-    ensures room { result * interval_len params.now ≤ 2048 }
+    ensures room { result * interval_len params.now ≤ 4096 }
 {
     if params.pad() || params.interval() > MOST_BLOCKS {
         return 0;
@@ -387,8 +385,10 @@ pub(crate) fn read_short(
     ensures capacity { vec_capacity samples.old ≤ vec_capacity samples.new }
 {
     let len = params.interval_len();
-    // Places are cleared before they are filled: no more than twice as many as were filled before.
-    let room = samples.capacity().min(samples.len().saturating_mul(2));
+    // Places are cleared before they are filled: at first all, later twice those that were filled.
+    let last = samples.len();
+    let filled = if last == 0 { AT_ONCE as usize } else { last };
+    let room = samples.capacity().min(filled.saturating_mul(2).max(64));
     let asked = intervals_at_once(params, wanted, most, room);
     if asked == 0 || samples.resize((asked * len) as usize, 0).is_err() {
         return wanted.first;

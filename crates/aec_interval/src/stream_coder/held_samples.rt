@@ -23,7 +23,7 @@ impl Model for HeldSamples {
 }
 
 impl HeldSamples {
-    ghost use Rattle.std.specs.Prelude.{None, Ok, ◌≡◌, ◌+◌, ◌/◌, ◌∷◌, [], ◌++◌, length, OnOk, OnErr, IfErr};
+    ghost use Rattle.std.specs.Prelude.{None, Ok, ◌≡◌, ◌+◌, ◌/◌, [], length, OnOk, OnErr, IfErr};
     ghost use Rattle.std.specs.List.{AllByRecursion};
     ghost use Rattle.std.specs.Result.{result_err};
     ghost use Rattle.aec_params.specs.declared.fault.Fault.TheVariants.{Memory};
@@ -52,6 +52,11 @@ impl HeldSamples {
         self.len
     }
 
+    /// The number of samples for which there are places.
+    pub(crate) fn places(&self) -> usize {
+        self.places.len()
+    }
+
     /// The samples.
     pub(crate) fn as_slice(&self) -> &[i64]
         ensures { result.now ≡ self.now }
@@ -64,21 +69,6 @@ impl HeldSamples {
         ensures { self.new ≡ [] }
     {
         self.len = 0;
-    }
-
-    /// Puts a sample after these. `Memory` where a growth was refused; they stay then.
-    pub(crate) fn push(&mut self, x: i64) -> Result<(), Fault>
-        ensures ok { OnOk result (self.new ≡ self.old ++ x ∷ []) }
-        ensures err { OnErr result (self.new ≡ self.old) }
-        ensures fault { IfErr result (λ e. e ≡ Memory) }
-    {
-        if self.len < self.places.len() {
-            self.places[self.len] = x;
-        } else {
-            self.places.push(x)?;
-        }
-        self.len += 1;
-        Ok(())
     }
 
     /// Puts the samples of bytes that hold no bad one, as `first_bad` tells, after these. `Memory`

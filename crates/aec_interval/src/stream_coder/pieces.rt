@@ -1,26 +1,26 @@
-//! Joins stored samples to those of an incomplete interval, and codes it once it is complete.
+//! Takes the samples of a piece, and codes intervals as soon as they are complete.
 
-ghost use Rattle.std.specs.Prelude.{◌≡◌, ◌+◌, ◌-◌, ◌*◌, ◌<◌, ◌≤◌, ◌%◌, ◌/◌, [], ◌∷◌, ◌++◌, true, false, None, length, take, OnOk, OnErr, IfOk, IfErr};
-ghost use Rattle.std.specs.List.{AllByRecursion};
+ghost use Rattle.std.specs.Prelude.{◌≡◌, ◌+◌, ◌/◌, ◌<◌, ◌≤◌, Bool, List, [], true, false, length, take, unwrap_or, IfOk, IfErr, MatchResult};
 ghost use Rattle.std.specs.Result.{result_err};
-ghost use Rattle.aec_params.specs.Params.{IsAllowed, IsHeld, interval_len, storage_len};
-ghost use Rattle.aec_params.specs.Stored.{samples_of_bytes};
-ghost use Rattle.aec_interval.specs.Taking.{judged_sample};
+ghost use Rattle.aec_params.specs.Params.{IsAllowed, interval_len, storage_len};
+ghost use Rattle.aec_params.specs.Stored.{byte_groups, samples_of_bytes};
+ghost use Rattle.aec_interval.specs.Taking.{taken_groups};
 ghost use Rattle.aec_interval.specs.Feeding.{StopsFeeding};
-ghost use Rattle.aec_interval.specs.Progress.{IsProgress, AreHeldFew, ArePart, AnswersPiece, Joins, CompletesRest, IsFewOrWhole, CodesWhole, coder_at};
+ghost use Rattle.aec_interval.specs.Progress.{IsProgress, IsBegun, IsPart, AnswersPiece, Takes, FeedsFront, IsFewOrWhole, refusal_at, coder_at};
 
 use crate::interval::append_intervals;
 use crate::stream_coder::held_samples::HeldSamples;
 use crate::stream_coder::rest::Rest;
 use aec_bits::BitBuf;
-use aec_params::{Fault, Params, first_bad, sample_of};
+use aec_params::{Fault, Params, first_bad};
+use std::mem;
 
-/// The bounds of how many samples are joined at once, where an interval has no more.
+/// The bounds of how many samples are taken at once, where an interval has no more.
 const FEWEST_AT_ONCE: usize = 256;
 
 const MOST_AT_ONCE: usize = 4096;
 
-/// What samples are joined under: how they are coded, and how many of them there may be.
+/// What samples are taken under: how they are coded, and how many of them there may be.
 #[derive(Debug, Drop)]
 pub(crate) struct Terms {
     pub(crate) params: Params,
@@ -43,144 +43,81 @@ fn are_complete(terms: &Terms, held: &HeldSamples) -> bool
     held.len() as u64 >= terms.params.interval_len()
 }
 
-/// Appends the code of the samples that are held once they are those of whole intervals, and then
-/// none are held. `Memory` where a growth was refused; nothing is appended then.
-fn code_whole_intervals(
+/// Takes the bytes of some samples, and codes those that are held if they are whole intervals then.
+/// Fails with `Memory` if an allocation fails; nothing is appended then.
+fn take_part(
     terms: &Terms,
-    held: &mut HeldSamples,
+    progress: &mut Progress,
+    part: &[u8],
     out: &mut BitBuf,
 ) -> Result<(), Fault>
-    requires samples { AllByRecursion (IsHeld terms.now.params) held.old }
-    requires whole { IsFewOrWhole (interval_len terms.now.params) (length held.old) }
-    ensures { CodesWhole terms.now.params held.old
-        out.old.list result held.new out.new.list }
+    requires progress { IsProgress terms.now progress.old }
+    requires part { IsPart terms.now progress.old part.now }
+    ensures { Takes terms.now progress.old part.now out.old.list result progress.new out.new.list }
 {
-    if are_complete(terms, held) {
+    progress.held.push_stored(&terms.params, part)?;
+    progress.count += (part.len() / terms.params.storage()) as u64;
+    if are_complete(terms, &progress.held) {
+        let held = &progress.held;
         let coded = append_intervals(held.alloc(), &terms.params, held.as_slice(), out);
-        held.clear();
+        progress.held.clear();
         return coded;
     }
     Ok(())
 }
 
-/// Holds a sample more. With the last sample of an interval its code is appended, and none are
-/// held. `Memory` where a growth was refused; nothing is appended then.
-fn push_sample(terms: &Terms, held: &mut HeldSamples, x: i64, out: &mut BitBuf) -> Result<(), Fault>
-    requires few { AreHeldFew terms.now.params held.old }
-    requires sample { IsHeld terms.now.params x }
-    ensures { CodesWhole terms.now.params (held.old ++ x ∷ [])
-        out.old.list result held.new out.new.list }
+/// Returns how many samples in some bytes come before the first bad one, or how many there are if
+/// none is bad.
+fn good_samples(params: &Params, bytes: &[u8]) -> u64
+    ensures { result ≡ unwrap_or (result_err (samples_of_bytes params.now bytes.now))
+        (length bytes.now / storage_len params.now) }
 {
-    held.push(x)?;
-    code_whole_intervals(terms, held, out)
+    let samples = (bytes.len() / params.storage()) as u64;
+    first_bad(params, bytes).unwrap_or(samples)
 }
 
-/// The sample of the bytes of one, after `count` others. `TooManySamples` where the limit is
-/// reached, then `SampleRange`.
-fn judge(terms: &Terms, count: u64, group: &[u8]) -> Result<i64, Fault>
-    requires { length group.now ≡ storage_len terms.now.params }
-    ensures value { result ≡ judged_sample terms.now.params terms.now.limit count group.now }
-    ensures held { IfOk result (λ x. IsHeld terms.now.params x) }
-    ensures within { OnOk result (count < terms.now.limit) }
+/// Returns how many of the samples in some bytes are taken before one is refused, if `count`
+/// samples came before these bytes.
+fn taken_samples(terms: &Terms, count: u64, bytes: &[u8]) -> usize
+    requires { count ≤ terms.now.limit }
+    ensures value { result ≡ length
+        (taken_groups terms.now.params terms.now.limit count
+        (byte_groups terms.now.params bytes.now)).samples }
+    ensures within { count + result ≤ terms.now.limit }
 {
-    if count >= terms.limit {
-        return Err(Fault::TooManySamples { limit: terms.limit });
-    }
-    sample_of(&terms.params, group).ok_or(Fault::SampleRange { index: count })
+    good_samples(&terms.params, bytes).min(terms.limit - count) as usize
 }
 
-/// Takes the bytes of one sample. The refusals of `judge`, then `Memory`.
-fn join(terms: &Terms, progress: &mut Progress, group: &[u8], out: &mut BitBuf) -> Result<(), Fault>
-    requires progress { IsProgress terms.now progress.old }
-    requires whole { length group.now ≡ storage_len terms.now.params }
-    ensures joins { Joins terms.now progress.old group.now out.old.list result
-        progress.new out.new.list }
-    ensures progress { IsProgress terms.now progress.new }
+/// Returns why the sample with index `count + taken` is refused: `TooManySamples` at the limit,
+/// else `SampleRange`.
+fn refusal(terms: &Terms, count: u64, taken: usize) -> Fault
+    requires { count + taken ≤ terms.now.limit }
+    ensures { result ≡ refusal_at terms.now.limit (count + taken) }
 {
-    let x = judge(terms, progress.count, group)?;
-    push_sample(terms, &mut progress.held, x, out)?;
-    progress.count += 1;
-    Ok(())
-}
-
-/// Takes the bytes of whole samples one by one, up to the first that is refused.
-fn join_each(
-    terms: &Terms,
-    progress: &mut Progress,
-    bytes: &[u8],
-    out: &mut BitBuf,
-) -> Result<(), Fault>
-    requires progress { IsProgress terms.now progress.old }
-    requires whole { length bytes.now % storage_len terms.now.params ≡ 0 }
-    ensures joins { Joins terms.now progress.old bytes.now out.old.list result
-        progress.new out.new.list }
-    ensures progress { IsProgress terms.now progress.new }
-{
-    for group in bytes.chunks_exact(terms.params.storage()) {
-        join(terms, progress, group, out)?;
-    }
-    Ok(())
-}
-
-/// Takes the bytes of some samples, of which none is refused. With those that are held they are at
-/// most one interval, or whole intervals. `Memory` where a growth was refused.
-fn join_judged(
-    terms: &Terms,
-    progress: &mut Progress,
-    part: &[u8],
-    out: &mut BitBuf,
-) -> Result<(), Fault>
-    requires progress { IsProgress terms.now progress.old }
-    requires samples { ArePart terms.now.params progress.old.held part.now }
-    requires good { result_err (samples_of_bytes terms.now.params part.now) ≡ None }
-    requires within { progress.old.count + length part.now / storage_len terms.now.params
-        ≤ terms.now.limit }
-    ensures joins { Joins terms.now progress.old part.now out.old.list result
-        progress.new out.new.list }
-    ensures progress { IsProgress terms.now progress.new }
-{
-    progress.held.push_stored(&terms.params, part)?;
-    code_whole_intervals(terms, &mut progress.held, out)?;
-    progress.count += (part.len() / terms.params.storage()) as u64;
-    Ok(())
-}
-
-/// Takes the bytes of some samples: at once if none is refused, else up to the first that is. With
-/// those that are held they are at most one interval, or whole intervals.
-fn join_part(
-    terms: &Terms,
-    progress: &mut Progress,
-    part: &[u8],
-    out: &mut BitBuf,
-) -> Result<(), Fault>
-    requires progress { IsProgress terms.now progress.old }
-    requires samples { ArePart terms.now.params progress.old.held part.now }
-    ensures joins { Joins terms.now progress.old part.now out.old.list result
-        progress.new out.new.list }
-    ensures progress { IsProgress terms.now progress.new }
-{
-    let count = (part.len() / terms.params.storage()) as u64;
-    if count <= terms.limit - progress.count && first_bad(&terms.params, part).is_none() {
-        join_judged(terms, progress, part, out)
+    let limit = terms.limit;
+    let index = count + taken as u64;
+    if index < limit {
+        Fault::SampleRange { index }
     } else {
-        join_each(terms, progress, part, out)
+        Fault::TooManySamples { limit }
     }
 }
 
-/// How many of so many samples are joined at once, where an interval has no more: a sixteenth of
-/// them, since their places are cleared before they are first filled.
-fn most_at_once(samples: usize) -> usize {
-    (samples / 16).clamp(FEWEST_AT_ONCE, MOST_AT_ONCE)
+/// Returns how many samples are taken at once, if an interval has no more: twice as many as there
+/// are places for, since new places are cleared before they are first filled.
+fn most_at_once(places: usize) -> usize {
+    places.saturating_mul(2).clamp(FEWEST_AT_ONCE, MOST_AT_ONCE)
 }
 
-/// How many samples are joined at once to those that are held: as many as the interval has places
-/// for; where none are held, those of whole intervals: at least one interval, and no more than are
-/// there.
-fn part_samples(interval: usize, held: usize, samples: usize) -> usize
+/// Returns how many of `samples` samples are taken next: at most those up to the end of an interval
+/// that is begun; else those of whole intervals, about `at_once` of them, but at least one
+/// interval; all if they are fewer.
+fn part_samples(interval: usize, held: usize, samples: usize, at_once: usize) -> usize
     requires few { held < interval }
     requires some { 0 < samples }
     ensures some { 0 < result }
     ensures there { result ≤ samples }
+    ensures begun { 0 < held → held + result ≤ interval }
     ensures whole { IsFewOrWhole interval (held + result) }
 {
     if samples <= interval - held {
@@ -189,43 +126,33 @@ fn part_samples(interval: usize, held: usize, samples: usize) -> usize
     if held > 0 {
         return interval - held;
     }
-    let most = samples.min(most_at_once(samples).max(interval));
+    let most = samples.min(at_once.max(interval));
     most - most % interval
 }
 
-/// How many of the bytes of whole samples, at least one, are joined at once.
-fn part_len(terms: &Terms, progress: &Progress, bytes: &[u8]) -> usize
-    requires few { length progress.now.held < interval_len terms.now.params }
-    requires whole { length bytes.now % storage_len terms.now.params ≡ 0 }
-    requires some { 0 < length bytes.now }
-    ensures within { result ≤ length bytes.now }
-    ensures part { ArePart terms.now.params progress.now.held (take result bytes.now) }
+/// Returns how many of the given bytes, at least one sample, are taken at once. Fails with the
+/// refusal of a sample if the interval that it belongs to is the next one to be coded.
+fn part_len(terms: &Terms, progress: &Progress, bytes: &[u8]) -> Result<usize, Fault>
+    requires progress { IsProgress terms.now progress.now }
+    requires some { storage_len terms.now.params ≤ length bytes.now }
+    ensures within { IfOk result (λ len. len ≤ length bytes.now) }
+    ensures part { IfOk result (λ len. IsPart terms.now progress.now (take len bytes.now)) }
+    ensures stops { IfErr result (λ fault. (before : List Bool)
+        → StopsFeeding (coder_at terms.now progress.now []) bytes.now before before fault) }
 {
     let width = terms.params.storage();
     let interval = terms.params.interval_len() as usize;
-    part_samples(interval, progress.held.len(), bytes.len() / width) * width
-}
-
-/// Takes the bytes of whole samples, up to the first that is refused.
-fn join_all(
-    terms: &Terms,
-    progress: &mut Progress,
-    bytes: &[u8],
-    out: &mut BitBuf,
-) -> Result<(), Fault>
-    requires progress { IsProgress terms.now progress.old }
-    requires whole { length bytes.now % storage_len terms.now.params ≡ 0 }
-    ensures joins { Joins terms.now progress.old bytes.now out.old.list result
-        progress.new out.new.list }
-    ensures progress { IsProgress terms.now progress.new }
-{
-    let mut left = bytes;
-    while !left.is_empty() {
-        let (part, behind) = left.split_at(part_len(terms, progress, left));
-        join_part(terms, progress, part, out)?;
-        left = behind;
+    let held = &progress.held;
+    let at_once = most_at_once(held.places());
+    let samples = part_samples(interval, held.len(), bytes.len() / width, at_once);
+    let taken = taken_samples(terms, progress.count, &bytes[..samples * width]);
+    if taken == samples {
+        return Ok(samples * width);
     }
-    Ok(())
+    if taken < interval {
+        return Err(refusal(terms, progress.count, taken));
+    }
+    Ok((taken - taken % interval) * width)
 }
 
 /// Completes the sample of which bytes are there, with the front of a piece that is long enough.
@@ -237,14 +164,12 @@ fn complete_rest<'a>(
     piece: &'a [u8],
     out: &mut BitBuf,
 ) -> Result<&'a [u8], Fault>
-    requires progress { IsProgress terms.now progress.old }
-    requires short { length rest.old < storage_len terms.now.params }
+    requires begun { IsBegun terms.now progress.old rest.old }
     requires enough { storage_len terms.now.params ≤ length rest.old + length piece.now }
-    ensures ok { IfOk result (λ behind.
-        CompletesRest (coder_at terms.now progress.old rest.old) piece.now behind.now
-        out.old.list out.new.list (coder_at terms.now progress.new [])) }
-    ensures stops { IfErr result (λ fault.
-        StopsFeeding (coder_at terms.now progress.old rest.old) piece.now
+    ensures completes { MatchResult result
+        (λ left. FeedsFront (coder_at terms.now progress.old rest.old) piece.now left.now
+        out.old.list out.new.list (coder_at terms.now progress.new []))
+        (λ fault. StopsFeeding (coder_at terms.now progress.old rest.old) piece.now
         out.old.list out.new.list fault) }
     ensures progress { IsProgress terms.now progress.new }
     ensures empty { rest.new ≡ [] }
@@ -252,12 +177,13 @@ fn complete_rest<'a>(
     if rest.len() == 0 {
         return Ok(piece);
     }
-    let (front, behind) = piece.split_at(terms.params.storage() - rest.len());
-    rest.extend(front);
-    let joined = join(terms, progress, rest.as_slice(), out);
-    rest.clear();
-    joined?;
-    Ok(behind)
+    let (front, left) = piece.split_at(terms.params.storage() - rest.len());
+    let mut sample = mem::replace(rest, Rest::new());
+    sample.extend(front);
+    let bytes = sample.as_slice();
+    let len = part_len(terms, progress, bytes)?;
+    take_part(terms, progress, &bytes[..len], out)?;
+    Ok(left)
 }
 
 /// Takes a piece: completes the sample that was begun, takes all whole samples, and keeps the bytes
@@ -269,21 +195,23 @@ pub(crate) fn take_piece(
     piece: &[u8],
     out: &mut BitBuf,
 ) -> Result<(), Fault>
-    requires progress { IsProgress terms.now progress.old }
-    requires short { length rest.old < storage_len terms.now.params }
+    requires begun { IsBegun terms.now progress.old rest.old }
     ensures takes { AnswersPiece (coder_at terms.now progress.old rest.old) piece.now
         out.old.list result (coder_at terms.now progress.new rest.new) out.new.list }
-    ensures progress { IsProgress terms.now progress.new }
-    ensures short { length rest.new < storage_len terms.now.params }
+    ensures begun { IsBegun terms.now progress.new rest.new }
 {
     let width = terms.params.storage();
     if piece.len() < width - rest.len() {
         rest.extend(piece);
         return Ok(());
     }
-    let bytes = complete_rest(terms, progress, rest, piece, out)?;
-    let (whole, left) = bytes.split_at(bytes.len() - bytes.len() % width);
-    join_all(terms, progress, whole, out)?;
+    let mut left = complete_rest(terms, progress, rest, piece, out)?;
+    while left.len() >= width {
+        let len = part_len(terms, progress, left)?;
+        let (part, behind) = left.split_at(len);
+        take_part(terms, progress, part, out)?;
+        left = behind;
+    }
     rest.extend(left);
     Ok(())
 }

@@ -55,11 +55,4 @@ impl Rest {
         self.bytes[self.len..end].copy_from_slice(more);
         self.len = end;
     }
-
-    /// Drops the bytes.
-    pub(crate) fn clear(&mut self)
-        ensures { self.new ≡ [] }
-    {
-        self.len = 0;
-    }
 }

@@ -3,4 +3,4 @@ use Rattle.aec_bits.proofs.WordLemmas.{joined_bits}
 use Rattle.aec_bits.proofs.words.joined.Goals as goal
 
 pub returns : goal.returns
-returns c = record { bits = joined_bits c.args.first c.args.second c.args.at (omega arith) c.ranges.second.fits }
+returns c = joined_bits c.args.first c.args.second c.args.at (omega arith) c.ranges.second.fits

@@ -9,4 +9,4 @@ returns-then-at-eq0 c = word_there c.args.words.now c.args.start (c.args.start /
 pub returns : goal.returns
 returns c =
     word_across c.args.words.now c.args.start (c.args.start / 64) (c.args.start % 64) 0 c.joined.result
-    (omega arith) (omega arith) (omega arith) c.joined.ensures.bits
+    (omega arith) (omega arith) (omega arith) c.joined.ensures

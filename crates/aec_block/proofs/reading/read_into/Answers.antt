@@ -11,7 +11,7 @@ returns-in-Ok-Some-clause-ok c =
     let answered = ap (λ found. taken (as_read found c.read_set.new.block) (bits_at c.read_set.new.reader)) c.in-Ok-Some.field-0-is in
     read_as c.args.params.now c.args.is_ref c.args.reader.now c.read_set.new.reader
     (as_cds c.in-Ok-Some.found c.read_set.new.block) c.in-Ok-Some.ensures.allowed
-    c.pos-start.ensures.within c.in-Ok-Some.ensures.within c.in-Ok-Some.ensures.list (c.in-Ok-Some.ensures.taken ∙ answered)
+    c.pos-start.ensures.within c.in-Ok-Some.ensures.taken.within c.in-Ok-Some.ensures.taken.list (c.in-Ok-Some.ensures.taken.taken ∙ answered)
 
 pub returns-clause-refuses : goal.returns-clause-refuses
 returns-clause-refuses c =
@@ -19,7 +19,7 @@ returns-clause-refuses c =
       | in-Ok-None w ↦ refused_large cds_of c.args.params.now c.args.is_ref c.args.reader.now c.read_set.new.reader
           (as_read w.in-Ok-None.field-0 c.read_set.new.block) c.pos-start.result
           c.match-read_set.fault w.in-Ok-None.ensures.allowed w.fault-is c.pos-start.ensures.value
-          (ap (λ found. as_read found c.read_set.new.block) w.in-Ok-None.field-0-is) w.in-Ok-None.ensures.taken
+          (ap (λ found. as_read found c.read_set.new.block) w.in-Ok-None.field-0-is) w.in-Ok-None.ensures.taken.taken
       | in-Err w ↦ refused_cut cds_of c.args.params.now c.args.is_ref c.args.reader.now c.pos-start.result
-          c.match-read_set.fault w.in-Err.ensures.allowed w.fault-is c.pos-start.ensures.value w.in-Err.ensures.taken
+          c.match-read_set.fault w.in-Err.ensures.allowed w.fault-is c.pos-start.ensures.value w.in-Err.ensures.taken.taken
     ]

@@ -1,9 +1,7 @@
-use Rattle.std.proofs.Common.{rules}
-use Rattle.aec_block.proofs.WritingLemmas.{gathered-part, parts}
+use Rattle.aec_block.proofs.WritingLemmas.{gathers-then, gathers-added, paired-parts}
 use Rattle.aec_block.proofs.writing.put_paired.Goals as goal
 
-pub returns-clause-list : goal.returns-clause-list
-returns-clause-list c =
-    let all = gathered-part c.args.out.now.list c.put_head-head.new.out.list c.put_pairs.new.out.list c.append_to.new.out.list c.put_head-head.result
-    c.put_pairs.result _ _ c.put_head-head.ensures.list c.put_pairs.ensures.list c.append_to.ensures.list in
-    search (rules, parts)
+pub returns : goal.returns
+returns c =
+    gathers-added _ _ _ _ _ _ (gathers-then _ _ _ _ _ _ _ c.put_head-head.ensures c.put_pairs.ensures) c.append_to.ensures
+    (paired-parts c.args.params.now c.args.block.now c.args.id_len _ _ c.requires.prepared.id_len_is c.reference.ensures.value c.values.ensures.value)

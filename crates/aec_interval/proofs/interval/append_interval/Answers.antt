@@ -4,9 +4,13 @@ use Rattle.aec_bits.proofs.CodeLaws.{code_of_interval}
 use Rattle.aec_interval.specs.IntervalFormat.{interval_format}
 use Rattle.aec_interval.proofs.interval.append_interval.Goals as goal
 
-pub returns-clause-ok : goal.returns-clause-ok
-returns-clause-ok c =
-    on_ok_weaker c.append_intervals.result
-    (λ e. e ∙ ap (λ l. c.args.out.now.list ++ l)
-    (code_of_interval (interval_format c.args.params.now) c.args.samples.now (omega (arith, c.requires.some)) (omega (arith, c.requires.fits))))
-    c.append_intervals.ensures.ok
+pub returns : goal.returns
+returns c =
+    record {
+      ok = on_ok_weaker c.append_intervals.result
+          (λ e. e ∙ ap (λ l. c.args.out.now.list ++ l)
+          (code_of_interval (interval_format c.args.params.now) c.args.samples.now (omega (arith, c.requires.some)) (omega (arith, c.requires.fits))))
+          c.append_intervals.ensures.ok;
+      err = c.append_intervals.ensures.err;
+      fault = c.append_intervals.ensures.fault;
+    }

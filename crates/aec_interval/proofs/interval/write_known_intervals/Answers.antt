@@ -23,7 +23,7 @@ loop-chunk-init g c =
       is_run = record { few = omega arith; reference = tt };
       so_far = subst (StreamAt s 64 (s.block_size * (s.interval - 0)) None (record { reference = None; blocks = 0 }) c.len-start.result old old
           (old ++ stream_of s c.args.samples.now)) (sym all)
-          (at-first s allowed c.len-start.result old old _ c.args.samples.now c.len-start.ensures.value (take_all _ _ (omega arith)) c.requires refl);
+          (at-first s allowed c.len-start.result old old _ c.args.samples.now c.len-start.ensures.value (take_all _ _ (omega arith)) c.requires.held refl);
     }
 
 pub loop-chunk-preserved-then-segment_goes_on : goal.loop-chunk-preserved-then-segment_goes_on
@@ -68,10 +68,14 @@ loop-chunk-preserved-then-place-interval g c =
           (at-segment_end s _ _ _ _ _ _ _ _ _ _ next (none_of_segment s _ _ _ whole) c.in_ok-write.ensures.ok);
     }
 
-pub returns-in_err-end_interval-clause-kept : goal.returns-in_err-end_interval-clause-kept
-returns-in_err-end_interval-clause-kept g c =
-    kept-trans _ _ _ (kept-trans _ _ _ c.loop-chunk.invariant.so_far.kept c.in_ok-run.ensures.kept)
-    (kept-trans _ _ _ (kept-append _ _ _ c.in_ok-write.ensures.ok) c.end_interval.ensures.kept)
+pub returns-in_err-end_interval : goal.returns-in_err-end_interval
+returns-in_err-end_interval g c =
+    record {
+      ok = search rules;
+      kept = kept-trans _ _ _ (kept-trans _ _ _ c.loop-chunk.invariant.so_far.kept c.in_ok-run.ensures.kept)
+          (kept-trans _ _ _ (kept-append _ _ _ c.in_ok-write.ensures.ok) c.end_interval.ensures.kept);
+      fault = search rules;
+    }
 
 pub loop-chunk-preserved : goal.loop-chunk-preserved
 loop-chunk-preserved g c =
@@ -95,16 +99,16 @@ loop-chunk-preserved g c =
       so_far = at-first s c.interval-interval.ensures.allowed _ _ _ _ _ c.len-start-in-loop-chunk.ensures.value kept next.held left;
     }
 
-pub returns-clause-ok : goal.returns-clause-ok
-returns-clause-ok g c =
+pub returns : goal.returns
+returns g c =
     let s = c.args.params.now in let at = c.loop-chunk.invariant in
     let positive = block_size-positive s c.interval-interval.ensures.allowed in
-    on_ok_weaker c.end_interval-2.result
-    (λ padded. at-last s _ _ _ _ _ _ _ _ _ _ _ positive (interval-positive s c.interval-interval.ensures.allowed) at.so_far
-    (nothing_left _ c.in-None.ensures.steps.1.0) c.in_ok-write-2.ensures.ok padded)
-    c.end_interval-2.ensures.ok
-
-pub returns-clause-kept : goal.returns-clause-kept
-returns-clause-kept g c =
-    kept-trans _ _ _ c.loop-chunk.invariant.so_far.kept
-    (kept-trans _ _ _ (kept-append _ _ _ c.in_ok-write-2.ensures.ok) c.end_interval-2.ensures.kept)
+    record {
+      ok = on_ok_weaker c.end_interval-2.result
+          (λ padded. at-last s _ _ _ _ _ _ _ _ _ _ _ positive (interval-positive s c.interval-interval.ensures.allowed) at.so_far
+          (nothing_left _ c.in-None.ensures.steps.1.0) c.in_ok-write-2.ensures.ok padded)
+          c.end_interval-2.ensures.ok;
+      kept = kept-trans _ _ _ c.loop-chunk.invariant.so_far.kept
+          (kept-trans _ _ _ (kept-append _ _ _ c.in_ok-write-2.ensures.ok) c.end_interval-2.ensures.kept);
+      fault = c.end_interval-2.ensures.fault;
+    }

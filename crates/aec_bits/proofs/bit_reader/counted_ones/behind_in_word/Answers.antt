@@ -7,4 +7,4 @@ returns-clause-place c =
     let last = c.half_with_one in
     found_in_word c.args.word c.args.nth last.result.bits last.result.nth last.result.before
     (c.half_with_one-of_32.ensures.same ∙ c.half_with_one-of_16.ensures.same ∙ c.half_with_one-of_8.ensures.same ∙ c.half_with_one-of_4.ensures.same
-    ∙ c.half_with_one-of_2.ensures.same ∙ last.ensures.same) last.ensures.some last.ensures.there last.ensures.fits
+    ∙ c.half_with_one-of_2.ensures.same ∙ last.ensures.same) last.ensures.one.some last.ensures.one.there last.ensures.one.fits

@@ -1,4 +1,4 @@
-use Rattle.std.proofs.Common.{◌-◌, arith}
+use Rattle.std.proofs.Common.{◌-◌, refl, arith}
 use Rattle.aec_bits.proofs.GroupLemmas.{sequence_ones}
 use Rattle.aec_bits.proofs.WindowLemmas.{top_below, without_top-lt, sequence_first}
 use Rattle.aec_bits.proofs.bit_reader.windows.next_sequence.Goals as goal
@@ -11,14 +11,13 @@ pub overflow_sub-result-2 : goal.overflow_sub-result-2
 overflow_sub-result-2 c =
     omega (arith, top_below c.args.window.word c.args.window.left c.top_one-top.result c.requires.fits c.top_one-top.ensures.least)
 
-pub returns-clause-stands : goal.returns-clause-stands
-returns-clause-stands c =
-    sequence_first c.args.window.word c.args.window.left c.top_one-top.result c.top_one-top.ensures.small c.requires.fits
-    c.top_one-top.ensures.least c.top_one-top.ensures.most
-
-pub returns-clause-left : goal.returns-clause-left
-returns-clause-left c =
-    omega (arith, top_below c.args.window.word c.args.window.left c.top_one-top.result c.requires.fits c.top_one-top.ensures.least)
+pub returns-clause-first : goal.returns-clause-first
+returns-clause-first c = record {
+  stands = sequence_first c.args.window.word c.args.window.left c.top_one-top.result c.top_one-top.ensures.small c.requires.fits
+      c.top_one-top.ensures.least c.top_one-top.ensures.most;
+  left = omega (arith, top_below c.args.window.word c.args.window.left c.top_one-top.result c.requires.fits c.top_one-top.ensures.least);
+  end = refl;
+}
 
 pub returns-clause-fits : goal.returns-clause-fits
 returns-clause-fits c =

@@ -10,5 +10,5 @@ loop-number-preserved c =
     let from = c.args.window in
     let read = sequence_read c.args.buf.now.list c.loop-number.numbers here.result.word here.result.left here.result.end rest.left rest.word rest.end
     c.loop-number.number-index c.next_sequence-zeros.result.0 (c.loop-number.rest.end - c.loop-number.rest.left) (from.end - from.left)
-    (omega arith) first.left first.end here.ensures.place here.ensures.window first.stands c.loop-number.invariant.read in
+    (omega arith) first.first.left first.first.end here.ensures.place here.ensures.window.window first.first.stands c.loop-number.invariant.read in
     record { window = read.0; fits = first.fits; read = read.1 }

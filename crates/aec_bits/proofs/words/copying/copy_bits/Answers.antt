@@ -4,8 +4,8 @@ use Rattle.aec_bits.proofs.WordLemmas.{length-bits_of_words}
 use Rattle.aec_bits.proofs.ShiftLemmas.{copied_more}
 use Rattle.aec_bits.proofs.words.copying.copy_bits.Goals as goal
 
-pub returns-clause-bits : goal.returns-clause-bits
-returns-clause-bits c =
+pub returns : goal.returns
+returns c =
     let at = c.args.at in
     let count = c.args.count in
     let head = (64 - at % 64) % 64 in
@@ -15,10 +15,11 @@ returns-clause-bits c =
     let old = bits_of_words c.args.words.now in
     let first = bits_of_words c.copy_chunk-2.new.words in
     let second = bits_of_words c.copy_words.new.words in
-    let third = bits_of_words c.copy_chunk-3.new.words in
-    copied_more source old second third 0 at (count - tail) tail (count - tail) (at + (count - tail)) count (omega arith) (omega arith) (omega arith)
-    (omega (arith, length-bits_of_words c.args.with.now)) (omega (arith, length-bits_of_words c.args.words.now))
-    (copied_more source old first second 0 at head (64 * whole) head (64 * ((at + head) / 64)) (count - tail) (omega arith) (omega arith) (omega arith)
-    (omega (arith, length-bits_of_words c.args.with.now)) (omega (arith, length-bits_of_words c.args.words.now))
-    c.copy_chunk-2.ensures.bits c.copy_words.ensures.bits)
-    c.copy_chunk-3.ensures.bits
+    record {
+      bits = copied_more source old second (bits_of_words c.copy_chunk-3.new.words) 0 at (count - tail) tail (count - tail) (at + (count - tail)) count
+          (omega arith) (omega arith) (omega arith) (omega (arith, length-bits_of_words c.args.with.now)) (omega (arith, length-bits_of_words c.args.words.now))
+          (copied_more source old first second 0 at head (64 * whole) head (64 * ((at + head) / 64)) (count - tail) (omega arith) (omega arith) (omega arith)
+          (omega (arith, length-bits_of_words c.args.with.now)) (omega (arith, length-bits_of_words c.args.words.now))
+          c.copy_chunk-2.ensures.bits c.copy_words.ensures.bits) c.copy_chunk-3.ensures.bits;
+      len = omega arith;
+    }

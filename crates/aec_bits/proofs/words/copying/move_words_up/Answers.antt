@@ -4,10 +4,13 @@ use Rattle.aec_bits.proofs.WordLemmas.{length-bits_of_words}
 use Rattle.aec_bits.proofs.ShiftLemmas.{moved_up_more}
 use Rattle.aec_bits.proofs.words.copying.move_words_up.Goals as goal
 
-pub returns-clause-bits : goal.returns-clause-bits
-returns-clause-bits c =
+pub returns : goal.returns
+returns c =
     let rest = c.args.count % 4 in
-    moved_up_more (bits_of_words c.args.words.now) (bits_of_words c.move_fours_up.new.words) (bits_of_words c.move_each_up-2.new.words)
-    c.args.from (64 * c.args.place) (64 * rest) (256 * (c.args.count / 4)) (c.args.from + 64 * rest) (64 * (c.args.place + rest)) (64 * c.args.count)
-    (omega arith) (omega arith) (omega arith) c.requires.order (omega (arith, length-bits_of_words c.args.words.now))
-    c.move_fours_up.ensures.bits c.move_each_up-2.ensures.bits
+    record {
+      bits = moved_up_more (bits_of_words c.args.words.now) (bits_of_words c.move_fours_up.new.words) (bits_of_words c.move_each_up-2.new.words)
+          c.args.from (64 * c.args.place) (64 * rest) (256 * (c.args.count / 4)) (c.args.from + 64 * rest) (64 * (c.args.place + rest)) (64 * c.args.count)
+          (omega arith) (omega arith) (omega arith) c.requires.order (omega (arith, length-bits_of_words c.args.words.now))
+          c.move_fours_up.ensures.bits c.move_each_up-2.ensures.bits;
+      len = omega arith;
+    }

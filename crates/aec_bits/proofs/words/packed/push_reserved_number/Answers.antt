@@ -5,14 +5,15 @@ use Rattle.aec_bits.proofs.words.packed.push_reserved_number.Goals as goal
 pub returns-then-used-eq0-clause-list : goal.returns-then-used-eq0-clause-list
 returns-then-used-eq0-clause-list c =
     rw c.push_reserved.ensures.items
-    (pushed_after c.args.words.now.items c.args.len c.args.width (64 - c.args.width) c.args.value c.requires.packed (omega arith) (omega arith) (omega arith))
+    (pushed_after c.args.words.now.items c.args.len c.args.width (64 - c.args.width) c.args.value c.requires.grow.packed
+    (omega arith) (omega arith) (omega arith))
 
 pub overflow_add-word : goal.overflow_add-word
 overflow_add-word c =
     let words = c.args.words.now in
     let used = c.args.len % 64 in
     let low = sum_within words.items c.args.len (vec_len words - 1) used (64 - used) c.args.width (64 - used - c.args.width) c.last_of-word.result c.args.value
-    c.requires.packed (omega (arith, words.ok.0)) (omega arith) (omega (arith, words.ok.0)) (omega arith) c.requires.fits
+    c.requires.grow.packed (omega (arith, words.ok.0)) (omega arith) (omega (arith, words.ok.0)) (omega arith) c.requires.number.fits
     c.last_of-word.ensures (omega arith) in
     omega arith
 
@@ -21,7 +22,7 @@ overflow_add-word-2 c =
     let words = c.args.words.now in
     let used = c.args.len % 64 in
     let low = sum_over words.items c.args.len (vec_len words - 1) used (64 - used) c.args.width (c.args.width - (64 - used)) c.last_of-word.result c.args.value
-    c.requires.packed (omega (arith, words.ok.0)) (omega arith) (omega (arith, words.ok.0)) (omega arith) c.requires.fits
+    c.requires.grow.packed (omega (arith, words.ok.0)) (omega arith) (omega (arith, words.ok.0)) (omega arith) c.requires.number.fits
     c.last_of-word.ensures (omega arith) in
     omega arith
 
@@ -29,13 +30,13 @@ pub returns-then-width-free-clause-list : goal.returns-then-width-free-clause-li
 returns-then-width-free-clause-list c =
     let words = c.args.words.now in
     rw c.len-last.ensures
-    (pushed_within words.items c.args.len (vec_len words - 1) (c.args.len % 64) (64 - c.args.len % 64) c.args.width _ _ c.args.value c.requires.packed
-    (omega (arith, words.ok.0)) (omega arith) (omega (arith, words.ok.0)) (omega arith) (omega arith) c.requires.fits c.last_of-word.ensures)
+    (pushed_within words.items c.args.len (vec_len words - 1) (c.args.len % 64) (64 - c.args.len % 64) c.args.width _ _ c.args.value c.requires.grow.packed
+    (omega (arith, words.ok.0)) (omega arith) (omega (arith, words.ok.0)) (omega arith) (omega arith) c.requires.number.fits c.last_of-word.ensures)
 
 pub returns-clause-list : goal.returns-clause-list
 returns-clause-list c =
     let words = c.args.words.now in
     rw (c.push_reserved-2.ensures.items, c.len-last.ensures)
-    (pushed_over words.items c.args.len (vec_len words - 1) (c.args.len % 64) (64 - c.args.len % 64) c.args.width _ _ _ c.args.value c.requires.packed
-    (omega (arith, words.ok.0)) (omega arith) (omega (arith, words.ok.0)) (omega arith) (omega arith) (omega arith) (omega arith) c.requires.fits
+    (pushed_over words.items c.args.len (vec_len words - 1) (c.args.len % 64) (64 - c.args.len % 64) c.args.width _ _ _ c.args.value c.requires.grow.packed
+    (omega (arith, words.ok.0)) (omega arith) (omega (arith, words.ok.0)) (omega arith) (omega arith) (omega arith) (omega arith) c.requires.number.fits
     c.last_of-word.ensures)

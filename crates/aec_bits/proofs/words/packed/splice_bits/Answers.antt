@@ -20,9 +20,3 @@ returns-clause-list c =
     (omega (arith, length-bits_of_words with)) (omega (arith, length-bits_of_words words.items, words.ok.0)) c.grow.ensures.bits
     (rw c.as_mut_slice.ensures.value at c.move_bits.ensures.bits) (rw first at c.copy_bits.ensures.bits) in
     (c.cut.ensures.list.0 ∙ ap (λ l. take total (bits_of_words l)) second ∙ done, c.cut.ensures.list.1)
-
-pub move_bits-requires-clause-bound : goal.move_bits-requires-clause-bound
-move_bits-requires-clause-bound c = omega (arith, c.args.words.now.ok.0, c.requires.packed.0)
-
-pub copy_bits-requires-clause-bound : goal.copy_bits-requires-clause-bound
-copy_bits-requires-clause-bound c = omega (arith, c.args.words.now.ok.0, c.requires.packed.0)

@@ -1,8 +1,6 @@
-use Rattle.std.proofs.Common.{rules, w64, FitsSigned, subst, sym, ◌≤◌, ◌∙◌}
+use Rattle.std.proofs.Common.{rules, w64, FitsSigned, ◌∙◌}
 use Rattle.std.proofs.lemmas.Int.{to_z-of_z}
-use Rattle.aec_block.specs.Offsets.{top_offset}
 use Rattle.aec_block.proofs.ListMappingLemmas.{offset-held}
-use Rattle.aec_block.proofs.MappingLemmas.{sample_offset-le}
 use Rattle.aec_block.proofs.mapping.mapped_blocks.first_prediction.Goals as goal
 
 pub offset_above-requires-clause-near : goal.offset_above-requires-clause-near

@@ -1,15 +1,17 @@
-use Rattle.std.proofs.Common.{rules, ◌≤◌, w64, ℕ, FitsSigned, ap, subst, sym, ◌∙◌}
+use Rattle.std.proofs.Common.{rules, arith, ◌≤◌, w64, ℕ, FitsSigned, ap, subst, sym, ◌∙◌}
 use Rattle.std.proofs.lemmas.Int.{to_z-of_z}
 use Rattle.std.specs.List.{AllByRecursion}
 use Rattle.aec_block.specs.Offsets.{sample_offset, top_offset, mapped_offsets}
 use Rattle.aec_block.proofs.ListMappingLemmas.{offsets-within, mapped_after-offsets}
 use Rattle.aec_block.proofs.mapping.mapped_blocks.map_predicted.Goals as goal
 
-pub map_offsets-requires-clause-offsets : goal.map_offsets-requires-clause-offsets
-map_offsets-requires-clause-offsets c =
-    subst (AllByRecursion (λ x. x ≤ c.greatest_offset-top.result)) (sym c.put_sample_offsets.ensures)
-    (offsets-within c.args.params.now c.greatest_offset-top.result c.args.samples.now c.greatest_offset-top.ensures.allowed c.greatest_offset-top.ensures.value
-    c.requires.held)
+pub map_offsets-requires : goal.map_offsets-requires
+map_offsets-requires c = (
+  omega (arith, c.greatest_offset-top.ensures.value, c.first_prediction-p.ensures.within),
+  subst (AllByRecursion (λ x. x ≤ c.greatest_offset-top.result)) (sym c.put_sample_offsets.ensures)
+      (offsets-within c.args.params.now c.greatest_offset-top.result c.args.samples.now c.greatest_offset-top.ensures.allowed
+      c.greatest_offset-top.ensures.value c.requires.samples.held),
+)
 
 pub returns : goal.returns
 returns c =
@@ -19,4 +21,5 @@ returns c =
     c.map_offsets.ensures ∙ ap (λ (top : ℕ). mapped_offsets top c.first_prediction-p.result c.put_sample_offsets.new.values) c.greatest_offset-top.ensures.value
     ∙ ap (λ (q : ℕ). mapped_offsets (top_offset s) q c.put_sample_offsets.new.values) p
     ∙ ap (mapped_offsets (top_offset s) (sample_offset s c.args.previous)) c.put_sample_offsets.ensures
-    ∙ sym (mapped_after-offsets s c.args.previous c.args.samples.now c.greatest_offset-top.ensures.allowed c.requires.on c.requires.prediction c.requires.held)
+    ∙ sym (mapped_after-offsets s c.args.previous c.args.samples.now c.greatest_offset-top.ensures.allowed c.requires.on c.requires.prediction
+    c.requires.samples.held)

@@ -11,7 +11,7 @@ loop-i-init c = record { unmaps = unmaps_to-start _ _ _; within = c.requires.wit
 
 pub loop-i-preserved : goal.loop-i-preserved
 loop-i-preserved c =
-    let room : c.loop-i.i < length c.loop-i.samples = omega (arith, c.loop-i-test.true, c.requires.len, c.loop-i.invariant.len) in
+    let room : c.loop-i.i < length c.loop-i.samples = omega (arith, c.loop-i-test.true, c.requires.fits.len, c.loop-i.invariant.len) in
     let fits : FitsSigned w64 c.x_min-least.result = search (rules, c.x_min-least.type_inv) in
     let above_fits : FitsSigned w64 c.from.result = search (rules, c.from.type_inv) in
     let least_is = to_z-of_z w64 c.x_min-least.result fits ∙ c.x_min-least.ensures.value in
@@ -27,9 +27,13 @@ loop-i-preserved c =
       len = search (rules, c.loop-i.invariant.len);
     }
 
-pub returns-clause-items : goal.returns-clause-items
-returns-clause-items c =
-    rw (
-      take_all c.loop-i.i c.args.values.now (omega arith),
-      take_all c.loop-i.i c.loop-i.samples (omega (arith, c.requires.len, c.loop-i.invariant.len)),
-    ) at c.loop-i.invariant.unmaps
+pub returns : goal.returns
+returns c = record {
+  within = c.loop-i.invariant.within;
+  items =
+      rw (
+        take_all c.loop-i.i c.args.values.now (omega arith),
+        take_all c.loop-i.i c.loop-i.samples (omega (arith, c.requires.fits.len, c.loop-i.invariant.len)),
+      ) at c.loop-i.invariant.unmaps;
+  len = c.loop-i.invariant.len;
+}

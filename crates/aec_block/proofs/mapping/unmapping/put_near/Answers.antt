@@ -9,7 +9,7 @@ use Rattle.aec_block.proofs.UnmappingLemmas.{one_more}
 use Rattle.aec_block.proofs.mapping.unmapping.put_near.Goals as goal
 
 pub loop-i-init : goal.loop-i-init
-loop-i-init c = record { unmaps = unmaps_to-start _ _ _; within = c.requires.within; near = c.requires.near; behind = c.requires.places; len = refl }
+loop-i-init c = record { unmaps = unmaps_to-start _ _ _; within = c.requires.can.within; near = c.requires.near; behind = c.requires.places; len = refl }
 
 pub overflow_add-samples : goal.overflow_add-samples
 overflow_add-samples c =
@@ -25,7 +25,7 @@ overflow_add-samples c =
 pub loop-i-preserved : goal.loop-i-preserved
 loop-i-preserved c =
     let here : c.loop-i.i < length c.args.values.now = omega (arith, c.loop-i-test.true, c.requires.eight) in
-    let room : c.loop-i.i < length c.loop-i.samples = omega (arith, c.loop-i-test.true, c.requires.len, c.loop-i.invariant.len) in
+    let room : c.loop-i.i < length c.loop-i.samples = omega (arith, here, c.requires.can.fits.len, c.loop-i.invariant.len) in
     let step = near_place-step c.args.params.now c.args.values.now c.args.places.now c.loop-i.i c.loop-i.place c.x_min-least.ensures.allowed here
     c.loop-i.invariant.within c.loop-i.invariant.behind c.loop-i.invariant.near in
     let above_fits : FitsSigned w64 c.from.result = search (rules, c.from.type_inv) in
@@ -34,7 +34,7 @@ loop-i-preserved c =
     let sum_fits = sample_at-fits c.args.params.now _ _ (get_or c.args.places.now c.loop-i.i 0) c.x_min-least.ensures.allowed least_is above_is step.0.1 in
     record {
       unmaps = unmaps_to-offset _ _ _ _ _ (top_offset c.args.params.now) c.loop-i.place (get_or c.args.places.now c.loop-i.i 0) _ _ _
-          c.x_min-least.ensures.allowed c.requires.on refl c.loop-i.invariant.within step.0.0 here step.0.2
+          c.x_min-least.ensures.allowed c.requires.can.on refl c.loop-i.invariant.within step.0.0 here step.0.2
           (to_z-of_z w64 _ sum_fits ∙ ap₂ ◌+ℤ◌ least_is above_is)
           (one_more c.loop-i.samples c.loop-i.i _ room) c.loop-i.invariant.unmaps;
       within = step.0.0;
@@ -43,10 +43,14 @@ loop-i-preserved c =
       len = search (rules, c.loop-i.invariant.len);
     }
 
-pub returns-clause-items : goal.returns-clause-items
-returns-clause-items c =
+pub returns : goal.returns
+returns c =
     let all : c.loop-i.i ≡ 8 = omega (arith, c.loop-i-test.false, c.loop-i.auto.i-end) in
-    rw (
-      take_all c.loop-i.i c.args.values.now (omega (arith, c.requires.eight, all)),
-      take_all c.loop-i.i c.loop-i.samples (omega (arith, c.requires.len, c.loop-i.invariant.len, all)),
-    ) at c.loop-i.invariant.unmaps
+    record {
+      within = c.loop-i.invariant.within;
+      items = rw (
+        take_all c.loop-i.i c.args.values.now (omega (arith, c.requires.eight, all)),
+        take_all c.loop-i.i c.loop-i.samples (omega (arith, c.requires.can.fits.len, c.requires.eight, c.loop-i.invariant.len, all)),
+      ) at c.loop-i.invariant.unmaps;
+      len = c.loop-i.invariant.len;
+    }

@@ -8,8 +8,8 @@ use Rattle.aec_block.proofs.MappingLemmas.{sample-offset}
 use Rattle.aec_block.proofs.UnmappingLemmas.{rest_more}
 use Rattle.aec_block.proofs.mapping.unmapping.put_offsets.Goals as goal
 
-pub returns-clause-items : goal.returns-clause-items
-returns-clause-items c =
+pub returns : goal.returns
+returns c =
     let s = c.args.params.now in
     let values = c.args.values.now in
     let done = 8 * (length values / 8) in
@@ -19,6 +19,9 @@ returns-clause-items c =
     ap (λ (k : ℕ). x_min s +ℤ pos k) at_first ∙ sym (sample-offset s c.args.previous c.requires.prediction) in
     let whole : take done values ++ take (length values - done) (drop done values) ≡ values =
     ap (λ (vs : List ℕ). take done values ++ vs) (take_rest values done) ∙ take-append-drop done values in
-    let room : done ≤ length c.put_eights-last.new.samples = omega (arith, c.put_eights-last.ensures.len, c.requires.len) in
-    rest_more s c.args.previous _ _ _ _ values c.put_eights-last.new.samples c.put_each.new.samples done previous_is whole room (search rules)
-    c.put_eights-last.ensures.items c.put_each.ensures.items.so_far
+    let room : done ≤ length c.put_eights-last.new.samples = omega (arith, c.put_eights-last.ensures.len, c.requires.values.len) in
+    record {
+      items = rest_more s c.args.previous _ _ _ _ values c.put_eights-last.new.samples c.put_each.new.samples done previous_is whole room (search rules)
+          c.put_eights-last.ensures.front.items c.put_each.ensures.items.so_far;
+      len = search rules;
+    }

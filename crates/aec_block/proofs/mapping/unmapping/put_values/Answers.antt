@@ -7,7 +7,7 @@ use Rattle.aec_block.proofs.mapping.unmapping.put_values.Goals as goal
 
 pub loop-i-preserved : goal.loop-i-preserved
 loop-i-preserved c =
-    let room : c.loop-i.i < length c.loop-i.samples = omega (arith, c.loop-i-test.true, c.requires.len, c.loop-i.invariant.len) in
+    let room : c.loop-i.i < length c.loop-i.samples = omega (arith, c.loop-i-test.true, c.requires.values.len, c.loop-i.invariant.len) in
     let fits : FitsSigned w64 c.value.result = search (rules, c.value.type_inv) in
     record {
       unmaps = unmaps-pattern _ _ c.value.result _ _ _ _ _ c.requires.off (omega arith) (to_z-of_z w64 c.value.result fits) c.value.ensures.held
@@ -15,9 +15,12 @@ loop-i-preserved c =
       len = search rules;
     }
 
-pub returns-clause-items : goal.returns-clause-items
-returns-clause-items c =
-    λ (p : ℤ). rw (
-      take_all c.loop-i.i c.args.patterns.now (omega arith),
-      take_all c.loop-i.i c.loop-i.samples (omega (arith, c.requires.len, c.loop-i.invariant.len)),
-    ) at (c.loop-i.invariant.unmaps p)
+pub returns : goal.returns
+returns c = λ (p : ℤ). record {
+  items =
+      rw (
+        take_all c.loop-i.i c.args.patterns.now (omega arith),
+        take_all c.loop-i.i c.loop-i.samples (omega (arith, c.requires.values.len, c.loop-i.invariant.len)),
+      ) at (c.loop-i.invariant.unmaps p);
+  len = c.loop-i.invariant.len;
+}

@@ -1,4 +1,4 @@
-use Rattle.std.proofs.Common.{◌≡◌, ◌+◌, ◌++◌, [], ◌∷◌, true, nat_lt, refl, ap, ◌∙◌, length, take, arith}
+use Rattle.std.proofs.Common.{rules, ◌≡◌, ◌+◌, ◌++◌, [], ◌∷◌, true, nat_lt, refl, ap, ◌∙◌, length, take, arith}
 use Rattle.std.proofs.lemmas.Bool.{ltb-true}
 use Rattle.std.proofs.lemmas.Grind.{take-set_at}
 use Rattle.aec_block.specs.Gathering.{bits_at}
@@ -23,7 +23,11 @@ loop-high-preserved c =
           c.loop-high.invariant.taken;
     }
 
-pub returns-clause-taken : goal.returns-clause-taken
-returns-clause-taken c =
-    HighsGathered-done c.args.limit (length c.args.highs.now) (bits_at c.args.reader.now) c.loop-high.highs c.loop-high.high-index c.loop-high.fit
-    (bits_at c.loop-high.reader) c.loop-high.auto.highs c.loop-high-test.false c.loop-high.invariant.taken
+pub returns : goal.returns
+returns c = record {
+  taken = HighsGathered-done c.args.limit (length c.args.highs.now) (bits_at c.args.reader.now) c.loop-high.highs c.loop-high.high-index c.loop-high.fit
+      (bits_at c.loop-high.reader) c.loop-high.auto.highs c.loop-high-test.false c.loop-high.invariant.taken;
+  len = search rules;
+  list = search rules;
+  within = search rules;
+}

@@ -1,4 +1,4 @@
-use Rattle.std.proofs.Common.{◌≡◌, ◌/◌, ◌*◌, ◌+◌, ◌∙◌, sym, ap, length, arith}
+use Rattle.std.proofs.Common.{rules, ◌≡◌, ◌/◌, ◌*◌, ◌+◌, ◌∙◌, sym, ap, length, arith}
 use Rattle.aec_block.specs.ReadAt.{map_taken, members_at}
 use Rattle.aec_block.specs.Gathering.{bits_at, small_members}
 use Rattle.aec_block.proofs.GatheringLemmas.{length-value_put, pair_placed, MembersGathered-next, MembersGathered-done}
@@ -31,7 +31,10 @@ loop-i-preserved c =
 pub returns-clause-taken : goal.returns-clause-taken
 returns-clause-taken c =
     let n = length c.args.values.now / 2 in
-    let is_limit = c.value_limit-limit.ensures.value in
-    ap (λ l. map_taken (small_members l c.args.is_ref) (members_at n (bits_at c.args.reader.now))) (sym is_limit)
-    ∙ MembersGathered-done c.value_limit-limit.result c.args.is_ref n (bits_at c.args.reader.now) c.loop-i.values c.loop-i.i c.loop-i.fit
-    (bits_at c.loop-i.reader) (omega arith) (omega arith) (omega (arith, c.loop-i.invariant.len)) c.loop-i.invariant.taken
+    let is_limit = c.value_limit-limit.ensures.value in record {
+      taken = ap (λ l. map_taken (small_members l c.args.is_ref) (members_at n (bits_at c.args.reader.now))) (sym is_limit)
+          ∙ MembersGathered-done c.value_limit-limit.result c.args.is_ref n (bits_at c.args.reader.now) c.loop-i.values c.loop-i.i c.loop-i.fit
+          (bits_at c.loop-i.reader) (omega arith) (omega arith) (omega (arith, c.loop-i.invariant.len)) c.loop-i.invariant.taken;
+      list = search rules;
+      within = search rules;
+    }

@@ -9,7 +9,7 @@ overflow_shl-word c =
     let rest = drop 1 c.args.all.now in
     let within : c.loop-i.i < length rest = omega (arith, length-drop 1 c.args.all.now, c.requires.len) in
     let is = lane-of_seven c.args.k c.loop-i.i c.index.result.now _ c.args.all.now _ c.eight_highs-highs.ensures c.requires.len (omega arith) c.index.ensures in
-    subst (λ (h : ℕ). h < 64) (sym is) (high-below c.args.k c.loop-i.i rest within c.requires.few)
+    subst (λ (h : ℕ). h < 64) (sym is) (high-below c.args.k c.loop-i.i rest within c.requires.few.few)
 
 pub loop-i-preserved : goal.loop-i-preserved
 loop-i-preserved c =
@@ -17,10 +17,7 @@ loop-i-preserved c =
     let within : c.loop-i.i < length rest = omega (arith, length-drop 1 c.args.all.now, c.requires.len) in
     let is = lane-of_seven c.args.k c.loop-i.i c.index.result.now _ c.args.all.now _ c.eight_highs-highs.ensures c.requires.len (omega arith) c.index.ensures in
     subst (λ (h : ℕ). GoesOn c.args.k 0 0 (take (c.loop-i.i + 1) rest) (c.loop-i.word * 2 ^ h % 2 ^ 64 * 2 % 2 ^ 64 + 1)) (sym is)
-    (goes_on-more c.args.k 0 0 c.loop-i.i rest c.loop-i.word within (omega (arith, c.requires.few)) c.loop-i.invariant)
+    (goes_on-more c.args.k 0 0 c.loop-i.i rest c.loop-i.word within (omega (arith, c.requires.few.few)) c.loop-i.invariant)
 
-pub returns-clause-fits : goal.returns-clause-fits
-returns-clause-fits c = (is_seven c.args.k _ c.args.all.now c.loop-i.word c.requires.len (omega arith) c.loop-i.invariant).below
-
-pub returns-clause-bits : goal.returns-clause-bits
-returns-clause-bits c = (is_seven c.args.k _ c.args.all.now c.loop-i.word c.requires.len (omega arith) c.loop-i.invariant).bits
+pub returns : goal.returns
+returns c = is_seven c.args.k _ c.args.all.now c.loop-i.word c.requires.len (omega arith) c.loop-i.invariant

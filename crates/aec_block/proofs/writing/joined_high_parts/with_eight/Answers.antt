@@ -7,7 +7,7 @@ pub overflow_shl-word : goal.overflow_shl-word
 overflow_shl-word c =
     let within : c.loop-i.i < length c.args.values.now = omega arith in
     let is = lane-shifted c.args.k c.loop-i.i c.index.result.now _ c.args.values.now _ c.eight_highs-highs.ensures within c.index.ensures in
-    subst (λ (h : ℕ). h < 64) (sym is) (high-below c.args.k c.loop-i.i c.args.values.now within c.requires.few)
+    subst (λ (h : ℕ). h < 64) (sym is) (high-below c.args.k c.loop-i.i c.args.values.now within c.requires.few.few)
 
 pub loop-i-preserved : goal.loop-i-preserved
 loop-i-preserved c = λ used fits low.

@@ -15,10 +15,6 @@ loop-i-preserved c =
 pub joined_eight-requires-clause-small : goal.joined_eight-requires-clause-small
 joined_eight-requires-clause-small c = lows_below c.args.width c.args.values.now _ c.low_parts_of.ensures
 
-pub returns-then-values-eq8-clause-fits : goal.returns-then-values-eq8-clause-fits
-returns-then-values-eq8-clause-fits c =
-    (eight_low_word c.args.width _ c.args.values.now _ _ (omega (arith, c.if-values-eq8.true)) c.low_parts_of.ensures c.joined_eight.ensures).0
-
-pub returns-then-values-eq8-clause-bits : goal.returns-then-values-eq8-clause-bits
-returns-then-values-eq8-clause-bits c =
-    (eight_low_word c.args.width _ c.args.values.now _ _ (omega (arith, c.if-values-eq8.true)) c.low_parts_of.ensures c.joined_eight.ensures).1
+pub returns-then-values-eq8 : goal.returns-then-values-eq8
+returns-then-values-eq8 c =
+    eight_low_word c.args.width _ c.args.values.now _ _ (omega (arith, c.if-values-eq8.true)) c.low_parts_of.ensures c.joined_eight.ensures

@@ -14,8 +14,7 @@ use Rattle.std.proofs.raw_atomic.Walks.{proved}
 use Rattle.aec_c.specs.declared.coder_handle.CoderHandle.{CoderHandle}
 use Rattle.aec_c.specs.contracts.coder_handle.CoderHandle as handle
 use Rattle.aec_c.specs.contracts.coder_handle.CoderHandle.empty as f
-use Rattle.aec_c.proofs.HandleSteps.{word, word_good}
-use Rattle.aec_c.proofs.CoderHandleSteps.{handle_in}
+use Rattle.aec_c.proofs.HandleSteps.{word, word_good, handle_in}
 use Rattle.aec_c.proofs.coder_handle.CoderHandle.empty.Statement.{statement}
 use Rattle.aec_c.proofs.coder_handle.CoderHandle.empty.Code as code
 
@@ -30,7 +29,8 @@ empty_spec 𝓤 𝓛 𝓜 𝓡 wired =
     let made : CoderHandle = record { at = null_ptr; full = false; value = None } in let w = word null_ptr false in
     qed 𝓛 ((‵ ftrue ⊛ ‵ ftrue) ∷ raw (emp 𝓤) ∷ []) ∵ split ! $ move ! (2 ∷ []) $ drop ! $ move ! (1 ∷ []) $ drop ! $
     enter ! _ _ _ _ _ $ alloc_all ! (λ l. pass_all ! refl tt $
-    sets ! (agg ! (and_then ! (lit ! tt) (and_then ! (false_lit !) (no_more !)))) refl (word_good null_ptr false) $
-    use1 𝓛 (‵ ((handle.the_row).own_val made (w ∷ []))) (handle_in 𝓛 made) $ returns ! (look_at ! 0 refl) $ free_all ! refl $
+    sets ! (agg ! (and_then ! (lit ! tt) (and_then ! (false_lit !) (no_more !)))) refl (word_good (handle.struct).name null_ptr false) $
+    use1 𝓛 (‵ ((handle.the_row).own_val made (w ∷ []))) (handle_in 𝓛 (handle.struct).name null_ptr false (handle.the_heap made)) $
+    returns ! (look_at ! 0 refl) $ free_all ! refl $
     suffices ! _ (ends_at 𝓛 f.ended stayed c ((κs, qs, bounds, a, tt), g) w made tt tt) $ says ! refl $
     nothing ! $ join ! $ nothing ! $ join ! $ done !))

@@ -1,57 +1,12 @@
-use Rattle.std.proofs.Common.{vec_len, length, ap, arith, refl, sym, subst}
+use Rattle.std.proofs.Common.{arith}
 use Rattle.std.proofs.lemmas.List.{nil_from_length}
-use Rattle.std.proofs.lemmas.Result.{err_from_is_err_and}
-use Rattle.aec_params.specs.Params.{IsAllowed}
-use Rattle.aec_engine.proofs.ReadTwiceLemmas.{same_next, counts_more, counts_few, counts_refused}
-use Rattle.aec_engine.proofs.KeepingLemmas.{counts_kept, few_none, few_then, few_more, keeps_none, keeps_more}
+use Rattle.aec_engine.proofs.KeepingLemmas.{few_none, keeps_none}
 use Rattle.aec_engine.proofs.engine.decoding.keep_front.Goals as goal
 
-pub loop-reader-init : goal.loop-reader-init
-loop-reader-init c = record {
-  keeps = keeps_none c.args.reader.now c.args.params.now c.args.bytes.now.items c.requires.start.block c.requires.start.bit
-      (nil_from_length c.args.bytes.now.items (omega (arith, c.args.bytes.now.ok, c.requires.empty)));
-  same = refl;
-  there = omega arith;
-  spare = few_none 0 _ _ refl;
-  few = few_none _ _ _ c.requires.empty;
-  room = omega arith;
-  buffer = omega arith;
-}
+pub keep_more-requires-clause-kept : goal.keep_more-requires-clause-kept
+keep_more-requires-clause-kept c =
+    keeps_none c.args.reader.now c.args.params.now c.args.bytes.now.items c.requires.start.block c.requires.start.bit
+    (nil_from_length c.args.bytes.now.items (omega (arith, c.args.bytes.now.ok, c.requires.empty)))
 
-pub returns-in_err-next_few-clause-refuses : goal.returns-in_err-next_few-clause-refuses
-returns-in_err-next_few-clause-refuses c =
-    let exit = err_from_is_err_and c.from_residual.result c.from_residual.ensures.1 in
-    counts_refused _ _ _ c.args.reader.now c.loop-reader.reader c.loop-reader.before
-    (subst IsAllowed (sym c.requires.start.settings) c.interval_len.ensures.allowed) exit.1 exit.2
-    (counts_kept c.args.reader.now c.loop-reader.reader c.args.params.now _ _ c.loop-reader.invariant.same c.loop-reader.invariant.keeps)
-    c.in_err-next_few.ensures.refuses
-
-pub overflow_add-before : goal.overflow_add-before
-overflow_add-before c =
-    let a = subst IsAllowed (sym c.requires.start.settings) c.interval_len.ensures.allowed in
-    let counts = counts_kept c.args.reader.now c.loop-reader.reader c.args.params.now _ _ c.loop-reader.invariant.same c.loop-reader.invariant.keeps in
-    let most = counts_few c.args.reader.now c.next_few.new.self _ a
-    (counts_more c.args.reader.now c.loop-reader.reader c.next_few.new.self c.loop-reader.before _ c.next_few.new.samples.items a counts
-    (c.in_ok-next_few.ensures.read c.if-branch.true) refl c.next_few.ensures.few) in
-    omega (arith, most, c.len-in-loop-reader.ensures, c.next_few.new.samples.ok)
-
-pub loop-reader-preserved : goal.loop-reader-preserved
-loop-reader-preserved c =
-    let step = c.in_ok-next_few.ensures.read c.if-branch.true in
-    let spare = few_then c.args.reader.now c.loop-reader.reader c.loop-reader.room c.has_room.new.room _ _ _ c.loop-reader.invariant.same
-    c.most_kept.ensures.reached c.most_kept.ensures.bits c.interval_len.ensures.value c.has_room.ensures.few c.loop-reader.invariant.spare in
-    record {
-      keeps = keeps_more c.args.reader.now c.loop-reader.reader c.next_few.new.self c.args.params.now c.loop-reader.before c.len-in-loop-reader.result _
-          c.loop-reader.bytes.items _ _ _ _ (subst IsAllowed (sym c.requires.start.settings) c.interval_len.ensures.allowed) c.loop-reader.invariant.same
-          c.loop-reader.invariant.keeps step c.next_few.ensures.few c.next_few.ensures.ends c.has_room.ensures.same.items c.append_stored.ensures.items
-          c.deref.ensures.value (omega (arith, c.len-in-loop-reader.ensures, c.next_few.new.samples.ok)) refl;
-      same = same_next c.args.reader.now c.loop-reader.reader c.next_few.new.self c.loop-reader.invariant.same step.piece.same;
-      there = omega (arith, c.has_room.ensures.there c.loop-reader.invariant.there, c.append_stored.ensures.spare.capacity);
-      spare = spare;
-      few = few_more c.args.reader.now c.loop-reader.reader c.args.params.now c.interval_len.result c.samples_within.result c.has_room.new.room
-          (vec_len c.has_room.new.bytes) _ _ (length c.args.reader.now.bits) c.loop-reader.invariant.same c.requires.start.settings c.interval_len.ensures.value
-          c.in_ok-next_few.ensures.at_most (omega (arith, c.samples_within.ensures, c.len.ensures)) (c.has_room.ensures.room c.loop-reader-test.true)
-          (omega (arith, c.append_stored.ensures.spare.len, ap length c.deref.ensures.value, c.next_few.new.samples.ok)) spare;
-      room = omega (arith, c.loop-reader.invariant.room, c.next_few.ensures.capacity);
-      buffer = omega (arith, c.loop-reader.invariant.buffer, c.has_room.ensures.same.capacity, c.append_stored.ensures.spare.capacity);
-    }
+pub keep_more-requires-clause-few : goal.keep_more-requires-clause-few
+keep_more-requires-clause-few c = few_none _ _ _ c.requires.empty

@@ -13,8 +13,8 @@ returns-clause-ok g c =
     λ same.
     let all : n ≡ s.interval - 1 = eqb-true n (c.interval.result - 1) same ∙ ap (λ r. r - 1) c.interval.ensures.value in
     let len = whole_len g.row.N s.block_size s.interval _ (interval-positive s c.interval.ensures.allowed) c.requires.size
-    (c.fill_plain_blocks.ensures.len ∙ c.requires.len) in
+    (c.fill_plain_blocks.ensures.fills.len ∙ c.requires.len) in
     subst (λ n. ReadsPlain s n c.args.reader.now (take g.row.N c.args.samples.now) c.fill_plain_blocks.new.reader c.fill_plain_blocks.new.samples) all
     (subst (ReadsPlain s n c.args.reader.now (take g.row.N c.args.samples.now) c.fill_plain_blocks.new.reader)
     (take_all _ c.fill_plain_blocks.new.samples
-    (omega (arith, len, ap (λ n. n * g.row.N) all, ap (λ j. n * j) c.requires.size))) c.fill_plain_blocks.ensures.reads)
+    (omega (arith, len, ap (λ n. n * g.row.N) all, ap (λ j. n * j) c.requires.size))) c.fill_plain_blocks.ensures.fills.reads)

@@ -7,14 +7,16 @@ use Rattle.aec_block.proofs.writing.gathered.Gathered.joined.Goals as goal
 pub overflow_add-result : goal.overflow_add-result
 overflow_add-result c =
     Fits-of_lt (is_joined _ c.self.inside.used c.args.width c.self.inside.word c.args.value c.self.view_is c.requires.place c.self.invariant.1
-    c.requires.fits).fits
+    c.requires.number.fits).fits
 
 pub invariant_of-result : goal.invariant_of-result
 invariant_of-result c =
-    let is = is_joined _ c.self.inside.used c.args.width c.self.inside.word c.args.value c.self.view_is c.requires.place c.self.invariant.1 c.requires.fits in
+    let is = is_joined _ c.self.inside.used c.args.width c.self.inside.word c.args.value c.self.view_is c.requires.place c.self.invariant.1
+    c.requires.number.fits in
     (is.within, is.below)
 
 pub returns : goal.returns
 returns c =
-    let is = is_joined _ c.self.inside.used c.args.width c.self.inside.word c.args.value c.self.view_is c.requires.place c.self.invariant.1 c.requires.fits in
+    let is = is_joined _ c.self.inside.used c.args.width c.self.inside.word c.args.value c.self.view_is c.requires.place c.self.invariant.1
+    c.requires.number.fits in
     is.bits ∙ ap (λ (bits : List Bool). bits ++ binary c.args.width c.args.value) c.self.view_is
