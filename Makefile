@@ -22,11 +22,11 @@ FORCE:
 try:
 	@sh try.sh
 
-# The main job on the files of examples/.
+# Runs bin/aec on the files of examples/.
 example: bin/aec
 	@sh examples/run.sh bin/aec
 
-# How many bytes a file takes with each block size and interval: make sizes FILE=.. OPTIONS="-n 16". Needs bin/libaecp.so.
+# Prints how many bytes a file takes with each block size and interval: make sizes FILE=.. OPTIONS="-n 16". Needs bin/libaecp.so.
 FILE ?= examples/durations.raw
 OPTIONS ?= -n 16
 sizes:
@@ -36,8 +36,8 @@ sizes:
 test:
 	sh tests/run.sh
 
-# Writes docs/PROOFS.md from the claims of the crates, each of whose names is checked; docs/DEFINITIONS.md from the sentences over the
-# definitions; the tables of modules in the README of each crate.
+# Writes docs/PROOFS.md from the claims of the crates, and checks each name that they cite; docs/DEFINITIONS.md from the sentences over
+# the definitions; and the tables of modules in the README of each crate.
 pages:
 	@python3 tools/pages.py
 	@python3 tools/definitions.py
@@ -52,16 +52,16 @@ version:
 	@python3 tools/version.py
 	@$(MAKE) -s man pages
 
-# Writes docs/theorems/: all that a reader of a theorem has to believe. Of another one: make theorem OF="aec_edit::write_edited samples"
+# Writes docs/theorems/: all that a reader of a theorem has to believe. For another theorem: make theorem OF="aec_edit::write_edited samples"
 theorem:
 	@python3 tools/theorem.py $(OF)
 
-# Prints the calls and files that a sample passes, and how many clauses a function has.
+# Prints the functions that are called for one sample, with their files, and the mean number of clauses of a function in each crate.
 .PHONY: walk
 walk:
 	@python3 tools/walk.py
 
-# Tries the wrong bodies that the gate leaves out. The checker must refuse each.
+# Tries the deliberately wrong function bodies that the gate leaves out. The checker must refuse each.
 wrong-bodies: bin/aec
 	python3 tests/wrong_bodies.py
 
@@ -71,7 +71,7 @@ bench: bin/aec
 	python3 bench/instructions.py bin/aec
 	python3 bench/edits.py bin/aec
 
-# The pictures of docs/, from the tables of bench/.
+# Draws the pictures of docs/ from the tables of bench/.
 pictures:
 	python3 bench/pictures.py
 

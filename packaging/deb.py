@@ -113,7 +113,7 @@ def date_all(root, moment):
 
 
 def finish(top, root, folder, name, version, depends, moment):
-    """Writes DEBIAN/ and the package. Its path."""
+    """Writes DEBIAN/ and the package, and returns its path."""
     own = os.path.join(top, "packaging/debian")
     overrides = os.path.join(own, f"{name}.lintian-overrides")
     if os.path.exists(overrides):
@@ -133,7 +133,7 @@ def finish(top, root, folder, name, version, depends, moment):
 
 
 def next_of(version):
-    """The least version with the next first number: its structs may differ."""
+    """The next major version: its structs may differ."""
     return f"{int(version.split('.')[0]) + 1}~"
 
 
@@ -173,7 +173,7 @@ def split_library(top, work):
 
 
 def build(top, work, folder, version, moment, proved):
-    """Writes the packages into a folder. Their paths."""
+    """Writes the packages into a folder, and returns their paths."""
     root = os.path.join(work, "aec-proved")
     program(top, root)
     shared, dev = split_library(top, work)

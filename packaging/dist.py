@@ -40,7 +40,7 @@ def moment():
 
 
 def texts(is_proved):
-    """Returns a function from the binaries' paths in a package to the text of PROVED."""
+    """Returns a function that, given the paths of a package's binaries, returns the text of PROVED."""
     start = proved.head(version(), list(BINARIES.values()), is_proved)
     sums = {name: proved.sum_of(os.path.join(proved.TOP, path)) for name, path in BINARIES.items()}
 
@@ -52,7 +52,7 @@ def texts(is_proved):
 
 
 def build(is_proved):
-    """Writes all packages. Their paths."""
+    """Writes all packages; returns their paths."""
     os.umask(0o022)
     when = moment()
     os.environ["SOURCE_DATE_EPOCH"] = str(when)

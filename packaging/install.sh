@@ -57,7 +57,7 @@ install_file() {
     chmod $mode "$to"
 }
 
-# Ends if no program of this name was installed below PREFIX by this script: bin/aec may then be libaec's.
+# Fails unless this script has installed a program of this name below PREFIX: bin/aec may be libaec's.
 check_installed() {
     if [ ! -e "$prefix/share/doc/$program/README.md" ]; then
         echo "nothing was removed: below $prefix this script hasn't installed the program as $program; set PROGRAM to its name" >&2

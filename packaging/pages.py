@@ -1,8 +1,7 @@
 #!/usr/bin/env python3
 """Installs the pages for users: pages.py FOLDER [--without FILE]..
 
-Copies the pages, pictures and examples into FOLDER. A link to a file that isn't among them becomes its text, so that each link of an
-installed page leads to an installed page.
+Copies the pages, pictures and examples into FOLDER. A link to any other file becomes plain words, so that each link of an installed page leads to an installed page.
 """
 
 import argparse
@@ -51,7 +50,7 @@ def with_links(page, text, files):
 
 
 def install(folder, without=()):
-    """Copies all files for users into a folder. The files of a folder of earlier pages are replaced."""
+    """Copies all files for users into a folder. Replaces earlier copies."""
     files = user_files(without)
     for path in files:
         with open(os.path.join(TOP, path), "rb") as file:

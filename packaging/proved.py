@@ -79,7 +79,7 @@ def record_gate(at, log):
 
 
 def kit_of(paths):
-    """The kit that has proved these files. NotProved if one is another file, of another commit, or of another kit."""
+    """Returns the kit that has proved these files. Raises NotProved if a file, its commit or its kit is another one."""
     kits = set()
     for path in paths:
         try:
@@ -108,7 +108,7 @@ def gate():
 
 
 def head(version, paths, is_proved):
-    """The text of a file PROVED, up to the sums."""
+    """The text of PROVED up to the sums."""
     if not is_proved:
         return UNPROVED.format(version=version, commit=commit())
     return HEAD.format(version=version, kit=kit_of(paths), commit=commit(), gate=gate())

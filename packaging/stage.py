@@ -1,4 +1,4 @@
-"""What each package contains, put below a folder."""
+"""Puts the contents of each package below a folder."""
 
 import os
 import re

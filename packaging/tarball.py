@@ -51,7 +51,7 @@ LICENSE is the licence, and NOTICES has the licence of crates whose code is in t
 
 
 def build(top, work, folder, version, moment, proved):
-    """Writes the tarball into a folder. Its path."""
+    """Writes the tarball into a folder, and returns its path."""
     name = f"aec-{version}-x86_64-linux"
     root = os.path.join(work, name)
     fill(top, root, version, proved)

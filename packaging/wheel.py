@@ -87,7 +87,7 @@ def put(archive, name, data, moment):
 
 
 def build(top, folder, version, moment, proved):
-    """Writes the wheel into a folder. Its path."""
+    """Writes the wheel into a folder, and returns its path."""
     library = os.path.join(top, "bin", "libaecp.so")
     check_library(library)
     source = os.path.join(top, "python")
