@@ -13,12 +13,12 @@ use Rattle.aec_params.specs.Spellings.{after_reference, written_values, uncompre
 use Rattle.std.proofs.Math.Nat.{mod-eq_of_lt}
 use Rattle.aec_block.specs.Choices.{IsFull}
 use Rattle.aec_bits.specs.BitBuf.{Bits}
-use Rattle.aec_block.specs.Written.{high_parts, low_parts, split_parts, Adds, Gathers}
+use Rattle.aec_block.specs.Written.{high_parts, low_parts, split_parts, Adds, GathersBits}
 use Rattle.aec_block.proofs.LengthLemmas.{length-fs, length-binary, length-reference_bits}
 
 -- the next codeword is gathered: what was held before may be in the list now
-pub gathering-more : (old new next : Bits) (done held kept todo codeword rest : List Bool) → Gathers done old (held ++ todo) new
-    → todo ≡ codeword ++ rest → Gathers (held ++ codeword) new kept next → Gathers done old (kept ++ rest) next
+pub gathering-more : (old new next : Bits) (done held kept todo codeword rest : List Bool) → GathersBits done old (held ++ todo) new
+    → todo ≡ codeword ++ rest → GathersBits (held ++ codeword) new kept next → GathersBits done old (kept ++ rest) next
 gathering-more old new next done held kept todo codeword rest so_far split step = record {
   list =
       sym (append_assoc next.list kept rest) ∙ ap (λ (bits : List Bool). bits ++ rest) step.list ∙ append_assoc new.list (held ++ codeword) rest
@@ -41,8 +41,8 @@ parts-joined old middle new held between kept first second begun added =
     ∙ append_assoc old (held ++ first) second ∙ ap (λ (bits : List Bool). old ++ bits) (append_assoc held first second)
 
 -- bits are gathered after others
-pub gathers-then : (old middle new : Bits) (done held more kept : List Bool) → Gathers done old held middle → Gathers (held ++ more) middle kept new
-    → Gathers (done ++ more) old kept new
+pub gathers-then : (old middle new : Bits) (done held more kept : List Bool) → GathersBits done old held middle → GathersBits (held ++ more) middle kept new
+    → GathersBits (done ++ more) old kept new
 gathers-then old middle new done held more kept first second = record {
   list =
       second.list ∙ sym (append_assoc middle.list held more) ∙ ap (λ (bits : List Bool). bits ++ more) first.list ∙ append_assoc old.list done more;
@@ -55,7 +55,7 @@ gathers-then old middle new done held more kept first second = record {
 }
 
 -- what is held is appended: these are the bits
-pub gathers-added : (old middle new : Bits) (done held bits : List Bool) → Gathers done old held middle → Adds held middle new → done ≡ bits
+pub gathers-added : (old middle new : Bits) (done held bits : List Bool) → GathersBits done old held middle → Adds held middle new → done ≡ bits
     → Adds bits old new
 gathers-added old middle new done held bits first last is = record {
   list = last.list ∙ first.list ∙ ap (λ (bits : List Bool). old.list ++ bits) is;
@@ -90,7 +90,7 @@ pair_bits-drop values i j k next after within =
     rw (at_j, at_k) (ap pair_bits (drop-cons values i 0 here)
     ∙ ap (λ (rest : List ℕ). pair_bits (get_or values i 0 ∷ rest)) (drop-cons values (suc i) 0 there))
 
-pub room-for_next : (old new : Bits) (done held todo codeword rest : List Bool) (n : ℕ) → Gathers done old (held ++ todo) new
+pub room-for_next : (old new : Bits) (done held todo codeword rest : List Bool) (n : ℕ) → GathersBits done old (held ++ todo) new
     → length done ≤ old.room → todo ≡ codeword ++ rest → length codeword ≡ n → length held + n ≤ new.room
 room-for_next old new done held todo codeword rest n so_far reserved split is =
     let total = ap (length {A = Bool}) split ∙ length-append codeword rest in
@@ -104,9 +104,9 @@ length-parts todo codeword rest n split is =
     omega arith
 
 -- nothing is left
-pub gathered-all : (old new : Bits) (done held todo : List Bool) → Gathers done old (held ++ todo) new → todo ≡ [] → Gathers done old held new
+pub gathered-all : (old new : Bits) (done held todo : List Bool) → GathersBits done old (held ++ todo) new → todo ≡ [] → GathersBits done old held new
 gathered-all old new done held todo so_far none =
-    subst (λ bits. Gathers done old bits new) (ap (λ (bits : List Bool). held ++ bits) none ∙ append-nil held) so_far
+    subst (λ bits. GathersBits done old bits new) (ap (λ (bits : List Bool). held ++ bits) none ∙ append-nil held) so_far
 
 pair_bits-short : (values : List ℕ) → length values ≤ 1 → pair_bits values ≡ []
 pair_bits-short [] few = refl

@@ -58,11 +58,11 @@ abbrev pub pair_block : ℕ → Option ℕ → List ℕ → Option Block
 pair_block limit reference members =
     when (all_below limit (judged_in reference (value_pairs members))) (block_of_members reference members)
 
--- what `there` takes at the old cursor is what the result says, with the bits at the new cursor
--- after it. The bits are unchanged, and the new place is within them
-pub record Takes {Y : Type 0} (there : List Bool → Taken Y) (old : Cursor) (told : List Bool → Taken Y) (new : Cursor)
+-- What `there` takes at the old cursor is what was returned, with the bits at the new cursor after
+-- it. The bits are unchanged, and the new place is within them.
+pub record Takes {Y : Type 0} (there : List Bool → Taken Y) (old : Cursor) (returned : List Bool → Taken Y) (new : Cursor)
     : Type 0 where
-  pub taken : there (bits_at old) ≡ told (bits_at new)
+  pub taken : there (bits_at old) ≡ returned (bits_at new)
   pub list : new.list ≡ old.list
   pub within : new.pos ≤ length new.list
 

@@ -41,14 +41,14 @@ pub record AddUpTo (lanes : List ℕ) (total : ℕ) : Type 0 where
   pub len : length lanes ≡ 8
   pub sum : sum_l lanes ≡ total
 
--- a k without whose low bits values add up to less than 2^32, so that lanes of 32 bits can add
--- them
+-- a k below 32 without whose low bits values add up to less than 2^32, so that lanes of 32 bits
+-- can add them
 pub record FitsLanes (k : ℕ) (values : List ℕ) : Type 0 where
   pub k_below : k < 32
   pub small : sum_of_shifted k values < 2 ^ 32
 
 -- at most `most_values` values, all below 2^bits
-pub record AreBelow (bits : ℕ) (values : List ℕ) : Type 0 where
+pub record AreFewBelow (bits : ℕ) (values : List ℕ) : Type 0 where
   pub len : length values ≤ most_values
   pub below : AllByRecursion (λ v. v < 2 ^ bits) values
 
@@ -83,8 +83,8 @@ pub record BeginsAt (total count last k : ℕ) : Type 0 where
   pub before : (j : ℕ) → j < k → 3 * count * 2 ^ j < total
   pub there : k < last → total ≤ 3 * count * 2 ^ k
 
--- the bits of values that are split with some k, counted
-pub record IsCounted (values : List ℕ) (split : Splitting) : Type 0 where
+-- a k and the bits of values that are split with it, which are at most 2^40
+pub record IsSplitLen (values : List ℕ) (split : Splitting) : Type 0 where
   pub bits : split.bits ≡ split_values_length split.k values
   pub bound : split.bits ≤ 2 ^ 40
 
@@ -94,8 +94,8 @@ pairs_length [] = 0
 pairs_length (a ∷ []) = 0
 pairs_length (a ∷ (b ∷ values)) = pair_number a b + 1 + pairs_length values
 
--- a length, which is at most so much, or nothing, and then it is more than 2^31 bits: more than any
--- block by no compression has
+-- the length if it is at most so much; or nothing, if it is above 2^31 bits, which no block by no
+-- compression has
 pub record IsLengthIfShort (bits most : ℕ) (told : Option ℕ) : Type 0 where
   pub some : IfSome told (λ n. (n ≡ bits) × (n ≤ most))
   pub none : IfNone told (2 ^ 31 < bits)

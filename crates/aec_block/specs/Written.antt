@@ -19,17 +19,18 @@ high_parts k values = flat_map (λ v. fs (v / 2 ^ k)) values
 abbrev pub low_parts : ℕ → List ℕ → List Bool
 low_parts k values = flat_map (λ v. binary k (v % 2 ^ k)) values
 
--- a number of less than 64 bits
-pub record FitsWidth (width value : ℕ) : Type 0 where
+-- a number of fewer than 64 bits
+pub record FitsPart (width value : ℕ) : Type 0 where
   pub narrow : width < 64
   pub fits : value < 2 ^ width
 
--- the values can be split at bit k, and take so many bits without their k low bits (computed once)
+-- the values can be split at bit k, below 32, and take so many bits without their k low bits
+-- (computed once)
 pub record IsHighLen (k : ℕ) (values : List ℕ) (len : ℕ) : Type 0 where
   pub k_below : k < 32
   pub len_is : len ≡ length (high_parts k values)
 
--- values whose codewords without their k low bits are fewer than 64 bits
+-- a k below 32, and values whose codewords without their k low bits are fewer than 64 bits
 pub record FitsHighWord (k : ℕ) (values : List ℕ) : Type 0 where
   pub k_below : k < 32
   pub few : length (high_parts k values) < 64
@@ -41,7 +42,7 @@ pub record Spells (n : ℕ) (spelled : List Bool) (number : ℕ) : Type 0 where
   pub bits : binary n number ≡ spelled
 
 -- a count of values, from 1 to `most_values`, whose low bits of this width are fewer than 64 in all
-pub record FillsWord (count width : ℕ) : Type 0 where
+pub record FitsLowWord (count width : ℕ) : Type 0 where
   pub some : 0 < count
   pub most : count ≤ most_values
   pub narrow : width ≤ 32
@@ -64,7 +65,7 @@ run_bits s reference z is_last = cds_bits s (record { reference = reference; bod
 abbrev pub Appends : List Bool → Bits → Result (Unit {0}) Fault → Bits → Type 0
 Appends bits old result new = AppendsBits (length bits) bits old new result
 
--- bits for which there was room are appended, and the room shrinks by at most their number
+-- bits are appended, and the room shrinks by at most their number
 pub record Adds (added : List Bool) (old new : Bits) : Type 0 where
   pub list : new.list ≡ old.list ++ added
   pub room : old.room ≤ new.room + length added
@@ -72,6 +73,6 @@ pub record Adds (added : List Bool) (old new : Bits) : Type 0 where
 -- Bits are gathered, those that were held before among them: the new list, with the bits that are
 -- held now after it, is the old list with the gathered bits after it. The room shrinks by at most
 -- the number of bits that were appended.
-pub record Gathers (gathered : List Bool) (old : Bits) (held : List Bool) (new : Bits) : Type 0 where
+pub record GathersBits (gathered : List Bool) (old : Bits) (held : List Bool) (new : Bits) : Type 0 where
   pub list : new.list ++ held ≡ old.list ++ gathered
   pub room : old.room + length held ≤ new.room + length gathered

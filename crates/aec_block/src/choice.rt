@@ -11,7 +11,7 @@ ghost use Rattle.aec_params.specs.Params.{IsAllowed, split_count, id_len as iden
 ghost use Rattle.aec_params.specs.Spellings.{written_values};
 ghost use Rattle.aec_block.specs.declared.choice.Coding.TheVariants.{SecondExtension, Split};
 ghost use Rattle.aec_block.specs.BlockShape.{most_values};
-ghost use Rattle.aec_block.specs.Lengths.{paired_length, split_length, IsCounted};
+ghost use Rattle.aec_block.specs.Lengths.{paired_length, split_length, IsSplitLen};
 ghost use Rattle.aec_block.specs.Choices.{IsPrepared, IsChoice, shorter_choice};
 
 use crate::block::BlockRef;
@@ -95,7 +95,7 @@ fn shorter_of_split(
     split: Splitting,
 ) -> Choice
     requires id_len { id_len ≡ identifier_len params.now }
-    requires counted { IsCounted (written_values block.now) split }
+    requires counted { IsSplitLen (written_values block.now) split }
     ensures { result ≡ shorter_choice best (Split split.k)
         (split_length params.now block.now split.k) }
 {

@@ -1,6 +1,6 @@
 //! Skips one coded data set.
 
-mod values;
+mod skipped_values;
 
 ghost use Rattle.std.specs.Prelude.{◌≡◌, ◌≤◌, length, option_map, IfOk, IfErr, OnErr};
 ghost use Rattle.std.specs.Option.{is_some};
@@ -17,7 +17,7 @@ ghost use Rattle.aec_block.specs.SkipCds.{read_len, judged_len, judged_body_len,
 use crate::block::Block;
 use crate::cds::{Found, RunLen};
 use crate::reading::{Kind, read_body, read_kind, read_reference};
-use crate::skipping::values::{skip_split, skip_uncompressed};
+use crate::skipping::skipped_values::{skip_split, skip_uncompressed};
 use aec_bits::BitReader;
 use aec_params::{Fault, Params};
 

@@ -14,7 +14,7 @@ ghost use Rattle.aec_params.specs.Spellings.{written_values, uncompressed, paire
 ghost use Rattle.aec_params.specs.Runs.{segment_len, run_code};
 ghost use Rattle.aec_block.specs.Lengths.{reference_len};
 ghost use Rattle.aec_block.specs.Choices.{FitsReference, IsFull, IsPrepared, IsChoice};
-ghost use Rattle.aec_block.specs.Written.{high_parts, low_parts, split_parts, shortest_bits, run_bits, IsHighLen, FillsWord, FitsWidth, Appends, Adds, Gathers};
+ghost use Rattle.aec_block.specs.Written.{high_parts, low_parts, split_parts, shortest_bits, run_bits, IsHighLen, FitsLowWord, FitsPart, Appends, Adds, GathersBits};
 
 use crate::block::{Block, BlockRef};
 use crate::choice::lengths::{head_len, pair_len};
@@ -36,7 +36,7 @@ fn put_reference(
 ) -> Gathered
     requires reference { FitsReference params.now reference }
     requires room { length gathered + reference_len params.now reference ≤ out.old.room }
-    ensures { Gathers (gathered ++ reference_bits params.now reference) out.old result out.new }
+    ensures { GathersBits (gathered ++ reference_bits params.now reference) out.old result out.new }
 {
     match reference {
         None => gathered,
@@ -54,10 +54,10 @@ fn put_head(
     width: u32,
     out: &mut BitBuf,
 ) -> Gathered
-    requires id { FitsWidth width id }
+    requires id { FitsPart width id }
     requires reference { FitsReference params.now reference }
     requires room { width + reference_len params.now reference ≤ out.old.room }
-    ensures { Gathers (binary width id ++ reference_bits params.now reference)
+    ensures { GathersBits (binary width id ++ reference_bits params.now reference)
         out.old result out.new }
 {
     let id = Gathered::of_number(u64::from(id), width);
@@ -73,7 +73,7 @@ fn put_each_low_part(
 ) -> Gathered
     requires width { width ≤ 32 }
     requires room { length (gathered ++ low_parts width values.now) ≤ out.old.room }
-    ensures { Gathers (gathered ++ low_parts width values.now) out.old result out.new }
+    ensures { GathersBits (gathered ++ low_parts width values.now) out.old result out.new }
 {
     for v in values {
         gathered = gathered.put(u64::from(*v) % (1 << width), width, out);
@@ -91,9 +91,9 @@ fn put_low_groups<const N: usize>(
     mut gathered: Gathered,
     out: &mut BitBuf,
 ) -> Gathered
-    requires group { FillsWord N width }
+    requires group { FitsLowWord N width }
     requires room { length (gathered ++ low_parts width values.now) ≤ out.old.room }
-    ensures { Gathers (gathered ++ low_parts width values.now) out.old result out.new }
+    ensures { GathersBits (gathered ++ low_parts width values.now) out.old result out.new }
 {
     for i in 0..values.len() / N {
         let word = low_word(&values[N * i..N * (i + 1)], width);
@@ -109,7 +109,7 @@ fn put_low_groups<const N: usize>(
 fn put_low_parts(values: &[u32], width: u32, gathered: Gathered, out: &mut BitBuf) -> Gathered
     requires width { width ≤ 32 }
     requires room { length (gathered ++ low_parts width values.now) ≤ out.old.room }
-    ensures { Gathers (gathered ++ low_parts width values.now) out.old result out.new }
+    ensures { GathersBits (gathered ++ low_parts width values.now) out.old result out.new }
 {
     if width < 10 && values.len() == 7 {
         return put_low_groups::<7>(values, width, gathered, out);
@@ -142,7 +142,7 @@ fn put_written(
     requires values { values.now ≡ written_values block.now }
     requires len { IsHighLen k values.now len }
     requires room { length gathered + length (split_parts k values.now) ≤ out.old.room }
-    ensures { Gathers (gathered ++ split_parts k values.now) out.old result out.new }
+    ensures { GathersBits (gathered ++ split_parts k values.now) out.old result out.new }
 {
     if values.len() == 7 && block.reference().is_some() && len < 64 && k < 8 {
         return put_seven(block.values(), k, len, gathered, out);
@@ -155,7 +155,7 @@ fn put_written(
 fn put_pairs(values: &[u32], mut gathered: Gathered, out: &mut BitBuf) -> Gathered
     requires fits { length (pair_bits values.now) < 2 ^ 64 }
     requires room { length (gathered ++ pair_bits values.now) ≤ out.old.room }
-    ensures { Gathers (gathered ++ pair_bits values.now) out.old result out.new }
+    ensures { GathersBits (gathered ++ pair_bits values.now) out.old result out.new }
 {
     for i in 0..values.len() / 2 {
         let number = pair_len(values[2 * i], values[2 * i + 1]) - 1;

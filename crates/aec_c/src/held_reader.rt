@@ -58,8 +58,7 @@ fn pass(
     ensures refuses { IfErr result (λ fault. (k : ℕ) → IsOnWay k intervals reader.old
         → IsFaultOnWay k reader.old fault) }
 {
-    // For its clause `allowed`.
-    let _len = params.interval_len();
+    params.known_allowed();
     let mut left = intervals;
     let mut total = before;
     while left > 0 {
@@ -111,8 +110,7 @@ impl HeldReader {
         ensures settings { result ≡ self.now.place.settings }
         ensures allowed { IsAllowed result }
     {
-        // For its clause `allowed`.
-        let _len = self.params.interval_len();
+        self.params.known_allowed();
         self.params
     }
 
@@ -169,8 +167,7 @@ impl HeldReader {
           before = self.old.before + len;
         } }
     {
-        // For its clause `allowed`.
-        let _len = self.params.interval_len();
+        self.params.known_allowed();
         self.at = Stand {
             place: end,
             before: self.at.before + len,

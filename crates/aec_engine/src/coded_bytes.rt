@@ -34,8 +34,7 @@ fn coded_bits(alloc: Global, params: &Params, limits: Limits, bytes: &[u8]) -> R
     ensures { OrMemory (IsEncoded params.now limits (input_of bytes.now false))
         (answer_by (λ bits. bytes_of bits.list) result) }
 {
-    // For its clause `allowed`.
-    let _len = params.interval_len();
+    params.known_allowed();
     let mut coder = StreamCoder::new(alloc, *params, limits.samples());
     let mut bits = roomy_bits(alloc, bytes.len());
     coder.feed(bytes, &mut bits)?;

@@ -10,7 +10,6 @@ ghost use Rattle.aec_edit.specs.Runs.{AnswersAll, all_left};
 ghost use Rattle.aec_engine.specs.EditedStreams.{IsWritten};
 
 use crate::in_memory::refusal;
-use crate::known::known_allowed;
 use aec_bits::{BitBuf, WriteSink};
 use aec_edit::laws::runs_leave_samples;
 use aec_edit::{Outcome, write_edited};
@@ -57,7 +56,7 @@ fn write_stream(
         (stream_of params.now (all_left [] edits.now w.outcomes.items))) }
     ensures refuses { IfErr result (λ fault. fault ≡ Memory) }
 {
-    known_allowed(params);
+    params.known_allowed();
     let codec = AecCodec::new(alloc, *params);
     let mut sink = WriteSink::new(Vec::new(alloc));
     let edited = match write_edited(alloc, codec, limit, edits, &mut sink) {

@@ -8,7 +8,6 @@ mod coded_bytes;
 mod edited_streams;
 mod engine;
 mod in_memory;
-mod known;
 pub mod laws;
 mod numerals;
 mod script_edits;

@@ -15,7 +15,7 @@ use Rattle.aec_params.specs.Runs.{groups_of}
 use Rattle.aec_params.specs.Intervals.{group_sets, block_sets}
 use Rattle.aec_params.specs.Streams.{stream_of}
 use Rattle.aec_params.proofs.SettingLaws.{block_size-positive, interval-positive}
-use Rattle.aec_interval.specs.declared.interval.zero_runs.Run.{Run}
+use Rattle.aec_interval.specs.declared.interval.pending_run.Run.{Run}
 use Rattle.aec_interval.specs.Chunks.{block_after, blocks_after, HoldsPrevious}
 use Rattle.aec_interval.specs.Pending.{pending_bits, segment_bits, bits_of_run, IsKept}
 use Rattle.aec_interval.proofs.CuttingLemmas.{IsPieceBefore, pieces_of-cons}

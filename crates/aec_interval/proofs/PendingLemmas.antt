@@ -8,7 +8,7 @@ use Rattle.aec_params.specs.CodedDataSets.{cds_bits}
 use Rattle.aec_params.specs.Runs.{Group, single_block, with_zero_block, groups_of}
 use Rattle.aec_params.specs.Intervals.{group_sets}
 use Rattle.aec_block.specs.Written.{shortest_bits}
-use Rattle.aec_interval.specs.declared.interval.zero_runs.Run.{Run}
+use Rattle.aec_interval.specs.declared.interval.pending_run.Run.{Run}
 use Rattle.aec_interval.specs.Pending.{with_run, pending_bits, bits_of_run, IsKept}
 
 bits-run_alone : (s : Settings) (reference : Option ℕ) (z : ℕ) → flat_map (cds_bits s) (group_sets s (with_run reference z [])) ≡ bits_of_run s reference z true

@@ -1,5 +1,5 @@
 -- For proofs alone: no public contract cites this file.
--- What the private functions of `interval::zero_runs` and `interval` compute: what is still to be
+-- What the private functions of `interval::pending_run` and `interval` compute: what is still to be
 -- written after zero blocks that are counted. The contract of `append_interval` cites
 -- `interval_bits` instead.
 use Rattle.std.specs.Prelude.{◌≡◌, ℕ, ℤ, zero, suc, ◌+◌, ◌-◌, ◌==◌, ◌≤◌, Bool, length, take, if◌then◌else◌, Option, List, [], ◌∷◌, ◌++◌, Result, OnOk, OnErr, IfOk, IfErr}
@@ -15,7 +15,7 @@ use Rattle.aec_bits.specs.BitBuf.{Bits}
 use Rattle.aec_block.specs.Choices.{FitsReference}
 use Rattle.aec_block.specs.Written.{run_bits}
 use Rattle.aec_interval.specs.Chunks.{AreBlockAfter}
-use Rattle.aec_interval.specs.declared.interval.zero_runs.Run.{Run}
+use Rattle.aec_interval.specs.declared.interval.pending_run.Run.{Run}
 
 -- a run of z blocks before groups: it joins a run that comes first
 abbrev pub with_run : Option ℕ → ℕ → List Group → List Group

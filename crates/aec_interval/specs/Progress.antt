@@ -39,7 +39,7 @@ pub record IsProgress (terms : Terms) (progress : Progress) : Type 0 where
   pub within : progress.count ≤ terms.limit
 
 -- samples of an incomplete interval, and bytes of an incomplete sample after them, maybe none
-pub record IsBegun (terms : Terms) (so_far : Progress) (rest : List ℕ) : Type 0 where
+pub record IsProgressWithRest (terms : Terms) (so_far : Progress) (rest : List ℕ) : Type 0 where
   pub progress : IsProgress terms so_far
   pub short : length rest < storage_len terms.params
 
@@ -67,7 +67,7 @@ AnswersPiece c piece before result d after =
     MatchResult result (λ _. Feeds c piece before after d) (λ fault. StopsFeeding c piece before after fault)
 
 -- bytes are taken or refused if no sample is begun; samples of an incomplete interval are held then
-pub record Takes (terms : Terms) (old : Progress) (bytes : List ℕ) (before : List Bool)
+pub record TakesPart (terms : Terms) (old : Progress) (bytes : List ℕ) (before : List Bool)
     (result : Result (Unit {0}) Fault) (new : Progress) (after : List Bool) : Type 0 where
   pub takes : AnswersPiece (coder_at terms old []) bytes before result (coder_at terms new []) after
   pub progress : IsProgress terms new

@@ -47,8 +47,7 @@ impl AecCodec {
         ensures calls { ⟦<AecCodec as Codec>⟧.called result ≡ calls }
         ensures reads { ⟦<AecCodec as Codec>⟧.read result ≡ 0 }
     {
-        // For its clause `allowed`.
-        let _len = params.interval_len();
+        params.known_allowed();
         AecCodec {
             params,
             calls,
@@ -202,8 +201,7 @@ fn read_counted(
     ensures refuses { IfErr result
         (λ fault. RefusesReading params.now (Some count) count stream.now.list 0 pos fault) }
 {
-    // For its clause `allowed`.
-    let _len = params.interval_len();
+    params.known_allowed();
     let wanted = Wanted {
         first: 0,
         start: pos,

@@ -4,8 +4,8 @@
 //! writes it. `write_next` writes the same bits faster, by code compiled for the block size.
 
 mod filled_blocks;
+mod pending_run;
 mod short_blocks;
-mod zero_runs;
 
 ghost use Rattle.std.specs.Prelude.{◌≡◌, ◌-◌, ◌%◌, ◌<◌, ◌≤◌, ◌++◌, true, false, if◌then◌else◌, length, take, drop, OnOk, IfErr};
 ghost use Rattle.aec_params.specs.declared.fault.Fault.TheVariants.{Memory};
@@ -23,7 +23,7 @@ ghost use Rattle.aec_interval.specs.Pending.{IsKept, AreNext, TakesBlock, Writes
 use crate::block_sizes::by_block_size;
 use crate::interval::filled_blocks::map_block;
 use crate::interval::short_blocks::write_short;
-use crate::interval::zero_runs::{NO_RUN, Run, are_zero};
+use crate::interval::pending_run::{NO_RUN, Run, are_zero};
 use crate::segment::SEGMENT_BLOCKS;
 use aec_bits::BitBuf;
 use aec_block::write_shortest_of;

@@ -89,8 +89,7 @@ pub(crate) fn has_reference(params: &Params, place: u64) -> bool
     ensures value { result ≡ is_reference_block params.now place }
     ensures allowed { IsAllowed params.now }
 {
-    // For its clause `allowed`.
-    let _len = params.interval_len();
+    params.known_allowed();
     params.preprocess() && place == 0
 }
 
@@ -143,8 +142,7 @@ pub(crate) fn place_next(
     ensures after { IfOk result (λ next. block ≤ next) }
     ensures within { IfOk result (λ next. next ≤ block + blocks_before_end params.now block) }
 {
-    // For its clause `allowed`.
-    let _len = params.interval_len();
+    params.known_allowed();
     let blocks = block_count(params, place, len);
     if blocks > blocks_left(params, place) {
         return Err(Fault::RunTooLong { bit });
@@ -318,7 +316,7 @@ pub(crate) fn cut_to_count(params: &Params, wanted: Wanted, samples: &mut Vec<i6
 
 /// Puts the samples that the bits from `wanted.start` on stand for into an empty list: with a count
 /// the first `count`, and without one all samples of all blocks.
-pub(crate) fn decode_into(
+pub(crate) fn decode_list(
     alloc: Global,
     params: &Params,
     bits: &BitBuf,
@@ -375,6 +373,6 @@ pub(crate) fn decode_from(
         fault) }
 {
     let mut samples = Vec::new(alloc);
-    decode_into(alloc, params, bits, wanted, &mut samples)?;
+    decode_list(alloc, params, bits, wanted, &mut samples)?;
     Ok(samples)
 }

@@ -27,13 +27,13 @@ pub struct StreamCoder {
 
 impl Model for StreamCoder {
     ghost use Rattle.aec_interval.specs.Feeding.{Coder};
-    ghost use Rattle.aec_interval.specs.Progress.{IsBegun, coder_with};
+    ghost use Rattle.aec_interval.specs.Progress.{IsProgressWithRest, coder_with};
 
     ghost Value = { Coder };
 
     ghost view = { λ c. coder_with c.terms c.progress c.rest c.refusal };
 
-    ghost invariant = { λ c. IsBegun c.terms c.progress c.rest };
+    ghost invariant = { λ c. IsProgressWithRest c.terms c.progress c.rest };
 }
 
 impl StreamCoder {
@@ -48,8 +48,7 @@ impl StreamCoder {
     pub fn new(alloc: Global, params: Params, limit: u64) -> StreamCoder
         ensures { result ≡ fresh_coder params limit }
     {
-        // For its clause `allowed`.
-        let _len = params.interval_len();
+        params.known_allowed();
         StreamCoder {
             terms: Terms { params, limit },
             progress: Progress {

@@ -75,8 +75,7 @@ impl<'a> StreamReader<'a> {
         ensures { self.new ≡ place_at self.old.settings self.old.count self.old.limit self.old.bits
             0 0 }
     {
-        // For its clause `allowed`.
-        let _len = self.params.interval_len();
+        self.params.known_allowed();
         self.reader.seek(0);
         self.block = 0;
     }
@@ -100,8 +99,7 @@ impl<'a> StreamReader<'a> {
         ensures { let old = self.old in
             self.new ≡ place_at old.settings old.count old.limit old.bits place.block place.bit }
     {
-        // For its clause `allowed`.
-        let _len = self.params.interval_len();
+        self.params.known_allowed();
         self.reader.seek(place.bit);
         self.block = place.block;
     }

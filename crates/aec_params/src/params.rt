@@ -110,6 +110,13 @@ impl Params {
         u64::from(self.settings.block_size) * u64::from(self.settings.interval)
     }
 
+    /// Does nothing: its clause says that the settings are allowed.
+    #[inline(always)]
+    pub fn known_allowed(&self)
+        ensures { IsAllowed self.now }
+    {
+    }
+
     /// Bits of an identifier, 1 to 5, by the bits per sample and the code set (FORMAT.md §6).
     pub fn id_len(&self) -> u32
         ensures value { result ≡ identifier_len self.now }

@@ -3,7 +3,7 @@
 
 ghost use Rattle.std.specs.Prelude.{◌≡◌, ◌*◌, ◌^◌, ◌<◌, ◌≤◌, length};
 ghost use Rattle.aec_block.specs.BlockShape.{most_values};
-ghost use Rattle.aec_block.specs.Lengths.{IsBestSplit, IsCounted};
+ghost use Rattle.aec_block.specs.Lengths.{IsBestSplit, IsSplitLen};
 ghost use Rattle.aec_block.specs.Choices.{IsFull, IsChoice};
 
 use crate::block::Block;
@@ -21,7 +21,7 @@ fn first_best(values: &[u32], options: u32) -> Splitting
     requires options { options ≤ 32 }
     requires len { length values.now ≤ most_values }
     ensures best { IsBestSplit options result.k values.now }
-    ensures counted { IsCounted values.now result }
+    ensures counted { IsSplitLen values.now result }
 {
     let last = options - 1;
     let mut sum = shifted_sum(values, 0);

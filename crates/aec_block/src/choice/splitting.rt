@@ -3,7 +3,7 @@
 ghost use Rattle.std.specs.Prelude.{◌≡◌, ◌+◌, ◌*◌, ◌^◌, ◌<◌, ◌≤◌, ℕ, nat_lt, length};
 ghost use Rattle.std.specs.List.{AllByRecursion};
 ghost use Rattle.aec_block.specs.BlockShape.{most_values};
-ghost use Rattle.aec_block.specs.Lengths.{sum_of_shifted, IsSum, AreBelow, HaveEqualSums, BeginsAt, IsBestSplit, IsCounted};
+ghost use Rattle.aec_block.specs.Lengths.{sum_of_shifted, IsSum, AreFewBelow, HaveEqualSums, BeginsAt, IsBestSplit, IsSplitLen};
 
 use crate::choice::sums::shifted_sum;
 use crate::choice::sums_of_three::{small_shifted_sum, three_sums};
@@ -86,7 +86,7 @@ fn first_k(sum: u64, count: u64, last: u32) -> u32
 /// The sum of values below `2^bits`: in lanes of 32 bits where 64 of them fit these.
 #[inline(always)]
 fn sum_of_values(values: &[u32], bits: u32) -> u64
-    requires { AreBelow bits values.now }
+    requires { AreFewBelow bits values.now }
     ensures { IsSum 0 values.now (2 ^ 39) result }
 {
     if bits <= 26 {
@@ -102,7 +102,7 @@ fn sum_of_values(values: &[u32], bits: u32) -> u64
 fn sum_from(values: &[u32], bits: u32, total: u64, k: u32) -> u64
     requires total { IsSum 0 values.now (2 ^ 39) total }
     requires k { k < 32 }
-    requires values { AreBelow bits values.now }
+    requires values { AreFewBelow bits values.now }
     ensures { IsSum k values.now (2 ^ 39) result }
 {
     if k == 0 {
@@ -125,7 +125,7 @@ fn best_of_three(all: &[u32], values: &[u32], first: u32) -> Splitting
         → 3 * length values.now * 2 ^ j < sum_of_shifted 0 values.now }
     requires there { sum_of_shifted 0 values.now ≤ 3 * length values.now * 2 ^ first }
     ensures best { (options : ℕ) → first + 2 < options → IsBestSplit options result.k values.now }
-    ensures counted { IsCounted values.now result }
+    ensures counted { IsSplitLen values.now result }
 {
     let sums = three_sums(all, first);
     let count = values.len();
@@ -150,7 +150,7 @@ pub(crate) fn best_split(all: &[u32], values: &[u32], bits: u32, options: u32) -
     requires options { options ≤ 32 }
     requires equal { HaveEqualSums all.now values.now }
     ensures best { 0 < options → IsBestSplit options result.k values.now }
-    ensures counted { IsCounted values.now result }
+    ensures counted { IsSplitLen values.now result }
 {
     let last = options.saturating_sub(1);
     let total = sum_of_values(all, bits);

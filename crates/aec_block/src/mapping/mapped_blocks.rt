@@ -113,7 +113,6 @@ pub fn map_first(params: &Params, samples: &[i64], values: &mut [u32])
     requires samples { HaveValuePlaces params.now samples.now values.old }
     ensures { values.new ≡ mapped_values params.now samples.now }
 {
-    // For its clause `allowed`.
-    let _len = params.interval_len();
+    params.known_allowed();
     map_list(params, samples[0], samples, values);
 }

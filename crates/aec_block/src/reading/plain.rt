@@ -136,8 +136,7 @@ pub fn read_plain_first<const M: usize>(
     ensures len { length values.new ≡ length values.old }
     ensures list { reader.new.list ≡ reader.old.list }
 {
-    // For its clause `allowed`.
-    let _len = params.interval_len();
+    params.known_allowed();
     let start = reader.pos();
     values[0] = 0;
     match fill_first::<M>(params, reader, &mut values[1..]) {

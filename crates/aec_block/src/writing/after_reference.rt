@@ -2,7 +2,7 @@
 
 ghost use Rattle.std.specs.Prelude.{◌≡◌, ◌+◌, ◌*◌, ◌^◌, ◌<◌, ◌≤◌, ◌++◌, length, drop};
 ghost use Rattle.aec_block.specs.BlockShape.{AreSevenAfterZero};
-ghost use Rattle.aec_block.specs.Written.{high_parts, low_parts, split_parts, FitsHighWord, Spells, Gathers};
+ghost use Rattle.aec_block.specs.Written.{high_parts, low_parts, split_parts, FitsHighWord, Spells, GathersBits};
 
 use crate::writing::gathered::Gathered;
 use crate::writing::joined_high_parts::eight_highs;
@@ -52,7 +52,7 @@ pub(crate) fn put_seven(
     requires len { len ≡ length (high_parts k (drop 1 all.now)) }
     requires few { len < 64 }
     requires room { length gathered + length (split_parts k (drop 1 all.now)) ≤ out.old.room }
-    ensures { Gathers (gathered ++ split_parts k (drop 1 all.now)) out.old result out.new }
+    ensures { GathersBits (gathered ++ split_parts k (drop 1 all.now)) out.old result out.new }
 {
     let high = gathered.put(high_word_of_seven(all, k), len as u32, out);
     high.put(low_word_of_seven(all, k), 7 * k, out)

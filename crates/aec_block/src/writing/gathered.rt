@@ -25,7 +25,7 @@ impl Model for Gathered {
 impl Gathered {
     ghost use Rattle.std.specs.Prelude.{◌≡◌, ◌+◌, ◌<◌, ◌≤◌, ◌^◌, ◌++◌, [], length, nat_le};
     ghost use Rattle.aec_params.specs.Codewords.{fs, binary};
-    ghost use Rattle.aec_block.specs.Written.{FitsWidth, Adds, Gathers};
+    ghost use Rattle.aec_block.specs.Written.{FitsPart, Adds, GathersBits};
 
     /// No bits.
     #[inline(always)]
@@ -59,7 +59,7 @@ impl Gathered {
     /// These bits and those of a number, for which the word has a place.
     #[inline(always)]
     fn joined(self, value: u64, width: u32) -> Gathered
-        requires number { FitsWidth width value }
+        requires number { FitsPart width value }
         requires place { length self + width ≤ 64 }
         ensures { result ≡ self ++ binary width value }
     {
@@ -82,9 +82,9 @@ impl Gathered {
     /// appended to the list, which has room for all.
     #[inline(always)]
     pub(crate) fn put(self, value: u64, width: u32, out: &mut BitBuf) -> Gathered
-        requires number { FitsWidth width value }
+        requires number { FitsPart width value }
         requires room { length self + width ≤ out.old.room }
-        ensures { Gathers (self ++ binary width value) out.old result out.new }
+        ensures { GathersBits (self ++ binary width value) out.old result out.new }
     {
         if self.has_place_for(width) {
             return self.joined(value, width);
@@ -97,7 +97,7 @@ impl Gathered {
     #[inline(always)]
     pub(crate) fn put_fs(self, v: u64, out: &mut BitBuf) -> Gathered
         requires room { length self + (v + 1) ≤ out.old.room }
-        ensures { Gathers (self ++ fs v) out.old result out.new }
+        ensures { GathersBits (self ++ fs v) out.old result out.new }
     {
         if v < 63 {
             return self.put(1, v as u32 + 1, out);

@@ -3,7 +3,7 @@
 ghost use Rattle.std.specs.Prelude.{◌≡◌, ◌+◌, ◌^◌, ◌<◌, ◌≤◌, ◌++◌, length};
 ghost use Rattle.aec_block.specs.BlockShape.{most_values};
 ghost use Rattle.aec_block.specs.Lengths.{FitsLanes};
-ghost use Rattle.aec_block.specs.Written.{high_parts, IsHighLen, Gathers};
+ghost use Rattle.aec_block.specs.Written.{high_parts, IsHighLen, GathersBits};
 
 use crate::writing::gathered::Gathered;
 use crate::writing::joined_high_parts::{high_word, high_word_len};
@@ -13,7 +13,7 @@ use aec_bits::BitBuf;
 fn put_each_high_part(values: &[u32], k: u32, mut gathered: Gathered, out: &mut BitBuf) -> Gathered
     requires k { k < 32 }
     requires room { length (gathered ++ high_parts k values.now) ≤ out.old.room }
-    ensures { Gathers (gathered ++ high_parts k values.now) out.old result out.new }
+    ensures { GathersBits (gathered ++ high_parts k values.now) out.old result out.new }
 {
     for v in values {
         gathered = gathered.put_fs(u64::from(*v >> k), out);
@@ -27,7 +27,7 @@ fn put_high_group(values: &[u32], k: u32, gathered: Gathered, out: &mut BitBuf) 
     requires len { length values.now ≤ most_values }
     requires lanes { FitsLanes k values.now }
     requires room { length (gathered ++ high_parts k values.now) ≤ out.old.room }
-    ensures { Gathers (gathered ++ high_parts k values.now) out.old result out.new }
+    ensures { GathersBits (gathered ++ high_parts k values.now) out.old result out.new }
 {
     let bits = high_word_len(values, k);
     if bits < 64 {
@@ -41,7 +41,7 @@ fn put_high_group(values: &[u32], k: u32, gathered: Gathered, out: &mut BitBuf) 
 fn put_high_groups(values: &[u32], k: u32, mut gathered: Gathered, out: &mut BitBuf) -> Gathered
     requires lanes { FitsLanes k values.now }
     requires room { length (gathered ++ high_parts k values.now) ≤ out.old.room }
-    ensures { Gathers (gathered ++ high_parts k values.now) out.old result out.new }
+    ensures { GathersBits (gathered ++ high_parts k values.now) out.old result out.new }
 {
     for i in 0..values.len() / 8 {
         gathered = put_high_group(&values[8 * i..8 * i + 8], k, gathered, out);
@@ -61,7 +61,7 @@ pub(crate) fn put_high_parts(
 ) -> Gathered
     requires len { IsHighLen k values.now len }
     requires room { length (gathered ++ high_parts k values.now) ≤ out.old.room }
-    ensures { Gathers (gathered ++ high_parts k values.now) out.old result out.new }
+    ensures { GathersBits (gathered ++ high_parts k values.now) out.old result out.new }
 {
     if len < 64 {
         return gathered.put(high_word(values, k), len as u32, out);

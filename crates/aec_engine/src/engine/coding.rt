@@ -7,7 +7,6 @@ ghost use Rattle.aec_engine.specs.Output.{IsEncoded, are_refused};
 ghost use Rattle.aec_engine.specs.Delivering.{Delivers};
 
 use crate::engine::intake::PIECE;
-use crate::known::known_allowed;
 use aec_bits::{BitBuf, Sink, Source};
 use aec_interval::StreamCoder;
 use aec_params::{Fault, Limits, Params};
@@ -40,7 +39,7 @@ pub fn encode<R: Source, W: Sink>(
         let enough : List ℕ → Bool = are_refused params.now limits.samples in
         Leaves (IsEncoded params.now limits) took enough put result }
 {
-    known_allowed(params);
+    params.known_allowed();
     let mut coder = StreamCoder::new(alloc, *params, limits.samples());
     let mut bits = BitBuf::new(alloc);
     let mut piece = [0u8; PIECE];

@@ -17,7 +17,7 @@ ghost use Rattle.aec_engine.specs.Buffers.{FillsOne, OrMemory};
 use crate::engine::decoding::keep_more;
 use crate::engine::ranging::judge_range;
 use crate::engine::two_readings::{
-    WAITING, append_stored, judge_from, judge_samples, part_of, room_at_once,
+    Part, WAITING, append_stored, judge_from, judge_samples, part_of, room_at_once,
 };
 use aec_bits::BitBuf;
 use aec_interval::StreamReader;
@@ -49,108 +49,92 @@ fn put_behind(params: &Params, samples: &[i64], at: usize, out: &mut [u8]) -> us
     end
 }
 
-/// Reads the samples from where the reader is, after `before` samples, up to the last that is asked
-/// for, and puts the bytes of `len` of them from place `first` on into `out`, which has this
-/// length. Never fails with `Memory`.
+/// Reads the samples from where the reader is up to the last of a part, and puts the bytes of the
+/// part into `out`, which has their length. Never fails with `Memory`.
 fn fill_range(
     params: &Params,
     reader: &mut StreamReader,
-    before: u64,
-    first: u64,
-    len: u64,
+    part: Part,
     samples: &mut Vec<i64>,
     out: &mut [u8],
 ) -> Result<(), Fault>
     requires settings { reader.old.settings ≡ params.now }
     requires read { (xs : List ℤ) × AreSamplesOf reader.old xs
-        × (length out.old ≡ storage_len params.now * length (samples_from first len xs)) }
-    requires begun { IsBegun reader.old before first }
-    requires room { 0 < len → interval_len params.now ≤ vec_capacity samples.old }
+        × (length out.old ≡ storage_len params.now
+        * length (samples_from part.first part.len xs)) }
+    requires begun { IsBegun reader.old part.before part.first }
+    requires room { 0 < part.len → interval_len params.now ≤ vec_capacity samples.old }
     ensures sound { IsOk result }
     ensures filled { (xs : List ℤ) → AreSamplesOf reader.old xs
-        → out.new ≡ all_stored params.now (samples_from first len xs) }
+        → out.new ≡ all_stored params.now (samples_from part.first part.len xs) }
 {
-    // For its clause `allowed`.
-    let _len = params.interval_len();
-    let mut skip = first - before;
-    let mut left = len;
+    params.known_allowed();
+    let mut skip = part.first - part.before;
+    let mut left = part.len;
     let mut at = 0;
     while left > 0 && reader.next_few(samples.capacity() as u64, samples)? {
-        let part = part_of(samples, skip, left);
-        left -= part.len() as u64;
-        at = put_behind(params, part, at, out);
+        let wanted = part_of(samples, skip, left);
+        left -= wanted.len() as u64;
+        at = put_behind(params, wanted, at, out);
         skip = skip.saturating_sub(samples.len() as u64);
     }
     Ok(())
 }
 
-/// Puts the bytes of `len` samples from place `first` on to the front of a buffer, where there is
-/// room for them; the reader is after `before` samples. Returns how many bytes they take. Fails
-/// with `Memory` if the room for an interval of samples is refused.
+/// Puts the bytes of a part of the samples to the front of a buffer, if there is room for them.
+/// Returns how many bytes they take. Fails with `Memory` if the allocation for an interval of
+/// samples fails.
 fn put_range_front(
     alloc: Global,
     params: &Params,
     reader: &mut StreamReader,
-    before: u64,
-    first: u64,
-    len: u64,
+    part: Part,
     out: &mut [u8],
 ) -> Result<u64, Fault>
     requires settings { reader.old.settings ≡ params.now }
     requires read { (xs : List ℤ) × AreSamplesOf reader.old xs
-        × (length (samples_from first len xs) ≡ len) }
-    requires few { len ≤ 2 ^ 32 }
-    requires begun { IsBegun reader.old before first }
+        × (length (samples_from part.first part.len xs) ≡ part.len) }
+    requires few { part.len ≤ 2 ^ 32 }
+    requires begun { IsBegun reader.old part.before part.first }
     ensures { (xs : List ℤ) → AreSamplesOf reader.old xs
-        → FillsOne (StoresPart params.now first len xs) out.old out.new result }
+        → FillsOne (StoresPart params.now part.first part.len xs) out.old out.new result }
 {
-    let size = len * params.storage() as u64;
+    let size = part.len * params.storage() as u64;
     if size > out.len() as u64 {
         return Ok(size);
     }
     let mut samples = room_at_once(alloc, params)?;
     let front = &mut out[..size as usize];
-    fill_range(params, reader, before, first, len, &mut samples, front)?;
+    fill_range(params, reader, part, &mut samples, front)?;
     Ok(size)
 }
 
-/// Puts kept bytes, and behind them the bytes of the `left` samples behind the first `kept`, to the
-/// front of a buffer, where there is room for them; `before` samples are behind the reader. How
-/// many bytes they are. Takes no memory.
+/// Puts kept bytes, and after them the bytes of the rest of the samples, to the front of a buffer,
+/// if there is room for them. Returns how many bytes they are. Allocates nothing.
 fn put_kept(
     params: &Params,
     reader: &mut StreamReader,
     bytes: &[u8],
-    before: u64,
-    kept: u64,
-    left: u64,
+    rest: Part,
     samples: &mut Vec<i64>,
     out: &mut [u8],
 ) -> Result<u64, Fault>
     requires settings { reader.old.settings ≡ params.now }
     requires read { (xs : List ℤ) × AreSamplesOf reader.old xs
-        × (length (samples_from kept left xs) ≡ left) }
-    requires few { left ≤ 2 ^ 32 }
-    requires begun { IsBegun reader.old before kept }
-    requires room { 0 < left → interval_len params.now ≤ vec_capacity samples.old }
+        × (length (samples_from rest.first rest.len xs) ≡ rest.len) }
+    requires few { rest.len ≤ 2 ^ 32 }
+    requires begun { IsBegun reader.old rest.before rest.first }
+    requires room { 0 < rest.len → interval_len params.now ≤ vec_capacity samples.old }
     ensures { (xs : List ℤ) → AreSamplesOf reader.old xs
         → FillsOne (λ answer. answer ≡ Ok (bytes.now
-        ++ all_stored params.now (samples_from kept left xs))) out.old out.new result }
+        ++ all_stored params.now (samples_from rest.first rest.len xs))) out.old out.new result }
 {
-    let size = bytes.len() + left as usize * params.storage();
+    let size = bytes.len() + rest.len as usize * params.storage();
     if size > out.len() {
         return Ok(size as u64);
     }
     out[..bytes.len()].copy_from_slice(bytes);
-    fill_range(
-        params,
-        reader,
-        before,
-        kept,
-        left,
-        samples,
-        &mut out[bytes.len()..size],
-    )?;
+    fill_range(params, reader, rest, samples, &mut out[bytes.len()..size])?;
     Ok(size as u64)
 }
 
@@ -204,8 +188,7 @@ fn read_first(
     ensures refuses { IfErr result (λ fault. let old = reader.old in
         RefusesReading old.settings old.count old.limit old.bits 0 0 fault) }
 {
-    // For its clause `allowed`.
-    let _len = params.interval_len();
+    params.known_allowed();
     let _more = reader.next_few(FIRST, samples)?;
     Ok(())
 }
@@ -283,24 +266,19 @@ fn decode_rest_into(
     ensures { FillsOne (DecodesBits params.now reader.old.count reader.old.limit reader.old.bits)
         out.old out.new result }
 {
-    // For its clause `allowed`.
-    let _len = params.interval_len();
+    params.known_allowed();
     let mut bytes = first_bytes(alloc, params, samples, samples.capacity())?;
     let first = samples.len() as u64;
     let kept = keep_more(params, reader, first, samples, &mut bytes)?;
     let judged = judge_from(params, reader, kept, kept)?;
     let left = judged.total.saturating_sub(kept);
     room_for_rest(params, left, samples)?;
-    put_kept(
-        params,
-        reader,
-        &bytes,
-        judged.before,
-        kept,
-        left,
-        samples,
-        out,
-    )
+    let rest = Part {
+        before: judged.before,
+        first: kept,
+        len: left,
+    };
+    put_kept(params, reader, &bytes, rest, samples, out)
 }
 
 /// Reads the samples that come at once, and puts their bytes to the front of a buffer, if there is
@@ -316,8 +294,7 @@ fn decode_bits_into(
     ensures { FillsOne (DecodesBits params.now count limits.samples bits.now.list) out.old out.new
         result }
 {
-    // For its clause `allowed`.
-    let _len = params.interval_len();
+    params.known_allowed();
     let mut reader = StreamReader::new(alloc, *params, bits, count, limits.samples())?;
     let mut samples = first_room(alloc, params, count)?;
     read_first(params, &mut reader, &mut samples)?;
@@ -366,12 +343,16 @@ fn range_bits_into(
     ensures { FillsOne (CutsBits params.now count limits.samples first len bits.now.list) out.old
         out.new result }
 {
-    // For its clause `allowed`.
-    let _len = params.interval_len();
+    params.known_allowed();
     let mut reader = StreamReader::new(alloc, *params, bits, count, limits.samples())?;
     let judged = judge_samples(params, &mut reader, first)?;
     judge_range(first, len, judged.total)?;
-    put_range_front(alloc, params, &mut reader, judged.before, first, len, out)
+    let part = Part {
+        before: judged.before,
+        first,
+        len,
+    };
+    put_range_front(alloc, params, &mut reader, part, out)
 }
 
 /// Does the same as `decode_into` with `len` of these samples from place `first` on. The refusals

@@ -13,7 +13,6 @@ ghost use Rattle.aec_engine.specs.Transfers.{Putting, putting_of};
 ghost use Rattle.aec_engine.specs.ReadingTwice.{AreSamplesOf, EndsAt, HasSpare, HaveSamples, IsAtStart, IsBegun, IsReadyAt, Judges, SettlesOne, StoresPart};
 ghost use Rattle.aec_engine.specs.Delivering.{Delivers, HaveRoom, PutsAllOrFront, PutsPart, SinkState, StaysBegun, sink_state};
 
-use crate::known::known_allowed;
 use aec_bits::{Sink, put_all};
 use aec_interval::{ReachedPlace, StreamReader};
 use aec_params::{Fault, Params, put_samples};
@@ -76,7 +75,7 @@ pub(crate) fn judge_from(
     ensures refuses { IfErr result (λ fault. let old = reader.old in
         RefusesReading old.settings old.count old.limit old.bits 0 0 fault) }
 {
-    known_allowed(params);
+    params.known_allowed();
     let mut total = before;
     let mut begin = Begin {
         place: reader.place(),

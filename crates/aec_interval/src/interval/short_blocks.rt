@@ -13,7 +13,7 @@ ghost use Rattle.aec_interval.specs.Chunks.{values_after, reference_after, block
 ghost use Rattle.aec_interval.specs.Pending.{IsRun, AreNext, TakesBlock};
 
 use crate::interval::filled_blocks::reference_of;
-use crate::interval::zero_runs::{NO_RUN, Run};
+use crate::interval::pending_run::{NO_RUN, Run};
 use crate::segment::previous_of;
 use aec_bits::BitBuf;
 use aec_block::{Block, choose, map, write_block};

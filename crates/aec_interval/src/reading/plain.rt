@@ -65,8 +65,7 @@ pub(crate) fn fill_plain_blocks<const N: usize, const COPY: usize>(
         samples.new }
     ensures count { length values.new ≡ length values.old }
 {
-    // For its clause `allowed`.
-    let _len = params.interval_len();
+    params.known_allowed();
     let mut count = 0;
     let mut at = from;
     while count < most {

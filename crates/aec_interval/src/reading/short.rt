@@ -50,8 +50,7 @@ fn fill_reference_block<const M: usize>(
     ensures count { length values.new ≡ length values.old }
     ensures len { length samples.new ≡ length samples.old }
 {
-    // For its clause `allowed`.
-    let _len = params.interval_len();
+    params.known_allowed();
     match read_plain_first::<M>(params, reader, values) {
         None => false,
         Some(pattern) => {
@@ -80,8 +79,7 @@ fn fill_unpredicted_block<const N: usize>(
     ensures count { length values.new ≡ length values.old }
     ensures len { length samples.new ≡ length samples.old }
 {
-    // For its clause `allowed`.
-    let _len = params.interval_len();
+    params.known_allowed();
     if !read_plain::<N, FIRST_UNPREDICTED>(params, reader, values) {
         return false;
     }
@@ -153,8 +151,7 @@ fn fill_plain_interval<const N: usize, const M: usize, const KIND: usize>(
     ensures count { length values.new ≡ length values.old }
     ensures len { length samples.new ≡ length samples.old }
 {
-    // For its clause `allowed`.
-    let _len = params.interval_len();
+    params.known_allowed();
     let start = reader.pos();
     if fill_first_block::<N, M, KIND>(params, reader, values, samples)
         && fill_rest::<N, KIND>(params, reader, values, samples)
@@ -175,8 +172,7 @@ fn read_whole_run(params: &Params, reader: &mut BitReader) -> Option<i64>
     ensures stays { is_some result ≡ false → reader.new ≡ reader.old }
     ensures list { reader.new.list ≡ reader.old.list }
 {
-    // For its clause `allowed`.
-    let _len = params.interval_len();
+    params.known_allowed();
     let start = reader.pos();
     if let Some((reference, len)) = read_run(params, reader, params.preprocess()) {
         if block_count(params, 0, len) == u64::from(params.interval()) {

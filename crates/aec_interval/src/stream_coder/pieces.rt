@@ -6,7 +6,7 @@ ghost use Rattle.aec_params.specs.Params.{IsAllowed, interval_len, storage_len};
 ghost use Rattle.aec_params.specs.Stored.{byte_groups, samples_of_bytes};
 ghost use Rattle.aec_interval.specs.Taking.{taken_groups};
 ghost use Rattle.aec_interval.specs.Feeding.{StopsFeeding};
-ghost use Rattle.aec_interval.specs.Progress.{IsProgress, IsBegun, IsPart, AnswersPiece, Takes, FeedsFront, IsFewOrWhole, refusal_at, coder_at};
+ghost use Rattle.aec_interval.specs.Progress.{IsProgress, IsProgressWithRest, IsPart, AnswersPiece, TakesPart, FeedsFront, IsFewOrWhole, refusal_at, coder_at};
 
 use crate::interval::append_intervals;
 use crate::stream_coder::held_samples::HeldSamples;
@@ -53,7 +53,7 @@ fn take_part(
 ) -> Result<(), Fault>
     requires progress { IsProgress terms.now progress.old }
     requires part { IsPart terms.now progress.old part.now }
-    ensures { Takes terms.now progress.old part.now out.old.list result progress.new out.new.list }
+    ensures { TakesPart terms.now progress.old part.now out.old.list result progress.new out.new.list }
 {
     progress.held.push_stored(&terms.params, part)?;
     progress.count += (part.len() / terms.params.storage()) as u64;
@@ -164,7 +164,7 @@ fn complete_rest<'a>(
     piece: &'a [u8],
     out: &mut BitBuf,
 ) -> Result<&'a [u8], Fault>
-    requires begun { IsBegun terms.now progress.old rest.old }
+    requires begun { IsProgressWithRest terms.now progress.old rest.old }
     requires enough { storage_len terms.now.params ≤ length rest.old + length piece.now }
     ensures completes { MatchResult result
         (λ left. FeedsFront (coder_at terms.now progress.old rest.old) piece.now left.now
@@ -195,10 +195,10 @@ pub(crate) fn take_piece(
     piece: &[u8],
     out: &mut BitBuf,
 ) -> Result<(), Fault>
-    requires begun { IsBegun terms.now progress.old rest.old }
+    requires begun { IsProgressWithRest terms.now progress.old rest.old }
     ensures takes { AnswersPiece (coder_at terms.now progress.old rest.old) piece.now
         out.old.list result (coder_at terms.now progress.new rest.new) out.new.list }
-    ensures begun { IsBegun terms.now progress.new rest.new }
+    ensures begun { IsProgressWithRest terms.now progress.new rest.new }
 {
     let width = terms.params.storage();
     if piece.len() < width - rest.len() {

@@ -1,7 +1,7 @@
 use Rattle.std.proofs.Common.{◌≡◌, ◌<◌, ◌+◌, ◌-◌, ◌*◌, ◌++◌, subst, arith, rules, refl, get_or, length, ℕ}
 use Rattle.aec_params.specs.Codewords.{fs}
 use Rattle.aec_params.specs.CodedDataSets.{pair_number}
-use Rattle.aec_block.specs.Written.{Gathers}
+use Rattle.aec_block.specs.Written.{GathersBits}
 use Rattle.aec_block.proofs.LengthLemmas.{length-fs}
 use Rattle.aec_block.proofs.WritingLemmas.{gathering-more, gathered-all, length-parts, pair_bits-drop, pair_bits-drop_end}
 use Rattle.aec_block.proofs.writing.put_pairs.Goals as goal
@@ -25,7 +25,7 @@ loop-i-preserved c =
     let is : c.pair_len-number.result - 1 ≡ number = omega (arith, c.pair_len-number.ensures.len) in
     let split = pair_bits-drop c.args.values.now (2 * c.loop-i.i) (2 * c.loop-i.i + 1) (2 * (c.loop-i.i + 1)) refl after within in
     let next = length-parts _ _ _ (number + 1) split (length-fs number) in
-    let step = subst (λ (v : ℕ). Gathers (c.loop-i.gathered ++ fs v) c.loop-i.out c.put_fs-gathered.result c.put_fs-gathered.new.out)
+    let step = subst (λ (v : ℕ). GathersBits (c.loop-i.gathered ++ fs v) c.loop-i.out c.put_fs-gathered.result c.put_fs-gathered.new.out)
     is c.put_fs-gathered.ensures in
     (gathering-more _ _ _ _ _ _ _ _ _ c.loop-i.invariant.0 split step, omega (arith, next, c.loop-i.invariant.1))
 

@@ -15,7 +15,7 @@ pub overflow_add-total : goal.overflow_add-total
 overflow_add-total c =
     let has = some_interval c.loop-left.reader c.skip.new.self _ c.in-Some.len c.in_ok-len.ensures.skipped c.in-Some.is in
     let most = counts_within c.args.reader.now c.loop-left.reader c.skip.new.self c.loop-left.total c.in-Some.len
-    (subst IsAllowed (sym c.requires.settings) c.interval_len-len.ensures.allowed) c.loop-left.invariant.counts has c.skip.ensures.few in
+    (subst IsAllowed (sym c.requires.settings) c.known_allowed.ensures) c.loop-left.invariant.counts has c.skip.ensures.few in
     omega (arith, most)
 
 pub loop-left-preserved-in-Some : goal.loop-left-preserved-in-Some
@@ -23,7 +23,7 @@ loop-left-preserved-in-Some c =
     let has = some_interval c.loop-left.reader c.skip.new.self _ c.in-Some.len c.in_ok-len.ensures.skipped c.in-Some.is in
     record {
       counts = counts_interval c.args.reader.now c.loop-left.reader c.skip.new.self c.loop-left.total _ c.in-Some.len
-          (subst IsAllowed (sym c.requires.settings) c.interval_len-len.ensures.allowed) c.loop-left.invariant.counts has refl c.skip.ensures.few;
+          (subst IsAllowed (sym c.requires.settings) c.known_allowed.ensures) c.loop-left.invariant.counts has refl c.skip.ensures.few;
       way = λ k from. way_on k c.loop-left.left (c.loop-left.left - 1) c.loop-left.reader c.skip.new.self has.samples
           (omega (arith, c.loop-left-test.true)) (c.loop-left.invariant.way k from) has.read;
     }

@@ -7,10 +7,10 @@ pub returns-in_err-feed : goal.returns-in_err-feed
 returns-in_err-feed c =
     let exit = err_from_is_err_and c.from_residual.result c.from_residual.ensures.1 in
     stopped_at_once (λ bits. bytes_of bits.list) _ exit.0 c.in_err-feed.field-0.0 c.args.params.now c.args.limits c.samples.result c.args.bytes.now _ _
-    c.new-coder.result _ exit.1 exit.2 c.interval_len-len.ensures.allowed c.samples.ensures.value c.new-coder.ensures c.in_err-feed.ensures.refuses
+    c.new-coder.result _ exit.1 exit.2 c.known_allowed.ensures c.samples.ensures.value c.new-coder.ensures c.in_err-feed.ensures.refuses
 
 pub returns : goal.returns
 returns c =
     coded_at_once c.args.params.now c.args.limits c.samples.result c.args.bytes.now _ _ c.finish.new.out.list c.new-coder.result _
-    c.interval_len-len.ensures.allowed c.samples.ensures.value c.roomy_bits-bits.ensures c.new-coder.ensures c.in_ok-feed.ensures.ok
+    c.known_allowed.ensures c.samples.ensures.value c.roomy_bits-bits.ensures c.new-coder.ensures c.in_ok-feed.ensures.ok
     c.in_ok-finish.ensures.ok

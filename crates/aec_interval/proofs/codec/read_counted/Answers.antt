@@ -13,5 +13,5 @@ returns-in_err-read_interval-clause-refuses c =
 pub returns-clause-ok : goal.returns-clause-ok
 returns-clause-ok c =
     let read = c.in_ok-read_interval.ensures in
-    counted-interval c.args.params.now c.args.count c.args.count _ _ _ _ _ _ _ c.interval_len-len.ensures.allowed c.requires.few
+    counted-interval c.args.params.now c.args.count c.args.count _ _ _ _ _ _ _ c.known_allowed.ensures c.requires.few
     (read.list ∙ (c.seek.ensures.list ∙ c.new-reader.ensures.list)) read.ok read.over c.cut_to_count.ensures.items

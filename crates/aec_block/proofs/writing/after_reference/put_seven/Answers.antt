@@ -1,6 +1,6 @@
 use Rattle.std.proofs.Common.{◌++◌, Bool, List, drop, subst, arith, length-append, append_assoc}
 use Rattle.aec_params.specs.Codewords.{binary}
-use Rattle.aec_block.specs.Written.{high_parts, low_parts, Gathers}
+use Rattle.aec_block.specs.Written.{high_parts, low_parts, GathersBits}
 use Rattle.aec_block.proofs.LengthLemmas.{length-binary}
 use Rattle.aec_block.proofs.SevenLemmas.{length-low_of_seven, spelled}
 use Rattle.aec_block.proofs.WritingLemmas.{gathers-then}
@@ -23,10 +23,10 @@ put-requires-clause-room c =
 pub returns : goal.returns
 returns c =
     let rest = drop 1 c.args.all.now in
-    let high = subst (λ (bits : List Bool). Gathers (c.args.gathered ++ bits) c.args.out.now c.put-high.result c.put-high.new.out)
+    let high = subst (λ (bits : List Bool). GathersBits (c.args.gathered ++ bits) c.args.out.now c.put-high.result c.put-high.new.out)
     (spelled c.args.len _ c.high_word_of_seven.result c.requires.len c.high_word_of_seven.ensures.bits) c.put-high.ensures in
-    let low = subst (λ (bits : List Bool). Gathers (c.put-high.result ++ bits) c.put-high.new.out c.put.result c.put.new.out)
+    let low = subst (λ (bits : List Bool). GathersBits (c.put-high.result ++ bits) c.put-high.new.out c.put.result c.put.new.out)
     c.low_word_of_seven.ensures.bits c.put.ensures in
-    subst (λ (bits : List Bool). Gathers bits c.args.out.now c.put.result c.put.new.out)
+    subst (λ (bits : List Bool). GathersBits bits c.args.out.now c.put.result c.put.new.out)
     (append_assoc c.args.gathered (high_parts c.args.k rest) (low_parts c.args.k rest))
     (gathers-then _ _ _ _ _ _ _ high low)

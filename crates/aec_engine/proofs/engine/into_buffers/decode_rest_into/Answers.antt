@@ -58,7 +58,7 @@ put_kept-requires-clause-few c =
     let have = have_from start c.keep_more.new.reader c.in_ok-judged.judged.total
     (c.in_ok-kept.ensures.same ∙ ap (λ (s : Settings). place_at s p.count p.limit p.bits c.keep_more.new.reader.block c.keep_more.new.reader.bit)
     c.requires.settings) c.in_ok-judged.ensures.ok in
-    let few = few_samples c.args.params.now p.count p.limit p.bits start c.in_ok-judged.judged.total c.interval_len-len.ensures.allowed refl
+    let few = few_samples c.args.params.now p.count p.limit p.bits start c.in_ok-judged.judged.total c.known_allowed.ensures refl
     (sym c.requires.counted) have in
     omega (arith, few, c.requires.limit, c.saturating_sub-left.ensures)
 
@@ -68,7 +68,7 @@ returns c =
     let start = place_at c.args.params.now p.count p.limit p.bits 0 0 in
     decodes_kept c.args.params.now p.count p.limit p.limit p.bits start c.keep_more.new.reader
     c.judge_from.new.reader c.in_ok-kept.kept c.in_ok-judged.judged.total c.saturating_sub-left.result c.keep_more.new.bytes.items
-    c.args.out.now _ c.put_kept.result c.interval_len-len.ensures.allowed refl refl (sym c.requires.counted)
+    c.args.out.now _ c.put_kept.result c.known_allowed.ensures refl refl (sym c.requires.counted)
     (c.in_ok-kept.ensures.same ∙ ap (λ (s : Settings). place_at s p.count p.limit p.bits c.keep_more.new.reader.block c.keep_more.new.reader.bit)
     c.requires.settings) c.in_ok-judged.ensures.same c.in_ok-kept.ensures.kept c.in_ok-judged.ensures.ok
     c.saturating_sub-left.ensures

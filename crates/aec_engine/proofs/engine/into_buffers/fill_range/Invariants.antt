@@ -5,11 +5,11 @@ use Rattle.aec_engine.proofs.engine.into_buffers.fill_range.Given as goal
 
 abbrev pub invariant-loop-left : goal.invariant-loop-left
 invariant-loop-left l = record {
-  puts : PutsSoFar l.fn.reader l.reader l.params l.first l.len l.skip l.left (Some []) (Some (take l.at l.out)) [];
+  puts : PutsSoFar l.fn.reader l.reader l.params l.fn.part.first l.fn.part.len l.skip l.left (Some []) (Some (take l.at l.out)) [];
   within : l.at ≤ length l.out;
   whole : length l.out ≡ length l.fn.out;
-  few : l.left ≤ l.len;
-  room : 0 < l.len → interval_len l.params ≤ vec_capacity l.samples;
+  few : l.left ≤ l.fn.part.len;
+  room : 0 < l.fn.part.len → interval_len l.params ≤ vec_capacity l.samples;
 }
 
 abbrev pub decreases-loop-left : goal.decreases-loop-left

@@ -8,8 +8,8 @@ use Rattle.aec_engine.proofs.engine.into_buffers.put_range_front.Goals as goal
 
 pub returns-then-size-out : goal.returns-then-size-out
 returns-then-size-out c xs told =
-    fills_not c.args.reader.now c.args.params.now c.args.first c.args.len (c.args.len * c.storage.result) c.args.out.now xs
-    (subst IsAllowed (sym c.requires.settings) c.storage.ensures.allowed) c.requires.read told (ap (λ n. c.args.len * n) c.storage.ensures.value)
+    fills_not c.args.reader.now c.args.params.now c.args.part.first c.args.part.len (c.args.part.len * c.storage.result) c.args.out.now xs
+    (subst IsAllowed (sym c.requires.settings) c.storage.ensures.allowed) c.requires.read told (ap (λ n. c.args.part.len * n) c.storage.ensures.value)
     (omega (arith, c.if-size-out.true))
 
 pub returns-in_err-samples : goal.returns-in_err-samples
@@ -19,6 +19,6 @@ returns-in_err-samples c xs told =
 
 pub returns : goal.returns
 returns c xs told =
-    fills_front c.args.reader.now c.args.params.now c.args.first c.args.len (c.args.len * c.storage.result) c.args.out.now _ xs
-    (subst IsAllowed (sym c.requires.settings) c.storage.ensures.allowed) c.requires.read told (ap (λ n. c.args.len * n) c.storage.ensures.value)
-    (omega (arith, c.if-size-out.false)) (ap (λ b. b ++ drop (c.args.len * c.storage.result) c.args.out.now) (c.fill_range.ensures.filled xs told))
+    fills_front c.args.reader.now c.args.params.now c.args.part.first c.args.part.len (c.args.part.len * c.storage.result) c.args.out.now _ xs
+    (subst IsAllowed (sym c.requires.settings) c.storage.ensures.allowed) c.requires.read told (ap (λ n. c.args.part.len * n) c.storage.ensures.value)
+    (omega (arith, c.if-size-out.false)) (ap (λ b. b ++ drop (c.args.part.len * c.storage.result) c.args.out.now) (c.fill_range.ensures.filled xs told))

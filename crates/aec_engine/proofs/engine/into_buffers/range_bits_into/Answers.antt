@@ -39,7 +39,7 @@ put_range_front-requires-clause-read c =
 pub put_range_front-requires-clause-few : goal.put_range_front-requires-clause-few
 put_range_front-requires-clause-few c =
     let few = few_of_range c.args.params.now c.args.count c.samples.result c.args.bits.now.list c.in_ok-reader.reader c.args.first c.args.len
-    c.in_ok-judged.judged.total c.interval_len-len.ensures.allowed c.in_ok-reader.ensures.ok c.in_ok-reader.ensures.refuses c.in_ok-judged.ensures.ok
+    c.in_ok-judged.judged.total c.known_allowed.ensures c.in_ok-reader.ensures.ok c.in_ok-reader.ensures.refuses c.in_ok-judged.ensures.ok
     c.in_ok-judge_range.ensures.within in
     omega (arith, few, c.samples.ensures.value, c.samples.ensures.limits.samples)
 

@@ -3,6 +3,6 @@ use Rattle.aec_interval.proofs.codec.AecCodec.with_calls.Goals as goal
 
 pub invariant_of-result : goal.invariant_of-result
 invariant_of-result c = record {
-  allowed = c.interval_len-len.ensures.allowed;
-  lawful = interval_format-lawful c.args.params c.interval_len-len.ensures.allowed;
+  allowed = c.known_allowed.ensures;
+  lawful = interval_format-lawful c.args.params c.known_allowed.ensures;
 }

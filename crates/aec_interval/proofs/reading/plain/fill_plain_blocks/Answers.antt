@@ -18,7 +18,7 @@ pub unmap_into-requires-clause-prediction : goal.unmap_into-requires-clause-pred
 unmap_into-requires-clause-prediction g c =
     let fits : FitsSigned w64 c.previous_of-previous.result = search (rules, c.previous_of-previous.type_inv) in
     subst (λ (x : ℤ). IsHeld c.args.params.now x) (sym (to_z-of_z w64 c.previous_of-previous.result fits ∙ c.previous_of-previous.ensures))
-    (held-last_sample c.args.params.now (take c.loop-count.at c.loop-count.samples) c.interval_len-len.ensures.allowed c.loop-count.invariant.reads.held)
+    (held-last_sample c.args.params.now (take c.loop-count.at c.loop-count.samples) c.known_allowed.ensures c.loop-count.invariant.reads.held)
 
 pub loop-count-preserved : goal.loop-count-preserved
 loop-count-preserved g c =
@@ -31,7 +31,7 @@ loop-count-preserved g c =
     (omega (arith, c.requires.room, inv.len)) in
     record {
       reads = more_read _ _ _ _ _ _ _ _ _ inv.reads (one_plain s c.loop-count.reader c.read_plain.new.reader c.loop-count.samples c.unmap_into.new.samples
-          values _ at (at + length values - at) (at + length values) c.interval_len-len.ensures.allowed (c.if-not-read_plain.ensures.read refl)
+          values _ at (at + length values - at) (at + length values) c.known_allowed.ensures (c.if-not-read_plain.ensures.read refl)
           (c.if-not-read_plain.ensures.one refl) c.read_plain.ensures.list inv.reads.held
           (to_z-of_z w64 c.previous_of-previous.result (search (rules, c.previous_of-previous.type_inv)) ∙ c.previous_of-previous.ensures)
           (omega arith) (omega (arith, size, room)) (search rules) c.unmap_into.ensures.items);

@@ -7,7 +7,7 @@ use Rattle.aec_interval.proofs.reading.short.fill_plain_interval.Goals as goal
 pub returns-then-fill_rest-clause-ok : goal.returns-then-fill_rest-clause-ok
 returns-then-fill_rest-clause-ok g c =
     let s = c.args.params.now in
-    let allowed = c.interval_len-len.ensures.allowed in
+    let allowed = c.known_allowed.ensures in
     λ read. reads_interval s (s.interval - 1) c.args.reader.now c.fill_first_block.new.reader c.fill_rest.new.reader
     (take g.row.N c.fill_first_block.new.samples) c.fill_rest.new.samples allowed (omega (arith, interval-positive s allowed))
     (subst (λ n. ReadsFirst s c.args.reader.now c.fill_first_block.new.reader (take n c.fill_first_block.new.samples)) (sym c.requires.size)

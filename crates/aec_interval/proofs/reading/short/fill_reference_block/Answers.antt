@@ -22,6 +22,6 @@ returns-in-Some-clause-ok g c =
     ) in
     λ read. subst (ReadsFirst s c.args.reader.now c.read_plain_first.new.reader) (sym (take_at c.unmap_into.new.samples _ s.block_size len))
     (reads_first s c.args.reader.now c.read_plain_first.new.reader c.in-Some.pattern c.read_plain_first.new.values x c.unmap_into.new.samples
-    c.interval_len-len.ensures.allowed c.requires.on c.in-Some.ensures.read (c.in-Some.ensures.one refl)
+    c.known_allowed.ensures c.requires.on c.in-Some.ensures.read (c.in-Some.ensures.one refl)
     (subst (λ (x : ℤ). IsHeld s x) (sym kept) c.value-first.ensures.held)
     (ap (λ (x : ℤ). sample_pattern s x) kept ∙ c.value-first.ensures.undone) c.unmap_into.ensures.items c.read_plain_first.ensures.list)

@@ -18,6 +18,6 @@ returns-then-block_count-from-clause-ok c =
     let x : ℤ = to_z w64 (of_z w64 c.repeated_sample.result) in
     let read = subst (λ b. (c : CodedDataSet) × IsReadAs s b old new c (Zeros reference len)) c.preprocess.ensures c.in-Some.ensures.read in
     let whole = sym c.block_count.ensures ∙ (c.if-block_count-from.true ∙ (c.from.ensures ∙ c.interval.ensures.value)) in
-    reads_zero_interval s old new reference len x (replicate (interval_len s) x) c.interval_len-len.ensures.allowed c.requires read
+    reads_zero_interval s old new reference len x (replicate (interval_len s) x) c.known_allowed.ensures c.requires read
     (c.in-Some.ensures.one refl) whole (to_z-of_z w64 c.repeated_sample.result fits ∙ c.repeated_sample.ensures)
     refl c.in-Some.ensures.list

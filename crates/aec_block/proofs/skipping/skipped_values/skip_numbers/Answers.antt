@@ -1,6 +1,6 @@
 use Rattle.std.proofs.Common.{rules}
 use Rattle.aec_block.proofs.SkippingLemmas.{numbers_gone_over}
-use Rattle.aec_block.proofs.skipping.values.skip_numbers.Goals as goal
+use Rattle.aec_block.proofs.skipping.skipped_values.skip_numbers.Goals as goal
 
 pub returns : goal.returns
 returns c = record {

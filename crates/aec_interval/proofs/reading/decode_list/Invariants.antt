@@ -1,6 +1,6 @@
 use Rattle.std.proofs.Common.{◌≡◌, ◌<◌, ◌≤◌, ◌-◌, ◌^◌}
 use Rattle.aec_interval.specs.Reached.{IsReached}
-use Rattle.aec_interval.proofs.reading.decode_into.Given as goal
+use Rattle.aec_interval.proofs.reading.decode_list.Given as goal
 
 abbrev pub invariant-loop-reader : goal.invariant-loop-reader
 invariant-loop-reader l = record {

@@ -2,7 +2,7 @@ use Rattle.std.proofs.Common.{◌∙◌, arith}
 use Rattle.aec_interval.proofs.RefusalLemmas.{of_refusal}
 use Rattle.aec_interval.proofs.UpToLemmas.{up_to-reading}
 use Rattle.aec_interval.proofs.ReadNextLemmas.{reached-start, reading-refuses}
-use Rattle.aec_interval.proofs.reading.decode_into.Goals as goal
+use Rattle.aec_interval.proofs.reading.decode_list.Goals as goal
 
 pub loop-reader-init : goal.loop-reader-init
 loop-reader-init c = record {

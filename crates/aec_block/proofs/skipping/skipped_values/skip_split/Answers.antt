@@ -2,7 +2,7 @@ use Rattle.std.proofs.Common.{rules, ◌^◌, ◌∙◌, sym, ap}
 use Rattle.aec_block.specs.ReadAt.{map_taken, split_at}
 use Rattle.aec_block.specs.Gathering.{bits_at, all_below}
 use Rattle.aec_block.proofs.SkippingLemmas.{split_gone_over}
-use Rattle.aec_block.proofs.skipping.values.skip_split.Goals as goal
+use Rattle.aec_block.proofs.skipping.skipped_values.skip_split.Goals as goal
 
 pub returns : goal.returns
 returns c = record {

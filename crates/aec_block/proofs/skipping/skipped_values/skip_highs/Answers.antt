@@ -3,7 +3,7 @@ use Rattle.std.proofs.lemmas.Result.{err_from_is_err_and}
 use Rattle.aec_block.specs.ReadAt.{map_taken}
 use Rattle.aec_block.specs.Gathering.{bits_at, as_taken, all_below}
 use Rattle.aec_block.proofs.SkippingLemmas.{ones_missing, small_sum}
-use Rattle.aec_block.proofs.skipping.values.skip_highs.Goals as goal
+use Rattle.aec_block.proofs.skipping.skipped_values.skip_highs.Goals as goal
 
 pub returns-in_err-gone : goal.returns-in_err-gone
 returns-in_err-gone c =

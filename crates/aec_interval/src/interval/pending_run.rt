@@ -1,4 +1,4 @@
-//! Runs of zero blocks: they are counted, and written where they end.
+//! The run of zero blocks that is counted and not yet written: it is written at its end.
 
 ghost use Rattle.std.specs.Prelude.{◌≡◌, ◌-◌, ◌==◌, ◌<◌, if◌then◌else◌};
 ghost use Rattle.std.specs.List.{list_all};
