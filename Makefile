@@ -111,7 +111,7 @@ test-library:
 	python3 tests/library_builds.py
 	python3 tests/archive.py bin
 
-# Header, libraries, pkg-config file and Python module. The module goes where `python3` looks for modules, with its own copy of the library.
+# Header, libraries, aecp(3), files for pkg-config and CMake, Python module, command `aecp`. The module goes where `python3` looks for modules, with its own copy of the library.
 PYTHON_DIR ?= $(shell $(PYTHON) -c 'import sysconfig; print(sysconfig.get_path("purelib"))')
 LIBDIR ?= $(PREFIX)/lib
 PC_PREFIX ?= $(PREFIX)
@@ -150,8 +150,8 @@ uninstall-library:
 	rm -rf $(DESTDIR)$(LIBDIR)/cmake/aecp $(DESTDIR)$(PYTHON_DIR)/aecp $(info)
 	-rmdir $(DESTDIR)$(LIBDIR)/cmake 2> /dev/null
 
-# Packages of what `make` and `make library` have built, in dist/: a tarball, Debian packages and a wheel. UNPROVED=1 packs other
-# files, for a try; then the file PROVED of each package says that nothing is proved.
+# Packages of what `make` and `make library` have built, in dist/: a tarball, Debian packages and a wheel. UNPROVED=1 packs
+# them, for a try, without checking that they were proved; then the file PROVED of each package says that nothing is proved.
 .PHONY: dist test-packages
 UNPROVED ?=
 dist:

@@ -58,7 +58,7 @@ typedef struct {
 enum {
     AECP_OK = 0,
     AECP_BITS_PER_SAMPLE = 1,
-    AECP_BLOCK_SIZE = 2,
+    AECP_BLOCK_SIZE = 2,       /* `even_blocks` is off, and `block_size` isn't 8, 16, 32 or 64 */
     AECP_INTERVAL = 3,
     AECP_RESTRICTED_WIDTH = 4,
     AECP_SAMPLE_RANGE = 5,     /* place: index of the first sample that is out of range. Index 0 is the first value of the call (append,
@@ -72,7 +72,7 @@ enum {
     AECP_MEMORY = 12,
     AECP_SCRIPT = 15,          /* place: the first line that isn't an edit, counted from 1 */
     AECP_STREAM_TOO_LONG = 16, /* place: the greatest length in bytes, 2^40; the command aec allows 2^35 */
-    AECP_EVEN_BLOCK_SIZE = 17,
+    AECP_EVEN_BLOCK_SIZE = 17, /* `even_blocks` is on, and `block_size` isn't an even number from 8 to 64 */
     AECP_NO_ROOM = 18,         /* len: the bytes, or samples, that the result needs */
     AECP_NOT_OPEN = 19         /* the handle holds no workspace, the coder or reader isn't open */
 };
@@ -80,14 +80,15 @@ enum {
 /* As a sample count: all samples that the stream decodes to, including the filler at its end. */
 #define AECP_ALL UINT64_MAX
 
-/* The calls that fill `out`, except aecp_text, return `reply->fault`. If it is 0, the result is the first `reply->len` bytes of `out`, and
- * the bytes after it are unchanged. Otherwise all of `out` is unchanged, and the call may be repeated. NO_ROOM is returned only if there is
- * no other fault. To learn the length, pass an empty `out`, even NULL: the call still does its whole work. The length of a buffer is its
- * number of bytes, but that of a buffer of int64_t is its number of samples. Below, 'options' means the faults 1 to 4 and 17. */
+/* The calls that fill `out`, except aecp_text, return the fault of their reply. If it is 0, the result is the first `reply->len` bytes of
+ * `out`, and the bytes after it are unchanged. Otherwise all of `out` is unchanged, and the call may be repeated. NO_ROOM is returned only
+ * if there is no other fault. To learn the length, pass an empty `out`, even NULL: the call still does its whole work. The length of a
+ * buffer is its number of bytes, but that of a buffer of int64_t is its number of samples. Below, 'options' means the faults 1 to 4 and
+ * 17. */
 
 /* Codes stored samples. Bytes at the end that don't fill a sample are dropped. Faults: options, SAMPLE_RANGE, TOO_MANY_SAMPLES, MEMORY,
- * NO_ROOM. Allocates up to twice the code's length and 72 KiB, and eight bytes for each sample of an interval, at least for 4,096.
- * Traps: `samples_len` is bytes, but aecp_bound takes samples; keep the sample count, which decoding needs. */
+ * NO_ROOM. Allocates up to twice the code's length and 72 KiB, and eight bytes for each sample of an interval, or for 4,096 samples if
+ * these are more. Traps: `samples_len` is bytes, but aecp_bound takes samples; keep the sample count, which decoding needs. */
 uint32_t aecp_encode(const aecp_options *options, const void *samples, size_t samples_len, uint8_t *out, size_t out_len,
                      aecp_reply *reply);
 
@@ -102,9 +103,9 @@ uint32_t aecp_encode(const aecp_options *options, const void *samples, size_t sa
 uint32_t aecp_decode(const aecp_options *options, uint64_t count, const uint8_t *coded, size_t coded_len, void *out,
                      size_t out_len, aecp_reply *reply);
 
-/* Decodes `len` of the first `count` samples, from sample `first` on, counted from 0. Faults: those of aecp_decode of all `count` samples,
- * and OUT_OF_RANGE. Allocates an interval of samples, at least 16 KiB, and as much of the stream as aecp_decode. Trap: `first` and `len`
- * are samples, `out_len` is bytes. */
+/* Decodes `len` of the first `count` samples, from sample `first` on, counted from 0. Faults: OUT_OF_RANGE, and those of aecp_decode, also
+ * outside the range, since it checks all `count` samples. Allocates an interval of samples, at least 16 KiB, and as much of the stream as
+ * aecp_decode. Trap: `first` and `len` are samples, `out_len` is bytes. */
 uint32_t aecp_range(const aecp_options *options, uint64_t count, uint64_t first, uint64_t len, const uint8_t *coded,
                     size_t coded_len, void *out, size_t out_len, aecp_reply *reply);
 
@@ -118,9 +119,9 @@ typedef struct {
 
 /* Applies a script of edits, as docs/COMMAND.md describes it, to the first `count` samples of a stream, or to all with AECP_ALL, and writes
  * the edited stream to `out`. All lines apply, or none. Returns `reply->reply.fault`. Faults, in this order: options; SCRIPT; those of
- * aecp_decode; those of one edit, with its line: OUT_OF_RANGE, TOO_MANY_SAMPLES, SAMPLE_RANGE, SPENT, MEMORY. Allocates at most three
- * times the stream, three intervals of samples, twice the script, and 16 bytes for each interval and for each value of the longest line.
- * Trap: keep `samples` with the edited stream. With AECP_ALL the filler of the last block becomes samples. */
+ * aecp_decode except NO_ROOM; those of one edit, with its line: OUT_OF_RANGE, TOO_MANY_SAMPLES, SAMPLE_RANGE, SPENT, MEMORY; NO_ROOM.
+ * Allocates at most three times the stream, three intervals of samples, twice the script, and 16 bytes for each interval and for each
+ * value of the longest line. Trap: keep `samples` with the edited stream. With AECP_ALL the filler of the last block becomes samples. */
 uint32_t aecp_edit(const aecp_options *options, uint64_t count, const void *script, size_t script_len, const uint8_t *coded,
                    size_t coded_len, uint8_t *out, size_t out_len, aecp_edit_reply *reply);
 
@@ -158,9 +159,11 @@ uint32_t aecp_load(const aecp_options *options, uint64_t count, const uint8_t *c
 void aecp_close(aecp_handle *handle);
 
 /* The five edits. Each returns `reply->fault`, and `reply->len` is the number of intervals that it coded: those that it touches, and those
- * that a trap below names. An edit refused for MEMORY changes no sample, but may have coded intervals, and aecp_calls counts these.
- * Appends samples. Faults: SAMPLE_RANGE, TOO_MANY_SAMPLES, SPENT, MEMORY, NOT_OPEN. Allocates their code. Trap: each call codes the last
- * interval again if that isn't full, so one call with many samples is faster than many calls with one. */
+ * that it codes again (see the traps of aecp_append and aecp_remove). An edit refused for MEMORY changes no sample, but may have coded
+ * intervals, and aecp_calls counts these.
+ *
+ * aecp_append appends samples. Faults: SAMPLE_RANGE, TOO_MANY_SAMPLES, SPENT, MEMORY, NOT_OPEN. Allocates their code. Trap: each call codes
+ * the last interval again if that isn't full, so one call with many samples is faster than many calls with one. */
 uint32_t aecp_append(aecp_handle *handle, const int64_t *values, size_t values_len, aecp_reply *reply);
 
 /* Keeps the first `count` samples. Faults: OUT_OF_RANGE, SPENT, MEMORY, NOT_OPEN. Trap: truncating can fail with MEMORY, since an interval
@@ -168,7 +171,7 @@ uint32_t aecp_append(aecp_handle *handle, const int64_t *values, size_t values_l
 uint32_t aecp_truncate(aecp_handle *handle, uint64_t count, aecp_reply *reply);
 
 /* Removes `len` samples, from sample `first` on. Faults: OUT_OF_RANGE, SPENT, MEMORY, NOT_OPEN. Trap: if `len` isn't whole intervals, all
- * later intervals are coded again. This is true of aecp_insert too. */
+ * later intervals are coded again; aecp_insert does the same if `values_len` isn't whole intervals. */
 uint32_t aecp_remove(aecp_handle *handle, uint64_t first, uint64_t len, aecp_reply *reply);
 
 /* Replaces `values_len` samples by the values, from sample `first` on. Faults: OUT_OF_RANGE, SAMPLE_RANGE, SPENT, MEMORY, NOT_OPEN.
@@ -248,8 +251,8 @@ uint32_t aecp_reader_open(const aecp_options *options, uint64_t count, const uin
 uint32_t aecp_reader_next(aecp_reader *reader, void *out, size_t out_len, aecp_reply *reply);
 
 /* Goes to the start of `interval`, counted from 0, or to the end if the stream has fewer intervals. `reply->len` is the number of samples
- * before that place; UINT64_MAX goes to the end. Faults: TRUNCATED, VALUE_TOO_LARGE, RUN_TOO_LONG, TOO_MANY_SAMPLES, NOT_OPEN. After a
- * fault the reader is where it was. Trap: it reads all intervals between; to go back, all from the first. */
+ * before that place. The interval UINT64_MAX always means the end. Faults: TRUNCATED, VALUE_TOO_LARGE, RUN_TOO_LONG, TOO_MANY_SAMPLES,
+ * NOT_OPEN. After a fault the reader is where it was. Trap: it reads all intervals between; to go back, all from the first. */
 uint32_t aecp_reader_go_to(aecp_reader *reader, uint64_t interval, aecp_reply *reply);
 
 /* Frees the reader. Does nothing if none is open. */

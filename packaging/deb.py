@@ -23,7 +23,8 @@ PACKAGES = {
  takes the options and files of libaec's program aec, and adds sample counts,
  ranges, and edits of a stream that is already coded.
  .
- A checker has proved that every function of the program keeps its contract.
+ A checker has proved that every Rattle function of the program keeps its
+ contract.
  It needs a processor with SSE4.2 (x86-64-v2).
  .
  The program is /usr/bin/aec-proved; the alternatives system adds the name
@@ -36,7 +37,8 @@ PACKAGES = {
  The library codes, decodes and edits integer samples in memory, in the format
  CCSDS 121.0-B-3 of GRIB2 (template 5.42), HDF5 (szip) and space packets.
  .
- A checker has proved that every function of the library keeps its contract.
+ A checker has proved that every Rattle function of the library keeps its
+ contract.
  It needs a processor with SSE4.2 (x86-64-v2).
  Its symbols begin with aecp_, so a program can also link libaec.""",
     },
@@ -82,7 +84,7 @@ def packed(data):
 
 
 def changelog(version, moment):
-    """The changelog of the packages. CHANGELOG.md has what users get."""
+    """The changelog of the packages. CHANGELOG.md says what changed for users."""
     date = time.strftime("%a, %d %b %Y %H:%M:%S +0000", time.gmtime(moment))
     change = f"  * Version {version}. CHANGELOG.md of the source has the changes."
     return f"aec-proved ({version}) unstable; urgency=low\n\n{change}\n\n -- {MAINTAINER}  {date}\n"

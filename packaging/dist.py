@@ -1,11 +1,11 @@
 #!/usr/bin/env python3
 """Packs what `make` and `make library` have built into dist/: dist.py [--unproved]
 
-A tarball, the Debian packages and the wheel. Two runs at one commit write the same bytes, in whatever folder they run: each date is
+A tarball, the Debian packages and the wheel. Two runs over the same folder bin/ write the same bytes, wherever it is: each date is
 the commit's (or SOURCE_DATE_EPOCH), names are sorted, and no path of this machine goes in.
 
-Fails unless each binary was proved and built at this commit. With --unproved, other binaries are packed too, for a try, and the file
-PROVED says so.
+Fails unless each binary was proved and built at this commit; a checkout with changes counts as the commit 'NAME with changes'. With
+--unproved, the binaries are packed unchecked, for a try, and the file PROVED says so.
 """
 
 import os

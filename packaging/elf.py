@@ -3,7 +3,7 @@
 import re
 import subprocess
 
-# Names of versions that aren't numbers, and the version of glibc that has them. GLIBC_PRIVATE is refused, since no other version of glibc need have it.
+# Names of versions that aren't numbers, and the version of glibc that has them. GLIBC_PRIVATE counts as 99.0, since other versions of glibc may lack it.
 NAMED = {"ABI_DT_RELR": (2, 36), "PRIVATE": (99, 0)}
 
 

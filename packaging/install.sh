@@ -57,7 +57,7 @@ install_file() {
     chmod $mode "$to"
 }
 
-# Fails unless this script has installed a program of this name below PREFIX: bin/aec may be libaec's.
+# Fails unless the program is installed below PREFIX under this name, with its pages: otherwise libaec's bin/aec could be removed.
 check_installed() {
     if [ ! -e "$prefix/share/doc/$program/README.md" ]; then
         echo "nothing was removed: below $prefix this script hasn't installed the program as $program; set PROGRAM to its name" >&2

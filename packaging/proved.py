@@ -3,7 +3,8 @@
 
 commit: prints the commit of the checkout, before a build begins.
 record: after `make` or `make library` has proved and built FILE, writes FILE.proved beside it: the file's SHA-256, the commit and the
-kit. `make dist` packs a file only if sum, commit and kit still match. It writes them into the file PROVED of each package.
+kit. `make dist` packs a file only if its sum and commit still match and all files have one kit. `make dist` writes the three into the
+file PROVED of each package.
 gate: after `make test` has run the gate, writes the commit and the last line of the gate's LOG to bin/gate.
 """
 
@@ -15,14 +16,14 @@ import sys
 TOP = os.path.abspath(os.path.join(os.path.dirname(os.path.abspath(__file__)), ".."))
 GATE = "bin/gate"
 
-HEAD = """aec {version} for Linux on x86-64. A checker has proved that each function of the program and of the library keeps its
-contract. The page docs/PROOFS.md of the source lists what the contracts say, and what isn't proved.
+HEAD = """aec {version} for Linux on x86-64. A checker has proved that each Rattle function of the program and of the library keeps
+its contract. The page docs/PROOFS.md of the source lists what the contracts say, and what isn't proved.
 
 kit     {kit}
 commit  {commit}
 gate    {gate}
 
-SHA-256 of each binary. `grep -E '^[0-9a-f]{{64}} ' PROVED | sha256sum -c` compares them: run it where these paths begin.
+SHA-256 of each binary. To compare one, run `sha256sum` on the binary.
 """
 UNPROVED = """aec {version} for Linux on x86-64. NOTHING IS PROVED of these binaries. They were built for trying the packages.
 
@@ -79,7 +80,7 @@ def record_gate(at, log):
 
 
 def kit_of(paths):
-    """Returns the kit that has proved these files. Raises NotProved if a file, its commit or its kit is another one."""
+    """Returns the kit that has proved these files. Raises NotProved if a file or its commit has changed, or if the files have several kits."""
     kits = set()
     for path in paths:
         try:

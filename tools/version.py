@@ -27,7 +27,6 @@ PLACES = [
     ("rust/aecp/Cargo.toml", '\nversion = "POINTS"\n'),
     ("rust/aecp/src/raw.rs", "pub const VERSION: u32 = NUMBER;\n"),
     ("CITATION.cff", "\nversion: POINTS\n"),
-    ("CHANGELOG.md", "up to version POINTS.\n"),
     ("man/aecp.3", '.TH AECP 3 "" "aecp POINTS"\n'),
 ]
 

@@ -60,8 +60,8 @@ pair_block limit reference members =
 
 -- What `there` takes at the old cursor is what was returned, with the bits at the new cursor after
 -- it. The bits are unchanged, and the new place is within them.
-pub record Takes {Y : Type 0} (there : List Bool → Taken Y) (old : Cursor) (returned : List Bool → Taken Y) (new : Cursor)
-    : Type 0 where
+pub record Takes {Y : Type 0} (there : List Bool → Taken Y) (old : Cursor) (returned : List Bool → Taken Y)
+    (new : Cursor) : Type 0 where
   pub taken : there (bits_at old) ≡ returned (bits_at new)
   pub list : new.list ≡ old.list
   pub within : new.pos ≤ length new.list

@@ -53,7 +53,8 @@ fn take_part(
 ) -> Result<(), Fault>
     requires progress { IsProgress terms.now progress.old }
     requires part { IsPart terms.now progress.old part.now }
-    ensures { TakesPart terms.now progress.old part.now out.old.list result progress.new out.new.list }
+    ensures { TakesPart terms.now progress.old part.now out.old.list result progress.new
+        out.new.list }
 {
     progress.held.push_stored(&terms.params, part)?;
     progress.count += (part.len() / terms.params.storage()) as u64;

@@ -36,7 +36,8 @@ put_behind-at-requires-clause-held c =
 
 pub put_behind-at-requires-clause-room : goal.put_behind-at-requires-clause-room
 put_behind-at-requires-clause-room c =
-    part_fits c.args.reader.now c.loop-left.reader c.args.params.now c.args.part.first c.args.part.len c.loop-left.skip c.loop-left.left c.loop-left.at c.loop-left.out
+    part_fits c.args.reader.now c.loop-left.reader c.args.params.now c.args.part.first c.args.part.len c.loop-left.skip c.loop-left.left c.loop-left.at
+    c.loop-left.out
     (subst IsAllowed (sym c.requires.settings) c.known_allowed.ensures) c.loop-left.invariant.puts c.loop-left.invariant.within
     (c.requires.read.0, c.requires.read.1, c.loop-left.invariant.whole ∙ c.requires.read.2) c.next_few.new.self c.next_few.new.samples.items
     c.part_of-wanted.result.now (c.in_ok-next_few.ensures.read c.if-branch.true)
@@ -46,15 +47,18 @@ pub loop-left-preserved : goal.loop-left-preserved
 loop-left-preserved c =
     let is = c.part_of-wanted.ensures ∙ ap (samples_from _ _) c.deref.ensures.value in
     let a = subst IsAllowed (sym c.requires.settings) c.known_allowed.ensures in let step = c.in_ok-next_few.ensures.read c.if-branch.true in
-    let room = part_fits c.args.reader.now c.loop-left.reader c.args.params.now c.args.part.first c.args.part.len c.loop-left.skip c.loop-left.left c.loop-left.at
+    let room = part_fits c.args.reader.now c.loop-left.reader c.args.params.now c.args.part.first c.args.part.len c.loop-left.skip c.loop-left.left
+    c.loop-left.at
     c.loop-left.out a c.loop-left.invariant.puts c.loop-left.invariant.within
     (c.requires.read.0, c.requires.read.1, c.loop-left.invariant.whole ∙ c.requires.read.2) c.next_few.new.self c.next_few.new.samples.items
     c.part_of-wanted.result.now step c.next_few.ensures.ends is in
     let long = length-behind c.args.params.now c.loop-left.at c.loop-left.out c.put_behind-at.new.out c.part_of-wanted.result.now room
     c.put_behind-at.ensures.bytes in
     record {
-      puts = puts_more c.args.reader.now c.loop-left.reader c.next_few.new.self c.args.params.now c.args.part.first c.args.part.len c.loop-left.skip c.loop-left.left _ _
-          _ _ _ [] [] c.next_few.new.samples.items c.part_of-wanted.result.now a c.loop-left.invariant.puts step c.next_few.ensures.few c.next_few.ensures.ends is
+      puts = puts_more c.args.reader.now c.loop-left.reader c.next_few.new.self c.args.params.now c.args.part.first c.args.part.len c.loop-left.skip
+      c.loop-left.left _ _
+          _ _ _ [] [] c.next_few.new.samples.items c.part_of-wanted.result.now a c.loop-left.invariant.puts step c.next_few.ensures.few
+          c.next_few.ensures.ends is
           (puts_behind c.args.params.now c.loop-left.at c.put_behind-at.result c.loop-left.out c.put_behind-at.new.out c.part_of-wanted.result.now
           c.loop-left.invariant.within c.put_behind-at.ensures.bytes c.put_behind-at.ensures.end) (omega arith) refl;
       within = omega (arith, c.put_behind-at.ensures.end, room, long);
@@ -65,12 +69,14 @@ loop-left-preserved c =
 
 pub returns-else-branch-clause-filled : goal.returns-else-branch-clause-filled
 returns-else-branch-clause-filled c =
-    all_filled c.args.reader.now c.loop-left.reader c.args.params.now c.args.part.first c.args.part.len c.loop-left.skip c.loop-left.left c.loop-left.at c.loop-left.out
+    all_filled c.args.reader.now c.loop-left.reader c.args.params.now c.args.part.first c.args.part.len c.loop-left.skip c.loop-left.left c.loop-left.at
+    c.loop-left.out
     (subst IsAllowed (sym c.requires.settings) c.known_allowed.ensures) c.loop-left.invariant.puts c.loop-left.invariant.within
     (c.requires.read.0, c.requires.read.1, c.loop-left.invariant.whole ∙ c.requires.read.2) (inr (sym c.in_ok-next_few.ensures.more ∙ c.if-branch.false))
 
 pub returns-after-loop-left-clause-filled : goal.returns-after-loop-left-clause-filled
 returns-after-loop-left-clause-filled c =
-    all_filled c.args.reader.now c.loop-left.reader c.args.params.now c.args.part.first c.args.part.len c.loop-left.skip c.loop-left.left c.loop-left.at c.loop-left.out
+    all_filled c.args.reader.now c.loop-left.reader c.args.params.now c.args.part.first c.args.part.len c.loop-left.skip c.loop-left.left c.loop-left.at
+    c.loop-left.out
     (subst IsAllowed (sym c.requires.settings) c.known_allowed.ensures) c.loop-left.invariant.puts c.loop-left.invariant.within
     (c.requires.read.0, c.requires.read.1, c.loop-left.invariant.whole ∙ c.requires.read.2) (inl (omega (arith, c.loop-left-test.false)))
