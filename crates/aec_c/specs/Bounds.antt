@@ -1,4 +1,4 @@
--- A length in bytes that a code never passes.
+-- A length in bytes that no code exceeds.
 use Rattle.std.specs.Prelude.{◌≡◌, ℕ, ◌+◌, ◌*◌, ◌/◌, ◌^◌, ◌≤◌, ◌&&◌, nat_le, if◌then◌else◌, is_none, Ok, List, length}
 use Rattle.std.specs.Int.{div_ceil}
 use Rattle.aec_params.specs.declared.settings.Settings.{Settings}
@@ -14,13 +14,13 @@ abbrev pub most_bytes : Settings → ℕ → ℕ
 most_bytes s samples = div_ceil (blocks_of s samples * (5 + s.block_size * s.bits)) 8 + div_ceil
     (blocks_of s samples) s.interval
 
--- a number of bytes that no code of `samples` samples passes; 0 where there is no code, since the
--- settings break a rule or the samples are more than 2^32 (`aecp_bound`)
+-- a number of bytes that no code of `samples` samples exceeds; 0 if there is no code, since the
+-- settings break a rule or there are more than 2^32 samples (`aecp_bound`)
 abbrev pub bound_of : Settings → ℕ → ℕ
 bound_of s samples = if is_none (settings_fault s) && nat_le samples (2 ^ 32) then most_bytes s samples else 0
 
--- so many bytes are enough for the answer to any stored bytes that hold so many whole samples,
--- where it is their code
+-- so many bytes are enough for the answer to any stored bytes that contain so many whole samples,
+-- if the answer is their code
 abbrev pub Suffices : Settings → ℕ → ℕ → Type 0
 Suffices s samples bytes = (stored code : List ℕ) → length stored / storage_len s ≡ samples
     → IsCoding s stored (Ok code) → length code ≤ bytes

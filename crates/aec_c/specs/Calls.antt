@@ -1,4 +1,4 @@
--- What the calls from C answer: bytes, or one refusal. `include/aecp.h` has the sentences.
+-- The answers of the calls from C: bytes, or one refusal. `include/aecp.h` has the sentences.
 use Rattle.std.specs.Prelude.{◌≡◌, ℕ, ◌-◌, ◌^◌, ◌==◌, if◌then◌else◌, false, Option, Some, None, Result, Ok, Err, List}
 use Rattle.aec_params.specs.declared.settings.Settings.{Settings}
 use Rattle.aec_params.specs.declared.fault.Fault.{Fault}
@@ -14,7 +14,7 @@ use Rattle.aec_c.specs.declared.options.Options.{Options}
 abbrev pub most : Caps
 most = record { samples = 2 ^ 32; bytes = 2 ^ 40 }
 
--- the settings that C's fields are, each by its own name
+-- C's fields as settings, each by its own name
 abbrev pub settings_of : Options → Settings
 settings_of o = record {
   bits = o.bits;
@@ -29,12 +29,12 @@ settings_of o = record {
   even_blocks = o.even_blocks;
 }
 
--- a sample count, or none at the greatest number of 64 bits
+-- a sample count, or none for 2^64 - 1
 abbrev pub count_of : ℕ → Option ℕ
 count_of n = if n == 2 ^ 64 - 1 then None else Some n
 
 -- the answer of coding stored samples (the refusal of the options, else what `encode_bytes`
--- promises, or want of memory)
+-- promises, or `Memory`)
 pub data IsCoding (s : Settings) (samples : List ℕ) : Result (List ℕ) Fault → Type 0 where
   coded : (bytes : List ℕ) → IsAllowed s → IsCodeOf s most.samples samples bytes → IsCoding s samples (Ok bytes)
   -- the settings are judged first
@@ -44,7 +44,7 @@ pub data IsCoding (s : Settings) (samples : List ℕ) : Result (List ℕ) Fault 
   lacks_memory : IsAllowed s → IsCoding s samples (Err Memory)
 
 -- the answer of decoding coded bytes (the refusal of the options, else what `decode_into` promises,
--- or want of memory)
+-- or `Memory`)
 pub data IsDecoding (s : Settings) (count : Option ℕ) (coded : List ℕ) : Result (List ℕ) Fault → Type 0 where
   decoded : (samples : List ℕ) → IsAllowed s → IsStoredReadingOf s most count coded samples
       → IsDecoding s count coded (Ok samples)
@@ -54,7 +54,7 @@ pub data IsDecoding (s : Settings) (count : Option ℕ) (coded : List ℕ) : Res
   no_memory : IsAllowed s → IsDecoding s count coded (Err Memory)
 
 -- the answer of cutting out a range of coded bytes (the refusal of the options, else what
--- `range_into` promises, or want of memory)
+-- `range_into` promises, or `Memory`)
 pub data IsRanging (s : Settings) (count : Option ℕ) (first len : ℕ) (coded : List ℕ) : Result (List ℕ) Fault
     → Type 0 where
   ranged : (answer : Result (List ℕ) Fault) → IsAllowed s

@@ -17,12 +17,11 @@ use Rattle.aec_c.specs.HandleCalls.{not_open}
 abbrev pub ready_bytes : List Bool → List ℕ
 ready_bytes bits = take (length bits / 8) (bytes_of bits)
 
--- the bits behind these bytes
+-- the bits after these bytes
 abbrev pub left_bits : List Bool → List Bool
 left_bits bits = drop (8 * (length bits / 8)) bits
 
--- opening: a coder that was fed nothing in the place of what was held, or a refusal that changes
--- nothing
+-- opening: a coder that was fed nothing replaces what was held, or a refusal changes nothing
 pub data OpensCoder (s : Settings) (old new : Option OpenCoder) (reply : Reply) : Type 0 where
   opened : (made : OpenCoder) → IsAllowed s → new ≡ Some made → made.coder ≡ Some (fresh_coder s (2 ^ 32))
       → made.bits.list ≡ [] → reply ≡ done 0
@@ -30,8 +29,8 @@ pub data OpensCoder (s : Settings) (old new : Option OpenCoder) (reply : Reply) 
   not_opened : (fault : Fault) → (fault ≡ Memory) ⊎ (settings_fault s ≡ Some fault) → new ≡ old
       → reply ≡ refused_for fault → OpensCoder s old new reply
 
--- a piece taken, with the number of whole bytes that can be taken now; or refused, by the first
--- refusal of all pieces, which stays
+-- a piece was taken, and the reply is how many whole bytes can be taken now; or it was refused,
+-- with the first refusal of all pieces, which stays
 pub data FeedsPiece (piece : List ℕ) (before after : OpenCoder) (reply : Reply) : Type 0 where
   fed : (c d : Coder) → before.coder ≡ Some c → after.coder ≡ Some d → Feeds c piece before.bits.list after.bits.list d
       → reply ≡ done (length after.bits.list / 8) → FeedsPiece piece before after reply
@@ -42,8 +41,8 @@ pub data FeedsPiece (piece : List ℕ) (before after : OpenCoder) (reply : Reply
   ended : before.coder ≡ None → after.coder ≡ None → after.bits ≡ before.bits → reply ≡ not_open
       → FeedsPiece piece before after reply
 
--- the stream ended: the code of the samples that were held comes last, and zeros fill the last
--- byte; or a refusal, which leaves the bits; the coder takes no more in both cases
+-- the stream was ended: the code of the samples still held comes last, and zeros fill the last
+-- byte; or a refusal, which leaves the bits; in both cases the coder takes no more
 pub data FinishesStream (before after : OpenCoder) (reply : Reply) : Type 0 where
   finished : (c : Coder) → before.coder ≡ Some c → c.refusal ≡ None → after.coder ≡ None
       → after.bits.list ≡ padded_to_byte (before.bits.list ++ stream_of c.settings c.held)
@@ -56,7 +55,7 @@ pub data FinishesStream (before after : OpenCoder) (reply : Reply) : Type 0 wher
   was_finished : before.coder ≡ None → after.coder ≡ None → after.bits ≡ before.bits → reply ≡ not_open
       → FinishesStream before after reply
 
--- whole bytes put into a buffer and taken out of the code, where there is room for all of them
+-- whole bytes were moved from the code into a buffer, if there was room for all of them
 pub data TakesBytes (before after : OpenCoder) (old new : List ℕ) (reply : Reply) : Type 0 where
   taken : after.coder ≡ before.coder → after.bits.list ≡ left_bits before.bits.list
       → length (ready_bytes before.bits.list) ≤ length old
@@ -69,14 +68,14 @@ pub data TakesBytes (before after : OpenCoder) (old new : List ℕ) (reply : Rep
       → TakesBytes before after old new reply
   no_memory : after ≡ before → new ≡ old → reply ≡ refused_for Memory → TakesBytes before after old new reply
 
--- the same for what a handle holds: nothing is taken where it holds no coder
+-- the same for what a handle holds: nothing is taken if it holds no coder
 pub data TakesOut (old new : Option OpenCoder) (before after : List ℕ) (reply : Reply) : Type 0 where
   taken_out : (w w' : OpenCoder) → old ≡ Some w → new ≡ Some w' → TakesBytes w w' before after reply
       → TakesOut old new before after reply
   none_taken : old ≡ None → new ≡ None → after ≡ before → reply ≡ not_open → TakesOut old new before after reply
 
--- the whole bytes that were taken, and then those of the bits that were left and all that came
--- behind them, are the bytes of all bits
+-- the whole bytes that were taken, and then those of the bits that were left and of all bits after
+-- them, are the bytes of all bits
 abbrev pub TakenBytesJoin : Type 0
 TakenBytesJoin = (bits more : List Bool)
     → bytes_of (bits ++ more) ≡ ready_bytes bits ++ bytes_of (left_bits bits ++ more)

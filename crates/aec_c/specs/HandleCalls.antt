@@ -1,4 +1,4 @@
--- What the calls on a handle do and answer.
+-- What the calls on a handle do and reply.
 use Rattle.std.specs.Prelude.{◌≡◌, ℕ, ◌⊎◌, Option, Some, None, Result, Ok, Err}
 use Rattle.aec_params.specs.declared.fault.Fault.{Fault}
 use Rattle.aec_params.specs.declared.fault.Fault.TheVariants.{Memory}
@@ -18,14 +18,13 @@ format_of w = interval_format w.workspace.codec.params
 abbrev pub not_open : Reply
 not_open = record { fault = 19; place = 0; len = 0 }
 
--- a call on a handle, by what it does to what is held: one that holds nothing holds nothing after
--- it
+-- a call on a handle, by what it does to what is held; a handle that holds nothing is unchanged
 pub data OnHandle {X : Type 0} (Does : X → X → Reply → Type 0) (old new : Option X) (reply : Reply) : Type 0 where
   held : (before after : X) → old ≡ Some before → new ≡ Some after → Does before after reply
       → OnHandle Does old new reply
   empty : old ≡ None → new ≡ None → reply ≡ not_open → OnHandle Does old new reply
 
--- how many intervals an edit has coded, or why it is refused
+-- how many intervals an edit coded, or why it was refused
 abbrev pub edit_reply : Result ℕ Fault → Reply
 edit_reply (Ok coded) = done coded
 edit_reply (Err fault) = refused_for fault
@@ -40,7 +39,6 @@ pub record MakesEdit (e : Edit) (before after : OpenWorkspace) (reply : Reply) :
   pub limit : after.workspace.limit ≡ before.workspace.limit
   pub format : format_of after ≡ format_of before
 
--- the same of an edit whose values are copied first: where there is no memory for the copy, nothing
--- changes
+-- the same for an edit whose values are copied first: without memory for the copy nothing changes
 abbrev pub MakesCopiedEdit : Edit → Option OpenWorkspace → Option OpenWorkspace → Reply → Type 0
 MakesCopiedEdit e old new reply = OnHandle (MakesEdit e) old new reply ⊎ ((new ≡ old) × (reply ≡ refused_for Memory))

@@ -20,15 +20,14 @@ use Rattle.aec_c.specs.HandleCalls.{format_of}
 abbrev pub AreRead : Settings → Option ℕ → List ℕ → List ℤ → Type 0
 AreRead s count bytes samples = IsReading s count (2 ^ 32) (bits_of_bytes bytes) samples
 
--- why bytes aren't read: the options; or, if they are allowed, what decoding refuses or want of
--- memory
+-- why bytes aren't read: the options; or, if they are allowed, a refusal of decoding or `Memory`
 pub data CannotRead (s : Settings) (count : Option ℕ) (bytes : List ℕ) (fault : Fault) : Type 0 where
   bad_options : settings_fault s ≡ Some fault → CannotRead s count bytes fault
   not_read : IsAllowed s → RefusesDecoding s count (2 ^ 32) (bits_of_bytes bytes) fault → CannotRead s count bytes fault
   no_memory : IsAllowed s → fault ≡ Memory → CannotRead s count bytes fault
 
--- a workspace with these samples, whose coder has been called once for each interval of them, and
--- never to decode
+-- a workspace with these samples, whose coder was called once for each interval of them, and never
+-- to decode
 pub record Holds (s : Settings) (samples : List ℤ) (w : OpenWorkspace) : Type 0 where
   pub samples_are : w.workspace.samples ≡ samples
   pub limit : w.workspace.limit ≡ 2 ^ 32
@@ -36,15 +35,15 @@ pub record Holds (s : Settings) (samples : List ℤ) (w : OpenWorkspace) : Type 
   pub reads : w.workspace.codec.reads ≡ 0
   pub format : format_of w ≡ interval_format s
 
--- why samples aren't taken into an empty workspace: the options, what refuses an append of them, or
--- want of memory
+-- why samples aren't taken into an empty workspace: the options, a refusal of appending them, or
+-- `Memory`
 abbrev pub CannotHold : Settings → List ℤ → Fault → Type 0
 CannotHold s samples fault =
     (fault ≡ Memory) ⊎ ((settings_fault s ≡ Some fault)
     ⊎ (due_refusal (interval_format s) (2 ^ 32) [] 0 (Append samples) ≡ Some fault))
 
--- loading: a workspace with the samples that bytes are read as in the place of what was held, or a
--- refusal that changes nothing
+-- loading: a workspace with the samples that bytes are read as replaces what was held, or a refusal
+-- changes nothing
 pub data Loads (s : Settings) (count : Option ℕ) (bytes : List ℕ) (old new : Option OpenWorkspace)
     (reply : Reply) : Type 0 where
   loaded : (samples : List ℤ) (w : OpenWorkspace) → AreRead s count bytes samples → new ≡ Some w → Holds s samples w

@@ -1,4 +1,4 @@
--- What a handle is opened with, and what is read of it.
+-- What a handle is opened with, and what is read from it.
 use Rattle.std.specs.Prelude.{◌≡◌, ℕ, ◌^◌, ◌⊎◌, Option, Some, None, Result, Ok, Err, List, [], ℤ, length, take, drop}
 use Rattle.aec_params.specs.declared.settings.Settings.{Settings}
 use Rattle.aec_params.specs.declared.fault.Fault.{Fault}
@@ -22,23 +22,23 @@ pub record IsFresh (s : Settings) (w : OpenWorkspace) : Type 0 where
   pub reads : w.workspace.codec.reads ≡ 0
   pub format : format_of w ≡ interval_format s
 
--- opening: a fresh workspace in the place of what was held, or a refusal that changes nothing
+-- opening: a fresh workspace replaces what was held, or a refusal changes nothing
 pub data Opens (s : Settings) (old new : Option OpenWorkspace) (reply : Reply) : Type 0 where
   fresh : (w : OpenWorkspace) → new ≡ Some w → IsFresh s w → reply ≡ done 0 → Opens s old new reply
   refused : (fault : Fault) → (fault ≡ Memory) ⊎ (settings_fault s ≡ Some fault) → new ≡ old
       → reply ≡ refused_for fault → Opens s old new reply
 
--- the number of samples, and that of the coder's calls; none where no workspace is held
+-- the number of samples; 0 if no workspace is held
 abbrev pub size_in : Option OpenWorkspace → ℕ
 size_in (Some w) = length w.workspace.samples
 size_in None = 0
 
--- the number of the coder's calls; none where no workspace is held
+-- the number of the coder's calls; 0 if no workspace is held
 abbrev pub calls_in : Option OpenWorkspace → ℕ
 calls_in (Some w) = w.workspace.codec.calls
 calls_in None = 0
 
--- the bytes of the code of a workspace's samples, or want of memory
+-- the bytes of the code of a workspace's samples, or `Memory`
 abbrev pub IsCodeOf : OpenWorkspace → Result (List ℕ) Fault → Type 0
 IsCodeOf w (Ok bytes) = bytes ≡ bytes_of (code_of (format_of w) w.workspace.samples)
 IsCodeOf w (Err fault) = fault ≡ Memory
@@ -50,7 +50,7 @@ pub data WritesOut (old new : Option OpenWorkspace) (before after : List ℕ) (r
       → reply ≡ reply_to answer (length before) → WritesOut old new before after reply
   no_work : old ≡ None → new ≡ None → after ≡ before → reply ≡ not_open → WritesOut old new before after reply
 
--- the samples of a range, or why they are refused: for their place, and else for want of memory
+-- the samples of a range, or why they are refused: for their place, else with `Memory`
 abbrev pub IsRangeOf : List ℤ → ℕ → ℕ → Result (List ℤ) Fault → Type 0
 IsRangeOf samples first len (Ok part) = (part ≡ take len (drop first samples))
     × (range_refusal (length samples) first len ≡ None)

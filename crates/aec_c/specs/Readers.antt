@@ -1,4 +1,4 @@
--- What the calls on a reader that gives samples interval by interval do and reply.
+-- What the calls on a reader that returns samples interval by interval do and reply.
 use Rattle.std.specs.Prelude.{◌≡◌, ℕ, ◌*◌, ◌<◌, ◌≤◌, ◌^◌, ◌⊎◌, false, Option, Some, None, Ok, List, ℤ, length}
 use Rattle.aec_params.specs.declared.settings.Settings.{Settings}
 use Rattle.aec_params.specs.declared.fault.Fault.{Fault}
@@ -17,13 +17,13 @@ use Rattle.aec_c.specs.HandleCalls.{not_open}
 use Rattle.aec_c.specs.Standing.{standing_at, place_in, BeginsInterval, IsFaultOnWay}
 
 -- why coded bytes aren't opened: the options; or, if they are allowed, a count above the limit or
--- want of memory
+-- `Memory`
 abbrev pub CannotOpen : Settings → Option ℕ → Fault → Type 0
 CannotOpen s count fault =
     (settings_fault s ≡ Some fault) ⊎ (IsAllowed s × ((fault ≡ Memory) ⊎ (count_refusal (2 ^ 32) count ≡ Some fault)))
 
--- opening: a reader at the first bit of coded bytes in the place of what was held, with the length
--- in bytes of the samples of a whole interval; or a refusal that changes nothing
+-- opening: a reader at the first bit of coded bytes replaces what was held, and the reply is how
+-- many bytes the samples of a whole interval take; or a refusal changes nothing
 pub data OpensReader (s : Settings) (count : Option ℕ) (bytes : List ℕ) (old new : Option OpenReader)
     (reply : Reply) : Type 0 where
   opened : (made : OpenReader) → IsAllowed s → new ≡ Some made
@@ -32,9 +32,9 @@ pub data OpensReader (s : Settings) (count : Option ℕ) (bytes : List ℕ) (old
   not_opened : (fault : Fault) → CannotOpen s count fault → new ≡ old → reply ≡ refused_for fault
       → OpensReader s count bytes old new reply
 
--- the stored samples of the next interval put into a buffer, where there is room for all of them,
--- and the reader behind them; no bytes where all samples were read; or the fault in that interval,
--- and never want of memory
+-- the stored samples of the next interval were put into a buffer, if there was room for all of
+-- them, and the reader is after them; no bytes if all samples were read; or the fault in that
+-- interval, never `Memory`
 pub data ReadsNext (before after : OpenReader) (old new : List ℕ) (reply : Reply) : Type 0 where
   next : (samples : List ℤ) → ReadsInterval before.reader.place samples after.reader.place
       → length (all_stored before.reader.place.settings samples) ≤ length old
@@ -51,14 +51,14 @@ pub data ReadsNext (before after : OpenReader) (old new : List ℕ) (reply : Rep
       → reply ≡ refused_for fault
       → ReadsNext before after old new reply
 
--- the same for what a handle holds: nothing is put where it holds no reader
+-- the same for what a handle holds: nothing is put if it holds no reader
 pub data PutsNext (old new : Option OpenReader) (before after : List ℕ) (reply : Reply) : Type 0 where
   put : (w w' : OpenReader) → old ≡ Some w → new ≡ Some w' → ReadsNext w w' before after reply
       → PutsNext old new before after reply
   none_put : old ≡ None → new ≡ None → after ≡ before → reply ≡ not_open → PutsNext old new before after reply
 
--- the reader where interval k begins, or behind the last sample if there are fewer intervals, with
--- the number of samples before it; or the fault of all bits, if it lies before there
+-- the reader is where interval k begins, or after the last sample if there are fewer intervals, and
+-- the reply is the number of samples before it; or the fault of all bits, if it lies before there
 pub data GoesTo (k : ℕ) (before after : OpenReader) (reply : Reply) : Type 0 where
   gone : (samples : List ℤ) → after.reader.place
       ≡ place_in before.reader.place after.reader.place.block after.reader.place.bit

@@ -49,7 +49,7 @@ place_of EvenBlockSize = 0
 abbrev pub done : ℕ → Reply
 done len = record { fault = 0; place = 0; len = len }
 
--- the reply where an answer takes so many bytes and the buffer has fewer
+-- the reply if an answer takes so many bytes and the buffer has fewer
 abbrev pub wants_room : ℕ → Reply
 wants_room len = record { fault = 18; place = 0; len = len }
 
@@ -57,21 +57,21 @@ wants_room len = record { fault = 18; place = 0; len = len }
 abbrev pub refused_for : Fault → Reply
 refused_for fault = record { fault = number_of fault; place = place_of fault; len = 0 }
 
--- the reply to an answer of so many bytes, or to a refusal, by the room there is
+-- the reply for an answer of so many bytes, or for a refusal, by the room there is
 abbrev pub reply_of : Result ℕ Fault → ℕ → Reply
 reply_of (Ok len) room = if nat_le len room then done len else wants_room len
 reply_of (Err fault) room = refused_for fault
 
--- the reply to an answer
+-- the reply for an answer
 abbrev pub reply_to : {X : Type 0} → Result (List X) Fault → ℕ → Reply
 reply_to (Ok answer) room = if nat_le (length answer) room then done (length answer) else wants_room (length answer)
 reply_to (Err fault) room = refused_for fault
 
--- bytes in the place of as many at the front, the rest as it was
+-- bytes written over the front, the rest unchanged
 abbrev pub over_front : {X : Type 0} → List X → List X → List X
 over_front answer before = answer ++ drop (length answer) before
 
--- a call gave one of these answers
+-- a call had one of these answers
 pub record Replies (answers : Result (List ℕ) Fault → Type 0) (before after : List ℕ) (reply : Reply) : Type 0 where
   pub answer : Result (List ℕ) Fault
   pub answered : answers answer

@@ -1,4 +1,4 @@
--- Where a reading of coded bits stands between two calls.
+-- The place that a reading of coded bits has reached between two calls.
 use Rattle.std.specs.Prelude.{◌≡◌, ℕ, ◌+◌, ◌*◌, ◌≤◌, ◌^◌, Bool, true, Option, List, ℤ, length}
 use Rattle.aec_params.specs.declared.settings.Settings.{Settings}
 use Rattle.aec_params.specs.declared.fault.Fault.{Fault}
@@ -30,7 +30,7 @@ pub record IsStanding (r : Standing) : Type 0 where
   pub reached : IsPlace r.place
   pub has : HasCounted r.place r.before
 
--- the same of a place that the code keeps
+-- the same for a place that the code keeps
 abbrev pub standing_in : Place → Stand → Standing
 standing_in p at = record { place = place_in p at.place.block at.place.bit; before = at.before }
 
@@ -39,7 +39,7 @@ pub record BeginsInterval (k : ℕ) (p : Place) : Type 0 where
   pub begins : is_wanted_at p ≡ true → p.block ≡ k * p.settings.interval
   pub within : p.block ≤ k * p.settings.interval
 
--- interval k begins so many intervals behind a place, or all was read before it
+-- interval k begins so many intervals after a place, or all was read before it
 pub record IsOnWay (k left : ℕ) (p : Place) : Type 0 where
   pub begins : is_wanted_at p ≡ true → p.block + left * p.settings.interval ≡ k * p.settings.interval
   pub within : p.block + left * p.settings.interval ≤ k * p.settings.interval

@@ -1,4 +1,4 @@
--- What editing a coded stream by a script answers and replies.
+-- The answers and replies of editing a coded stream by a script.
 use Rattle.std.specs.Prelude.{◌≡◌, ℕ, false, Option, Some, None, Result, Ok, Err, ℤ, List, length}
 use Rattle.aec_params.specs.declared.settings.Settings.{Settings}
 use Rattle.aec_params.specs.declared.fault.Fault.{Fault}
@@ -30,7 +30,7 @@ pub data IsEditing (s : Settings) (count : Option ℕ) (script coded : List ℕ)
   -- the settings are judged first
   not_allowed : (fault : Fault) → settings_fault s ≡ Some fault → IsEditing s count script coded (Err (Plain fault))
   lacks_memory : IsAllowed s → IsEditing s count script coded (Err (Plain Memory))
-  -- on a line whose edit codes some interval, where no edit up to it is refused else
+  -- on a line whose edit codes some interval, if no edit up to it is refused otherwise
   lacks_memory_on : (samples : List ℤ) (line : ℕ) → IsAllowed s
       → script_refusal most.bytes (input_of script false) ≡ None
       → IsRead s most count (input_of coded false) samples
@@ -65,13 +65,12 @@ abbrev pub line_of : Result (List ℕ) EditFault → ℕ
 line_of (Ok bytes) = 0
 line_of (Err fault) = line_in fault
 
--- the number of samples that is replied to an answer: there are so many that the bytes code; none
--- after a refusal
+-- the number of samples in the reply to an answer: those that the bytes code; 0 after a refusal
 abbrev pub IsCounted : Settings → Result (List ℕ) EditFault → ℕ → Type 0
 IsCounted s (Ok bytes) count = CodesSoMany s bytes count
 IsCounted s (Err fault) count = count ≡ 0
 
--- a call gave one of these answers
+-- a call had one of these answers
 pub record RepliesEdit (s : Settings) (answers : Result (List ℕ) EditFault → Type 0) (before after : List ℕ)
     (reply : EditReply) : Type 0 where
   pub answer : Result (List ℕ) EditFault

@@ -1,4 +1,4 @@
-//! What the calls answer, before it is put into a buffer.
+//! Codes, decodes and cuts out ranges by C's options, into a buffer.
 
 ghost use Rattle.std.specs.Prelude.{◌≡◌, ◌≤◌, ◌^◌, false, Some, None, Ok, Err, IfSome, IfOk, IfErr, length};
 ghost use Rattle.aec_params.specs.Params.{IsAllowed, settings_fault};
@@ -14,14 +14,14 @@ use aec_engine::{decode_into, encode_into, range_into};
 use aec_params::{Fault, Limits, Params};
 use std::alloc::Global;
 
-/// The greatest limits.
+/// Returns the greatest limits.
 pub(crate) fn limits() -> Limits
     ensures { result ≡ most }
 {
     Limits::new(MOST_SAMPLES, MOST_CODED_BYTES).unwrap()
 }
 
-/// The parameters that options are.
+/// Returns the options as parameters.
 pub(crate) fn params_of(options: &Options) -> Result<Params, Fault>
     ensures ok { IfOk result (λ params. params ≡ settings_of options.now) }
     ensures allowed { IfOk result (λ params. IsAllowed params) }
@@ -30,8 +30,8 @@ pub(crate) fn params_of(options: &Options) -> Result<Params, Fault>
     Params::new(asked(options))
 }
 
-/// Puts the code of stored samples into a buffer, where there is room for all of it. How many bytes
-/// it is.
+/// Puts the code of stored samples into a buffer if there is room for all of it. Returns how many
+/// bytes it takes.
 pub(crate) fn coded(
     alloc: Global,
     options: &Options,
@@ -46,8 +46,8 @@ pub(crate) fn coded(
     }
 }
 
-/// Puts the stored samples of the front of coded bytes into a buffer, where it is read as so many;
-/// else none, and the buffer is as it was.
+/// Decodes the first `front` coded bytes as `count` samples, as `decode_into` does. Returns `None`
+/// if that fails; the buffer is unchanged then.
 fn decoded_front(
     alloc: Global,
     params: &Params,
@@ -68,8 +68,8 @@ fn decoded_front(
     }
 }
 
-/// Puts the stored samples of coded bytes into a buffer, where there is room for all of them. With
-/// a count only as many bytes are read at first as always suffice for a code of so many samples.
+/// Puts the stored samples of coded bytes into a buffer if there is room for all of them. With a
+/// count it first reads only `suffice` bytes, which always suffice for a code of so many samples.
 fn decoded_shortly(
     alloc: Global,
     params: &Params,
@@ -93,8 +93,8 @@ fn decoded_shortly(
     decode_into(alloc, params, limits(), count, bytes, out)
 }
 
-/// Puts the stored samples of coded bytes into a buffer, where there is room for all of them. How
-/// many bytes they are.
+/// Puts the stored samples of coded bytes into a buffer if there is room for all of them. Returns
+/// how many bytes they take.
 pub(crate) fn decoded(
     alloc: Global,
     options: &Options,
@@ -114,8 +114,8 @@ pub(crate) fn decoded(
     }
 }
 
-/// Puts a range of the stored samples of the front of coded bytes into a buffer, where the front is
-/// read as so many samples and the range lies within; else none, and the buffer is as it was.
+/// Decodes a range of the first `front` coded bytes, read as `count` samples, as `range_into` does.
+/// Returns `None` if that fails; the buffer is unchanged then.
 fn ranged_front(
     alloc: Global,
     params: &Params,
@@ -139,9 +139,8 @@ fn ranged_front(
     }
 }
 
-/// Puts a range of the stored samples of coded bytes into a buffer, where there is room for it.
-/// With a count only as many bytes are read at first as always suffice for a code of so many
-/// samples.
+/// Puts a range of the stored samples of coded bytes into a buffer if there is room for it. With a
+/// count it first reads only `suffice` bytes, which always suffice for a code of so many samples.
 fn ranged_shortly(
     alloc: Global,
     params: &Params,
@@ -168,7 +167,7 @@ fn ranged_shortly(
     range_into(alloc, params, limits(), count, first, len, bytes, out)
 }
 
-/// The same with a range of the stored samples.
+/// Does the same as `decoded` for a range of the stored samples.
 pub(crate) fn ranged(
     alloc: Global,
     options: &Options,

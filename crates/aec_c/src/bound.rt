@@ -1,4 +1,4 @@
-//! A length that a code never passes.
+//! A length that no code exceeds.
 
 ghost use Rattle.std.specs.Prelude.{◌≡◌, ◌≤◌, ◌^◌};
 ghost use Rattle.aec_c.specs.Calls.{settings_of};
@@ -7,8 +7,8 @@ ghost use Rattle.aec_c.specs.Bounds.{bound_of, most_bytes};
 use crate::options::{MOST_SAMPLES, Options, asked};
 use aec_params::Params;
 
-/// Of settings that the format has: five bits and the plain samples for each block, and a byte for
-/// each interval.
+/// Returns the bound for allowed settings: five bits and the plain samples for each block, and a
+/// byte for each interval.
 fn bound_within(params: &Params, samples: u64) -> u64
     requires { samples ≤ 2 ^ 32 }
     ensures { result ≡ most_bytes params.now samples }

@@ -11,8 +11,8 @@ use crate::options::Options;
 use crate::reply::Reply;
 use std::alloc::Global;
 
-/// Opens a coder that was fed nothing. On success the coder that the handle held is freed; after a
-/// refusal the handle is as it was.
+/// Opens a coder that was fed nothing. On success the coder that the handle held is freed; on an
+/// error the handle is unchanged.
 #[unsafe(no_mangle)]
 pub extern "C" fn aecp_coder_open(
     alloc: Global,
@@ -28,7 +28,7 @@ pub extern "C" fn aecp_coder_open(
 }
 
 /// Takes a piece of stored samples, cut anywhere. Replies how many whole bytes of the code can be
-/// taken.
+/// taken now.
 #[unsafe(no_mangle)]
 pub extern "C" fn aecp_coder_feed(
     alloc: Global,
@@ -43,8 +43,8 @@ pub extern "C" fn aecp_coder_feed(
     reply.fault
 }
 
-/// Ends the stream: no more samples are taken. Replies how many bytes can be taken, which are then
-/// the last.
+/// Ends the stream: no more samples are taken. Replies how many bytes can be taken; these are the
+/// last.
 #[unsafe(no_mangle)]
 pub extern "C" fn aecp_coder_finish(
     alloc: Global,

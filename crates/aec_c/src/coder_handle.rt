@@ -1,4 +1,4 @@
-//! What C holds of a coder that takes samples in pieces, or none.
+//! C's handle of a coder that takes samples in pieces, or of none.
 
 ghost use Rattle.std.specs.Prelude.{◌≡◌, Option, None, Some};
 ghost use Rattle.std.specs.Option.{option_map};
@@ -19,7 +19,7 @@ pub struct OpenCoder {
     pub bits: BitBuf,
 }
 
-/// A pointer to a coder, whose type C doesn't see. Zeros are a handle that holds none.
+/// A pointer to a coder, whose type C doesn't see. A handle of zeros holds none.
 #[repr(C)]
 #[derive(Drop)]
 pub struct CoderHandle {
@@ -66,14 +66,14 @@ impl CoderHandle {
         }
     }
 
-    /// The handle of a coder. Takes no memory.
+    /// Returns the handle of a coder. Allocates nothing.
     pub(crate) fn of(work: Box<OpenCoder>) -> CoderHandle
         ensures { result.value ≡ Some work.value }
     {
         CoderHandle::of_loose(Loose::of(work))
     }
 
-    /// The coder that a handle holds.
+    /// Returns the coder that a handle holds.
     pub(crate) fn into_box(self, alloc: Global) -> Option<Box<OpenCoder>>
         ensures { self.value ≡ option_map (λ work. work.value) result }
     {

@@ -21,7 +21,7 @@ use aec_params::Fault;
 use std::alloc::Global;
 use std::mem;
 
-/// A coder that was fed nothing.
+/// Returns a coder that was fed nothing.
 fn fresh_coder(alloc: Global, options: &Options) -> Result<Box<OpenCoder>, Fault>
     ensures ok { IfOk result (λ made. (IsAllowed (settings_of options.now))
         × (made.value.coder ≡ Some (fresh_coder (settings_of options.now) (2 ^ 32)))
@@ -45,7 +45,7 @@ pub(crate) fn coder_closed(alloc: Global, handle: &mut CoderHandle)
     let _held = mem::replace(handle, CoderHandle::empty()).into_box(alloc);
 }
 
-/// Puts a coder that was fed nothing in the place of what a handle holds.
+/// Replaces what a handle holds by a coder that was fed nothing.
 pub(crate) fn coder_opened(alloc: Global, options: &Options, handle: &mut CoderHandle) -> Reply
     ensures { OpensCoder (settings_of options.now) handle.old.value handle.new.value result }
 {
@@ -59,14 +59,14 @@ pub(crate) fn coder_opened(alloc: Global, options: &Options, handle: &mut CoderH
     }
 }
 
-/// How many whole bytes bits fill.
+/// Returns how many whole bytes bits fill.
 fn whole_bytes(bits: &BitBuf) -> u64
     ensures { result ≡ length bits.now.list / 8 }
 {
     bits.len() / 8
 }
 
-/// Fills the last byte with zeros. Takes no memory.
+/// Fills the last byte with zeros. Allocates nothing.
 fn fill_byte(bits: &mut BitBuf)
     ensures { bits.new.list ≡ padded_to_byte bits.old.list }
 {
@@ -104,7 +104,7 @@ fn finish_open(made: &mut OpenCoder) -> Reply
     }
 }
 
-/// The bytes that bits fill.
+/// Returns the bytes that bits fill.
 fn bytes_in(alloc: Global, bits: &BitBuf) -> Result<Vec<u8>, Fault>
     ensures ok { IfOk result (λ bytes. bytes.items ≡ bytes_of bits.now.list) }
     ensures fault { IfErr result (λ fault. fault ≡ Memory) }
@@ -116,7 +116,7 @@ fn bytes_in(alloc: Global, bits: &BitBuf) -> Result<Vec<u8>, Fault>
     }
 }
 
-/// Takes out bits at the front. Takes no memory.
+/// Removes the first `len` bits. Allocates nothing.
 fn remove_front(alloc: Global, bits: &mut BitBuf, len: u64)
     requires { len ≤ length bits.old.list }
     ensures { bits.new.list ≡ drop len bits.old.list }
@@ -128,7 +128,7 @@ fn remove_front(alloc: Global, bits: &mut BitBuf, len: u64)
     }
 }
 
-/// Puts the whole bytes of the code into a buffer with room for all of them, and takes them out.
+/// Moves the whole bytes of the code into a buffer if there is room for all of them.
 fn take_open(alloc: Global, made: &mut OpenCoder, out: &mut [u8]) -> Reply
     ensures { TakesBytes made.old made.new out.old out.new result }
 {
@@ -144,7 +144,7 @@ fn take_open(alloc: Global, made: &mut OpenCoder, out: &mut [u8]) -> Reply
     reply
 }
 
-/// Takes a piece of stored samples into the coder that a handle holds.
+/// Feeds a piece of stored samples to the coder that a handle holds.
 pub(crate) fn fed(alloc: Global, handle: &mut CoderHandle, piece: &[u8]) -> Reply
     ensures { OnHandle (FeedsPiece piece.now) handle.old.value handle.new.value result }
 {
@@ -172,7 +172,7 @@ pub(crate) fn finished(alloc: Global, handle: &mut CoderHandle) -> Reply
     }
 }
 
-/// Puts whole bytes of the code into a buffer, and takes them out.
+/// Moves the whole bytes of a handle's code into a buffer, as `take_open` does.
 pub(crate) fn taken(alloc: Global, handle: &mut CoderHandle, out: &mut [u8]) -> Reply
     ensures { TakesOut handle.old.value handle.new.value out.old out.new result }
 {

@@ -44,8 +44,7 @@ pub extern "C" fn aecp_encode(
     reply.fault
 }
 
-/// Decodes coded bytes: the first `count` samples, or all where `count` is the greatest number of
-/// 64 bits.
+/// Decodes coded bytes: the first `count` samples, or all if `count` is 2^64 - 1.
 #[tactic(auto, using(crate::proofs::ReplyLemmas::replied))]
 #[unsafe(no_mangle)]
 pub extern "C" fn aecp_decode(
@@ -90,8 +89,8 @@ pub extern "C" fn aecp_range(
     reply.fault
 }
 
-/// Edits a stream by a script: the code of the samples that the script leaves of the first `count`,
-/// or of all where `count` is the greatest number of 64 bits.
+/// Edits a stream by a script: codes the samples that the script leaves of the first `count`, or of
+/// all if `count` is 2^64 - 1.
 #[unsafe(no_mangle)]
 pub extern "C" fn aecp_edit(
     alloc: Global,
@@ -112,8 +111,8 @@ pub extern "C" fn aecp_edit(
     reply.reply.fault
 }
 
-/// How many bytes always suffice for the code of so many samples; 0 where no samples, these options
-/// or so many samples are coded.
+/// Returns how many bytes always suffice for the code of this many samples; 0 if they are none or
+/// more than 2^32, or if the options are refused.
 #[unsafe(no_mangle)]
 pub extern "C" fn aecp_bound(options: &Options, samples: u64) -> u64
     ensures number { result ≡ bound_of (settings_of options.now) samples }
@@ -122,7 +121,8 @@ pub extern "C" fn aecp_bound(options: &Options, samples: u64) -> u64
     bound(options, samples)
 }
 
-/// The text of a reply, as much of it as fits, with a zero behind it. The length of the text.
+/// Puts as much of a reply's text as fits into a buffer, and a zero after it. Returns the text's
+/// length.
 #[unsafe(no_mangle)]
 pub extern "C" fn aecp_text(alloc: Global, reply: &Reply, out: &mut [u8]) -> usize
     ensures { PutsText out.old out.new result }

@@ -1,4 +1,4 @@
-//! What C holds: a workspace in a block of memory, or none.
+//! C's handle: a workspace in a block of memory, or none.
 
 pub(crate) mod loose;
 
@@ -20,7 +20,7 @@ pub struct OpenWorkspace {
     pub workspace: Workspace<AecCodec>,
 }
 
-/// A pointer to a workspace, whose type C doesn't see. Zeros are a handle that holds none.
+/// A pointer to a workspace, whose type C doesn't see. A handle of zeros holds none.
 #[repr(C)]
 #[derive(Drop)]
 pub struct Handle {
@@ -67,14 +67,14 @@ impl Handle {
         }
     }
 
-    /// The handle of a workspace. Takes no memory.
+    /// Returns the handle of a workspace. Allocates nothing.
     pub(crate) fn of(work: Box<OpenWorkspace>) -> Handle
         ensures { result.value ≡ Some work.value }
     {
         Handle::of_loose(Loose::of(work))
     }
 
-    /// The workspace that a handle holds.
+    /// Returns the workspace that a handle holds.
     pub(crate) fn into_box(self, alloc: Global) -> Option<Box<OpenWorkspace>>
         ensures { self.value ≡ option_map (λ work. work.value) result }
     {

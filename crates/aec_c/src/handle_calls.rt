@@ -16,7 +16,7 @@ use crate::reply::Reply;
 use aec_params::Edit;
 use std::alloc::Global;
 
-/// Adds values behind the last sample.
+/// Appends values to the samples.
 #[unsafe(no_mangle)]
 pub extern "C" fn aecp_append(
     alloc: Global,
@@ -32,7 +32,7 @@ pub extern "C" fn aecp_append(
     reply.fault
 }
 
-/// Keeps the first samples, up to place `count`.
+/// Keeps the first `count` samples.
 #[unsafe(no_mangle)]
 pub extern "C" fn aecp_truncate(
     alloc: Global,
@@ -48,7 +48,7 @@ pub extern "C" fn aecp_truncate(
     reply.fault
 }
 
-/// Takes out the `len` samples from place `first` on.
+/// Removes the `len` samples from place `first` on.
 #[unsafe(no_mangle)]
 pub extern "C" fn aecp_remove(
     alloc: Global,
@@ -65,7 +65,7 @@ pub extern "C" fn aecp_remove(
     reply.fault
 }
 
-/// Replaces the samples from place `first` on by as many values.
+/// Overwrites the samples from place `first` on with the values.
 #[unsafe(no_mangle)]
 pub extern "C" fn aecp_overwrite(
     alloc: Global,
@@ -82,7 +82,7 @@ pub extern "C" fn aecp_overwrite(
     reply.fault
 }
 
-/// Puts values in front of the sample at place `first`, or behind the last one.
+/// Inserts values before the sample at place `first`, or after the last one.
 #[unsafe(no_mangle)]
 pub extern "C" fn aecp_insert(
     alloc: Global,
@@ -99,8 +99,8 @@ pub extern "C" fn aecp_insert(
     reply.fault
 }
 
-/// Opens an empty workspace. On success the workspace that the handle held is freed; after a
-/// refusal the handle is as it was.
+/// Opens an empty workspace. On success the workspace that the handle held is freed; on an error
+/// the handle is unchanged.
 #[unsafe(no_mangle)]
 pub extern "C" fn aecp_open(
     alloc: Global,
@@ -116,7 +116,7 @@ pub extern "C" fn aecp_open(
 }
 
 /// Opens a workspace with the samples that a stream is read as. On success the workspace that the
-/// handle held is freed; after a refusal the handle is as it was.
+/// handle held is freed; on an error the handle is unchanged.
 #[unsafe(no_mangle)]
 pub extern "C" fn aecp_load(
     alloc: Global,
@@ -142,7 +142,7 @@ pub extern "C" fn aecp_close(alloc: Global, handle: &mut Handle)
     closed(alloc, handle);
 }
 
-/// The number of samples.
+/// Returns the number of samples.
 #[unsafe(no_mangle)]
 pub extern "C" fn aecp_size(alloc: Global, handle: &mut Handle) -> u64
     ensures size { result ≡ size_in handle.old.value }
@@ -151,7 +151,7 @@ pub extern "C" fn aecp_size(alloc: Global, handle: &mut Handle) -> u64
     counted(alloc, handle)
 }
 
-/// How many intervals the coder has coded.
+/// Returns how many intervals the coder has coded.
 #[unsafe(no_mangle)]
 pub extern "C" fn aecp_calls(alloc: Global, handle: &mut Handle) -> u64
     ensures calls { result ≡ calls_in handle.old.value }

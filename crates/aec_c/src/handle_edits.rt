@@ -24,7 +24,7 @@ pub(crate) fn not_open() -> Reply
     }
 }
 
-/// The reply to an edit: how many intervals it has coded, or its refusal.
+/// Returns the reply to an edit: how many intervals it coded, or its refusal.
 fn edit_reply(answer: Result<u64, Fault>) -> Reply
     ensures { result ≡ edit_reply answer }
 {
@@ -34,7 +34,7 @@ fn edit_reply(answer: Result<u64, Fault>) -> Reply
     }
 }
 
-/// Values as an edit carries them. `Memory` where there is none for the copy.
+/// Copies values for an edit. Fails with `Memory` if the allocation fails.
 pub(crate) fn copied(alloc: Global, values: &[i64]) -> Result<Samples, Fault>
     ensures ok { IfOk result (λ samples. samples ≡ values.now) }
     ensures fault { IfErr result (λ fault. fault ≡ Memory) }
@@ -59,14 +59,14 @@ pub(crate) fn edited(alloc: Global, handle: &mut Handle, edit: &Edit) -> Reply
     }
 }
 
-/// The same of an edit that is used up.
+/// Does the same as `edited`, and drops the edit.
 fn edited_by(alloc: Global, handle: &mut Handle, edit: Edit) -> Reply
     ensures { OnHandle (MakesEdit edit) handle.old.value handle.new.value result }
 {
     edited(alloc, handle, &edit)
 }
 
-/// Replaces the samples from place `first` on by copied values.
+/// Overwrites the samples from place `first` on with copied values.
 pub(crate) fn overwritten(alloc: Global, handle: &mut Handle, first: u64, values: &[i64]) -> Reply
     ensures { MakesCopiedEdit (Overwrite first values.now)
         handle.old.value handle.new.value result }
@@ -77,7 +77,7 @@ pub(crate) fn overwritten(alloc: Global, handle: &mut Handle, first: u64, values
     }
 }
 
-/// Puts copied values in front of the sample at place `first`, or behind the last one.
+/// Inserts copied values before the sample at place `first`, or after the last one.
 pub(crate) fn inserted(alloc: Global, handle: &mut Handle, first: u64, values: &[i64]) -> Reply
     ensures { MakesCopiedEdit (Insert first values.now) handle.old.value handle.new.value result }
 {
@@ -87,7 +87,7 @@ pub(crate) fn inserted(alloc: Global, handle: &mut Handle, first: u64, values: &
     }
 }
 
-/// Adds values behind the samples of the workspace that a handle holds, without a copy.
+/// Appends values to the samples of the workspace that a handle holds, without a copy.
 pub(crate) fn appended(alloc: Global, handle: &mut Handle, values: &[i64]) -> Reply
     ensures { OnHandle (MakesEdit (Append values.now)) handle.old.value handle.new.value result }
 {

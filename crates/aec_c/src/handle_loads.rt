@@ -1,4 +1,4 @@
-//! A handle loaded with the samples of coded bytes.
+//! Loads a handle with the samples of coded bytes.
 
 ghost use Rattle.std.specs.Prelude.{◌≡◌, IfOk, IfErr};
 ghost use Rattle.aec_c.specs.Calls.{settings_of, count_of};
@@ -13,7 +13,7 @@ use aec_interval::decode_all;
 use aec_params::{Fault, Params};
 use std::alloc::Global;
 
-/// The samples that coded bytes are read as.
+/// Returns the samples that coded bytes are read as.
 fn reading(alloc: Global, options: &Options, count: u64, bytes: &[u8]) -> Result<Vec<i64>, Fault>
     ensures ok { IfOk result (λ v. AreRead (settings_of options.now) (count_of count)
         bytes.now v.items) }
@@ -25,7 +25,7 @@ fn reading(alloc: Global, options: &Options, count: u64, bytes: &[u8]) -> Result
     decode_all(alloc, &params, &bits, counted(count), MOST_SAMPLES)
 }
 
-/// A workspace with these samples.
+/// Returns a workspace with these samples.
 fn filled(alloc: Global, options: &Options, samples: &[i64]) -> Result<Box<OpenWorkspace>, Fault>
     ensures ok { IfOk result (λ work. Holds (settings_of options.now) samples.now work.value) }
     ensures refuses { IfErr result (λ e. CannotHold (settings_of options.now) samples.now e) }
@@ -37,7 +37,7 @@ fn filled(alloc: Global, options: &Options, samples: &[i64]) -> Result<Box<OpenW
     }
 }
 
-/// Puts a workspace with the samples of coded bytes in the place of what a handle holds.
+/// Replaces what a handle holds by a workspace with the samples of coded bytes.
 pub(crate) fn loaded(
     alloc: Global,
     options: &Options,

@@ -1,4 +1,4 @@
-//! A handle opened and closed, and what is read of the workspace that it holds.
+//! Opens and closes a handle, and reads from the workspace that it holds.
 
 ghost use Rattle.std.specs.Prelude.{◌≡◌, ◌≤◌, ◌⊎◌, None, Some, Ok, length, IfOk, IfErr};
 ghost use Rattle.aec_params.specs.declared.fault.Fault.TheVariants.{Memory};
@@ -24,7 +24,7 @@ use aec_params::{Fault, Params};
 use std::alloc::Global;
 use std::mem;
 
-/// An empty workspace.
+/// Returns an empty workspace.
 pub(crate) fn fresh(alloc: Global, options: &Options) -> Result<Box<OpenWorkspace>, Fault>
     ensures ok { IfOk result (λ work. IsFresh (settings_of options.now) work.value) }
     ensures refuses { IfErr result
@@ -45,7 +45,7 @@ pub(crate) fn closed(alloc: Global, handle: &mut Handle)
     let _held = mem::replace(handle, Handle::empty()).into_box(alloc);
 }
 
-/// Puts an empty workspace in the place of what a handle holds.
+/// Replaces what a handle holds by an empty workspace.
 pub(crate) fn opened(alloc: Global, options: &Options, handle: &mut Handle) -> Reply
     ensures { Opens (settings_of options.now) handle.old.value handle.new.value result }
 {
@@ -59,7 +59,7 @@ pub(crate) fn opened(alloc: Global, options: &Options, handle: &mut Handle) -> R
     }
 }
 
-/// The number of samples.
+/// Returns the number of samples.
 pub(crate) fn counted(alloc: Global, handle: &mut Handle) -> u64
     ensures size { result ≡ size_in handle.old.value }
     ensures same { handle.new.value ≡ handle.old.value }
@@ -74,7 +74,7 @@ pub(crate) fn counted(alloc: Global, handle: &mut Handle) -> u64
     }
 }
 
-/// How many intervals the coder has coded.
+/// Returns how many intervals the coder has coded.
 pub(crate) fn called(alloc: Global, handle: &mut Handle) -> u64
     ensures calls { result ≡ calls_in handle.old.value }
     ensures same { handle.new.value ≡ handle.old.value }
@@ -89,7 +89,7 @@ pub(crate) fn called(alloc: Global, handle: &mut Handle) -> u64
     }
 }
 
-/// The bytes of the code of a workspace's samples.
+/// Returns the bytes of the code of a workspace's samples.
 fn code_bytes(alloc: Global, work: &OpenWorkspace) -> Result<Vec<u8>, Fault>
     ensures ok { IfOk result (λ bytes. bytes.items ≡ bytes_of
         (code_of (format_of work.now) work.now.workspace.samples)) }
@@ -124,8 +124,7 @@ fn put_samples(answer: &[i64], out: &mut [i64])
     out[..answer.len()].copy_from_slice(answer);
 }
 
-/// Puts samples at the front of a buffer, where there is room for all of them, and says how that
-/// ended.
+/// Puts samples at the front of a buffer if there is room for all of them, and returns the reply.
 fn settle_all(answer: &[i64], out: &mut [i64]) -> Reply
     ensures left { out.new ≡ left_of (Ok answer.now) out.old }
     ensures reply { result ≡ reply_to (Ok answer.now) (length out.old) }
@@ -139,7 +138,7 @@ fn settle_all(answer: &[i64], out: &mut [i64]) -> Reply
     }
 }
 
-/// The same for samples or a refusal, which leaves the buffer as it was.
+/// Does the same for samples or a refusal. A refusal leaves the buffer unchanged.
 fn settle_samples(answer: Result<Vec<i64>, Fault>, out: &mut [i64]) -> Reply
     ensures left { out.new ≡ left_of (answer_by (λ samples. samples.items) answer) out.old }
     ensures reply { result ≡ reply_to (answer_by

@@ -1,4 +1,4 @@
-//! Coded bits, with the place that a reading of them has come to.
+//! Coded bits, with the place that reading has reached.
 
 ghost use Rattle.std.specs.Prelude.{◌≡◌, ◌<◌, ◌^◌, ℕ, IfOk, IfErr, OnOk};
 ghost use Rattle.aec_c.specs.Standing.{place_in, HasCounted, IsOnWay, BeginsInterval, IsFaultOnWay};
@@ -17,8 +17,8 @@ struct Stand {
     before: u64,
 }
 
-/// Coded bits that are read interval by interval, from call to call. Contracts see the place where
-/// the reading is, and how many samples lie before it.
+/// Coded bits that are read interval by interval, from call to call. Contracts see the place that
+/// reading has reached, and how many samples lie before it.
 #[derive(Drop)]
 pub struct HeldReader {
     params: Params,
@@ -39,8 +39,8 @@ impl Model for HeldReader {
         (standing_at r.params r.count r.bits.list r.at.place.block r.at.place.bit r.at.before) };
 }
 
-/// Goes over so many intervals, or over all that are left. How many samples lie before the place
-/// where that ends, if `before` lie before the one where it begins.
+/// Skips `intervals` intervals, or all that are left. Returns how many samples lie before the new
+/// place, if `before` lie before the old one.
 fn pass(
     params: &Params,
     reader: &mut StreamReader,
@@ -83,7 +83,7 @@ impl HeldReader {
     ghost use Rattle.aec_interval.specs.Pieces.{is_wanted_at, IsPlace, ReadsInterval, RefusesAt};
     ghost use Rattle.aec_c.specs.Standing.{standing_at, place_in, standing_in, HasCounted, IsStanding, IsOnWay, BeginsInterval, IsFaultOnWay};
 
-    /// A reader at the first bit of coded bytes.
+    /// Returns a reader at the first bit of coded bytes.
     pub(crate) fn new(
         alloc: Global,
         params: Params,
@@ -105,7 +105,7 @@ impl HeldReader {
         })
     }
 
-    /// What is read.
+    /// Returns the parameters of the bits.
     pub(crate) fn params(&self) -> Params
         ensures settings { result ≡ self.now.place.settings }
         ensures allowed { IsAllowed result }
@@ -114,7 +114,7 @@ impl HeldReader {
         self.params
     }
 
-    /// A reader of the bits at the place. Takes no memory.
+    /// Returns a reader of the bits at the place. Allocates nothing.
     fn reader(&self, alloc: Global, place: ReachedPlace) -> Result<StreamReader<'_>, Fault>
         requires { IsPlace (place_in self.now.place place.block place.bit) }
         ensures always { IsOk result }
@@ -132,8 +132,9 @@ impl HeldReader {
         Ok(reader)
     }
 
-    /// Reads the samples of the next interval, and stays. Where the interval ends; `None` where all
-    /// samples were read. `Memory` comes only if `samples` has no room for a whole interval.
+    /// Reads the samples of the next interval, and stays. Returns where the interval ends; `None`
+    /// if all samples were read. Fails with `Memory` only if `samples` has no room for a whole
+    /// interval.
     pub(crate) fn peek(
         &self,
         alloc: Global,
@@ -157,7 +158,7 @@ impl HeldReader {
         }
     }
 
-    /// Goes on to the end of the next interval, behind its `len` samples.
+    /// Goes on to the end of the next interval, after its `len` samples.
     pub(crate) fn go_on(&mut self, end: ReachedPlace, len: u64)
         requires reads { (samples : List ℤ) × ReadsInterval self.old.place samples
             (place_in self.old.place end.block end.bit) × (length samples ≡ len) }
@@ -174,8 +175,8 @@ impl HeldReader {
         };
     }
 
-    /// From where an interval is looked for, and how many intervals lie between: from here, unless
-    /// it begins before.
+    /// Returns from where an interval is looked for, and how many intervals lie between: from here,
+    /// unless the interval begins before.
     fn way(&self, interval: u64) -> (Stand, u64)
         ensures standing { IsStanding (standing_in self.now.place result.0) }
         ensures way { IsOnWay interval result.1 (standing_in self.now.place result.0).place }
@@ -196,7 +197,8 @@ impl HeldReader {
         }
     }
 
-    /// Where an interval begins, or the end of all samples where there are fewer. Takes no memory.
+    /// Returns where an interval begins, or the end of all samples if there are fewer. Allocates
+    /// nothing.
     fn found(&self, alloc: Global, interval: u64) -> Result<Stand, Fault>
         ensures ok { IfOk result (λ at. IsStanding (standing_in self.now.place at)) }
         ensures begins { IfOk result
@@ -212,8 +214,8 @@ impl HeldReader {
         })
     }
 
-    /// Goes to where an interval begins, or to the end of all samples where there are fewer. How
-    /// many samples lie before it.
+    /// Goes to where an interval begins, or to the end of all samples if there are fewer. Returns
+    /// how many samples lie before it. On an error nothing is changed.
     pub(crate) fn go_to(&mut self, alloc: Global, interval: u64) -> Result<u64, Fault>
         ensures ok { IfOk result (HasCounted self.new.place) }
         ensures same { OnOk result (self.new.place ≡ place_in self.old.place self.new.place.block

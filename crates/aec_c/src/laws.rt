@@ -2,8 +2,7 @@
 
 ghost use Rattle.aec_c.specs.Coders.{TakenBytesJoin};
 
-/// The bytes that are taken of a coder piece by piece are, one after the other, those of the whole
-/// stream.
+/// The bytes that are taken of a coder piece by piece are, in order, those of the whole stream.
 pub fn taken_bytes_join()
     ensures { TakenBytesJoin }
 {}

@@ -1,4 +1,4 @@
-//! What C asks for.
+//! The options that C passes.
 
 ghost use Rattle.std.specs.Prelude.{◌≡◌};
 ghost use Rattle.aec_c.specs.Calls.{settings_of, count_of};
@@ -11,7 +11,7 @@ pub(crate) const MOST_SAMPLES: u64 = 1 << 32;
 /// The greatest number of coded bytes.
 pub(crate) const MOST_CODED_BYTES: u64 = 1 << 40;
 
-/// The parameters of a stream as C gives them: `Settings`, field by field.
+/// The parameters of a stream as C passes them: `Settings`, field by field.
 #[repr(C)]
 #[derive(Clone, Copy)]
 pub struct Options {
@@ -27,7 +27,7 @@ pub struct Options {
     pub even_blocks: bool,
 }
 
-/// The settings that options are.
+/// Returns the options as settings.
 pub(crate) fn asked(options: &Options) -> Settings
     ensures { result ≡ settings_of options.now }
 {
@@ -45,7 +45,7 @@ pub(crate) fn asked(options: &Options) -> Settings
     }
 }
 
-/// The count that a number is: none at the greatest number of 64 bits.
+/// Returns a number as a count, and 2^64 - 1 as none.
 pub(crate) fn counted(count: u64) -> Option<u64>
     ensures { result ≡ count_of count }
 {

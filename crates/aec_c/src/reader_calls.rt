@@ -1,4 +1,4 @@
-//! The calls from C on a reader that gives samples interval by interval.
+//! The calls from C on a reader that returns samples interval by interval.
 
 ghost use Rattle.std.specs.Prelude.{◌≡◌, None};
 ghost use Rattle.aec_c.specs.Calls.{settings_of, count_of};
@@ -12,7 +12,7 @@ use crate::reply::Reply;
 use std::alloc::Global;
 
 /// Opens a reader at the first sample of a stream, of which it keeps a copy. On success the reader
-/// that the handle held is freed; after a refusal the handle is as it was.
+/// that the handle held is freed; on an error the handle is unchanged.
 #[unsafe(no_mangle)]
 pub extern "C" fn aecp_reader_open(
     alloc: Global,
@@ -30,7 +30,7 @@ pub extern "C" fn aecp_reader_open(
     reply.fault
 }
 
-/// Puts the stored samples of the next interval into a buffer, and goes on behind them.
+/// Puts the stored samples of the next interval into a buffer, and goes on after them.
 #[unsafe(no_mangle)]
 pub extern "C" fn aecp_reader_next(
     alloc: Global,

@@ -1,4 +1,4 @@
-//! What C holds of a reader that gives samples interval by interval, or none.
+//! C's handle of a reader that returns samples interval by interval, or of none.
 
 ghost use Rattle.std.specs.Prelude.{◌≡◌, Option, None, Some};
 ghost use Rattle.std.specs.Option.{option_map};
@@ -11,7 +11,7 @@ use std::alloc::Global;
 use std::marker::Model;
 use std::ptr;
 
-/// A pointer to a reader, whose type C doesn't see. Zeros are a handle that holds none.
+/// A pointer to a reader, whose type C doesn't see. A handle of zeros holds none.
 #[repr(C)]
 #[derive(Drop)]
 pub struct ReaderHandle {
@@ -58,14 +58,14 @@ impl ReaderHandle {
         }
     }
 
-    /// The handle of a reader. Takes no memory.
+    /// Returns the handle of a reader. Allocates nothing.
     pub(crate) fn of(work: Box<OpenReader>) -> ReaderHandle
         ensures { result.value ≡ Some work.value }
     {
         ReaderHandle::of_loose(Loose::of(work))
     }
 
-    /// The reader that a handle holds.
+    /// Returns the reader that a handle holds.
     pub(crate) fn into_box(self, alloc: Global) -> Option<Box<OpenReader>>
         ensures { self.value ≡ option_map (λ work. work.value) result }
     {

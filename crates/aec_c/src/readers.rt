@@ -21,7 +21,7 @@ use aec_params::{Fault, Params, put_samples};
 use std::alloc::Global;
 use std::mem;
 
-/// A reader at the first bit of coded bytes.
+/// Returns a reader at the first bit of coded bytes.
 fn fresh_reader(
     alloc: Global,
     params: Params,
@@ -41,7 +41,7 @@ fn fresh_reader(
     }
 }
 
-/// How many bytes the samples of a whole interval take.
+/// Returns how many bytes the samples of a whole interval take.
 fn interval_bytes(params: &Params) -> u64
     ensures { result ≡ interval_len params.now * storage_len params.now }
 {
@@ -55,7 +55,7 @@ pub(crate) fn reader_closed(alloc: Global, handle: &mut ReaderHandle)
     let _held = mem::replace(handle, ReaderHandle::empty()).into_box(alloc);
 }
 
-/// Puts a reader at the first bit of coded bytes in the place of what a handle holds.
+/// Replaces what a handle holds by a reader at the first bit of coded bytes.
 pub(crate) fn reader_opened(
     alloc: Global,
     options: &Options,

@@ -1,12 +1,12 @@
-//! What C is told.
+//! The reply of a call from C.
 
 ghost use Rattle.std.specs.Prelude.{◌≡◌};
 ghost use Rattle.aec_c.specs.Replies.{done, wants_room, refused_for, reply_of};
 
 use aec_params::Fault;
 
-/// How a call ended. `fault` is 0 where `len` bytes of `out` are the answer; 18 where it takes
-/// `len` bytes, which are more than `out` has; else the number of a refusal, with its place.
+/// How a call ended. If `fault` is 0, `len` bytes of `out` are the answer; if it is 18, the answer
+/// takes `len` bytes, more than `out` has; else it is the number of a refusal, with its place.
 #[repr(C)]
 #[derive(Clone, Copy)]
 pub struct Reply {
@@ -38,7 +38,8 @@ pub(crate) fn too_long(len: u64) -> Reply
     }
 }
 
-/// The reply of a refusal: its number, and the bit, index, line, count or limit that it names.
+/// Returns the reply for a refusal: its number, and the bit, index, line, count or limit that it
+/// names.
 pub(crate) fn refused(fault: Fault) -> Reply
     ensures { result ≡ refused_for fault }
 {
@@ -68,7 +69,7 @@ pub(crate) fn refused(fault: Fault) -> Reply
     }
 }
 
-/// The reply to an answer of so many bytes, or to a refusal, by the room there is.
+/// Returns the reply for an answer of so many bytes, or for a refusal, by the room there is.
 pub(crate) fn told(answer: Result<u64, Fault>, room: usize) -> Reply
     ensures { result ≡ reply_of answer room }
 {

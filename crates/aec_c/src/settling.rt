@@ -1,4 +1,4 @@
-//! An answer put into a buffer.
+//! Puts an answer into a buffer.
 
 ghost use Rattle.std.specs.Prelude.{◌≡◌, ◌≤◌, Ok, length};
 ghost use Rattle.aec_engine.specs.Transfers.{answer_by};
@@ -16,8 +16,7 @@ fn put_front(answer: &[u8], out: &mut [u8])
     out[..answer.len()].copy_from_slice(answer);
 }
 
-/// Puts an answer at the front of a buffer, where there is room for all of it, and says how that
-/// ended.
+/// Puts an answer at the front of a buffer if there is room for all of it, and returns the reply.
 pub(crate) fn settle_bytes(answer: &[u8], out: &mut [u8]) -> Reply
     ensures left { out.new ≡ left_of (Ok answer.now) out.old }
     ensures reply { result ≡ reply_to (Ok answer.now) (length out.old) }
@@ -31,7 +30,7 @@ pub(crate) fn settle_bytes(answer: &[u8], out: &mut [u8]) -> Reply
     }
 }
 
-/// The same for an answer or a refusal, which leaves the buffer as it was.
+/// Does the same for an answer or a refusal. A refusal leaves the buffer unchanged.
 pub(crate) fn settle(answer: Result<Vec<u8>, Fault>, out: &mut [u8]) -> Reply
     ensures left { out.new ≡ left_of (answer_by (λ bytes. bytes.items) answer) out.old }
     ensures reply { result ≡ reply_to (answer_by (λ bytes. bytes.items) answer) (length out.old) }

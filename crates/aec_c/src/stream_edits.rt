@@ -1,4 +1,4 @@
-//! A coded stream edited by a script, in memory.
+//! Edits a coded stream by a script, in memory.
 
 ghost use Rattle.std.specs.Prelude.{◌≡◌, ◌⊎◌, Ok, Err, Some, IfOk, IfErr, length};
 ghost use Rattle.aec_params.specs.declared.fault.Fault.TheVariants.{Memory, Write as WriteFault};
@@ -66,7 +66,7 @@ impl<'a> Source for ByteSource<'a> {
     }
 }
 
-/// The refusal of an engine that writes into a vector, whose writes fail for want of memory alone.
+/// Returns `Memory` for `Write`: a write to a vector fails only for lack of memory.
 fn memory_for_write(fault: EditFault) -> EditFault
     ensures memory { fault ≡ Plain WriteFault → result ≡ Plain Memory }
     ensures other { (result ≡ fault) ⊎ (result ≡ Plain Memory) }
@@ -77,7 +77,7 @@ fn memory_for_write(fault: EditFault) -> EditFault
     }
 }
 
-/// The stream that a script leaves of coded bytes.
+/// Edits coded bytes by a script, and returns the resulting stream.
 fn edited_bytes(
     alloc: Global,
     params: &Params,
@@ -114,7 +114,7 @@ fn edited_bytes(
     }
 }
 
-/// The same with the parameters that options are.
+/// Does the same by C's options.
 pub(crate) fn edited_stream(
     alloc: Global,
     options: &Options,
@@ -135,7 +135,7 @@ pub(crate) fn edited_stream(
     }
 }
 
-/// The reply to an edit of a stream that was refused.
+/// Returns the reply to a refused edit of a stream.
 fn refused_edit(fault: EditFault) -> EditReply
     ensures reply { result.reply ≡ refused_for (fault_in fault) }
     ensures line { result.line ≡ line_in fault }
@@ -152,8 +152,8 @@ fn refused_edit(fault: EditFault) -> EditReply
     }
 }
 
-/// Puts an edited stream at the front of a buffer, where there is room for all of it, and says how
-/// that ended. A refusal leaves the buffer as it was.
+/// Puts an edited stream at the front of a buffer if there is room for all of it, and returns the
+/// reply. A refusal leaves the buffer unchanged.
 pub(crate) fn settle_edited(answer: Result<EditedStream, EditFault>, out: &mut [u8]) -> EditReply
     ensures left { out.new ≡ left_of
         (plain_answer (answer_by (λ made. made.bytes.items) answer)) out.old }

@@ -9,7 +9,7 @@ use crate::reply::{NO_ROOM, Reply};
 use aec_params::Fault;
 use std::alloc::{AllocError, Global};
 
-/// The refusal that a reply names.
+/// Returns the refusal that a reply names.
 fn fault_of(reply: &Reply) -> Option<Fault>
     ensures { IfSome result (λ fault. number_of fault ≡ reply.now.fault) }
 {
@@ -36,7 +36,7 @@ fn fault_of(reply: &Reply) -> Option<Fault>
     })
 }
 
-/// The text of a reply, as `Fault` has it.
+/// Returns the text of a reply, in the words of `Fault`.
 pub(crate) fn text_of(alloc: Global, reply: &Reply) -> Result<String, AllocError> {
     match fault_of(reply) {
         Some(fault) => format!(in alloc; "{fault}"),
@@ -54,8 +54,8 @@ pub(crate) fn text_of(alloc: Global, reply: &Reply) -> Result<String, AllocError
     }
 }
 
-/// Puts as much of a text into a buffer as fits before a zero, and the zero behind it. The length
-/// of the text.
+/// Puts as much of a text into a buffer as fits before a zero, and the zero after it. Returns the
+/// length of the text.
 pub(crate) fn put_text(text: &[u8], out: &mut [u8]) -> usize
     ensures { PutsText out.old out.new result }
 {

@@ -1,5 +1,5 @@
 -- For proofs alone: no public contract cites this file.
--- What a run of the program answers, action by action.
+-- The answers of a run of the program, action by action.
 use Rattle.std.specs.Prelude.{ℕ, ◌^◌, Bool, Result, List}
 use Rattle.aec_params.specs.declared.settings.Settings.{Settings}
 use Rattle.aec_params.specs.declared.fault.Fault.{Fault}
@@ -9,20 +9,20 @@ use Rattle.aec_cli.specs.declared.job.Action.TheVariants.{Encode, Decode, Range,
 use Rattle.aec_engine.specs.Transfers.{Input, are_past}
 use Rattle.aec_engine.specs.Output.{IsEncoded, are_refused, IsDecoded, IsRanged}
 
--- whether an action has no input but its source
+-- whether an action has no other input than its source
 abbrev pub HasNoScript : Action → Type 0
 HasNoScript (Edit script count) = ⊥
 HasNoScript _ = Unit {0}
 
--- what an action with no script answers to an input (an edit by a script has `LeavesEdited`)
+-- the answers of an action without a script to an input (an edit by a script has `LeavesEdited`)
 abbrev pub IsAnswerOf : Action → Settings → Caps → Input → Result (List ℕ) Fault → Type 0
 IsAnswerOf Encode s caps = IsEncoded s caps
 IsAnswerOf (Decode count) s caps = IsDecoded s caps count
 IsAnswerOf (Range first len count) s caps = IsRanged s caps count first len
 IsAnswerOf (Edit script count) s caps = λ _ _. ⊥
 
--- bytes of a source that are enough for its answer, whatever follows them: with a sample that is
--- refused, or past the limit
+-- whether bytes of a source are enough for its answer, whatever follows: they contain a refused
+-- sample, or exceed the limit
 abbrev pub are_enough : Action → Settings → Caps → List ℕ → Bool
 are_enough Encode s caps = are_refused s caps.samples
 are_enough (Decode count) s caps = are_past caps.bytes

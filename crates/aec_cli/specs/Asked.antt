@@ -1,5 +1,5 @@
 -- For proofs alone: no public contract cites this file.
--- What the private functions that read a job give: what is done, before a name is kept.
+-- What the private functions that read a job return: what is done, before a name is copied.
 use Rattle.aec_cli.specs.declared.job.Asked.{Asked}
 use Rattle.aec_cli.specs.declared.job.Asked.TheVariants as asked
 use Rattle.aec_cli.specs.Jobs.{Work, coding, decoding, cutting, editing}

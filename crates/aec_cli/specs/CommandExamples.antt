@@ -51,7 +51,7 @@ dest_missing : fault_of aec_app (codes "aec" ∷ codes "a" ∷ []) ≡ MissingRe
 unfolding aec_app number_rules coding_rules storage_rules work_rules file_rules clap_on_literals
 dest_missing = refl
 
--- an option that stands twice
+-- an option that is given twice
 repeated : fault_of aec_app (codes "aec" ∷ codes "-s" ∷ codes "-s" ∷ codes "a" ∷ codes "b" ∷ []) ≡ ArgumentConflict ∷ []
 unfolding aec_app number_rules coding_rules storage_rules work_rules file_rules clap_on_literals
 repeated = refl

@@ -46,7 +46,7 @@ long_number_rule judge id = record (new_rule id) {
 abbrev pub long_text_rule : Text → Rule
 long_text_rule id = record (new_rule id) { long = Some id; value_names = 1 }
 
--- the name of a file, which has to be given
+-- the name of a file, which must be given
 abbrev pub file_rule : Text → Rule
 file_rule id = record (new_rule id) { required = true }
 
@@ -81,7 +81,7 @@ work_rules = flag_rule (codes "decode") (letter (codes "d")) ∷ long_text_rule 
 unfoldable pub file_rules : List Rule
 file_rules = file_rule (codes "SOURCE") ∷ file_rule (codes "DEST") ∷ []
 
--- a command of this name that says its version when it is asked for
+-- a command of this name that prints its version if asked
 abbrev pub versioned_app : Text → App
 versioned_app name = on_top (λ shape. record shape { has_version = true }) (new_app name)
 

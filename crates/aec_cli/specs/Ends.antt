@@ -8,7 +8,7 @@ use Rattle.aec_cli.specs.declared.ending.End.TheVariants as end
 use Rattle.aec_cli.specs.declared.failure.Failure.{Failure}
 use Rattle.aec_cli.specs.Statuses.{status_of}
 
--- the sync was done, or its error says that the file can't be synced, as a pipe or a terminal can't
+-- the sync succeeded, or its error says that the file can't be synced, like a pipe or a terminal
 abbrev pub IsWrittenOut : SyncAnswer → Type 0
 IsWrittenOut answer = MatchOption answer.error ⊤ (λ kind. (kind ≡ InvalidInput) ⊎ (kind ≡ Unsupported))
 
@@ -16,18 +16,18 @@ IsWrittenOut answer = MatchOption answer.error ⊤ (λ kind. (kind ≡ InvalidIn
 abbrev pub HasSynced : Done → Type 0
 HasSynced done = MatchOption done.synced ⊥ (λ synced. IsWrittenOut synced.answer)
 
--- how the program ends, by what a run returned
+-- how the program ends, by the result of a run
 abbrev pub end_of_run : Result Done Failure → End
 end_of_run (Ok done) = end.Done done
 end_of_run (Err failure) = end.Failed failure
 
--- the status of the process: 0 if the job is done, and else that of its failure
+-- the status of the process: 0 if the job is done, else that of its failure
 abbrev pub end_status : End → ℕ
 end_status (end.Unstarted status) = status
 end_status (end.Done done) = 0
 end_status (end.Failed failure) = status_of failure
 
--- Where the status is 0, the job is done and its file is written out. No failure has the status 0.
+-- If the status is 0, the job is done and its file is written out. No failure has the status 0.
 abbrev pub IsDoneAtZero : End → Type 0
 IsDoneAtZero (end.Unstarted status) = 0 < status
 IsDoneAtZero (end.Done done) = HasSynced done

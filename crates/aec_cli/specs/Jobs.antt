@@ -24,7 +24,7 @@ pub data Work : Type 0 where
   cutting : ℕ → ℕ → Option ℕ → Work
   editing : Text → Option ℕ → Work
 
--- the work that the code's `Action` is
+-- an `Action` of the code as work
 abbrev pub work_of : Action → Work
 work_of action.Encode = coding
 work_of (action.Decode count) = decoding count
@@ -38,7 +38,7 @@ pub record Task : Type 0 where
   pub source : Text
   pub dest : Text
 
--- the task that the code's `Job` is
+-- a `Job` of the code as a task
 abbrev pub task_of : Job → Task
 task_of j =
     record { settings = j.params; work = work_of j.action; source = string_bytes j.source; dest = string_bytes j.dest }
@@ -47,11 +47,11 @@ task_of j =
 unfoldable pub is_given : Text → Found → Bool
 is_given id f = option_map_or (λ text. bytes_eq text (codes "true")) (first_value f id) false
 
--- the number of an option, and the default where it has none (COMMAND: Options)
+-- the number of an option, or the default if it has none (COMMAND: Options)
 unfoldable pub word_of : ℕ → Text → Found → ℕ
 word_of default id f = unwrap_or (option_and_then (option_number 32) (one_text f id)) default
 
--- the sample count, where one is given
+-- the sample count, if one is given
 unfoldable pub count_of : Found → Option ℕ
 count_of f = option_and_then (option_number 64) (one_text f (codes "count"))
 
@@ -59,7 +59,7 @@ count_of f = option_and_then (option_number 64) (one_text f (codes "count"))
 unfoldable pub file_of : Text → Found → Text
 file_of id f = unwrap_or (first_value f id) []
 
--- the settings: the usual numbers where no others are asked for, and each flag (COMMAND: Options)
+-- the settings: each number with its default if no other is given, and each flag (COMMAND: Options)
 unfoldable pub settings_of : Found → Settings
 settings_of f = record {
   bits = word_of usual_settings.bits (codes "bits") f;
@@ -83,24 +83,24 @@ actions_given f =
     (is_given (codes "decode") f ∷ is_some (first_value f (codes "range")) ∷ is_some (first_value f (codes "edit"))
     ∷ [])
 
--- the range, where its text is one
+-- the range, if the text is one
 unfoldable pub range_of : Found → Option (ℕ × ℕ)
 range_of f = option_and_then range_in (first_value f (codes "range"))
 
--- a refusal that stands where a test holds
+-- a refusal, if a test holds
 abbrev pub refused_where : Bool → Usage → Option Usage
 refused_where holds usage = if holds then Some usage else None
 
--- Why no action is asked for, the first that holds: more than one; a sample count and none that
--- reads coded data; a range whose text is none. (COMMAND: Order of a run; tests in their order,
--- where the code matches on both at once)
+-- The first reason why no action is asked for: more than one is given; a sample count without an
+-- action that reads coded data; a range whose text is none. (COMMAND: Order of a run; tests in
+-- their order, where the code matches on both at once)
 unfoldable pub action_refusal : Found → Option Usage
 action_refusal f =
     option_or (refused_where (nat_lt 1 (actions_given f)) Jobs)
     (option_or (refused_where (is_some (count_of f) && actions_given f == 0) Count)
     (refused_where (is_some (first_value f (codes "range")) && not (is_some (range_of f))) Range))
 
--- what is asked for where nothing is refused: a script's edits, a range, all samples, or coding
+-- what is asked for if nothing is refused: a script's edits, a range, all samples, or coding
 unfoldable pub work_asked : Found → Work
 work_asked f = option_map_or (λ script. editing script (count_of f)) (first_value f (codes "edit"))
     (option_map_or (λ range. cutting range.0 range.1 (count_of f)) (range_of f)
@@ -108,7 +108,7 @@ work_asked f = option_map_or (λ script. editing script (count_of f)) (first_val
 
 -- ---- the job
 
--- the job that the words ask for where nothing is refused
+-- the job that the words ask for if nothing is refused
 abbrev pub asked_task : Found → Task
 asked_task f = record {
   settings = settings_of f;
@@ -117,7 +117,7 @@ asked_task f = record {
   dest = file_of (codes "DEST") f;
 }
 
--- why there is no job: the refusal of its action, and else the first rule of the format that its
+-- why there is no job: the refusal of its action, else the first rule of the format that its
 -- settings break (COMMAND: Order of a run)
 abbrev pub job_refusal : Found → Option Usage
 job_refusal f = option_or (action_refusal f) (option_map (λ fault. Setting fault) (settings_fault (settings_of f)))

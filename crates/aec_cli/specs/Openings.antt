@@ -7,8 +7,8 @@ use Rattle.aec_cli.specs.declared.files.Reading.TheVariants as reading
 
 -- ---- of a sink
 
--- How often a sink has failed, 0 or 1: a file that is not created has not failed, and one that
--- can't be created has. Of an open file `failed` says it.
+-- How often a sink has failed: 0 if its file is not created yet, 1 if the file can't be created;
+-- for an open file `failed` counts.
 abbrev pub failures_of : {T : Type 0} → (T → ℕ) → Opening T → ℕ
 failures_of failed Unopened = 0
 failures_of failed (Open file) = failed file
@@ -33,8 +33,7 @@ IsTried failed Unopened = ⊥
 IsTried failed (Open file) = failed file ≡ 0
 IsTried failed Failed = Unit {0}
 
--- the bytes that a sink has taken, where they are known: of an open file `bytes` says it, and
--- without one they aren't known
+-- the bytes that a sink has taken: for an open file those of `bytes`; without one they aren't known
 abbrev pub bytes_known : {T : Type 0} → (T → Option (List ℕ)) → Opening T → Option (List ℕ)
 bytes_known bytes Unopened = None
 bytes_known bytes (Open file) = bytes file
@@ -42,8 +41,8 @@ bytes_known bytes Failed = None
 
 -- ---- of a source
 
--- How often a source has failed, 0 or 1: a file that is not opened or is closed has not failed, and
--- one that can't be opened has. Of an open file `failed` says it.
+-- How often a source has failed: 0 if its file is not opened yet or is closed, 1 if the file can't
+-- be opened; for an open file `failed` counts.
 abbrev pub failures_read : {T : Type 0} → (T → ℕ) → Reading T → ℕ
 failures_read failed reading.Unopened = 0
 failures_read failed (reading.Open file) = failed file
@@ -65,8 +64,8 @@ is_closed (reading.Open file) = false
 is_closed reading.Closed = true
 is_closed reading.Failed = false
 
--- the bytes that a source has left, where they are known: none of a closed file; of an open file
--- `bytes` says it
+-- the bytes that a source has left: none of a closed file; of an open file those of `bytes`; else
+-- they aren't known
 abbrev pub bytes_unread : {T : Type 0} → (T → Option (List ℕ)) → Reading T → Option (List ℕ)
 bytes_unread bytes reading.Unopened = None
 bytes_unread bytes (reading.Open file) = bytes file

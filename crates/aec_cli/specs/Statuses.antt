@@ -1,4 +1,4 @@
--- The status that the program ends with where its job is not done.
+-- The status that the program ends with if its job is not done.
 use Rattle.std.specs.Prelude.{◌≡◌, ◌≤◌, ◌⊎◌, ℕ, List, [], ◌∷◌, Result, Ok, Err}
 use Rattle.clap.specs.Kinds.{Kinds}
 use Rattle.clap.specs.Simple.{matches_of}
@@ -15,7 +15,8 @@ use Rattle.aec_cli.specs.declared.failure.Failure.TheVariants as failure
 use Rattle.aec_cli.specs.declared.start.StartFault.{StartFault}
 use Rattle.aec_cli.specs.declared.start.StartFault.TheVariants as start
 
--- words that make no job: 2; but want of memory is no fault of the words (COMMAND: Exit status)
+-- 2 for words that make no job, but 1 for lack of memory, no fault of the words (COMMAND: Exit
+-- status)
 abbrev pub usage_status : Usage → ℕ
 usage_status Jobs = 2
 usage_status Count = 2
@@ -23,13 +24,13 @@ usage_status Range = 2
 usage_status (Setting fault) = 2
 usage_status Memory = 1
 
--- and everything else: 1 (COMMAND: Exit status)
+-- and 1 for everything else (COMMAND: Exit status)
 abbrev pub status_of : Failure → ℕ
 status_of (failure.Usage usage) = usage_status usage
 status_of (failure.Fault fault) = 1
 status_of (failure.Edit fault) = 1
 
--- where a process begins no run: 2 for words that are no text, and else 1 (COMMAND: Exit status)
+-- if a process begins no run: 2 for words that are no text, else 1 (COMMAND: Exit status)
 abbrev pub start_status : StartFault → ℕ
 start_status start.Stream = 1
 start_status start.Words = 2
@@ -41,8 +42,8 @@ ConcernsWords start.Stream = ⊥
 ConcernsWords start.Words = Unit {0}
 ConcernsWords start.Memory = Unit {0}
 
--- the status if a parse returns no matches: 0 for what was asked for, 1 for want of memory, and
--- else 2 (COMMAND: Exit status)
+-- the status if a parse returns no matches: 0 for what was asked for, 1 for lack of memory, else 2
+-- (COMMAND: Exit status)
 abbrev pub parse_status : ErrorKind → ℕ
 parse_status kind.DisplayHelp = 0
 parse_status kind.DisplayVersion = 0
@@ -54,7 +55,7 @@ abbrev pub IsStatusAmong : ℕ → Kinds → Type 0
 IsStatusAmong status [] = ⊥
 IsStatusAmong status (k ∷ ks) = (status ≡ parse_status k) ⊎ IsStatusAmong status ks
 
--- if the words have mistakes of these kinds, the status is that of one of them, or 1 for want of
+-- if the words have mistakes of these kinds, the status is that of one of them, or 1 for lack of
 -- memory (COMMAND: Exit status; nothing is said of words without mistakes)
 abbrev pub EndsByMistake : Kinds → ℕ → Type 0
 EndsByMistake [] status = Unit {0}
@@ -66,14 +67,14 @@ EndsByMistake (k ∷ ks) status = (status ≡ 1) ⊎ IsStatusAmong status (k ∷
 abbrev pub IsFoundIn : List Text → Found → Type 0
 IsFoundIn words found = rows_of found ≡ matches_of aec_app words
 
--- the status of a refused job; where there is a job, it is done or refused, and its words are in
--- order (COMMAND: Exit status; a job that is done isn't told from one that is refused)
+-- the status of a refused job; if there is a job, it is done or refused, and the words are right
+-- (COMMAND: Exit status; this doesn't distinguish a done job from a refused one)
 abbrev pub EndsByRefusal : Result Task Usage → ℕ → Type 0
 EndsByRefusal (Ok task) status = status ≤ 1
 EndsByRefusal (Err usage) status = status ≡ usage_status usage
 
--- Words without a mistake end with the status of the first refusal of their job, if it has one; if
--- it has none with 0 or 1; or with 1 for want of memory. (COMMAND: Exit status)
+-- Words without a mistake end with the status of the first refusal of their job, if it has one;
+-- else with 0 or 1; or with 1 for lack of memory. (COMMAND: Exit status)
 abbrev pub EndsByWords : List Text → ℕ → Type 0
 EndsByWords words status = (status ≡ 1)
     ⊎ ((found : Found) × IsFoundIn words found × EndsByRefusal (job_of found) status)

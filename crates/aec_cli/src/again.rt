@@ -9,14 +9,14 @@ use std::fs::OpenFile;
 use std::io;
 use std::io::{Error, ErrorKind, Read, Write};
 
-// Whether a call failed because a signal interrupted it.
+// Returns whether a call failed because a signal interrupted it.
 fn is_interrupted(error: &Error) -> bool
     ensures { IsTrue result ↔ (error_kind error.now ≡ ErrorKind.Interrupted) }
 {
     error.kind() == ErrorKind::Interrupted
 }
 
-// The kind of a call's error; none where the call did what it was asked for.
+// Returns the kind of a call's error; none if the call succeeded.
 fn error_of(answer: io::Result<()>) -> Option<ErrorKind>
     ensures { MatchResult answer (λ _. result ≡ None) (λ e. result ≡ Some (error_kind e)) }
 {
@@ -26,15 +26,15 @@ fn error_of(answer: io::Result<()>) -> Option<ErrorKind>
     }
 }
 
-// What is answered where a call was interrupted `u64::MAX` times.
+// Returns the error for a call that was interrupted `u64::MAX` times.
 fn too_many_tries() -> Error
     ensures { error_kind result ≡ ErrorKind.TimedOut }
 {
     Error::from(ErrorKind::TimedOut)
 }
 
-/// A file, each call of which is made again as long as a signal interrupts it, at most `u64::MAX`
-/// times. What it answers is what the last call did; after so many, that they were too many.
+/// A file that repeats each call while a signal interrupts it, at most `u64::MAX` times. A call
+/// returns what the last try did; after too many tries it fails with `TimedOut`.
 #[derive(Drop)]
 pub(crate) struct Again<T> {
     file: T,
@@ -50,8 +50,8 @@ impl<T> Again<T> {
     }
 }
 
-/// What the last call of a sync answered: the kind of its error, if it failed. Only `Again::sync`
-/// makes one.
+/// The result of a sync's last try: the kind of its error, if it failed. Only `Again::sync` makes
+/// one.
 #[derive(Debug, PartialEq, Eq, Drop)]
 pub(crate) struct SyncAnswer {
     error: Option<ErrorKind>,
@@ -60,7 +60,7 @@ pub(crate) struct SyncAnswer {
 impl SyncAnswer {
     ghost use Rattle.std.specs.Prelude.{◌≡◌};
 
-    /// The kind of the error, if the sync failed.
+    /// Returns the kind of the error, if the sync failed.
     pub(crate) fn error(&self) -> Option<ErrorKind>
         ensures { result ≡ self.now.error }
     {
@@ -69,7 +69,7 @@ impl SyncAnswer {
 }
 
 impl<T: OpenFile> Again<T> {
-    /// Has the system write out what the file was given.
+    /// Makes the system write out what was written to the file.
     pub(crate) fn sync(&self) -> SyncAnswer
         ensures again { result.error ≢ Some ErrorKind.Interrupted }
     {
@@ -105,7 +105,7 @@ impl<T: Write> Write for Again<T> {
     }
 }
 
-// One read that no signal interrupts.
+// Reads once, and again while a signal interrupts it.
 fn read_again<R: Read>(reader: &mut R, buf: &mut [u8]) -> io::Result<usize>
     ensures bound { ReadsAtMost result buf.new }
     ensures bytes { ReadConsumes (R.remaining reader.old) (R.remaining reader.new) result buf.new }
@@ -124,7 +124,7 @@ fn read_again<R: Read>(reader: &mut R, buf: &mut [u8]) -> io::Result<usize>
     Err(too_many_tries())
 }
 
-// One write that no signal interrupts.
+// Writes once, and again while a signal interrupts it.
 fn write_again<W: Write>(writer: &mut W, buf: &[u8]) -> io::Result<usize>
     ensures bound { WritesAtMost result buf.now }
     ensures bytes { WriteAppends (W.contents writer.old) (W.contents writer.new) result buf.now }
@@ -143,7 +143,7 @@ fn write_again<W: Write>(writer: &mut W, buf: &[u8]) -> io::Result<usize>
     Err(too_many_tries())
 }
 
-// One flush that no signal interrupts.
+// Flushes once, and again while a signal interrupts it.
 fn flush_again<W: Write>(writer: &mut W) -> io::Result<()>
     ensures bytes { Keeps (W.contents writer.old) (W.contents writer.new) }
     ensures again { IfErr result (λ e. error_kind e ≢ ErrorKind.Interrupted) }

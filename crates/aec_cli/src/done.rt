@@ -9,8 +9,8 @@ use aec_params::Fault;
 use std::fs::OpenFile;
 use std::io::ErrorKind;
 
-/// The end of a file that was written: what its sync answered. Without a sync there is no
-/// `SyncAnswer`, and without that no `Synced`.
+/// The end of a written file: the result of its sync. Without a sync there is no `SyncAnswer`, and
+/// without a `SyncAnswer` no `Synced`.
 #[derive(Debug, PartialEq, Eq, Drop)]
 pub(crate) struct Synced {
     answer: SyncAnswer,
@@ -24,7 +24,7 @@ pub struct Done {
 }
 
 impl Done {
-    /// The end of a sink with a file.
+    /// Returns the end of a sink with a file.
     pub(crate) fn of_a_file(synced: Synced) -> Done
         ensures { result.synced ≡ Some synced }
     {
@@ -33,7 +33,7 @@ impl Done {
         }
     }
 
-    /// The end of a sink that made no file, since it was never begun.
+    /// Returns the end of a sink that made no file, since it was never begun.
     pub(crate) fn without_a_file() -> Done
         ensures { result.synced ≡ None }
     {
@@ -41,8 +41,8 @@ impl Done {
     }
 }
 
-// Whether an error of this kind says that the file can't be synced, as a pipe or a terminal can't.
-// Such a file is written out all the same. Every other kind is a failure of the file.
+// Returns whether an error of this kind says that the file can't be synced, like a pipe or a
+// terminal. Such a file is written out all the same. Every other kind is a failure of the file.
 fn cant_be_synced(kind: ErrorKind) -> bool
     ensures { IsTrue result
         ↔ ((kind ≡ ErrorKind.InvalidInput) ⊎ (kind ≡ ErrorKind.Unsupported)) }
@@ -50,7 +50,7 @@ fn cant_be_synced(kind: ErrorKind) -> bool
     matches!(kind, ErrorKind::InvalidInput | ErrorKind::Unsupported)
 }
 
-// Whether a file is written out by the answer of its sync.
+// Returns whether the result of its sync shows that a file is written out.
 fn is_written_out(answer: &SyncAnswer) -> bool
     ensures { IsTrue result ↔ IsWrittenOut answer.now }
 {
@@ -60,7 +60,7 @@ fn is_written_out(answer: &SyncAnswer) -> bool
     }
 }
 
-// Judges the answer of a sync.
+// Fails with `Write` unless `is_written_out(answer)`.
 fn judged(answer: SyncAnswer) -> Result<Synced, Fault>
     ensures done { IsOk result ↔ IsWrittenOut answer }
     ensures answer { IfOk result (λ synced. synced.answer ≡ answer) }
@@ -73,7 +73,7 @@ fn judged(answer: SyncAnswer) -> Result<Synced, Fault>
     }
 }
 
-/// Has the system write out what an open file was given.
+/// Makes the system write out an open file.
 pub(crate) fn write_out<T: OpenFile>(file: &Again<T>) -> Result<Synced, Fault>
     ensures done { IfOk result (λ synced. IsWrittenOut synced.answer) }
     ensures fault { IfErr result (λ e. e ≡ WriteFault) }

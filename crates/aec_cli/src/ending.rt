@@ -9,7 +9,7 @@ use crate::failure::{Failure, status};
 /// How the program ended.
 #[derive(Debug, PartialEq, Eq, Drop)]
 pub enum End {
-    /// The words were not read as a job's: help, the version or a mistake was printed.
+    /// Parsing the words ended the run: help, the version or a mistake was printed.
     Unstarted { status: u8 },
     /// The job is done.
     Done(Done),

@@ -8,7 +8,7 @@ use aec_engine::EditFault;
 use aec_params::Fault;
 use thiserror::Error;
 
-/// The failure of a run. Its text is what stands on the printed line after `aec: `.
+/// The failure of a run. Its text is printed on a line after `aec: `.
 #[derive(Clone, Copy, Debug, PartialEq, Eq, Error)]
 pub enum Failure {
     /// The words make no job.
@@ -17,12 +17,12 @@ pub enum Failure {
     /// The job was refused.
     #[error("{0}")]
     Fault(Fault),
-    /// The job was refused, which was to edit by a script.
+    /// The job, an edit by a script, was refused.
     #[error("{0}")]
     Edit(EditFault),
 }
 
-/// Returns the status that the program ends with: 2 for words that make no job, and else 1. Want of
+/// Returns the status that the program ends with: 2 if the words make no job, else 1. Lack of
 /// memory is no fault of the words.
 pub fn status(failure: &Failure) -> u8
     ensures { result ≡ status_of failure.now }

@@ -1,5 +1,4 @@
-//! Files as devices: a source that is opened by its first call, and a sink that is created by
-//! `begin`.
+//! Files as devices: a source whose first call opens the file, and a sink whose `begin` creates it.
 
 ghost use Rattle.std.specs.Prelude.{◌≡◌, ◌≤◌, ◌<◌, true, false, [], Some, Ok, IfOk, IfErr, IsOk, IsErr, length};
 ghost use Rattle.std.specs.Io.KnownBytes.{ReadConsumes, WriteAppends};
@@ -15,7 +14,7 @@ use aec_params::Fault;
 use std::fs;
 use std::rt::Files;
 
-// What has become of the file of a source. It is closed once its end was read.
+// The state of a source's file. The file is closed once its end was read.
 #[derive(Drop)]
 enum Reading<T: Drop> {
     Unopened,
@@ -24,7 +23,7 @@ enum Reading<T: Drop> {
     Failed,
 }
 
-// What has become of the file of a sink.
+// The state of a sink's file.
 #[derive(Drop)]
 enum Opening<T: Drop> {
     Unopened,
@@ -32,7 +31,7 @@ enum Opening<T: Drop> {
     Failed,
 }
 
-// What a file that is opened has become: it is open and has not failed, or it can't be opened.
+// Opens a file: then it is open and has not failed, or it can't be opened.
 fn opened<F: Files>(rt: &F, path: &str) -> Reading<ReadSource<Again<F::File>>>
     ensures { IsTriedReading ⟦<ReadSource<Again<F::File>> as Source>⟧.failed result }
 {
@@ -42,7 +41,7 @@ fn opened<F: Files>(rt: &F, path: &str) -> Reading<ReadSource<Again<F::File>>>
     }
 }
 
-// The same of a file that is created, or emptied where it is there.
+// Does the same as `opened` for a file that is created, or emptied if it exists.
 fn created<F: Files>(rt: &F, path: &str) -> Opening<WriteSink<Again<F::File>>>
     ensures { IsTried ⟦<WriteSink<Again<F::File>> as Sink>⟧.failed result }
 {
@@ -52,9 +51,9 @@ fn created<F: Files>(rt: &F, path: &str) -> Opening<WriteSink<Again<F::File>>>
     }
 }
 
-/// The bytes of a file. The first `take` opens it, and the one that finds its end closes it: from
-/// then on each `take` returns 0. A file that can't be opened, and any error of a read, is a
-/// failure; a read that a signal interrupts is made again. Contracts see how often the source has
+/// The bytes of a file. The first `take` opens the file, and the `take` that finds its end closes
+/// it: from then on each `take` returns 0. The source fails if the file can't be opened or a read
+/// fails; a read that a signal interrupts is repeated. Contracts see how often the source has
 /// failed, 0 or 1.
 #[derive(Drop)]
 pub struct FileSource<'a, F: Files> {
@@ -120,10 +119,10 @@ impl<'a, F: Files> Source for FileSource<'a, F> {
     }
 }
 
-/// A file that is written. `begin` creates it, or empties it where it is there; a `put` before that
-/// is a failure, and so is any error, and a write that takes nothing of a piece. A write that a
-/// signal interrupts is made again, and so is the sync at the end. Contracts see how often the sink
-/// has failed, 0 or 1, and how often it was begun.
+/// A file that is written. `begin` creates it, or empties an existing one. The sink fails if `put`
+/// is called before `begin`, at any error, and if a write takes nothing of a piece. Writes, and the
+/// sync at the end, are repeated if a signal interrupts them. Contracts see how often the sink has
+/// failed, 0 or 1, and how often it was begun.
 #[derive(Drop)]
 pub struct DestSink<'a, F: Files> {
     rt: &'a F,
@@ -148,9 +147,10 @@ impl<'a, F: Files> DestSink<'a, F> {
         }
     }
 
-    /// Has the system write out what the file was given, and ends the sink. `Write` where that
-    /// fails, and where the sink has failed. A file that can't be synced, as a pipe or a terminal,
-    /// is done as it is. A sink that neither was begun nor has failed is done without a file.
+    /// Makes the system write out what was written to the file, and ends the sink. Fails with
+    /// `Write` if that fails, or if the sink has failed. A file that can't be synced, like a pipe
+    /// or a terminal, needs no sync. A sink that neither was begun nor has failed is done without a
+    /// file.
     pub fn finish(self) -> Result<Done, Fault>
         ensures failed { ⟦<DestSink<'a, F> as Sink>⟧.failed self.entry ≡ 1 → IsErr result }
         ensures unbegun { ⟦<DestSink<'a, F> as Sink>⟧.begun self.entry ≡ 0

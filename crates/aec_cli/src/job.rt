@@ -17,26 +17,26 @@ use std::alloc::{AllocError, Global};
 /// What is done with the source.
 #[derive(Debug, PartialEq, Eq, Drop)]
 pub enum Action {
-    /// Its samples are coded.
+    /// Codes its samples.
     Encode,
-    /// It is decoded: the first `count` samples, and without a count all to its end.
+    /// Decodes it: the first `count` samples, or all without a count.
     Decode {
         count: Option<u64>,
     },
-    /// It is decoded, and `len` of these samples from place `first` on are kept.
+    /// Decodes it, and keeps `len` of these samples, from place `first` on.
     Range {
         first: u64,
         len: u64,
         count: Option<u64>,
     },
-    /// It is decoded, and the samples that the edits of the file `script` leave are coded.
+    /// Decodes it, and codes the samples that the edits of the file `script` leave.
     Edit {
         script: String,
         count: Option<u64>,
     },
 }
 
-// What is done, before a name is kept.
+// What is done, before a name is copied.
 #[derive(Drop)]
 enum Asked<'a> {
     Encode,
@@ -54,8 +54,8 @@ enum Asked<'a> {
     },
 }
 
-/// One run: the parameters, what is done, and the names of the file that is read and of the file
-/// that is written.
+/// One run: the parameters, what is done, and the names of the file to read and of the file to
+/// write.
 #[derive(Debug, Drop)]
 pub struct Job {
     pub params: Params,
@@ -65,8 +65,8 @@ pub struct Job {
 }
 
 /// Returns the job that the matches of a parse ask for. The refusals in their order: `Jobs`,
-/// `Count` and `Range`, which concern the action; `Setting`; and `Memory` only where no other
-/// comes.
+/// `Count` and `Range`, which concern the action; `Setting`; and `Memory` only if there is no
+/// other.
 pub fn settings(alloc: Global, matches: &ArgMatches<'_>) -> Result<Job, Usage>
     ensures ok { IfOk result (λ job. job_of (found_of matches.now) ≡ Ok (task_of job)) }
     ensures refuses { IfErr (job_of (found_of matches.now)) (λ usage. result ≡ Err usage) }
@@ -86,7 +86,7 @@ pub fn settings(alloc: Global, matches: &ArgMatches<'_>) -> Result<Job, Usage>
     })
 }
 
-// The settings, each of them the usual one where it is not given.
+// Returns the settings, each with its default if it is not given.
 #[tactic(auto, unfolding(crate::specs::Jobs::settings_of))]
 fn asked_settings(matches: &ArgMatches<'_>) -> Settings
     ensures { result ≡ settings_of (found_of matches.now) }
@@ -105,7 +105,7 @@ fn asked_settings(matches: &ArgMatches<'_>) -> Settings
     }
 }
 
-// What is done, or the first rule of actions that is broken.
+// Returns what is done. Fails with the first rule of actions that is broken.
 #[tactic(auto, unfolding(crate::specs::Jobs::work_asked, crate::specs::Jobs::action_refusal, crate::specs::Jobs::actions_given, crate::specs::Jobs::range_of))]
 fn asked_action<'a>(matches: &'a ArgMatches<'_>) -> Result<Asked<'a>, Usage>
     ensures ok { IfOk result (λ asked. work_meant asked ≡ work_asked (found_of matches.now)) }
@@ -129,7 +129,7 @@ fn asked_action<'a>(matches: &'a ArgMatches<'_>) -> Result<Asked<'a>, Usage>
     }
 }
 
-// What is asked for, with the name of a script kept.
+// Returns what is asked for, with a copy of a script's name.
 fn kept_action(alloc: Global, asked: Asked<'_>) -> Result<Action, AllocError>
     ensures { IfOk result (λ action. work_of action ≡ work_meant asked.entry) }
 {

@@ -28,9 +28,8 @@ use std::io::Write;
 use std::rt::Files;
 
 /// Runs the program on its words, of which the first is the program's name, and returns how it
-/// ended, with the status 0, 1 or 2. A job ends with 0 only if its file is written out. What
-/// belongs on standard output is written to `out`, what belongs on standard error to `err`; a fault
-/// of either changes nothing.
+/// ended, with the status 0, 1 or 2. A job ends with 0 only if its file is written out. Standard
+/// output goes to `out`, standard error to `err`; a fault of either changes nothing.
 pub fn perform<F: Files, O: Write, E: Write>(
     rt: &F,
     alloc: Global,
@@ -70,8 +69,8 @@ fn limits() -> Limits
     }
 }
 
-// Does with a source what is asked for without a script, within the limits of the program, and
-// leaves its answer in a sink.
+// Does an action without a script on a source, within the limits of the program, and writes its
+// answer to a sink.
 fn act<R: Source, W: Sink>(
     alloc: Global,
     params: &Params,
@@ -95,7 +94,7 @@ fn act<R: Source, W: Sink>(
     }
 }
 
-// Edits what a source codes by the script that another gives, within the limits of the program.
+// Edits the samples of a source by the script of another, within the limits of the program.
 fn act_by_script<Q: Source, R: Source, W: Sink>(
     alloc: Global,
     params: &Params,
@@ -112,8 +111,8 @@ fn act_by_script<Q: Source, R: Source, W: Sink>(
     edit(alloc, params, limits(), count, from, source, sink)
 }
 
-// Does a job with its files, within the limits of the program. It is done once its DEST was begun
-// and has ended well.
+// Does a job with its files, within the limits of the program. The job is done once its DEST was
+// begun and finished without a fault.
 fn run<F: Files>(rt: &F, alloc: Global, job: Job) -> Result<Done, Failure>
     ensures done { IfOk result (λ done. HasSynced done) }
     ensures fault { IfErr result (λ failure. status_of failure ≡ 1) }
@@ -138,7 +137,7 @@ fn run<F: Files>(rt: &F, alloc: Global, job: Job) -> Result<Done, Failure>
     sink.finish().map_err(Failure::Fault)
 }
 
-// How the program ends by what a run returned. A failure is printed.
+// Returns how the program ends, by the result of a run. Prints a failure.
 fn ended<E: Write>(run: Result<Done, Failure>, err: &mut E) -> End
     ensures { result ≡ end_of_run run }
 {
@@ -148,7 +147,7 @@ fn ended<E: Write>(run: Result<Done, Failure>, err: &mut E) -> End
     }
 }
 
-// Prints the line of a failure, with which the program ends.
+// Prints the line of a failure, and returns this end of the program.
 fn failed<E: Write>(failure: Failure, err: &mut E) -> End
     ensures { result ≡ End.Failed failure }
 {
@@ -156,7 +155,7 @@ fn failed<E: Write>(failure: Failure, err: &mut E) -> End
     End::Failed(failure)
 }
 
-// Prints the line of a failure, and answers its status.
+// Prints the line of a failure, and returns its status.
 fn report<E: Write>(failure: Failure, err: &mut E) -> u8
     ensures { result ≡ status_of failure }
 {
@@ -164,7 +163,7 @@ fn report<E: Write>(failure: Failure, err: &mut E) -> u8
     status(&failure)
 }
 
-// Prints what a parse says in place of matches, help or a fault of the words, and answers the
+// Prints what a parse returned instead of matches, help or a mistake in the words, and returns the
 // status.
 fn answer<O: Write, E: Write>(error: &clap::Error, out: &mut O, err: &mut E) -> u8
     ensures { result ≡ parse_status (kind_of error.now) }

@@ -1,5 +1,5 @@
-//! What the process of the program does before a run: it sees to its standard streams, and reads
-//! its words.
+//! What the process does before a run: it opens standard streams that are closed, and reads its
+//! words.
 
 ghost use Rattle.std.specs.Prelude.{◌≡◌, IfErr};
 ghost use Rattle.aec_cli.specs.declared.start.StartFault.TheVariants.{Stream};
@@ -13,22 +13,22 @@ use std::os::fd::{AsFd, IntoRawFd};
 use std::rt::{Env, Files};
 use thiserror::Error;
 
-/// Why a process begins no run. Its text is what stands on the printed line after `aec: `.
+/// Why a process begins no run. Its text is printed on a line after `aec: `.
 #[derive(Clone, Copy, Debug, PartialEq, Eq, Error)]
 pub enum StartFault {
     /// A standard stream is closed, and nothing can be opened in its place.
     #[error("a standard stream is closed and /dev/null can't be opened")]
     Stream,
-    /// A word is no text.
+    /// A word is no UTF-8 text.
     #[error("words must be UTF-8 text")]
     Words,
-    /// A growth was refused.
+    /// An allocation failed.
     #[error("out of memory")]
     Memory,
 }
 
 impl StartFault {
-    /// Returns the status that the program ends with: 2 for words that are no text, and else 1.
+    /// Returns the status that the program ends with: 2 for words that are no text, else 1.
     pub fn status(&self) -> u8
         ensures { result ≡ start_status self.now }
     {
@@ -39,11 +39,11 @@ impl StartFault {
     }
 }
 
-// What the system answers to a call with a descriptor that isn't open (EBADF).
+// The error number of a call with a descriptor that isn't open (EBADF).
 const BAD_DESCRIPTOR: i32 = 9;
 
-// Whether the descriptor of a stream isn't open. One that is, and can't be duplicated, as where no
-// number is free, isn't closed.
+// Returns whether the descriptor of a stream isn't open. A descriptor that is open but can't be
+// duplicated, since no number is free, isn't closed.
 fn is_closed<S: AsFd>(stream: &S) -> bool {
     match stream.as_fd().try_clone_to_owned() {
         Ok(_) => false,
@@ -51,10 +51,10 @@ fn is_closed<S: AsFd>(stream: &S) -> bool {
     }
 }
 
-/// Opens `/dev/null`, for reading and writing, in the place of a standard stream that is closed,
-/// and leaves it open to the end of the process. The system gives a file the least number that is
-/// free. So call this for the three streams in the order of their numbers, before any file is
-/// opened: then no file gets the number of one.
+/// If a standard stream is closed, opens `/dev/null` in its place for reading and writing, until
+/// the process ends. The system gives a file the least free number. So call this for the three
+/// streams in the order of their numbers, before any file is opened: then no file gets the number
+/// of a stream.
 pub fn fill_if_closed<F: Files, S: AsFd>(rt: &F, stream: &S) -> Result<(), StartFault>
 where
     F::File: IntoRawFd,
@@ -69,8 +69,8 @@ where
     Ok(())
 }
 
-/// Returns the words of the process, the program's name first. `Words` where one is no UTF-8 text,
-/// a name of a file too.
+/// Returns the words of the process, the program's name first. Fails with `Words` if one, even the
+/// name of a file, is no UTF-8 text.
 pub fn process_words<R: Env + Alloc<A = Global>>(rt: &R) -> Result<Vec<String>, StartFault>
     ensures { IfErr result (λ fault. ConcernsWords fault) }
 {

@@ -18,8 +18,7 @@ use std::alloc::{AllocError, Global};
 /// What `--version` prints after the name.
 const VERSION: &str = "1.0.0";
 
-/// Returns the command `aec`, which has no rules between its arguments. `Memory` is the only
-/// refusal.
+/// Returns the command `aec`, which has no rules between its arguments. Fails only with `Memory`.
 pub fn command<'a>(alloc: Global) -> Result<Command<'a>, Usage>
     ensures app { IfOk result (λ c. app_of c ≡ aec_app) }
     ensures refuses { IfErr result (λ u. u ≡ Usage.Memory) }
@@ -34,8 +33,8 @@ pub fn command<'a>(alloc: Global) -> Result<Command<'a>, Usage>
     Ok(with_files(alloc, command)?)
 }
 
-/// Returns what the words say to the command, the first of them the program's name. The entries are
-/// those that the words state; an error has the kind of the first mistake, or is want of memory.
+/// Returns what the words, of which the first is the program's name, say to the command. The
+/// entries are those in the words. An error has a kind that `fault_of` lists, or is lack of memory.
 pub fn parse<'a>(alloc: Global, words: &'a [String]) -> Result<ArgMatches<'a>, Error>
     ensures entries { IfOk result (λ m.
         rows_of (found_of m) ≡ matches_of aec_app (map string_bytes words.entry.now)) }
@@ -47,7 +46,7 @@ pub fn parse<'a>(alloc: Global, words: &'a [String]) -> Result<ArgMatches<'a>, E
     command.try_get_matches_from(words)
 }
 
-// The numbers of the format.
+// Adds the numbers of the format.
 fn with_numbers<'a>(alloc: Global, command: Command<'a>) -> Result<Command<'a>, AllocError>
     ensures { IfOk result (λ c. app_of c ≡ with_rules (app_of command.entry) number_rules) }
 {
@@ -78,7 +77,7 @@ fn with_numbers<'a>(alloc: Global, command: Command<'a>) -> Result<Command<'a>, 
     command.arg(bits)?.arg(block_size)?.arg(interval)
 }
 
-// How samples are coded.
+// Adds the options of coding.
 fn with_coding<'a>(alloc: Global, command: Command<'a>) -> Result<Command<'a>, AllocError>
     ensures { IfOk result (λ c. app_of c ≡ with_rules (app_of command.entry) coding_rules) }
 {
@@ -113,7 +112,7 @@ fn with_coding<'a>(alloc: Global, command: Command<'a>) -> Result<Command<'a>, A
         .arg(restricted)
 }
 
-// How samples are stored.
+// Adds the options of storage.
 fn with_storage<'a>(alloc: Global, command: Command<'a>) -> Result<Command<'a>, AllocError>
     ensures { IfOk result (λ c. app_of c ≡ with_rules (app_of command.entry) storage_rules) }
 {
@@ -133,7 +132,7 @@ fn with_storage<'a>(alloc: Global, command: Command<'a>) -> Result<Command<'a>, 
     command.arg(signed)?.arg(msb_first)?.arg(three_byte)
 }
 
-// What is done.
+// Adds the options of the action.
 fn with_work<'a>(alloc: Global, command: Command<'a>) -> Result<Command<'a>, AllocError>
     ensures { IfOk result (λ c. app_of c ≡ with_rules (app_of command.entry) work_rules) }
 {
@@ -174,7 +173,7 @@ fn with_work<'a>(alloc: Global, command: Command<'a>) -> Result<Command<'a>, All
         .arg(buffer)
 }
 
-// The two files.
+// Adds the two files.
 fn with_files<'a>(alloc: Global, command: Command<'a>) -> Result<Command<'a>, AllocError>
     ensures { IfOk result (λ c. app_of c ≡ with_rules (app_of command.entry) file_rules) }
 {
@@ -187,7 +186,7 @@ fn with_files<'a>(alloc: Global, command: Command<'a>) -> Result<Command<'a>, Al
     command.arg(source)?.arg(dest)
 }
 
-// An option of one letter that takes no value.
+// Returns an option of one letter that takes no value.
 fn flag<'a>(alloc: Global, id: &'a str, letter: char, help: &'a str) -> Arg<'a>
     ensures rule { rule_of result ≡ flag_rule id.entry.now letter }
     ensures local { result.global ≡ false }
@@ -198,7 +197,7 @@ fn flag<'a>(alloc: Global, id: &'a str, letter: char, help: &'a str) -> Arg<'a>
         .help(help)
 }
 
-// An option with a long name that takes no value.
+// Returns an option with a long name that takes no value.
 fn long_flag<'a>(alloc: Global, name: &'a str, help: &'a str) -> Arg<'a>
     ensures rule { rule_of result ≡ long_flag_rule name.entry.now }
     ensures local { result.global ≡ false }
@@ -207,7 +206,7 @@ fn long_flag<'a>(alloc: Global, name: &'a str, help: &'a str) -> Arg<'a>
     switch.long(name).help(help)
 }
 
-// An option of one letter that takes a number, which the parser judges.
+// Returns an option of one letter that takes a number, which the parser judges.
 fn number<'a>(
     alloc: Global,
     id: &'a str,
@@ -226,7 +225,7 @@ fn number<'a>(
         .help(help)
 }
 
-// An option with a long name that takes a number, which the parser judges.
+// Returns an option with a long name that takes a number, which the parser judges.
 fn long_number<'a>(
     alloc: Global,
     name: &'a str,
@@ -244,7 +243,7 @@ fn long_number<'a>(
         .help(help)
 }
 
-// An option with a long name that takes a text.
+// Returns an option with a long name that takes a text.
 fn long_text<'a>(alloc: Global, name: &'a str, value: &'a str, help: &'a str) -> Arg<'a>
     ensures rule { rule_of result ≡ long_text_rule name.entry.now }
     ensures local { result.global ≡ false }
@@ -255,7 +254,7 @@ fn long_text<'a>(alloc: Global, name: &'a str, value: &'a str, help: &'a str) ->
         .help(help)
 }
 
-// A file, which has to be named.
+// Returns a file, which must be named.
 fn file<'a>(alloc: Global, id: &'a str, help: &'a str) -> Arg<'a>
     ensures rule { rule_of result ≡ file_rule id.entry.now }
     ensures local { result.global ≡ false }

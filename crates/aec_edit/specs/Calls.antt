@@ -1,5 +1,4 @@
--- Why an edit or a range is refused where there is memory, and how many intervals are decoded for
--- it.
+-- Why an edit or a range is refused if there is memory, and how many intervals are decoded for it.
 use Rattle.std.specs.Prelude.{◌≡◌, ℕ, ◌+◌, ◌-◌, ◌^◌, ◌≤◌, nat_lt, if◌then◌else◌, Option, Some, None, List, ℤ, length, is_some}
 use Rattle.std.specs.Option.{option_or}
 use Rattle.aec_params.specs.declared.fault.Fault.{Fault}
@@ -13,9 +12,9 @@ use Rattle.aec_bits.specs.Refusals.{refusal_of}
 abbrev pub want_of_calls : ℕ → ℕ → Option Fault
 want_of_calls calls needed = if nat_lt (2 ^ 64 - 1 - calls) needed then Some Spent else None
 
--- what an edit of the samples s is refused for where there is memory: it does not fit, or too few
--- calls are left (one function of edit and calls, where the code judges each rule in its own place,
--- before any call)
+-- why an edit of the samples s is refused if there is memory: it does not fit, or too few calls are
+-- left (one function of edit and calls, where the code judges each rule in its own place, before
+-- any call)
 abbrev pub due_refusal : Format → ℕ → List ℤ → ℕ → Edit → Option Fault
 due_refusal f limit s calls e = option_or (refusal_of f limit s e)
     (want_of_calls calls (needed_calls f.most (length s) e))
@@ -25,16 +24,16 @@ abbrev pub opened_at_most : Format → ℕ → List ℤ → ℕ → Edit → ℕ
 opened_at_most f limit s calls e = if is_some (due_refusal f limit s calls e) then 0
     else opened_intervals f.most (length s) e
 
--- a count that rises by at most so many
+-- a count that rises by at most `by`
 pub record RisesAtMost (by old new : ℕ) : Type 0 where
   pub stays : old ≤ new
   pub few : new ≤ old + by
 
--- why the samples from a place on, of so many, are refused
+-- why a range is refused: len samples from place first on, of count
 abbrev pub range_refusal : ℕ → ℕ → ℕ → Option Fault
 range_refusal count first len = if nat_lt count (first + len) then Some (OutOfRange count) else None
 
--- a refusal that is due, or want of memory where none is
+-- the refusal that is due, or `Memory` if none is due
 abbrev pub IsDue : Option Fault → Fault → Type 0
 IsDue (Some due) fault = fault ≡ due
 IsDue None fault = fault ≡ Memory

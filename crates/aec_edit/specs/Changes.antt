@@ -17,7 +17,7 @@ use Rattle.aec_edit.specs.Opened.{opened_count}
 abbrev pub exchanged : Stretch → List ℤ → List ℤ → List ℤ
 exchanged gone values s = take gone.first s ++ (values ++ drop gone.stop s)
 
--- an exchange that a workspace can make: the values take as many places, or reach the end
+-- an exchange that a workspace can make: as many values as places, or the places reach the end
 pub record IsExchange (f : Format) (limit : ℕ) (s : List ℤ) (gone : Stretch) (values : List ℤ) : Type 0 where
   pub order : gone.first ≤ gone.stop
   pub within : gone.stop ≤ length s
@@ -25,7 +25,7 @@ pub record IsExchange (f : Format) (limit : ℕ) (s : List ℤ) (gone : Stretch)
   pub fitting : (gone.stop ≡ length s) ⊎ (gone.stop ≡ gone.first + length values)
   pub few : gone.first + length values + (length s - gone.stop) ≤ limit
 
--- how many intervals it codes, of n samples each
+-- how many intervals an exchange codes, of n samples each
 abbrev pub exchange_calls : ℕ → ℕ → ℕ → ℕ
 exchange_calls n first len = div_ceil (first + len) n - first / n
 
@@ -42,32 +42,32 @@ pub record IsRecoding (f : Format) (limit : ℕ) (s : List ℤ) (from to : ℕ) 
   pub fitting : (length s ≤ to * f.most) ⊎ ((k : ℕ) × (length fresh ≡ k * f.most))
   pub few : from * f.most + length fresh + (length s - to * f.most) ≤ limit
 
--- what the interval of a place keeps in front of it
+-- what the interval of place first keeps before that place
 abbrev pub head_of : ℕ → ℕ → List ℤ → List ℤ
 head_of n first s = drop (first / n * n) (take first s)
 
--- what is kept from a place on, up to the end of the intervals that the places before it touch
+-- what is kept from place stop on, up to the end of the intervals that the places before touch
 abbrev pub tail_of : ℕ → ℕ → List ℤ → List ℤ
 tail_of n stop s = drop stop (take (div_ceil stop n * n) s)
 
--- an exchange that was made: calls were left for it, and each interval was coded once
+-- an exchange that was made: enough calls were left, and each interval was coded once
 pub record IsExchanged (needed calls coded after : ℕ) : Type 0 where
   pub left : want_of_calls calls needed ≡ None
   pub coded_is : coded ≡ needed
   pub calls_are : after ≡ calls + needed
 
--- an exchange that was refused: no calls were left for it, or memory was wanting
+-- an exchange that was refused: too few calls were left, or memory was lacking
 abbrev pub IsNotExchanged : ℕ → ℕ → Fault → ℕ → Type 0
 IsNotExchanged needed calls fault after =
     MatchOption (want_of_calls calls needed) (LacksMemory needed calls fault after)
     (λ due. (fault ≡ due) × (after ≡ calls))
 
--- how many intervals it may decode
+-- how many intervals an exchange may decode
 abbrev pub opened_by : ℕ → ℕ → ℕ → ℕ
 opened_by needed calls opened = if is_some (want_of_calls calls needed) then 0 else opened
 
 -- an exchange that codes some intervals and may decode some, and all that it does to a workspace:
--- its answer, and the samples, which are those left where it is made
+-- its result, and the samples, which are `left` if the exchange is made
 pub record Exchanges {C : Type 0} (format_of : C → Format) (called read : C → ℕ) (coded opened : ℕ) (left : List ℤ)
     (r : Result ℕ Fault) (old new : Contents C)
     : Type 0 where
@@ -79,38 +79,38 @@ pub record Exchanges {C : Type 0} (format_of : C → Format) (called read : C �
   pub limit : new.limit ≡ old.limit
   pub format : format_of new.codec ≡ format_of old.codec
 
--- ---- any exchange, of which the intervals up to number to are coded anew
+-- ---- any exchange, of which the intervals up to number to are coded again
 
--- its places, the number of the interval up to which it codes, and how many values come
+-- its places, the number of the interval up to which it codes, and how many values there are
 pub record Recoding : Type 0 where
   pub gone : Stretch
   pub to : ℕ
   pub values : ℕ
 
--- how many samples it codes, of count: those in front of the places, the values, and those behind
--- that are kept
+-- how many samples it codes, of count: those before the places, the values, and those kept after
+-- the places
 abbrev pub fresh_total : ℕ → ℕ → Recoding → ℕ
 fresh_total n count x = x.gone.first % n + (x.values + (min count (x.to * n) - x.gone.stop))
 
--- how many intervals it codes
+-- how many intervals the exchange codes
 abbrev pub recoding_calls : ℕ → ℕ → Recoding → ℕ
 recoding_calls n count x = div_ceil (fresh_total n count x) n
 
--- how many it codes of the samples s
+-- how many intervals an exchange of the samples s codes
 abbrev pub calls_up_to : Format → List ℤ → Stretch → ℕ → List ℤ → ℕ
 calls_up_to f s gone to values = recoding_calls f.most (length s)
     (record { gone = gone; to = to; values = length values })
 
--- how many it decodes
+-- how many intervals an exchange decodes
 abbrev pub recoding_openings : ℕ → ℕ → Stretch → ℕ → ℕ
 recoding_openings n count gone to = opened_count n count gone + (to - div_ceil gone.stop n)
 
--- the samples that it codes
+-- the samples that an exchange codes
 abbrev pub fresh_of : ℕ → List ℤ → Stretch → ℕ → List ℤ → List ℤ
 fresh_of n s gone to values = to_come n s (head_of n gone.first s) values (tail_of n gone.stop s)
     (div_ceil gone.stop n) to
 
--- an exchange that a workspace can make so: what is coded fills whole intervals, or reaches the end
+-- an exchange that a workspace can make: what is coded fills whole intervals, or reaches the end
 pub record IsExchangeUpTo (f : Format) (limit : ℕ) (s : List ℤ) (gone : Stretch) (to : ℕ)
     (values : List ℤ) : Type 0 where
   pub order : gone.first ≤ gone.stop
@@ -132,8 +132,8 @@ pub record IsCodeFor (f : Format) (limit : ℕ) (s : List ℤ) (from to : ℕ) (
   pub starts_are : starts ≡ starts_of f 0 fresh
   pub count_is : count ≡ length fresh
 
--- where the intervals end that an insertion of len samples codes: at the end of the one that is cut
--- where they are whole intervals
+-- up to which interval an insertion of len samples codes: if these fill whole intervals, to the end
+-- of the one that is cut; else to the last
 abbrev pub recoded_end : Format → List ℤ → ℕ → ℕ → ℕ
 recoded_end f s place len = if len % f.most == 0 then div_ceil place f.most else interval_count f s
 

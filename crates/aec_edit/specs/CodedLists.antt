@@ -25,7 +25,7 @@ pub record HasRoomOf (bits intervals : ℕ) (coded : Coded) : Type 0 where
   pub bits_fit : bits ≤ coded.bits.room
   pub starts_fit : vec_len coded.starts + intervals ≤ vec_capacity coded.starts
 
--- at least the room that there was
+-- at least the room that there was before
 pub record KeepsRoom (old new : Coded) : Type 0 where
   pub bits : old.bits.room ≤ new.bits.room
   pub starts : vec_capacity old.starts ≤ vec_capacity new.starts
@@ -44,7 +44,7 @@ AreLater to place end starts = (k : ℕ) → to ≤ k → k < length starts
 abbrev pub AreUpTo : ℕ → List ℕ → Type 0
 AreUpTo end starts = (k : ℕ) → k < length starts → slice_index starts k ≤ end
 
--- two cuts between which other code can come
+-- two cuts between which other code can be put
 pub record CanBeReplaced (coded with : Coded) (from to : Cut) : Type 0 where
   pub intervals : from.interval ≤ to.interval
   pub intervals_within : to.interval ≤ length coded.starts.items
@@ -64,7 +64,7 @@ abbrev pub with_starts : List ℕ → ℕ → ℕ → List ℕ → ℕ → ℕ �
 with_starts starts from to with base old_end new_end =
     take from starts ++ (map (λ x. base + x) with ++ map (λ x. x - old_end + new_end) (drop to starts))
 
--- other code has come between two cuts, and the starts after them have moved
+-- other code was put between two cuts, and the starts after them were moved
 pub record IsReplaced (old new with : Coded) (from to : Cut) (count : ℕ) : Type 0 where
   pub bits : new.bits.list ≡ take from.bit old.bits.list ++ (with.bits.list ++ drop to.bit old.bits.list)
   pub starts : new.starts.items
@@ -82,7 +82,7 @@ pub record CanShift (at old_end new_end : ℕ) (starts : List ℕ) : Type 0 wher
   pub end_few : new_end ≤ 2 ^ 63
   pub later : AreLater at old_end (2 ^ 62) starts
 
--- a list of starts in which others can come for those from number from up to number to
+-- a list of starts in which others can replace those from number from up to number to
 pub record CanTakeStarts {Z : Type 0} (starts : Vec ℕ Z) (from to : ℕ) (with : List ℕ)
     (base old_end new_end : ℕ) : Type 0 where
   pub order : from ≤ to

@@ -22,7 +22,8 @@ pub record HasOldPart {C : Type 0} (format_of : C → Format) (w : Contents C) (
   pub order : fresh.next ≤ fresh.end
   pub within : fresh.end ≤ interval_count (format_of w.codec) w.samples
 
--- fresh samples of which some have moved to the front, until it holds n, or all but old intervals
+-- fresh samples of which some were moved to the front, until it contains n, or all but old
+-- intervals
 pub record MovesToFront (n : ℕ) (old new : Fresh) : Type 0 where
   pub all : new.front.items ++ (new.values.now ++ new.back.items) ≡ old.front.items
       ++ (old.values.now ++ old.back.items)
@@ -30,13 +31,13 @@ pub record MovesToFront (n : ℕ) (old new : Fresh) : Type 0 where
   pub next : new.next ≡ old.next
   pub end : new.end ≡ old.end
 
--- fresh samples that have handed out old intervals: each of these was decoded once
+-- fresh samples of which some old intervals were taken: each of these was decoded once
 pub record MovesOn (reads reads_after : ℕ) (old new : Fresh) : Type 0 where
   pub order : new.next ≤ new.end
   pub end : new.end ≡ old.end
   pub opens : OpensAtMost (old.end - old.next) (new.end - new.next) reads reads_after
 
--- the same fresh samples are still to come, after some of their old intervals were handed out
+-- the same fresh samples are still to be coded, after some of their old intervals were decoded
 pub record Gathers {C : Type 0} (format_of : C → Format) (read : C → ℕ) (w w_after : Contents C)
     (old new : Fresh) : Type 0 where
   pub same : coming format_of w new ≡ coming format_of w old
@@ -50,7 +51,7 @@ pub record HasNext {C : Type 0} (format_of : C → Format) (called : C → ℕ) 
   pub held : AreHeld (format_of w.codec) (coming format_of w fresh)
   pub calls : called w.codec < 2 ^ 64 - 1
 
--- the code of one interval more
+-- the code of one more interval was appended
 pub record AddsInterval (f : Format) (interval : List ℤ) (old new : Coded) : Type 0 where
   pub bits : new.bits.list ≡ old.bits.list ++ f.bits_of interval
   pub starts : new.starts.items ≡ old.starts.items ++ length old.bits.list ∷ []
@@ -64,13 +65,13 @@ pub record CodesNext {C : Type 0} (format_of : C → Format) (called read : C �
   pub calls : called w_after.codec ≡ called w.codec + 1
   pub moves : MovesOn (read w.codec) (read w_after.codec) old new
 
--- so many fresh samples, which can be coded
+-- count fresh samples, which can be coded
 pub record CanBeCoded {C : Type 0} (format_of : C → Format) (w : Contents C) (fresh : Fresh) (count : ℕ) : Type 0 where
   pub there : HasOldPart format_of w fresh
   pub held : AreHeld (format_of w.codec) (coming format_of w fresh)
   pub count_is : count ≡ length (coming format_of w fresh)
 
--- their code, made by one call for each interval
+-- the code of these fresh samples, made by one call for each interval
 pub record CodesFresh {C : Type 0} (format_of : C → Format) (called : C → ℕ) (w w_after : Contents C) (fresh : Fresh)
     (count : ℕ) (coded : Coded)
     : Type 0 where
@@ -79,16 +80,16 @@ pub record CodesFresh {C : Type 0} (format_of : C → Format) (called : C → �
   pub count_is : coded.count ≡ count
   pub calls : called w_after.codec ≡ called w.codec + div_ceil count (format_of w.codec).most
 
--- fresh samples of which n in front and n' behind were kept from what stood in front, round the
--- values
+-- of the samples that front contained, the first n were kept before the values and the last n'
+-- after them
 pub record KeepsEnds (n n' : ℕ) (old new : Fresh) : Type 0 where
   pub all : new.front.items ++ (new.values.now ++ new.back.items)
       ≡ take n old.front.items ++ (old.values.now ++ drop (length old.front.items - n') old.front.items)
   pub next : new.next ≡ old.next
   pub end : new.end ≡ old.end
 
--- the fresh samples of an exchange of places for values, of which the old intervals up to number to
--- are coded anew
+-- the fresh samples of an exchange of places for values, whose old intervals up to number to are
+-- coded again
 pub record IsFreshFor (n : ℕ) (s : List ℤ) (gone : Stretch) (to : ℕ) (values : List ℤ) (fresh : Fresh) : Type 0 where
   pub all : fresh.front.items ++ (fresh.values.now ++ fresh.back.items) ≡ head_of n gone.first s
       ++ (values ++ tail_of n gone.stop s)

@@ -11,11 +11,11 @@ old_part n s next end = drop (next * n) (take (end * n) s)
 abbrev pub to_come : ℕ → List ℤ → List ℤ → List ℤ → List ℤ → ℕ → ℕ → List ℤ
 to_come n s front values back next end = front ++ (values ++ (back ++ old_part n s next end))
 
--- a whole interval stands in front, or all that is to come
+-- front contains a whole interval, or all samples that are still to be coded
 abbrev pub IsGathered : ℕ → List ℤ → List ℤ → Type 0
 IsGathered n front coming = (n ≤ length front) ⊎ (front ≡ coming)
 
--- intervals are decoded one after the other: so many at most from now on
+-- intervals are decoded one after the other: from now on at most as many as are left
 pub record OpensAtMost (left left_after reads reads_after : ℕ) : Type 0 where
   pub stays : reads ≤ reads_after
   pub few : reads_after + left_after ≤ reads + left

@@ -9,12 +9,12 @@ use mathlib.Core.HLevel.{Σ_prop_path}
 use Rattle.aec_bits.specs.Codec.{Format, AreHeld, IsLawful, code_of}
 use Rattle.aec_bits.proofs.CodeLaws.{same_samples}
 
--- where pieces begin that are coded one after the other from a place on
+-- where pieces begin that are coded one after the other, the first at a place
 abbrev pub piece_starts : (List ℤ → List Bool) → ℕ → List (List ℤ) → List ℕ
 piece_starts bits_of place [] = []
 piece_starts bits_of place (piece ∷ pieces) = place ∷ piece_starts bits_of (place + length (bits_of piece)) pieces
 
--- where the intervals of samples begin that are coded from a place on
+-- where the intervals of samples begin if the first is coded at a place
 abbrev pub starts_of : Format → ℕ → List ℤ → List ℕ
 starts_of f place s = piece_starts f.bits_of place (pieces_of f.most s)
 
@@ -25,11 +25,11 @@ pub record IsKeptCode (f : Format) (count : ℕ) (bits : List Bool) (starts : Li
   pub bits_are : bits ≡ code_of f s
   pub starts_are : starts ≡ starts_of f 0 s
 
--- the samples that are kept so
+-- samples kept as these bits, starts and count
 abbrev pub KeptSamples : Format → ℕ → List Bool → List ℕ → Type 0
 KeptSamples f count bits starts = (s : List ℤ) × IsKeptCode f count bits starts s
 
--- that list of them
+-- the list of these samples
 unfoldable pub kept_samples : {f : Format} {count : ℕ} {bits : List Bool} {starts : List ℕ}
     → KeptSamples f count bits starts → List ℤ
 kept_samples kept = kept.0
@@ -39,7 +39,7 @@ IsKeptCode-prop : (f : Format) (count : ℕ) (bits : List Bool) (starts : List �
     → IsProp (IsKeptCode f count bits starts s)
 IsKeptCode-prop f count bits starts s = hlevel props
 
--- of a lawful codec there is at most one
+-- with a lawful codec there is at most one such list
 pub one_list : (f : Format) (count : ℕ) (bits : List Bool) (starts : List ℕ) → IsLawful f
     → IsProp (KeptSamples f count bits starts)
 one_list f count bits starts lawful =

@@ -15,7 +15,7 @@ pub record AreValues (f : Format) (values : List ℤ) : Type 0 where
   pub fit : values_refusal f values ≡ None
   pub held : AreHeld f values
 
--- values for which a limit has room after the samples s
+-- values that can be added to the samples s: the limit has room for them
 pub record CanCome (f : Format) (limit : ℕ) (s values : List ℤ) : Type 0 where
   pub fit : growth_refusal f limit s values ≡ None
   pub few : length s + length values ≤ limit

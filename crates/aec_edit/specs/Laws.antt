@@ -25,14 +25,14 @@ OverwritesCodeWhatTheyTouch = (f : Format) (limit : ℕ) (s : List ℤ) (calls f
     → (coded ≡ length (touched_intervals f.most first (length values)))
     × (after ≡ calls + length (touched_intervals f.most first (length values)))
 
--- a refused edit leaves the samples unchanged, and unless it is refused with `Memory` the calls
+-- a refused edit leaves the samples unchanged, and also the calls, unless the fault is `Memory`
 abbrev pub RefusedEditsChangeNothing : Type 0
 RefusedEditsChangeNothing = (f : Format) (limit : ℕ) (s : List ℤ) (calls : ℕ) (e : Edit) (fault : Fault) (after : ℕ)
     → Answers f limit s calls e (Refused fault) after
     → (samples_left s e (Refused fault) ≡ s) × (fault ≢ Memory → after ≡ calls)
 
--- edits that code nothing: those of no values or no places, a cut to the samples that are there or
--- to whole intervals, and a removal of whole intervals or from the beginning of one to the end
+-- which edits code nothing: those with no values or no places, a truncation that keeps all samples
+-- or whole intervals, and a removal of whole intervals or from the beginning of one to the end
 pub record CodesNothing (n old : ℕ) : Type 0 where
   pub overwrite : (first : ℕ) → needed_calls n old (Overwrite first []) ≡ 0
   pub append : needed_calls n old (Append []) ≡ 0
@@ -56,7 +56,7 @@ pub record EditsThatCodeNothingAreMade : Type 0 where
 
 -- ---- runs
 
--- no edit of a run was refused for want of memory
+-- no edit of a run was refused with `Memory`
 abbrev pub HadMemory : List Outcome → Type 0
 HadMemory outcomes = AllByRecursion (λ outcome. outcome ≢ Refused Memory) outcomes
 
@@ -93,7 +93,7 @@ pub record RunsHaveOneAnswer : Type 0 where
       → HadMemory other
       → (done ≡ other) × (after ≡ last)
 
--- the samples that edits leave are held, and no more than the limit
+-- edits leave samples that the format holds, and no more than the limit
 abbrev pub RunsLeaveSamples : Type 0
 RunsLeaveSamples = (f : Format) (limit : ℕ) (s : List ℤ) (calls : ℕ) (edits : List Edit) (done : List Outcome)
     (after : ℕ)

@@ -1,6 +1,6 @@
 -- For proofs alone: no public contract cites this file.
--- What edits from no samples on leave in a workspace. The contract of `write_edited` cites
--- `AnswersAll` and `all_left` instead.
+-- What edits leave in a workspace that was empty. The contract of `write_edited` cites `AnswersAll`
+-- and `all_left` instead.
 use Rattle.std.specs.Prelude.{◌≡◌, ℕ, List, []}
 use Rattle.aec_params.specs.declared.edit.Edit.{Edit}
 use Rattle.aec_bits.specs.Codec.{Format}
@@ -8,7 +8,8 @@ use Rattle.aec_edit.specs.Workspace.{Contents}
 use Rattle.aec_edit.specs.Runs.{AnswersAll, all_left}
 use Rattle.aec_edit.specs.declared.outcome.Outcome.{Outcome}
 
--- a workspace with a codec like this one, after edits from no samples on that had these outcomes
+-- a workspace with a codec like this one, after edits with these outcomes, the first made on no
+-- samples
 pub record IsLeftBy {C : Type 0} (format_of : C → Format) (called : C → ℕ) (codec : C) (limit : ℕ) (edits : List Edit)
     (done : List Outcome) (w : Contents C)
     : Type 0 where

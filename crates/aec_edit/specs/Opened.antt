@@ -5,24 +5,24 @@ use Rattle.std.specs.Prelude.{ℕ, ◌*◌, ◌≤◌, List, length, take, drop,
 use Rattle.std.specs.List.{flat_map}
 use Rattle.aec_params.specs.Edits.{Stretch, reached_intervals, keeping_intervals}
 
--- places that are there, of count
+-- places that exist among count samples
 pub record HasPlaces (count : ℕ) (gone : Stretch) : Type 0 where
   pub order : gone.first ≤ gone.stop
   pub within : gone.stop ≤ count
 
--- those of n samples that an exchange of places decodes, where there are count samples
+-- which intervals of n samples an exchange of places decodes, if there are count samples
 abbrev pub opened_by_exchange : ℕ → ℕ → Stretch → List ℕ
 opened_by_exchange n count gone = keeping_intervals n count gone (reached_intervals n gone)
 
--- the first that is reached, where it is one of these
+-- the first reached interval, if the exchange decodes it
 abbrev pub opened_first : ℕ → ℕ → Stretch → List ℕ
 opened_first n count gone = keeping_intervals n count gone (take 1 (reached_intervals n gone))
 
--- those of them after the first that is reached
+-- the decoded intervals after the first reached one
 abbrev pub opened_behind : ℕ → ℕ → Stretch → List ℕ
 opened_behind n count gone = keeping_intervals n count gone (drop 1 (reached_intervals n gone))
 
--- how many an exchange decodes
+-- how many intervals an exchange decodes
 abbrev pub opened_count : ℕ → ℕ → Stretch → ℕ
 opened_count n count gone = length (opened_by_exchange n count gone)
 

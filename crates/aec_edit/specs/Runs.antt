@@ -1,4 +1,4 @@
--- What becomes of a list of edits, made one after the other.
+-- The outcomes of a list of edits, made one after the other.
 use Rattle.std.specs.Prelude.{◌≡◌, ℕ, ◌+◌, List, [], ◌∷◌, length, ℤ}
 use Rattle.aec_params.specs.declared.fault.Fault.TheVariants.{Memory}
 use Rattle.aec_params.specs.declared.edit.Edit.{Edit}
@@ -9,14 +9,14 @@ use Rattle.aec_edit.specs.declared.outcome.Outcome.TheVariants.{Done, Refused}
 use Rattle.aec_edit.specs.Calls.{RisesAtMost}
 use Rattle.aec_edit.specs.Steps.{Answers, samples_left}
 
--- the samples that edits leave, each with its outcome
+-- the samples left by edits, each with its outcome
 abbrev pub all_left : List ℤ → List Edit → List Outcome → List ℤ
 all_left s [] outcomes = s
 all_left s (e ∷ edits) [] = s
 all_left s (e ∷ edits) (outcome ∷ outcomes) = all_left (samples_left s e outcome) edits outcomes
 
--- the outcomes of edits, one for each, every one from the samples and the calls that those before
--- it have left (over both lists, where the code has a loop)
+-- the outcomes of edits, one for each: each edit begins with the samples and the calls that the
+-- edits before it left (over both lists, where the code has a loop)
 abbrev pub AnswersAll : Format → ℕ → List ℤ → ℕ → List Edit → List Outcome → ℕ → Type 0
 AnswersAll f limit s calls [] [] after = after ≡ calls
 AnswersAll f limit s calls [] (outcome ∷ outcomes) after = ⊥
@@ -25,8 +25,8 @@ AnswersAll f limit s calls (e ∷ edits) (outcome ∷ outcomes) after =
     (between : ℕ) × Answers f limit s calls e outcome between
     × AnswersAll f limit (samples_left s e outcome) between edits outcomes after
 
--- how many intervals were coded for the edits that were made (a sum over the outcomes, where the
--- code counts in the codec)
+-- how many intervals the accepted edits coded (a sum over the outcomes, where the code counts in
+-- the codec)
 abbrev pub all_coded : List Outcome → ℕ
 all_coded [] = 0
 all_coded (Done coded ∷ outcomes) = coded + all_coded outcomes
@@ -39,7 +39,7 @@ opened_for n old e (Done coded) = opened_intervals n old e
 opened_for n old e (Refused Memory) = opened_intervals n old e
 opened_for n old e (Refused fault) = 0
 
--- the same for edits, each with its outcome (a sum, likewise)
+-- how many intervals edits with these outcomes may decode (a sum, likewise)
 abbrev pub all_opened : ℕ → List ℤ → List Edit → List Outcome → ℕ
 all_opened n s [] outcomes = 0
 all_opened n s (e ∷ edits) [] = 0

@@ -1,4 +1,4 @@
--- What becomes of one edit.
+-- The outcome of one edit.
 use Rattle.std.specs.Prelude.{◌≡◌, ℕ, ◌+◌, ◌<◌, ◌≤◌, None, Ok, Err, Result, MatchOption, List, ℤ, length}
 use Rattle.aec_params.specs.declared.fault.Fault.{Fault}
 use Rattle.aec_params.specs.declared.fault.Fault.TheVariants.{Memory}
@@ -16,16 +16,16 @@ pub record IsAccepted (f : Format) (limit : ℕ) (s : List ℤ) (calls : ℕ) (e
   pub coded_is : coded ≡ needed_calls f.most (length s) e
   pub calls_are : after ≡ calls + coded
 
--- memory lacked: the edit codes at least one interval, and some calls may be made already
--- (`IsRefused` says that the edit fits)
+-- memory was lacking: the edit codes at least one interval, and some calls may have been made by
+-- then (`IsRefused` says that the edit fits)
 pub record LacksMemory (needed calls : ℕ) (fault : Fault) (after : ℕ) : Type 0 where
   pub fault_is : fault ≡ Memory
   pub some : 0 < needed
   pub stays : calls ≤ after
   pub few : after ≤ calls + needed
 
--- an edit of the samples s that is refused: if a refusal is due, for that and without a call; if
--- none is due, for lack of memory
+-- an edit of the samples s that is refused: if a refusal is due, with that refusal and without a
+-- call; else with `Memory`
 abbrev pub IsRefused : Format → ℕ → List ℤ → ℕ → Edit → Fault → ℕ → Type 0
 IsRefused f limit s calls e fault after =
     MatchOption (due_refusal f limit s calls e)
@@ -43,12 +43,12 @@ abbrev pub samples_left : List ℤ → Edit → Outcome → List ℤ
 samples_left s e (Done coded) = samples_after s e
 samples_left s e (Refused fault) = s
 
--- an answer as an outcome
+-- a result as an outcome
 abbrev pub outcome_of : Result ℕ Fault → Outcome
 outcome_of (Ok coded) = Done coded
 outcome_of (Err fault) = Refused fault
 
--- an edit and all that it does: its answer, the samples s' that it leaves, and the calls of the
+-- an edit and all that it does: its result, the samples s' that it leaves, and the calls of the
 -- coder and the decoder after it (the clauses of the private functions in one)
 pub record Applies (f : Format) (limit : ℕ) (s : List ℤ) (calls reads : ℕ) (e : Edit) (r : Result ℕ Fault)
     (s' : List ℤ) (calls' reads' : ℕ) : Type 0 where

@@ -1,4 +1,4 @@
--- What becomes of a list of edits that ends with the first that is refused.
+-- The outcomes of a list of edits that ends with the first refused one.
 use Rattle.std.specs.Prelude.{◌≡◌, ℕ, ⊤, Ok, Err, Result, List, [], ◌∷◌, ◌++◌, length, ℤ}
 use Rattle.aec_params.specs.declared.fault.Fault.{Fault}
 use Rattle.aec_params.specs.declared.edit.Edit.{Edit}
@@ -15,9 +15,9 @@ AreDone (Done coded ∷ outcomes) = AreDone outcomes
 AreDone (Refused fault ∷ outcomes) = ⊥
 
 -- what edits have done from the samples s and the codec's counts of calls and reads, with the
--- samples that are left and the counts after them: they were run and all made; or they were run up
--- to one that is refused at its place, counted from 0, and all before it were made (by cases on the
--- list of edits, cut where the refused one stands, where the code has a loop)
+-- samples that are left and the counts after them: all were made; or one was refused, at its place
+-- counted from 0, and all before it were made (by cases on the list of edits, cut at the refused
+-- one, where the code has a loop)
 pub data StopsAtRefusal (f : Format) (limit : ℕ) (s : List ℤ) (calls reads : ℕ) (edits : List Edit)
     : Result (Unit {0}) Stop → List ℤ → ℕ → ℕ → Type 0 where
   all_made : (done : List Outcome) (left : List ℤ) (calls_after reads_after : ℕ) → AreDone done

@@ -4,22 +4,22 @@ use Rattle.std.specs.Int.{div_ceil}
 use Rattle.aec_params.specs.Codewords.{bits_of_bytes}
 use Rattle.aec_bits.specs.Codec.{Format, AreHeld, code_of}
 
--- by how much code can grow with no further memory: by so many bits, and by the starts of so many
+-- how much code can grow without an allocation: by this many bits, and by the starts of this many
 -- intervals
 pub record Room : Type 0 where
   pub bits : ℕ
   pub intervals : ℕ
 
--- the samples, the most of them that there may be, the codec with its counts of calls, and the room
--- of the code (the code keeps no samples)
+-- the samples, the most that are allowed, the codec with its counts of calls, and the room of the
+-- code (the code keeps no samples)
 pub record Contents (C : Type 0) : Type 0 where
   pub samples : List ℤ
   pub limit : ℕ
   pub codec : C
   pub room : Room
 
--- what always holds of a workspace: an interval has 1 to 262,144 samples, the samples are held, and
--- there are no more than the limit, itself at most 2^32
+-- what always holds for a workspace: an interval has 1 to 262,144 samples, the format holds the
+-- samples, and there are no more than the limit, itself at most 2^32
 pub record IsSound (f : Format) (limit : ℕ) (samples : List ℤ) : Type 0 where
   pub some : 1 ≤ f.most
   pub few : f.most ≤ 262144
@@ -41,12 +41,12 @@ abbrev pub interval_count : Format → List ℤ → ℕ
 interval_count f s = div_ceil (length s) f.most
 
 -- where interval i begins in the code of samples: after the code of the samples before it (by the
--- code of a front of the samples, where the code has an index)
+-- code of the first samples, where the code has an index)
 abbrev pub start_of : Format → List ℤ → ℕ → ℕ
 start_of f s i = length (code_of f (take (i * f.most) s))
 
--- the bits of bytes begin with the code of these held samples, whatever follows, and with that of
--- no other held list of this length (by any codec, where the code decodes interval by interval)
+-- the bits of bytes begin with the code of these held samples, whatever follows, and with the code
+-- of no other held list of this length (by any codec, where the code decodes interval by interval)
 pub record HasOneReading (f : Format) (bytes : List ℕ) (samples : List ℤ) : Type 0 where
   pub held : AreHeld f samples
   pub begins : (rest : List Bool) × (bits_of_bytes bytes ≡ code_of f samples ++ rest)

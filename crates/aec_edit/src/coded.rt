@@ -13,7 +13,7 @@ pub struct Coded {
     pub count: u64,
 }
 
-/// Where an interval begins: its number and the bit, or those of the end.
+/// Where an interval begins, or where the code ends: the interval's number and the bit.
 #[derive(Clone, Copy, Debug, Drop)]
 pub struct Cut {
     pub interval: u64,
@@ -25,7 +25,7 @@ impl Coded {
     ghost use Rattle.aec_params.specs.declared.fault.Fault.TheVariants.{Memory};
     ghost use Rattle.aec_edit.specs.CodedLists.{IsNoCode, IsSameCode, HasRoomOf, HasRoomAtMost, KeepsRoom, CanBeReplaced, IsReplaced};
 
-    /// The code of no samples. Takes no memory.
+    /// Returns the code of no samples. Allocates nothing.
     pub fn new(alloc: Global) -> Coded
         ensures none { IsNoCode result }
         ensures room { HasRoomAtMost 0 0 result }
@@ -37,9 +37,9 @@ impl Coded {
         }
     }
 
-    /// Reserves room for `bits` more bits and for the starts of `intervals` more intervals. Fails
-    /// with `Memory` only if there is less room than asked for: then an allocation fails, or there
-    /// would be more than 2^62 bits. Room that was there is kept.
+    /// Reserves room for `bits` more bits and for the starts of `intervals` more intervals. Room
+    /// that was there is kept. Fails with `Memory` only if there is less room than asked for, and
+    /// an allocation fails or there would be more than 2^62 bits.
     pub fn reserve(&mut self, bits: u64, intervals: u64) -> Result<(), Fault>
         ensures same { IsSameCode self.old self.new }
         ensures room { OnOk result (HasRoomOf bits intervals self.new) }
@@ -54,8 +54,8 @@ impl Coded {
         Ok(())
     }
 
-    /// The code of no samples, in the same room. Room for more than 128 bits for each of `most`
-    /// samples, or for more than so many starts, is let go.
+    /// Returns the code of no samples, in the same room. Frees room for more than 128 bits for each
+    /// of `most` samples, or for more than `most` starts.
     pub fn emptied(mut self, alloc: Global, most: u64) -> Coded
         requires { most ≤ 524288 }
         ensures none { IsNoCode result }
@@ -71,8 +71,8 @@ impl Coded {
     }
 
     /// Replaces the intervals between two cuts by those of other code, moves the starts after them,
-    /// and notes the new number of samples. All memory is taken first, so that nothing has changed
-    /// where it is refused.
+    /// and sets the number of samples to `count`. Fails with `Memory` if an allocation fails;
+    /// nothing is changed then.
     pub fn replace(&mut self, from: Cut, to: Cut, with: &Coded, count: u64) -> Result<(), Fault>
         requires { CanBeReplaced self.old with.now from to }
         ensures ok { OnOk result (IsReplaced self.old self.new with.now from to count) }

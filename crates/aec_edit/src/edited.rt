@@ -1,4 +1,4 @@
-//! The whole of it: edits from nothing, and the stream and the samples that they leave.
+//! Makes edits, beginning with no samples, writes the resulting stream, and reads its samples back.
 
 ghost use Rattle.std.specs.Prelude.{◌≡◌, ◌<◌, ◌≤◌, ◌^◌, ◌⊎◌, ℕ, List, [], length, vec_capacity, Err, IfOk, OnOk, IfErr, OnErr};
 ghost use Rattle.std.specs.Io.KnownBytes.{Appends, Keeps};
@@ -19,26 +19,27 @@ use aec_bits::{Codec, Sink};
 use aec_params::{Edit, Fault};
 use std::alloc::Global;
 
-/// What edits have left.
+/// The result of `write_edited`.
 #[derive(Debug, Drop)]
 pub struct Edited {
-    /// What became of each edit.
+    /// The outcome of each edit.
     pub outcomes: Vec<Outcome>,
     /// The number of bits in the stream.
     pub bits: u64,
-    /// The samples that the stream is read as, all of them.
+    /// All samples that the stream is read as.
     pub samples: Vec<i64>,
-    /// The codec's count of coded intervals, from where it began to count.
+    /// The codec's own counter of coded intervals, which need not start at 0.
     pub calls: u64,
 }
 
-/// Makes edits, from no samples on, and writes the stream that they leave.
+/// Makes edits, beginning with no samples, and writes the resulting stream.
 ///
-/// Each edit has the outcome that is defined for the samples and calls that earlier edits left.
-/// What is written is, bit for bit, the code of the samples that the accepted edits leave; read
-/// with its count it gives these samples and no others. May fail with `Memory`, but never without
-/// edits; nothing was written then. Fails with `Write` if the sink fails, which has then taken a
-/// front of the stream. If the sink's bytes are unknown, nothing is said about what is written.
+/// Each edit has the outcome that is defined for the samples and calls that earlier edits left. The
+/// written bytes are, bit for bit, the code of the samples that the accepted edits leave; with the
+/// number of these samples they are read as these samples and no others. Fails with `Memory` only
+/// if there are edits; nothing is written then. Fails with `Write` if the sink fails; the sink has
+/// then taken a prefix of the stream. If the sink's bytes are unknown, nothing is said about what
+/// is written.
 pub fn write_edited<C: Codec + Drop, W: Sink>(
     alloc: Global,
     codec: C,
@@ -82,8 +83,8 @@ pub fn write_edited<C: Codec + Drop, W: Sink>(
     })
 }
 
-/// Makes edits in an empty workspace, and adds what became of each to `outcomes`. `Memory` where
-/// there is no room for so many.
+/// Makes edits in an empty workspace, and appends the outcome of each to `outcomes`. Fails with
+/// `Memory` only if `outcomes` has room for fewer.
 fn edit_from_nothing<C: Codec + Drop>(
     alloc: Global,
     codec: C,
@@ -103,8 +104,8 @@ fn edit_from_nothing<C: Codec + Drop>(
     Ok(workspace)
 }
 
-/// All samples of a workspace, read back out of their code. `Memory` where a growth was refused,
-/// but not for no samples.
+/// Returns all samples of a workspace, decoded from their code. Fails with `Memory` if an
+/// allocation fails, but never if there are no samples.
 fn read_back<C: Codec>(alloc: Global, workspace: &mut Workspace<C>) -> Result<Vec<i64>, Fault>
     ensures ok { IfOk result (λ samples. samples.items ≡ workspace.old.samples) }
     ensures reading { IfOk result (λ samples. HasOneReading (C.format workspace.old.codec)

@@ -1,4 +1,4 @@
-//! Edits: why one doesn't fit, each made whole or not at all, and many in a row.
+//! Judges edits, makes each whole or not at all, and runs lists of them.
 
 use crate::outcome::{Outcome, Stop};
 use crate::workspace::Workspace;
@@ -21,15 +21,15 @@ impl<C: Codec> Workspace<C> {
     ghost use Rattle.aec_edit.specs.declared.outcome.Outcome.{Outcome as OutcomeOf};
     ghost use Rattle.aec_edit.specs.Stops.{StopsAtRefusal};
 
-    /// Makes an edit, and returns how many intervals it has coded: `needed_calls`. It decodes no
-    /// more intervals than hold a sample that is kept and coded anew.
+    /// Makes an edit, and returns how many intervals it coded: `needed_calls`. Decodes at most as
+    /// many intervals as contain a sample that is kept and coded again.
     ///
-    /// A refused edit changes no sample. An edit that doesn't fit is refused for that, then with
-    /// `Spent`, then with `Memory` where a growth was refused. An edit that codes no interval never
-    /// fails with `Memory`.
+    /// A refused edit changes no sample. An edit that doesn't fit is refused for that; else it may
+    /// fail with `Spent`, and else with `Memory` if an allocation fails. An edit that codes no
+    /// interval never fails with `Memory`.
     ///
-    /// `Spent` comes exactly where the edit fits, and the calls of the codec so far, with those
-    /// that the edit needs, pass `u64::MAX`. No call is made then.
+    /// Fails with `Spent` exactly if the edit fits, and the codec's calls so far plus those that
+    /// the edit needs exceed `u64::MAX`. The codec isn't called then.
     pub fn apply(&mut self, edit: &Edit) -> Result<u64, Fault>
         ensures answer { Answers (C.format self.old.codec) self.old.limit self.old.samples
             (C.called self.old.codec)
@@ -51,7 +51,7 @@ impl<C: Codec> Workspace<C> {
         }
     }
 
-    /// Replaces the samples from place `first` on by as many values.
+    /// Overwrites the samples from place `first` on with the values.
     fn overwrite(&mut self, first: u64, values: &[i64]) -> Result<u64, Fault>
         ensures { MakesEdit C.format C.called C.read (Overwrite first values.now) result
             self.old self.new }
@@ -67,7 +67,7 @@ impl<C: Codec> Workspace<C> {
         self.exchange(first, stop, to, values)
     }
 
-    /// Appends the values, as `apply` does with an `Append` of them, and returns what it returns.
+    /// Appends the values: does and returns the same as `apply` with an `Append` of them.
     pub fn append(&mut self, values: &[i64]) -> Result<u64, Fault>
         ensures applies { Applies (C.format self.old.codec) self.old.limit self.old.samples
             (C.called self.old.codec)
@@ -83,7 +83,7 @@ impl<C: Codec> Workspace<C> {
         self.exchange(count, count, to, values)
     }
 
-    /// Keeps the first samples, up to place `stop`.
+    /// Keeps the first `stop` samples.
     fn truncate(&mut self, stop: u64) -> Result<u64, Fault>
         ensures { MakesEdit C.format C.called C.read (Truncate stop) result
             self.old self.new }
@@ -116,7 +116,7 @@ impl<C: Codec> Workspace<C> {
         self.exchange(first, first, to, values)
     }
 
-    /// Takes out the `len` samples from place `first` on.
+    /// Removes the `len` samples from place `first` on.
     fn remove(&mut self, first: u64, len: u64) -> Result<u64, Fault>
         ensures { MakesEdit C.format C.called C.read (Remove first len) result
             self.old self.new }
@@ -130,8 +130,8 @@ impl<C: Codec> Workspace<C> {
         self.exchange(first, stop, to, &[])
     }
 
-    /// Where the intervals end that are coded anew where `len` samples come or go in front of place
-    /// `place`.
+    /// Returns up to which interval samples are coded again if `len` samples are inserted or
+    /// removed before place `place`.
     fn recoded_end(&self, place: u64, len: u64) -> u64
         ensures { result ≡ recoded_end (C.format self.now.codec) self.now.samples place len }
     {
@@ -143,7 +143,7 @@ impl<C: Codec> Workspace<C> {
         }
     }
 
-    /// Whether there are `len` samples from place `first` on.
+    /// Fails with `OutOfRange` if `first + len` exceeds the number of samples.
     pub(crate) fn check_places(&self, first: u64, len: u64) -> Result<(), Fault>
         ensures ok { OnOk result (first + len ≤ length self.now.samples) }
         ensures sound { IsSound (C.format self.now.codec) self.now.limit self.now.samples }
@@ -158,7 +158,7 @@ impl<C: Codec> Workspace<C> {
         Ok(())
     }
 
-    /// Whether fewer calls of the codec are left than are needed.
+    /// Returns whether fewer calls of the codec are left than are needed.
     pub(crate) fn are_spent(&self, needed: u64) -> bool
         ensures spent { result ≡ true
             → want_of_calls (C.called self.now.codec) needed ≡ Some Spent }
@@ -167,7 +167,7 @@ impl<C: Codec> Workspace<C> {
         needed > u64::MAX - self.calls()
     }
 
-    /// Whether values can come: the limit has room for them, and they are samples.
+    /// Checks that values can be added: the limit has room for them, and they are samples.
     pub(crate) fn check_growth(&self, values: &[i64]) -> Result<(), Fault>
         ensures ok { OnOk result (CanCome (C.format self.now.codec) self.now.limit
             self.now.samples values.now) }
@@ -182,7 +182,7 @@ impl<C: Codec> Workspace<C> {
         self.check_values(values)
     }
 
-    /// Whether all values are samples; else the place of the first one that isn't.
+    /// Checks that all values are samples. The fault names the place of the first one that isn't.
     pub(crate) fn check_values(&self, values: &[i64]) -> Result<(), Fault>
         ensures ok { OnOk result (AreValues (C.format self.now.codec) values.now) }
         ensures refuses { IfErr result
@@ -194,7 +194,7 @@ impl<C: Codec> Workspace<C> {
         }
     }
 
-    /// The place of the first value that is no sample.
+    /// Returns the place of the first value that is no sample.
     fn first_unheld(&self, values: &[i64]) -> Option<u64>
         ensures { result ≡ first_unheld_of (C.format self.now.codec).holds 0 values.now }
     {
@@ -209,8 +209,8 @@ impl<C: Codec> Workspace<C> {
         None
     }
 
-    /// Whether all values are samples. Each is looked at, whatever the others are: so nothing is
-    /// decided from one to the next.
+    /// Returns whether all values are samples. Tests each value whatever the others are, so that
+    /// there is no branch between values.
     fn are_held(&self, values: &[i64]) -> bool
         ensures { result ≡ list_all (C.format self.now.codec).holds values.now }
     {
@@ -221,9 +221,9 @@ impl<C: Codec> Workspace<C> {
         held
     }
 
-    /// Applies edits in their order, and adds what became of each to `outcomes`: one outcome an
-    /// edit. An edit that is refused leaves samples and stream, and those after it are applied to
-    /// them. `Memory` where there is no room for so many outcomes; then nothing has been done.
+    /// Makes edits in their order, and appends the outcome of each to `outcomes`. A refused edit
+    /// changes neither samples nor stream, and the edits after it are made all the same. Fails with
+    /// `Memory` if an allocation for the outcomes fails; nothing is changed then.
     #[tactic(auto, using(crate::proofs::RunLemmas::run_goes_on))]
     pub fn run(&mut self, edits: &[Edit], outcomes: &mut Vec<Outcome>) -> Result<(), Fault>
         ensures ok { OnOk result ((done : List OutcomeOf)
@@ -245,9 +245,8 @@ impl<C: Codec> Workspace<C> {
         Ok(())
     }
 
-    /// Applies edits in their order, and ends with the first that is refused: those before it are
-    /// made, and those after it are not tried. Edits that code no interval never fail with
-    /// `Memory`.
+    /// Makes edits in their order, up to the first that is refused: the edits before it are made,
+    /// those after it are not tried. Edits that code no interval never fail with `Memory`.
     pub fn run_until_refused(&mut self, edits: &[Edit]) -> Result<(), Stop>
         ensures run { StopsAtRefusal (C.format self.old.codec) self.old.limit self.old.samples
             (C.called self.old.codec) (C.read self.old.codec)
@@ -269,7 +268,7 @@ impl<C: Codec> Workspace<C> {
 ghost use Rattle.std.specs.Prelude.{◌≡◌};
 ghost use Rattle.aec_edit.specs.Steps.{outcome_of};
 
-/// What an answer says of an edit.
+/// Returns the result of `apply` as an outcome.
 fn outcome(answer: Result<u64, Fault>) -> Outcome
     ensures { result ≡ outcome_of answer }
 {

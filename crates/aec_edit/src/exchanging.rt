@@ -1,4 +1,4 @@
-//! The one operation behind every edit: places are exchanged for values.
+//! The one operation that makes every edit: places are exchanged for values.
 
 use crate::workspace::Workspace;
 use crate::workspace::fresh_coding::Fresh;
@@ -112,7 +112,8 @@ impl<C: Codec> Workspace<C> {
         Ok(())
     }
 
-    /// Whether interval `k` begins in front of place `stop`, and keeps a sample outside the places.
+    /// Returns whether interval `k` begins before place `stop` and keeps a sample outside the
+    /// places.
     fn is_opened(&self, first: u64, stop: u64, k: u64) -> bool
         requires places { HasPlaces (length self.now.samples)
             (record { first = first; stop = stop }) }
@@ -126,8 +127,8 @@ impl<C: Codec> Workspace<C> {
         begin < stop && (begin < first || stop < self.count().min(begin + most))
     }
 
-    /// Decodes the first touched interval where it keeps a sample in front of the places, or is the
-    /// last one too and keeps one after them.
+    /// Decodes the first touched interval if it keeps a sample before the places, or if it is also
+    /// the last one and keeps a sample after them.
     fn open_first(&mut self, first: u64, stop: u64, ends: &mut Vec<i64>) -> Result<(), Fault>
         requires { HasPlaces (length self.old.samples) (record { first = first; stop = stop }) }
         ensures ok { OnOk result (ends.new.items ≡ ends.old.items
@@ -149,8 +150,7 @@ impl<C: Codec> Workspace<C> {
         Ok(())
     }
 
-    /// Decodes the last touched interval where it isn't the first and keeps a sample after the
-    /// places.
+    /// Decodes the last touched interval if it isn't the first and keeps a sample after the places.
     fn open_last(&mut self, first: u64, stop: u64, ends: &mut Vec<i64>) -> Result<(), Fault>
         requires { HasPlaces (length self.old.samples) (record { first = first; stop = stop }) }
         ensures ok { OnOk result (ends.new.items ≡ ends.old.items

@@ -3,8 +3,9 @@
 ghost use Rattle.std.specs.Prelude.{◌≡◌, ◌+◌, ◌-◌, ◌^◌, ◌≤◌, ◌++◌, length, map, take, drop, replicate, vec_len, vec_capacity};
 ghost use Rattle.aec_edit.specs.CodedLists.{CanMoveOn, CanShift, with_starts, CanTakeStarts};
 
-/// Replaces the starts from number `from` up to number `to` by others, each moved on by `base`, and
-/// moves those after them from `old_end` on to `new_end` on. There is room for the new starts.
+/// Replaces the starts from number `from` up to number `to` by those in `with`, each plus `base`,
+/// and moves the starts after them from `old_end` to `new_end`. There must be room for the new
+/// starts.
 pub fn replace_starts(
     starts: &mut Vec<u64>,
     from: usize,
@@ -24,7 +25,7 @@ pub fn replace_starts(
 }
 
 /// Moves the starts from number `from` on to number `to`, and makes the list longer or shorter by
-/// the difference; it has room for that. Zeros and old starts stand in between.
+/// the difference, for which it must have room. The places between contain zeros and old starts.
 fn move_later(starts: &mut Vec<u64>, from: usize, to: usize)
     requires within { from ≤ vec_len starts.old }
     requires room { to + (vec_len starts.old - from) ≤ vec_capacity starts.old }
@@ -41,7 +42,7 @@ fn move_later(starts: &mut Vec<u64>, from: usize, to: usize)
     starts.truncate(to + (len - from));
 }
 
-/// Writes starts over those from number `at` on, each moved on by `base`.
+/// Overwrites the starts from number `at` on with those in `with`, each plus `base`.
 fn write_starts(starts: &mut [u64], at: usize, with: &[u64], base: u64)
     requires within { at + length with.now ≤ length starts.old }
     requires few { CanMoveOn base with.now }
@@ -53,8 +54,7 @@ fn write_starts(starts: &mut [u64], at: usize, with: &[u64], base: u64)
     }
 }
 
-/// Moves the starts from number `at` on, which are at `old_end` or after it, to as far after
-/// `new_end`.
+/// Adds `new_end - old_end` to each start from number `at` on, of which none is below `old_end`.
 fn shift_starts(starts: &mut [u64], at: usize, old_end: u64, new_end: u64)
     requires within { at ≤ length starts.old }
     requires few { CanShift at old_end new_end starts.old }

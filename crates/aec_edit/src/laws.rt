@@ -42,7 +42,7 @@ pub fn runs_have_one_answer()
     ensures { RunsHaveOneAnswer }
 {}
 
-/// The samples that edits leave are held, and no more than the limit.
+/// Edits leave samples that the format holds, and no more than the limit.
 pub fn runs_leave_samples()
     ensures { RunsLeaveSamples }
 {}

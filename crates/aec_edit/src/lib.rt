@@ -1,4 +1,4 @@
-//! A coded list of samples that is edited in place. Stands on any lawful codec of intervals.
+//! A coded list of samples that is edited in place, over any lawful codec of intervals.
 #![tactic(auto)]
 
 mod coded;

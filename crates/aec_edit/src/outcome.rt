@@ -1,8 +1,8 @@
-//! What became of edits.
+//! The outcomes of edits.
 
 use aec_params::Fault;
 
-/// What became of an edit.
+/// The outcome of an edit.
 #[derive(Clone, Copy, Debug, PartialEq, Eq, Drop)]
 pub enum Outcome {
     /// It was made, and this many intervals were coded.
@@ -11,11 +11,11 @@ pub enum Outcome {
     Refused { fault: Fault },
 }
 
-/// Where edits in a row have ended.
+/// Where and why a list of edits ended.
 #[derive(Clone, Copy, Debug, PartialEq, Eq, Drop)]
 pub struct Stop {
-    /// How many edits stand before the one that was refused.
+    /// The number of edits before the refused one.
     pub place: u64,
-    /// Why it was refused.
+    /// Why that edit was refused.
     pub fault: Fault,
 }

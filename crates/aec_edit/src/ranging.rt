@@ -1,4 +1,4 @@
-//! Samples read back out of their code.
+//! Reads samples back from their code.
 
 use crate::workspace::Workspace;
 use aec_bits::Codec;
@@ -13,10 +13,10 @@ impl<C: Codec> Workspace<C> {
     ghost use Rattle.aec_edit.specs.Calls.{RisesAtMost, range_refusal, IsDue};
     ghost use Rattle.aec_edit.specs.Unchanged.{IsOnlyRead};
 
-    /// The `len` samples from place `first` on. `OutOfRange` exactly where one of them is past the
-    /// samples, then `Memory` where a growth was refused; a range of no samples never fails with
-    /// `Memory`. At most as many intervals are decoded as hold one of the samples, none if the
-    /// range is refused for its place.
+    /// Returns the `len` samples from place `first` on. Fails with `OutOfRange` exactly if `first +
+    /// len` exceeds the number of samples; else with `Memory` if an allocation fails, but never for
+    /// a range of no samples. Decodes at most as many intervals as contain one of the samples, and
+    /// none if the range is out of range.
     pub fn range(&mut self, alloc: Global, first: u64, len: u64) -> Result<Vec<i64>, Fault>
         ensures ok { IfOk result (λ v. v.items ≡ take len (drop first self.old.samples)) }
         ensures within { OnOk result (range_refusal (length self.old.samples) first len ≡ None) }
@@ -33,8 +33,8 @@ impl<C: Codec> Workspace<C> {
         self.slice(alloc, first, len)
     }
 
-    /// The `len` samples from place `first` on, which are there. `Memory` where a growth was
-    /// refused, but not for no samples.
+    /// Returns the `len` samples from place `first` on, which must exist. Fails with `Memory` if an
+    /// allocation fails, but never if `len` is 0.
     fn slice(&mut self, alloc: Global, first: u64, len: u64) -> Result<Vec<i64>, Fault>
         requires { first + len ≤ length self.old.samples }
         ensures ok { IfOk result (λ v. v.items ≡ take len (drop first self.old.samples)) }

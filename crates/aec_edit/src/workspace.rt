@@ -12,9 +12,8 @@ use std::alloc::Global;
 use std::marker::Model;
 
 /// Samples, kept as their code and the places where its intervals begin. The samples themselves
-/// aren't kept: between edits the scratch lists are empty. These lists keep room for the samples of
-/// at most three intervals, for at most 256 bits of code for each sample of an interval, and for at
-/// most as many starts as two intervals have samples.
+/// aren't kept: between edits the scratch lists are empty. If an interval has n samples, these
+/// lists keep room for at most 3n samples, for 256n bits of code and for 2n starts.
 #[derive(Debug, Drop)]
 pub struct Workspace<C: Codec> {
     coded: Coded,
@@ -62,7 +61,7 @@ impl<C: Codec> Workspace<C> {
     ghost use Rattle.aec_edit.specs.Unchanged.{IsOnlyRead, KeepsCodec};
     ghost use Rattle.aec_edit.specs.Changes.{recoded, IsCodeFor};
 
-    /// An empty workspace, which is to hold no more samples than the limit. Takes no memory.
+    /// Returns an empty workspace for at most `limit` samples. Allocates nothing.
     pub fn new(alloc: Global, codec: C, limit: u64) -> Workspace<C>
         requires { limit ≤ 2 ^ 32 }
         ensures samples { result.samples ≡ [] }
@@ -81,8 +80,8 @@ impl<C: Codec> Workspace<C> {
     }
 
     /// Reserves room for `bits` more bits of code and for the starts of `intervals` more intervals.
-    /// Fails with `Memory` only if there is less room than asked for: then an allocation fails, or
-    /// there would be more than 2^62 bits. The samples and the room that was there stay.
+    /// The samples and the room that was there are kept. Fails with `Memory` only if there is less
+    /// room than asked for, and an allocation fails or there would be more than 2^62 bits.
     pub fn reserve(&mut self, bits: u64, intervals: u64) -> Result<(), Fault>
         ensures room { OnOk result
             ((bits ≤ self.new.room.bits) × (intervals ≤ self.new.room.intervals)) }
@@ -98,7 +97,7 @@ impl<C: Codec> Workspace<C> {
         self.coded.reserve(bits, intervals)
     }
 
-    /// The number of samples.
+    /// Returns the number of samples.
     pub fn count(&self) -> u64
         ensures value { result ≡ length self.now.samples }
         ensures few { length self.now.samples ≤ self.now.limit }
@@ -108,22 +107,22 @@ impl<C: Codec> Workspace<C> {
         self.coded.count
     }
 
-    /// The number of intervals that the samples fill.
+    /// Returns the number of intervals that the samples fill.
     pub fn intervals(&self) -> u64
         ensures { result ≡ interval_count (C.format self.now.codec) self.now.samples }
     {
         self.coded.starts.len() as u64
     }
 
-    /// The number of bits in the code of the samples.
+    /// Returns the number of bits in the code of the samples.
     pub fn stream_bits(&self) -> u64
         ensures { result ≡ length (code_of (C.format self.now.codec) self.now.samples) }
     {
         self.coded.bits.len()
     }
 
-    /// The bit where interval `i` begins in the code, which is the number of bits in the code of
-    /// the samples before it. `None` where there is no such interval.
+    /// Returns the bit where interval `i` begins in the code: the number of bits in the code of the
+    /// samples before it. Returns `None` if there is no such interval.
     pub fn offset(&self, i: u64) -> Option<u64>
         ensures { MatchOption result
             (interval_count (C.format self.now.codec) self.now.samples ≤ i)
@@ -137,23 +136,23 @@ impl<C: Codec> Workspace<C> {
         }
     }
 
-    /// The codec's count of coded intervals, from where it began to count.
+    /// Returns the codec's own counter of coded intervals, which need not start at 0.
     pub fn calls(&self) -> u64
         ensures { result ≡ C.called self.now.codec }
     {
         self.codec.calls()
     }
 
-    /// The codec's count of calls of `decode`.
+    /// Returns the codec's count of calls of `decode`.
     pub fn reads(&self) -> u64
         ensures { result ≡ C.read self.now.codec }
     {
         self.codec.reads()
     }
 
-    /// Appends the bytes that the code of the samples fills to what the sink has taken; zeros fill
-    /// the last one. `Write` where the sink fails, which has then taken the front of these bytes.
-    /// Never fails with `Memory`, and doesn't call `begin`.
+    /// Writes the bytes of the code of the samples to the sink; zeros fill the last byte. Fails
+    /// with `Write` if the sink fails; the sink has then taken a prefix of these bytes. Never fails
+    /// with `Memory`, and doesn't call `begin`.
     pub fn write_to<W: Sink>(&self, out: &mut W) -> Result<(), Fault>
         ensures ok { OnOk result (Appends (W.taken out.old) (W.taken out.new)
             (bytes_of (code_of (C.format self.now.codec) self.now.samples))) }
@@ -170,19 +169,19 @@ impl<C: Codec> Workspace<C> {
         self.coded.bits.write_to(out)
     }
 
-    /// What new memory is asked of.
+    /// Returns the allocator for new memory.
     pub(crate) fn alloc(&self) -> Global {
         self.alloc
     }
 
-    /// The most samples that there may be.
+    /// Returns the greatest number of samples that is allowed.
     pub(crate) fn limit(&self) -> u64
         ensures { result ≡ self.now.limit }
     {
         self.limit
     }
 
-    /// The number of samples in an interval that isn't the last.
+    /// Returns the number of samples in an interval that isn't the last.
     pub(crate) fn interval_len(&self) -> u64
         ensures value { result ≡ (C.format self.now.codec).most }
         ensures sound { IsSound (C.format self.now.codec) self.now.limit self.now.samples }
@@ -191,14 +190,14 @@ impl<C: Codec> Workspace<C> {
         self.codec.interval_len()
     }
 
-    /// Whether a number is a sample.
+    /// Returns whether `x` is a sample.
     pub(crate) fn holds(&self, x: i64) -> bool
         ensures { result ≡ (C.format self.now.codec).holds x }
     {
         self.codec.holds(x)
     }
 
-    /// Where interval `i` begins in the code, or where the code ends.
+    /// Returns the bit where interval `i` begins in the code, or where the code ends.
     pub(crate) fn start_at(&self, i: u64) -> u64
         requires { i ≤ interval_count (C.format self.now.codec) self.now.samples }
         ensures { result ≡ start_of (C.format self.now.codec) self.now.samples i }
@@ -210,7 +209,7 @@ impl<C: Codec> Workspace<C> {
         }
     }
 
-    /// That place, with the interval's number.
+    /// Returns the number `i` with the bit `start_at(i)`.
     pub(crate) fn cut_at(&self, i: u64) -> Cut
         requires { i ≤ interval_count (C.format self.now.codec) self.now.samples }
         ensures { IsCutAt (C.format self.now.codec) self.now.samples i result }
@@ -221,8 +220,8 @@ impl<C: Codec> Workspace<C> {
         }
     }
 
-    /// Appends the samples of interval `i`. `Memory` where a growth was refused; `out` is then as
-    /// before.
+    /// Appends the samples of interval `i` to `out`. Fails with `Memory` if an allocation fails;
+    /// `out` is then unchanged.
     pub(crate) fn decode_interval(&mut self, i: u64, out: &mut Vec<i64>) -> Result<(), Fault>
         requires { i < interval_count (C.format self.old.codec) self.old.samples }
         ensures ok { OnOk result (out.new.items ≡ out.old.items
@@ -238,9 +237,9 @@ impl<C: Codec> Workspace<C> {
         self.codec.decode(&self.coded.bits, start, len, out)
     }
 
-    /// Puts the code of fresh samples in the place of the intervals from number `from` up to number
-    /// `to`, and moves the starts of the later ones. All memory is taken first, so that nothing has
-    /// changed where it is refused.
+    /// Replaces the intervals from number `from` up to number `to` by the code of fresh samples,
+    /// and moves the starts of the later ones. Fails with `Memory` if an allocation fails; nothing
+    /// is changed then.
     pub(crate) fn put(&mut self, from: u64, to: u64, coded: &Coded) -> Result<(), Fault>
         requires { (fresh : List ℤ)
             × IsCodeFor (C.format self.old.codec) self.old.limit self.old.samples from to

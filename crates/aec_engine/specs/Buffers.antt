@@ -1,4 +1,4 @@
--- What is left in a buffer that takes an answer.
+-- What a buffer contains after a call.
 use Rattle.std.specs.Prelude.{◌≡◌, ℕ, nat_le, if◌then◌else◌, Result, Ok, Err, List, ◌++◌, length, drop, ◌⊎◌}
 use Rattle.aec_params.specs.declared.fault.Fault.{Fault}
 use Rattle.aec_params.specs.declared.fault.Fault.TheVariants.{Memory}
@@ -21,6 +21,6 @@ pub record FillsOne (answers : Result (List ℕ) Fault → Type 0) (before after
   pub told : result ≡ answer_by (λ (bytes : List ℕ). length bytes) answer
   pub left : after ≡ left_of answer before
 
--- one of these answers, or want of memory
+-- one of these answers, or `Memory`
 abbrev pub OrMemory : (Result (List ℕ) Fault → Type 0) → Result (List ℕ) Fault → Type 0
 OrMemory answers answer = (answer ≡ Err Memory) ⊎ answers answer

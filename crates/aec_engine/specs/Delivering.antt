@@ -9,25 +9,25 @@ use Rattle.aec_params.specs.Params.{IsAllowed, interval_len}
 use Rattle.aec_bits.specs.Devices.{AppendsFront}
 use Rattle.aec_engine.specs.Transfers.{Putting, IsBegunFirst}
 
--- bytes that waited and more of them are put, up to those that wait then
+-- bytes that waited and then more bytes are put, except those that wait afterwards
 pub record PutsPart (before after : Option (List ℕ)) (waited more waiting : List ℕ) : Type 0 where
   pub put : List ℕ
   pub appended : Appends before after put
   pub all : put ++ waiting ≡ waited ++ more
 
--- bytes are put to a sink, or where it failed a front of them
+-- bytes are put to a sink, or a prefix of them if it failed
 abbrev pub PutsAllOrFront : {X : Type 0} → Option (List ℕ) → Option (List ℕ) → List ℕ → Result X Fault → Type 0
 PutsAllOrFront before after bytes result =
     MatchResult result (λ _. Appends before after bytes) (λ _. AppendsFront before after bytes)
 
--- after one `begin` bytes are put to a sink, or where it failed a front of them
+-- after one `begin` bytes are put to a sink, or a prefix of them if it failed
 pub record Delivers (bytes : List ℕ) (sink : Putting) (result : Result (Unit {0}) Fault) : Type 0 where
   pub puts : PutsAllOrFront sink.before sink.after bytes result
   pub begun : IsBegunFirst sink
   pub fault : IfErr result (λ e. (e ≡ Write) × (sink.failures ≡ 1))
   pub sound : OnOk result (sink.failures ≡ 0)
 
--- how often a sink was begun, what it had taken when it was begun last, and how often it has failed
+-- how often a sink was begun, what it had taken when it was last begun, and how often it has failed
 pub record SinkState : Type 0 where
   pub begun : ℕ
   pub mark : Option (List ℕ)
@@ -44,8 +44,8 @@ pub record StaysBegun (old new : SinkState) (result : Result (Unit {0}) Fault) :
   pub fault : IfErr result (λ e. (e ≡ Write) × (new.failed ≡ 1))
   pub failures : OnOk result (new.failed ≡ old.failed)
 
--- of allowed settings: buffers of these capacities have room for the samples of an interval, and
--- for its bytes after those that wait
+-- the settings are allowed, and buffers of these capacities have room for the samples of an
+-- interval, and for its bytes after those that wait
 pub record HaveRoom (s : Settings) (samples bytes : ℕ) : Type 0 where
   pub allowed : IsAllowed s
   pub room : interval_len s ≤ samples

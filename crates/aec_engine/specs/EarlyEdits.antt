@@ -1,5 +1,5 @@
 -- For proofs alone: no public contract cites this file.
--- Edits of a script that are made before all samples are there.
+-- Edits of a script that are made before all samples are loaded.
 use Rattle.std.specs.Prelude.{◌≡◌, ℕ, ◌+◌, ◌^◌, ◌≤◌, ◌⊎◌, Bool, Option, None, Result, Ok, Err, ℤ, List, [], ◌++◌, length}
 use Rattle.aec_params.specs.declared.settings.Settings.{Settings}
 use Rattle.aec_params.specs.declared.fault.Fault.{Fault}
@@ -19,8 +19,8 @@ use Rattle.aec_engine.specs.Scripts.{Listing}
 use Rattle.aec_engine.specs.Editing.{Left, left_with, edits_left, first_calls, LacksMemoryOn, Recoded}
 use Rattle.aec_engine.specs.EditingSteps.{StopsEditing, recoded_of}
 
--- Edits lead to others, which are made on what is left then: what the former leave is what the
--- latter do, and where the latter lack memory the former do.
+-- Some edits, made on some samples, lead to other edits on what is left: both leave the same
+-- samples and calls or have the same refusal, and where the latter lack memory the former do.
 pub record LeadsToEdits (f : Format) (limit : ℕ) (from : Left) (script : Listing) (to : Left)
     (ahead : Listing) : Type 0 where
   pub same : edits_left f limit from.calls from.samples script.edits script.lines
@@ -28,9 +28,9 @@ pub record LeadsToEdits (f : Format) (limit : ℕ) (from : Left) (script : Listi
   pub lacks : (line : ℕ) → LacksMemoryOn f limit to.calls to.samples ahead.edits ahead.lines line
       → LacksMemoryOn f limit from.calls from.samples script.edits script.lines line
 
--- Of samples that are there, the edits of a script were made up to those ahead. Whatever samples
--- stand after them, and however often the coder has been called before (far from the most that it
--- can be), the edits of the script lead to those ahead.
+-- The edits of a script were made on the samples loaded so far, up to those ahead. Whatever samples
+-- are loaded after them, and however often the coder has been called before (far from the most that
+-- it can be), the edits of the script lead to those ahead.
 pub record CarriesEarly (f : Format) (limit : ℕ) (script : Listing) (s : List ℤ) (calls : ℕ) (ahead : Listing)
     (left : List ℤ)
     (calls_after : ℕ) : Type 0 where
@@ -41,13 +41,12 @@ pub record CarriesEarly (f : Format) (limit : ℕ) (script : Listing) (s : List 
   pub leads : (rest : List ℤ) (due : ℕ) → due ≤ 2 ^ 63
       → LeadsToEdits f limit (left_with (s ++ rest) due) script (left_with (left ++ rest) (due + made)) ahead
 
--- one of the edits was refused, whatever samples stand after those that are there
+-- one of the edits was refused, whatever samples are loaded after these
 abbrev pub StopsEarly : Format → ℕ → Listing → List ℤ → EditFault → Type 0
 StopsEarly f limit script s fault =
     (rest : List ℤ) (due : ℕ) → due ≤ 2 ^ 63 → StopsEditing f limit due (s ++ rest) script.edits script.lines fault
 
--- a workspace without samples, over a codec that has coded nothing, for the samples that a reader
--- gives
+-- a workspace without samples, over a codec that has coded nothing, for the samples of a reader
 pub record IsEmptyFor (start : Place) (f : Format) (limit : ℕ) (samples : List ℤ) (called : ℕ) : Type 0 where
   pub allowed : IsAllowed start.settings
   pub format : f ≡ interval_format start.settings
@@ -56,21 +55,21 @@ pub record IsEmptyFor (start : Place) (f : Format) (limit : ℕ) (samples : List
   pub empty : samples ≡ []
   pub fresh : called ≡ 0
 
--- all samples that bits are read as were taken over, and the edits up to those ahead were made
--- meanwhile (the code takes them over by whole intervals; `IsInside` of aec_edit says which edits
--- are made early)
+-- all samples that bits are read as were loaded, and meanwhile the edits up to those ahead were
+-- made (the code loads them by whole intervals; `IsInside` of aec_edit says which edits are made
+-- early)
 abbrev pub LoadsAll : Format → ℕ → Listing → Place → Listing → List ℤ → ℕ → Type 0
 LoadsAll f limit script start ahead left calls =
     (xs : List ℤ) → AreSamplesOf start xs
     → LeadsToEdits f limit (left_with xs (first_calls f xs)) script (left_with left calls) ahead
 
--- samples were not all taken over: there was no memory, or an edit was refused
+-- not all samples were loaded: there was no memory, or an edit was refused
 abbrev pub StopsLoading : Format → ℕ → Listing → Place → EditFault → Type 0
 StopsLoading f limit script start fault =
     (fault ≡ Plain Memory) ⊎ ((xs : List ℤ) → AreSamplesOf start xs
     → StopsEditing f limit (first_calls f xs) xs script.edits script.lines fault)
 
--- what making edits on samples answers, all of which can be read
+-- the results of making edits on samples that can all be read
 pub data EditsSamples (s : Settings) (limit : ℕ) (start : Place) (script : Listing) : Result Recoded EditFault
     → Type 0 where
   no_room : EditsSamples s limit start script (Err (Plain Memory))
@@ -82,7 +81,7 @@ pub data EditsSamples (s : Settings) (limit : ℕ) (start : Place) (script : Lis
       ≡ Ok left)
       → EditsSamples s limit start script (Ok (recoded_of (interval_format s) left.samples left.calls))
 
--- what making edits on the samples that bits are read as answers
+-- the results of making edits on the samples that bits are read as
 pub data EditsBits (s : Settings) (caps : Caps) (count : Option ℕ) (bits : List Bool) (script : Listing)
     : Result Recoded EditFault → Type 0 where
   not_read : (fault : Fault) → RefusesDecoding s count caps.samples bits fault

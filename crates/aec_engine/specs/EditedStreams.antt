@@ -1,5 +1,5 @@
 -- For proofs alone: no public contract cites this file.
--- What is known of a stream that edits have left.
+-- What is known of the stream that edits leave.
 use Rattle.std.specs.Prelude.{◌≡◌, ℕ, Bool, List, [], length}
 use Rattle.aec_params.specs.declared.settings.Settings.{Settings}
 use Rattle.aec_params.specs.declared.edit.Edit.{Edit}
@@ -10,8 +10,8 @@ use Rattle.aec_interval.specs.IntervalFormat.{interval_format}
 use Rattle.aec_edit.specs.declared.outcome.Outcome.{Outcome}
 use Rattle.aec_edit.specs.Runs.{AnswersAll, all_left}
 
--- edits were made from no samples on with these outcomes, and these are the bits of the bytes that
--- their stream fills, and the number of samples
+-- edits that began with no samples had these outcomes; these are the bits of the bytes that their
+-- stream fills, and the number of samples
 pub record IsWritten (s : Settings) (limit : ℕ) (edits : List Edit) (done : List Outcome) (calls : ℕ)
     (bits : List Bool) (count : ℕ) : Type 0 where
   pub allowed : IsAllowed s

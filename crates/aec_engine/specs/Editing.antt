@@ -1,4 +1,5 @@
--- What carrying out a script answers: a function of the script and the coded input, or one refusal.
+-- The answer of carrying out a script: a function of the script and the coded input, or one
+-- refusal.
 use Rattle.std.specs.Prelude.{◌≡◌, ℕ, ◌+◌, ◌<◌, ◌⊎◌, Option, Some, None, option_map, Result, Ok, Err, ℤ, List, ◌∷◌, length}
 use Rattle.std.specs.Option.{option_or, option_map_or}
 use Rattle.std.specs.Io.KnownBytes.{Appends, Keeps}
@@ -21,8 +22,8 @@ use Rattle.aec_engine.specs.Output.{intake_refusal, IsRead, IsDecoded}
 use Rattle.aec_engine.specs.Scripts.{Listing, listing_of}
 use Rattle.aec_engine.specs.Transfers.{Input, Taking, Putting, are_past, Gave, WroteNothing, IsBegunFirst, answer_by}
 
--- why a script is refused: as an input that is read whole, and else for its first line that is no
--- edit (COMMAND: Order of a run)
+-- why a script is refused: as an input that is read whole, else for its first line that is no edit
+-- (COMMAND: Order of a run)
 abbrev pub script_refusal : ℕ → Input → Option Fault
 script_refusal limit script =
     option_or (intake_refusal limit script) (option_map (λ n. Script n) (listing_of script.bytes).bad)
@@ -36,18 +37,18 @@ pub record Left : Type 0 where
 abbrev pub left_with : List ℤ → ℕ → Left
 left_with samples calls = record { samples = samples; calls = calls }
 
--- What is left by edits of the samples s, made one after the other, of which each has its line,
--- after so many calls of the coder: each calls it as often as it needs. Or why the first that is
--- refused is, with its line: it doesn't fit, or too few calls are left for it. (COMMAND: Edits;
--- over lists of samples, where the code has streams, and one count of calls)
+-- What edits of the samples s leave, each with its line, made one after the other after `calls`
+-- calls of the coder: each edit calls it as often as it needs. Or the first refusal, with its line:
+-- the edit doesn't fit, or too few calls are left for it. (COMMAND: Edits; over lists of samples,
+-- where the code has streams, and one count of calls)
 abbrev pub edits_left : Format → ℕ → ℕ → List ℤ → List Edit → List ℕ → Result Left EditFault
 edits_left f limit calls s (e ∷ edits) (n ∷ lines) =
     option_map_or (λ fault. Err (Line n fault)) (due_refusal f limit s calls e)
     (edits_left f limit (calls + needed_calls f.most (length s) e) (samples_after s e) edits lines)
 edits_left f limit calls s edits lines = Ok (left_with s calls)
 
--- how often the coder is called for the samples that a script is carried out on: as for an append
--- of all of them to none
+-- how often the coder is called for the samples that a script is carried out on: as often as for
+-- appending them to no samples
 abbrev pub first_calls : Format → List ℤ → ℕ
 first_calls f samples = needed_calls f.most 0 (Append samples)
 
@@ -58,7 +59,8 @@ script_left s caps script samples =
     let read : Listing = listing_of script.bytes in
     edits_left f caps.samples (first_calls f samples) samples read.edits read.lines
 
--- what carrying out a script makes: the bytes of a stream, and how often the coder has been called
+-- the result of carrying out a script: the bytes of a stream, and how often the coder has been
+-- called
 pub record Recoded : Type 0 where
   pub bytes : List ℕ
   pub calls : ℕ
@@ -88,7 +90,7 @@ pub data IsEdited (s : Settings) (caps : Caps) (count : Option ℕ) (script inpu
 -- ---- runs
 
 -- The edit on this line codes some interval, and neither it nor one before it is refused for a
--- reason other than memory: from the samples s, after `calls` calls of the coder.
+-- reason other than memory: beginning with the samples s, after `calls` calls of the coder.
 abbrev pub LacksMemoryOn : Format → ℕ → ℕ → List ℤ → List Edit → List ℕ → ℕ → Type 0
 LacksMemoryOn f limit calls s (e ∷ edits) (n ∷ lines) line =
     let needed : ℕ = needed_calls f.most (length s) e in
@@ -103,8 +105,8 @@ pub record GaveBoth (caps : Caps) (from source : Taking) (script input : Input) 
   pub gave_input : Gave source (are_past caps.bytes) input
 
 -- The result of a run over the source of a script and that of an input, before anything is written:
--- the refusal of the script, and then nothing was taken of the input; the answer to both; or want
--- of memory, named by the line of an edit or by none.
+-- the refusal of the script, with nothing taken of the input; the answer to both; or `Memory`, with
+-- or without the line of an edit.
 pub data GivesEdited (s : Settings) (caps : Caps) (count : Option ℕ) (from source : Taking) : Result Recoded EditFault
     → Type 0 where
   script_refused : (script : Input) (fault : Fault) → Gave from (are_past caps.bytes) script
@@ -119,8 +121,8 @@ pub data GivesEdited (s : Settings) (caps : Caps) (count : Option ℕ) (from sou
       LacksMemoryOn f caps.samples (first_calls f samples) samples read.edits read.lines line)
       → GivesEdited s caps count from source (Err (Line line Memory))
 
--- What the engine leaves: the bytes of its answer, written after one `begin`, and then it returns
--- the calls; or its refusal and nothing written; or a front of the bytes if the sink failed.
+-- What the engine leaves: the bytes of its answer, written after one `begin`, and it returns the
+-- calls; or its refusal and nothing written; or a prefix of the bytes if the sink failed.
 pub data LeavesRecoded (s : Settings) (caps : Caps) (count : Option ℕ) (from source : Taking)
     (sink : Putting) : Result ℕ EditFault → Type 0 where
   written : (made : Recoded) → GivesEdited s caps count from source (Ok made)

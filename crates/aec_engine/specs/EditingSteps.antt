@@ -1,4 +1,4 @@
--- What the private functions of the engine that carries out scripts give.
+-- What the private functions of the engine that carries out scripts return.
 use Rattle.std.specs.Prelude.{◌≡◌, ℕ, Some, None, Result, Ok, Err, ℤ, List, slice_index}
 use Rattle.aec_params.specs.declared.fault.Fault.{Fault}
 use Rattle.aec_params.specs.declared.fault.Fault.TheVariants.{Memory}
@@ -26,7 +26,7 @@ pub data RefusesScript (from : Taking) (limit : ℕ) : Fault → Type 0 where
   no_edits : (script : Input) (fault : Fault) → Gave from (are_past limit) script
       → script_refusal limit script ≡ Some fault → RefusesScript from limit fault
 
--- why edits were not all made: one is refused where there is memory, or there was no memory for one
+-- why edits were not all made: one is refused for a reason other than memory, or memory was lacking
 pub data StopsEditing (f : Format) (limit calls : ℕ) (s : List ℤ) (edits : List Edit) (lines : List ℕ) : EditFault
     → Type 0 where
   misfit : (fault : EditFault) → edits_left f limit calls s edits lines ≡ Err fault
@@ -34,20 +34,20 @@ pub data StopsEditing (f : Format) (limit calls : ℕ) (s : List ℤ) (edits : L
   lacks_memory : (line : ℕ) → LacksMemoryOn f limit calls s edits lines line
       → StopsEditing f limit calls s edits lines (Line line Memory)
 
--- how edits that were made up to the first that is refused end where each has a line: without a
--- refusal, or with that of the line
+-- the result of edits that were made up to the first refused one, each with a line: no refusal, or
+-- the refusal with its line
 abbrev pub named_by : List ℕ → Result (Unit {0}) Stop → Result (Unit {0}) EditFault
 named_by lines (Ok made) = Ok made
 named_by lines (Err stop) = Err (Line (slice_index lines stop.place) stop.fault)
 
--- what carrying out edits on a workspace has done: those before the first that is refused were
--- made, and it is named by its line
+-- the result of carrying out edits on a workspace: those before the first refused one were made,
+-- and the fault names its line
 pub record CarriesOut (f : Format) (limit : ℕ) (s : List ℤ) (calls reads : ℕ) (edits : List Edit) (lines : List ℕ)
     (result : Result (Unit {0}) EditFault) (left : List ℤ) (calls_after reads_after : ℕ) : Type 0 where
   pub end : Result (Unit {0}) Stop
   pub run : StopsAtRefusal f limit s calls reads edits end left calls_after reads_after
   pub named : result ≡ named_by lines end
 
--- what a workspace with these samples gives, whose codec was called so often
+-- the result for a workspace with these samples, whose codec was called this often
 abbrev pub recoded_of : Format → List ℤ → ℕ → Recoded
 recoded_of f samples calls = record { bytes = bytes_of (code_of f samples); calls = calls }

@@ -23,7 +23,7 @@ abbrev pub with_next : Option NextEdit → Listing → Listing
 with_next (Some next) rest = listed next.line (change next.edit) rest
 with_next None rest = rest
 
--- the listing of what is left
+-- the listing of what is left of a script
 abbrev pub left_in : EditsAhead → Listing
 left_in ahead = with_next ahead.next (behind ahead)
 
@@ -36,7 +36,7 @@ pub record AreKnown (ahead : EditsAhead) : Type 0 where
 abbrev pub no_edits : Listing
 no_edits = record { edits = []; lines = []; bad = None }
 
--- where no edit is ready, none is left
+-- if no edit is ready, none is left
 abbrev pub IsReady : EditsAhead → Type 0
 IsReady ahead = MatchOption ahead.next (behind ahead ≡ no_edits) (λ next. ⊤)
 
@@ -49,7 +49,7 @@ pub record AreAhead (ahead : EditsAhead) : Type 0 where
 abbrev pub unread : EditsAhead → ℕ
 unread ahead = (length ahead.window.now - ahead.taken) + text_left (text_ahead ahead)
 
--- no edit is left, or the next one is no overwrite inside so many samples, or so many calls of the
--- coder are too many
+-- no edit is left, or the next one is no overwrite inside `count` samples, or the coder was called
+-- 2^62 times
 abbrev pub StopsAt : EditsAhead → ℕ → ℕ → Type 0
 StopsAt ahead count calls = MatchOption ahead.next ⊤ (λ next. (2 ^ 62 ≤ calls) ⊎ (IsInside count next.edit → ⊥))

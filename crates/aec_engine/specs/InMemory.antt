@@ -1,4 +1,4 @@
--- What coding and decoding answer to bytes in memory.
+-- The answers of coding and decoding for bytes in memory.
 use Rattle.std.specs.Prelude.{◌≡◌, ℕ, ◌<◌, ◌≤◌, Option, Some, None, Ok, ℤ, List, length}
 use Rattle.aec_params.specs.declared.settings.Settings.{Settings}
 use Rattle.aec_params.specs.declared.fault.Fault.{Fault}

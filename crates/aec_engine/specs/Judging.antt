@@ -10,14 +10,14 @@ use Rattle.aec_interval.specs.Reached.{count_refusal}
 use Rattle.aec_interval.specs.Pieces.{Place}
 use Rattle.aec_engine.specs.ReadingTwice.{AreSamplesOf, EndsAt, HaveSamples, IsAtStart}
 
--- at the first bit of bits that have been judged, whose samples can be read
+-- a reader at the first bit of judged bits, whose samples can be read
 pub record IsUnread (p : Place) (s : Settings) : Type 0 where
   pub start : IsAtStart p s
   pub within : count_refusal p.limit p.count ≡ None
   pub read : (xs : List ℤ) × AreSamplesOf p xs
 
--- a reader of bits that have been judged, and what judging told: where all is read, and how many
--- samples there are
+-- a reader of judged bits, and the result of judging: the bit where all is read, and the number of
+-- samples
 pub record IsJudgedReader (s : Settings) (caps : Caps) (count : Option ℕ) (bits : List Bool) (p : Place)
     (end total : ℕ) : Type 0 where
   pub unread : IsUnread p s
@@ -28,8 +28,8 @@ pub record IsJudgedReader (s : Settings) (caps : Caps) (count : Option ℕ) (bit
   pub ends : EndsAt p end
   pub have : HaveSamples p total
 
--- There is room for as many bits as the samples are read from, and for the starts of their
--- intervals. Their own code can be longer: it may have another filler, or be padded.
+-- There is room for all bits that the samples are read from, and for the starts of their intervals.
+-- Their own code can be longer: it may have another filler, or be padded.
 pub record HasRoomOfRead (p : Place) (bits intervals : ℕ) : Type 0 where
   pub end : ℕ
   pub total : ℕ

@@ -19,7 +19,7 @@ pub record HasOneAnswer {A E : Type 0} (answers : Input → Result A E → Type 
   pub is_answer : answers input answer
   pub only : (other : Result A E) → answers input other → other ≡ answer
 
--- each input is coded into bytes or has one refusal; so it is decoded, and so is each range of it
+-- each input has one answer of coding, of decoding and of each range
 pub record EachInputHasOneAnswer : Type 0 where
   pub coding : (s : Settings) (caps : Caps) (input : Input) → HasOneAnswer (IsEncoded s caps) input
   pub decoding : (s : Settings) (caps : Caps) (count : Option ℕ) (input : Input) → IsAllowed s
@@ -32,8 +32,8 @@ abbrev pub EachScriptHasOneAnswer : Type 0
 EachScriptHasOneAnswer = (s : Settings) (caps : Caps) (count : Option ℕ) (script input : Input) → IsAllowed s
     → HasOneAnswer (IsEdited s caps count script) input
 
--- a script that asks for nothing leaves all samples: each input has the code of what it is read as,
--- with one call for each interval
+-- a script that asks for nothing leaves all samples: the answer to each input is the code of what
+-- it is read as, with one call for each interval
 abbrev pub NoEditsKeepTheSamples : Type 0
 NoEditsKeepTheSamples = (s : Settings) (caps : Caps) (count : Option ℕ) (script input : Input) (samples : List ℤ)
     → script_refusal caps.bytes script ≡ None → (listing_of script.bytes).edits ≡ [] → IsRead s caps count input samples
@@ -50,13 +50,13 @@ pub record IsJudgedByFront {A E : Type 0} (answers : Input → Result A E → Ty
   pub of_whole : (failed : Bool) (answer : Result A E)
       → answers (input_of (front ++ rest) failed) answer ↔ (answer ≡ Err fault)
 
--- a front is enough that holds a sample which is refused; of coded data and scripts, one that is
--- past the limit
+-- a front is enough if it contains a refused sample; for coded data and scripts, if it is longer
+-- than the limit
 pub record RefusedFrontsAreEnough : Type 0 where
   pub coding : (s : Settings) (caps : Caps) (front rest : List ℕ) → IsAllowed s
       → are_refused s caps.samples front ≡ true
       → IsJudgedByFront (IsEncoded s caps) front rest
-  -- which each front is that holds more whole samples than the limit
+  -- so is each front with more whole samples than the limit
   pub samples : (s : Settings) (caps : Caps) (front : List ℕ) → caps.samples < length front / storage_len s
       → are_refused s caps.samples front ≡ true
   pub decoding : (s : Settings) (caps : Caps) (count : Option ℕ) (front rest : List ℕ) → caps.bytes < length front
@@ -72,13 +72,13 @@ pub record RefusedFrontsAreEnough : Type 0 where
       → caps.bytes < length front
       → IsJudgedByFront (λ script. IsEdited s caps count script input) front rest
 
--- what a source gave is judged as all bytes that it had left, where it did not fail
+-- the answer to what a source gave is the answer to all bytes that it had left, if it did not fail
 abbrev pub IsJudgedWhole : {A E : Type 0} → (Input → Result A E → Type 0) → (List ℕ → Bool) → Type 0
 IsJudgedWhole {A} {E} answers enough = (source : Taking) (input : Input) (bytes : List ℕ) (answer : Result A E)
     → source.before ≡ Some bytes → source.failures ≡ 0 → Gave source enough input → answers input answer
     → answers (input_of bytes false) answer
 
--- so is what coding, decoding, a range and edits take, and what is taken of a script
+-- this holds for what coding, decoding, a range and edits take, and for what is taken of a script
 pub record WhatIsTakenIsEnough : Type 0 where
   pub coding : (s : Settings) (caps : Caps) → IsAllowed s
       → IsJudgedWhole (IsEncoded s caps) (are_refused s caps.samples)

@@ -1,4 +1,4 @@
--- What the text of a range says, written out. A wrong line here fails the check.
+-- The ranges that written-out texts stand for. A wrong line here fails the check.
 use Rattle.std.specs.Prelude.{◌≡◌, [], Some, None, codes, refl}
 use Rattle.aec_engine.specs.Numerals.{range_in}
 

@@ -1,4 +1,4 @@
--- The numbers that words write in decimal digits.
+-- Numbers written in decimal digits.
 use Rattle.std.specs.Prelude.{ℕ, ◌^◌, Bool, ◌&&◌, ◌==◌, nat_lt, if◌then◌else◌, ℤ, pos, negsuc, List, [], ◌∷◌, length, Option, Some, None, option_map, option_and_then}
 use Rattle.std.specs.List.{list_all, slice_split}
 use Rattle.std.specs.Char.{digit_value}
@@ -18,14 +18,13 @@ abbrev pub fits_i64 : ℤ → Bool
 fits_i64 (pos n) = nat_lt n (2 ^ 63)
 fits_i64 (negsuc n) = nat_lt n (2 ^ 63)
 
--- the whole number below 2^width that a text writes in decimal digits and in nothing else, where it
--- is one (COMMAND: Ranges; by the value of a list of digits, with no loop that stops at the first
--- bad one)
+-- the whole number below 2^width that a text of decimal digits alone stands for, if it is one
+-- (COMMAND: Ranges; by the value of a list of digits, with no loop that stops at the first bad one)
 abbrev pub decimal_in : ℕ → Text → Option ℕ
 decimal_in width text = if is_numeral text && nat_lt (digits_value 10 text) (2 ^ width)
     then Some (digits_value 10 text) else None
 
--- the same where a plus may stand first, as in the number of an option (COMMAND: Options)
+-- the same, with or without a plus first, as in the number of an option (COMMAND: Options)
 abbrev pub option_number : ℕ → Text → Option ℕ
 option_number width text = decimal_in width (without_leading_plus text)
 

@@ -28,7 +28,7 @@ abbrev pub coding_refusal : Settings → ℕ → Input → Option Fault
 coding_refusal s limit input = option_or (judged_samples limit (samples_of_bytes s input.bytes))
     (if input.failed then Some Read else None)
 
--- the answer of coding (COMMAND: Limits, time and memory; how its bytes are read isn't said)
+-- the answer of coding (COMMAND: Limits, time and memory; how bytes are read isn't said)
 pub data IsEncoded (s : Settings) (caps : Caps) (input : Input) : Result (List ℕ) Fault → Type 0 where
   not_coded : (fault : Fault) → coding_refusal s caps.samples input ≡ Some fault → IsEncoded s caps input (Err fault)
   -- the bytes of the samples' code

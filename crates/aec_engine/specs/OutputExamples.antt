@@ -1,5 +1,5 @@
--- What coding and cutting out a range answer to inputs that are written out. A wrong line here
--- fails the check.
+-- The answers of coding and of cutting out a range for written-out inputs. A wrong line here fails
+-- the check.
 use Rattle.std.specs.Prelude.{◌≡◌, ℕ, true, false, Some, None, Ok, Err, pos, [], ◌∷◌, List, Bool, refl}
 use Rattle.aec_params.specs.declared.fault.Fault.TheVariants.{SampleRange, TooManySamples, OutOfRange, Read}
 use Rattle.aec_params.specs.Limits.{Caps}
@@ -33,7 +33,7 @@ bad_after_the_limit = refl
 bad_before_the_limit : judged_samples 1 (samples_of_bytes five_signed (224 ∷ 0 ∷ [])) ≡ Some (SampleRange 0)
 bad_before_the_limit = refl
 
--- of samples of two bytes, three bytes are no more than one
+-- three bytes are no more than one sample of two bytes
 rest_left_out : samples_of_bytes twelve_bits (1 ∷ 0 ∷ 2 ∷ []) ≡ Ok (pos 1 ∷ [])
 rest_left_out = refl
 
@@ -47,14 +47,14 @@ two_of_one = refl
 bad_is_enough : are_refused five_signed 3 third_is_bad ≡ true
 bad_is_enough = refl
 
--- what is written of these
+-- what is written for these bytes
 one_sample : IsEncoded twelve_bits (at_most 1) (input (1 ∷ 0 ∷ 2 ∷ []) false) (Ok (0 ∷ 0 ∷ 192 ∷ []))
 one_sample = encoded (pos 1 ∷ []) refl refl
 
 no_samples : IsEncoded usual (at_most 0) (input [] false) (Ok [])
 no_samples = encoded [] refl refl
 
--- a source that fails is named where no sample before is refused
+-- a failure of the source is the refusal if no sample before it is refused
 failed_source : IsEncoded five_signed (at_most 2) (input (31 ∷ 255 ∷ []) true) (Err Read)
 failed_source = not_coded Read refl
 
@@ -66,7 +66,7 @@ failed_after_the_limit = not_coded (TooManySamples 2) refl
 
 -- ---- ranges
 
--- so many samples and so many bytes
+-- limits of samples and of bytes
 abbrev both_limits : Caps
 both_limits = record { samples = 4096; bytes = 4 }
 
@@ -80,13 +80,13 @@ three_of_a_ramp = cut_out _ (record { taken = refl; within = refl; reading = ram
 past_a_ramp : IsRanged usual both_limits None 6 3 (input ramp_bytes false) (Err (OutOfRange 8))
 past_a_ramp = outside _ (record { taken = refl; within = refl; reading = ramp_without_count }) (lit< tt)
 
--- with a count, the samples are so many
+-- with a count, there are `count` samples
 nothing_after_the_count : IsRanged usual both_limits (Some 5) 5 0 (input (0x00 ∷ 0x78 ∷ []) false) (Ok [])
 nothing_after_the_count = cut_out _ (record { taken = refl; within = refl; reading = five_sevens }) (lit≤ tt)
 
 past_the_count : IsRanged usual both_limits (Some 5) 3 3 (input (0x00 ∷ 0x78 ∷ []) false) (Err (OutOfRange 5))
 past_the_count = outside _ (record { taken = refl; within = refl; reading = five_sevens }) (lit< tt)
 
--- a source that fails is named before any place
+-- a failure of the source is the refusal before any place
 failed_range : IsRanged usual both_limits None 9 9 (input ramp_bytes true) (Err Read)
 failed_range = not_decoded Read (not_taken Read refl)

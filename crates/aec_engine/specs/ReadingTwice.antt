@@ -1,5 +1,5 @@
 -- For proofs alone: no public contract cites this file.
--- What the parts of decoding give: the bits of a source, and what their two readings answer.
+-- What the parts of decoding return: the bits of a source, and the results of their two readings.
 use Rattle.std.specs.Prelude.{◌≡◌, ℕ, ◌+◌, ◌*◌, ◌%◌, ◌^◌, ◌<◌, ◌≤◌, ◌⊎◌, Bool, true, false, Option, None, Result, Ok, Err, ℤ, List, Vec, ◌++◌, length, vec_len, vec_capacity}
 use Rattle.std.specs.List.{AllByRecursion}
 use Rattle.aec_params.specs.declared.settings.Settings.{Settings}
@@ -37,7 +37,7 @@ pub record IsAtStart (p : Place) (s : Settings) : Type 0 where
   pub bit : p.bit ≡ 0
 
 -- At place p more is wanted and an interval begins. From there samples were read up to place q:
--- whatever was read up to p, that and these samples are what is read up to q.
+-- what was read up to p, followed by these samples, is what is read up to q.
 pub record ReadsOn (p : Place) (samples : List ℤ) (q : Place) : Type 0 where
   pub wanted : is_wanted_at p ≡ true
   pub begins : p.block % p.settings.interval ≡ 0
@@ -46,7 +46,7 @@ pub record ReadsOn (p : Place) (samples : List ℤ) (q : Place) : Type 0 where
   pub held : AllByRecursion (IsHeld p.settings) samples
   pub behind : (front : List ℤ) → HasRead p front → HasRead q (front ++ samples)
 
--- what can be read is refused for want of memory alone
+-- if all samples can be read, the only fault is `Memory`
 abbrev pub LacksMemoryAlone : Place → Fault → Type 0
 LacksMemoryAlone p fault = (front samples : List ℤ) → HasRead p front → AreSamplesOf p samples → fault ≡ Memory
 
@@ -60,13 +60,13 @@ pub record IsBegun (p : Place) (before first : ℕ) : Type 0 where
   pub few : p.block < 2 ^ 34
   pub begins : is_wanted_at p ≡ true → p.block % p.settings.interval ≡ 0
 
--- samples can be read from there, where a range begins that lies after so many samples
+-- samples can be read from a place after `before` samples, for a range from `first` on
 pub record IsReadyAt (p : Place) (s : Settings) (before first : ℕ) : Type 0 where
   pub settings : p.settings ≡ s
   pub read : (xs : List ℤ) × AreSamplesOf p xs
   pub begun : IsBegun p before first
 
--- so many samples were read up to such a place, and these are their bytes
+-- `before` samples were read up to such a place, and these are their bytes
 pub record KeepsFront (p : Place) (s : Settings) (before : ℕ) (bytes : List ℕ) : Type 0 where
   pub samples : List ℤ
   pub read : HasRead p samples
@@ -75,8 +75,8 @@ pub record KeepsFront (p : Place) (s : Settings) (before : ℕ) (bytes : List �
   pub few : p.block < 2 ^ 34
   pub begins : is_wanted_at p ≡ true → p.block % p.settings.interval ≡ 0
 
--- So many kept bytes are few: they fit into 65,536 bytes and those of an interval, or they are at
--- most 2^24, and at most those of an interval and two for each bit.
+-- Few bytes are kept: they fit into 65,536 bytes and those of an interval, or they are at most
+-- 2^24, and at most those of an interval and two for each bit.
 abbrev pub AreFewKept : ℕ → ℕ → ℕ → Type 0
 AreFewKept kept interval bits = 65536 + interval < kept → (kept ≤ 2 ^ 24) × (kept ≤ 2 * bits + interval)
 
@@ -85,13 +85,13 @@ AreFewKept kept interval bits = 65536 + interval < kept → (kept ≤ 2 ^ 24) ×
 abbrev pub GrowsForFew : ℕ → ℕ → ℕ → ℕ → Type 0
 GrowsForFew before after interval most = (after ≡ before) ⊎ ((after ≤ 2 ^ 24) × (after ≤ 2 * most + interval))
 
--- a vector's items are as they were, and no less room
+-- a vector's items are unchanged, and its room is no less
 pub record KeepsItems {X Z : Type 0} (old new : Vec X Z) : Type 0 where
   pub items : new.items ≡ old.items
   pub len : vec_len new ≡ vec_len old
   pub capacity : vec_capacity old ≤ vec_capacity new
 
--- a vector has at most so many items more, and no less room
+-- a vector has at most `more` more items, and no less room
 pub record HasSpare {X Z : Type 0} (old new : Vec X Z) (more : ℕ) : Type 0 where
   pub len : vec_len new ≤ vec_len old + more
   pub capacity : vec_capacity old ≤ vec_capacity new
@@ -109,18 +109,19 @@ pub record HaveSamples (p : Place) (total : ℕ) : Type 0 where
   pub reading : IsReading p.settings p.count p.limit p.bits samples
   pub counted : length samples ≡ total
 
--- all samples were judged, and the reader is where it was: where all is read, and how many they are
+-- all samples were judged, and the reader is where it was: the bit where they end, and how many
+-- they are
 pub record Judges (old new : Place) (end total : ℕ) : Type 0 where
   pub have : HaveSamples old total
   pub ends : EndsAt old end
   pub same : new ≡ old
 
--- the bytes of a part of samples, or want of memory
+-- the bytes of a part of samples, or `Memory`
 pub data StoresPart (s : Settings) (first len : ℕ) (samples : List ℤ) : Result (List ℕ) Fault → Type 0 where
   stored : StoresPart s first len samples (Ok (all_stored s (samples_from first len samples)))
   no_room : StoresPart s first len samples (Err Memory)
 
--- what decoding answers to bits
+-- the answers of decoding bits
 pub data DecodesBits (s : Settings) (count : Option ℕ) (limit : ℕ) (bits : List Bool) : Result (List ℕ) Fault
     → Type 0 where
   read : (samples : List ℤ) → count_refusal limit count ≡ None → IsReading s count limit bits samples
@@ -128,7 +129,7 @@ pub data DecodesBits (s : Settings) (count : Option ℕ) (limit : ℕ) (bits : L
   unread : (fault : Fault) → RefusesDecoding s count limit bits fault → DecodesBits s count limit bits (Err fault)
   no_memory : DecodesBits s count limit bits (Err Memory)
 
--- what cutting out a range answers to bits
+-- the answers of cutting a range out of bits
 pub data CutsBits (s : Settings) (count : Option ℕ) (limit first len : ℕ) (bits : List Bool) : Result (List ℕ) Fault
     → Type 0 where
   cut : (samples : List ℤ) → count_refusal limit count ≡ None → IsReading s count limit bits samples

@@ -1,4 +1,4 @@
--- What scripts that are written out ask for. A wrong line here fails the check.
+-- The edits that written-out scripts ask for. A wrong line here fails the check.
 use Rattle.std.specs.Prelude.{◌≡◌, List, [], ◌∷◌, ◌++◌, ℕ, pos, negsuc, Some, None, codes, refl}
 use Rattle.aec_params.specs.declared.edit.Edit.TheVariants.{Overwrite, Append, Truncate, Insert, Remove}
 use Rattle.aec_engine.specs.Numerals.{Text}
@@ -8,7 +8,7 @@ use Rattle.aec_engine.specs.Scripts.{listing_of}
 abbrev line : List ℕ → Text
 line text = text ++ 10 ∷ []
 
--- a bad line is named by its number among all lines, and what stands before it is listed
+-- a bad line is named by its number among all lines, and the edits before it are listed
 bad_third_line : listing_of (line (codes "append 1") ++ (line (codes "") ++ line (codes "truncate x")))
     ≡ record { edits = Append (pos 1 ∷ []) ∷ []; lines = 1 ∷ []; bad = Some 3 }
 bad_third_line = refl
@@ -23,7 +23,7 @@ four_lines : listing_of (line (codes "# p")
     }
 four_lines = refl
 
--- values that come at a place, or none; a number of samples that go
+-- values inserted at a place, or none; a number of removed samples
 lines_that_move : listing_of (line (codes "insert 3 7 -8")
     ++ (line (codes "insert 0") ++ codes "remove 18446744073709551615 0"))
     ≡ record {
@@ -38,8 +38,7 @@ return_at_the_end : listing_of (codes "append 007 -0" ++ 13 ∷ [])
     ≡ record { edits = Append (pos 7 ∷ pos 0 ∷ []) ∷ []; lines = 1 ∷ []; bad = None }
 return_at_the_end = refl
 
--- of two carriage returns the last alone is no part of the line, and the other is part of its last
--- word
+-- of two carriage returns only the last is no part of the line; the other is part of the last word
 two_returns : (listing_of (codes "append 1" ++ (13 ∷ 13 ∷ 10 ∷ []))).bad ≡ Some 1
 two_returns = refl
 
@@ -63,7 +62,8 @@ minus_alone = refl
 too_large : (listing_of (codes "append 9223372036854775808")).bad ≡ Some 1
 too_large = refl
 
--- nor are these: no place, no number of samples, one too many, one that 64 bits don't hold
+-- nor are these: no place, no number of samples, one word too many, a number that needs more than
+-- 64 bits
 no_place_to_insert : (listing_of (codes "insert")).bad ≡ Some 1
 no_place_to_insert = refl
 

@@ -1,5 +1,5 @@
 -- For proofs alone: no public contract cites this file.
--- What the private functions that read scripts give: a line before its values are kept.
+-- What the private functions that read scripts return: a line before its values are kept.
 use Rattle.std.specs.Prelude.{◌≡◌, ℕ, ℤ, Bool, true, Option, Some, None, is_some, option_map, length, ◌+◌, ◌<◌, ◌⊎◌, ◌≢◌, List, [], ◌++◌, ◌==◌}
 use Rattle.std.specs.List.{slice_split}
 use Rattle.aec_params.specs.declared.edit.Edit.{Edit}
@@ -42,12 +42,12 @@ kept None = nothing
 abbrev pub lines_of : Text → List Text
 lines_of text = slice_split (λ byte. byte == 10) text
 
--- the lines of what is left of a text: none where nothing is left
+-- the lines of what is left of a text: none if nothing is left
 abbrev pub lines_left : Option Text → List Text
 lines_left (Some text) = lines_of text
 lines_left None = []
 
--- how many bytes are left, with one for the end of the last line
+-- how many bytes are left, plus one for the end of the last line
 abbrev pub text_left : Option Text → ℕ
 text_left (Some text) = length text + 1
 text_left None = 0
@@ -56,11 +56,11 @@ text_left None = 0
 abbrev pub after_listed : List Edit → List ℕ → Listing → Listing
 after_listed edits lines rest = record { edits = edits ++ rest.edits; lines = lines ++ rest.lines; bad = rest.bad }
 
--- why the line n is not taken: it is no edit, or memory is refused for the edit that it is
+-- why the line n is not taken: it is no edit, or there is no memory for its edit
 abbrev pub RefusesLine : Meaning → ℕ → Fault → Type 0
 RefusesLine m n e = ((m ≡ unknown) × (e ≡ Script n)) ⊎ ((e ≡ Memory) × ((m ≢ nothing) × (m ≢ unknown)))
 
--- the same, as the listing of the whole script shows it
+-- the same, in terms of the listing of the whole script
 abbrev pub RefusesListing : Listing → ℕ → Fault → Type 0
 RefusesListing read n e = ((read.bad ≡ Some n) × (e ≡ Script n)) ⊎ ((e ≡ Memory) × (0 < length read.edits))
 

@@ -14,18 +14,18 @@ use Rattle.aec_engine.specs.Numerals.{Text, is_numeral, fits_i64, decimal_in}
 abbrev pub is_blank : ℕ → Bool
 is_blank byte = byte == 32 || byte == 9
 
--- what stands between two blanks is a word, if it isn't empty
+-- what lies between two blanks is a word, if it isn't empty
 abbrev pub is_word : Text → Bool
 is_word [] = false
 is_word (byte ∷ bytes) = true
 
--- the words of a line, which blanks part (COMMAND: Scripts; the whole line cut at each blank,
--- without what is empty, where the code goes from word to word)
+-- the words of a line, separated by blanks (COMMAND: Scripts; the whole line cut at each blank,
+-- without empty parts, where the code goes from word to word)
 abbrev pub words_of : Text → List Text
 words_of line = filter is_word (slice_split is_blank line)
 
--- the whole number of 64 bits that a sign or nothing and decimal digits write (COMMAND: Scripts; by
--- the value of a list of digits)
+-- the whole number of 64 bits that decimal digits after a sign or nothing stand for (COMMAND:
+-- Scripts; by the value of a list of digits)
 abbrev pub signed_in : Text → Option ℤ
 signed_in word =
     if is_numeral (without_leading_sign word) && fits_i64 (signed_digits_value 10 word)
@@ -35,7 +35,7 @@ signed_in word =
 abbrev pub value_in : Text → Option ℤ
 value_in word = if slice_index word 0 == 43 then None else signed_in word
 
--- the values that words write, where each is one
+-- the values of words, if each word is a value
 abbrev pub values_in : List Text → Option (List ℤ)
 values_in [] = Some []
 values_in (word ∷ words) = option_and_then (λ x. option_map (λ xs. x ∷ xs) (values_in words)) (value_in word)
@@ -48,7 +48,7 @@ pub data Meaning : Type 0 where
   change : Edit → Meaning
   unknown : Meaning
 
--- an edit, where there is one
+-- an edit, if there is one
 abbrev pub change_if : Option Edit → Meaning
 change_if (Some e) = change e
 change_if None = unknown
@@ -98,8 +98,8 @@ meaning_of line = meaning_of_words (words_of (strip_carriage_return line))
 
 -- ---- whole scripts
 
--- the edits before the first line that is none, the numbers of their lines, and the number of that
--- line (COMMAND: Scripts)
+-- the edits before the first line that isn't one, the numbers of their lines, and the number of
+-- that line (COMMAND: Scripts)
 pub record Listing : Type 0 where
   pub edits : List Edit
   pub lines : List ℕ
@@ -111,7 +111,7 @@ listed n nothing rest = rest
 listed n (change e) rest = record { edits = e ∷ rest.edits; lines = n ∷ rest.lines; bad = rest.bad }
 listed n unknown rest = record { edits = []; lines = []; bad = Some n }
 
--- lines that are counted from n on
+-- the listing of lines that are counted from n on
 abbrev pub listing_from : ℕ → List Text → Listing
 listing_from n [] = record { edits = []; lines = []; bad = None }
 listing_from n (line ∷ lines) = listed n (meaning_of line) (listing_from (n + 1) lines)

@@ -5,21 +5,21 @@ use Rattle.aec_bits.specs.Devices.{counted, AppendsFront}
 use Rattle.aec_params.specs.declared.fault.Fault.{Fault}
 use Rattle.aec_params.specs.declared.fault.Fault.TheVariants.{StreamTooLong, Memory, Read, Write}
 
--- the bytes of a source up to its end, which are within the limit, from what was left before and
--- after, and from its count of failures after
+-- the bytes of a source up to its end, which are within the limit: by what was left before and
+-- after, and by its count of failures after
 pub record IsTakenWhole (before after : Option (List ℕ)) (failures limit : ℕ) (bytes : List ℕ) : Type 0 where
   pub taken : Consumes before after bytes
   pub at_end : IsAtEnd after
   pub sound : failures ≡ 0
   pub within : length bytes ≤ limit
 
--- the bytes of a source that failed after them, within the limit
+-- the bytes of a source that then failed, within the limit
 pub record FailsWithin (before after : Option (List ℕ)) (failures limit : ℕ) (bytes : List ℕ) : Type 0 where
   pub taken : Consumes before after bytes
   pub failed : failures ≡ 1
   pub within : length bytes ≤ limit
 
--- bytes of a source that pass the limit (COMMAND: Limits, time and memory)
+-- bytes of a source that exceed the limit (COMMAND: Limits, time and memory)
 pub record PassesLimit (before after : Option (List ℕ)) (failures limit : ℕ) (bytes : List ℕ) : Type 0 where
   pub taken : Consumes before after bytes
   pub sound : failures ≡ 0
@@ -48,7 +48,7 @@ pub record Taking : Type 0 where
   pub after : Option (List ℕ)
   pub failures : ℕ
 
--- a source before and after a run, by what its kind states: the bytes that are left, and how often
+-- a source before and after a run, in the terms of its kind: the bytes that are left, and how often
 -- it has failed
 abbrev pub taking_of : {R : Type 0} → (R → Option (List ℕ)) → (R → ℕ) → R → R → Taking
 taking_of left failed old new = record { before = left old; after = left new; failures = failed new }
@@ -62,8 +62,8 @@ pub record Putting : Type 0 where
   pub mark : Option (List ℕ)
   pub failures : ℕ
 
--- a sink before and after a run, by what its kind states: the bytes that it has taken, how often it
--- was begun, what it had taken before it was begun last, and how often it has failed
+-- a sink before and after a run, in the terms of its kind: the bytes that it has taken, how often
+-- it was begun, what it had taken when it was last begun, and how often it has failed
 abbrev pub putting_of : {W : Type 0} → (W → Option (List ℕ)) → (W → ℕ) → (W → Option (List ℕ)) → (W → ℕ) → W → W
     → Putting
 putting_of taken begun mark failed old new =
@@ -76,12 +76,12 @@ putting_of taken begun mark failed old new =
       failures = failed new;
     }
 
--- bytes that are more than a limit
+-- whether bytes are more than a limit
 abbrev pub are_past : ℕ → List ℕ → Bool
 are_past limit bytes = nat_lt limit (length bytes)
 
--- the source gave this input: to its end or its failure, or bytes that are enough for an answer,
--- whatever follows them
+-- the source gave this input: all to its end or its failure, or bytes that are enough for an
+-- answer, whatever follows
 pub record Gave (source : Taking) (enough : List ℕ → Bool) (input : Input) : Type 0 where
   pub taken : Consumes source.before source.after input.bytes
   pub failed : input.failed ≡ true → source.failures ≡ 1
@@ -93,15 +93,15 @@ pub record WroteNothing (sink : Putting) : Type 0 where
   pub kept : Keeps sink.before sink.after
   pub begun : sink.begun_after ≡ sink.begun_before
 
--- begin was called once, before anything was taken: what it held at `begin`, if known, is what it
--- held before
+-- `begin` was called once, before anything was taken: what the sink had taken by then, if known, is
+-- what it had taken before the run
 pub record IsBegunFirst (sink : Putting) : Type 0 where
   pub once : sink.begun_after ≡ counted sink.begun_before
   pub first : Keeps sink.mark sink.before
 
--- What an engine leaves whose answers are a function of its input: its answer, written after one
--- `begin`; or its refusal, or want of memory, and nothing written; or a front of its answer if the
--- sink failed. (COMMAND: Coding and DEST)
+-- What an engine whose answers are a function of its input leaves: its answer, written after one
+-- `begin`; or its refusal or `Memory`, and nothing written; or a prefix of its answer if the sink
+-- failed. (COMMAND: Coding and DEST)
 pub data Leaves (answers : Input → Result (List ℕ) Fault → Type 0) (source : Taking) (enough : List ℕ → Bool)
     (sink : Putting)
     : Result (Unit {0}) Fault → Type 0 where
@@ -115,21 +115,21 @@ pub data Leaves (answers : Input → Result (List ℕ) Fault → Type 0) (source
       → AppendsFront sink.before sink.after bytes
       → IsBegunFirst sink → sink.failures ≡ 1 → Leaves answers source enough sink (Err Write)
 
--- the result of a run over a source before anything is written: the answer to its input, or want of
--- memory
+-- the result of a run over a source before anything is written: the answer to its input, or
+-- `Memory`
 pub data GivesAnswer (answers : Input → Result (List ℕ) Fault → Type 0) (source : Taking)
     (enough : List ℕ → Bool) : Result (List ℕ) Fault → Type 0 where
   given : (input : Input) (answer : Result (List ℕ) Fault) → Gave source enough input → answers input answer
       → GivesAnswer answers source enough answer
   lacks_memory : GivesAnswer answers source enough (Err Memory)
 
--- an answer by what is asked of it, as its bytes; or its refusal
+-- an answer in terms of what is asked of it, as its bytes; or its refusal
 abbrev pub answer_by : {X A E : Type 0} → (X → A) → Result X E → Result A E
 answer_by asked (Ok x) = Ok (asked x)
 answer_by asked (Err fault) = Err fault
 
--- what writing an answer leaves: its bytes, begun once; nothing for a refusal; or a front of its
--- bytes where the sink failed
+-- what writing an answer leaves: its bytes, after one `begin`; nothing for a refusal; or a prefix
+-- of its bytes if the sink failed
 pub data Settles (sink : Putting) : Result (List ℕ) Fault → Result (Unit {0}) Fault → Type 0 where
   settled : (bytes : List ℕ) → Appends sink.before sink.after bytes → IsBegunFirst sink → sink.failures ≡ 0
       → Settles sink (Ok bytes) (Ok tt)

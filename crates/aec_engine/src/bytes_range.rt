@@ -12,7 +12,7 @@ use aec_params::{Fault, Limits, Params};
 use std::alloc::Global;
 
 /// Returns the stored bytes of `len` of the samples that coded bytes are read as, from place
-/// `first` on. The refusals are those of `decode_bytes`, and then `OutOfRange`.
+/// `first` on. Fails as `decode_bytes` does, and then with `OutOfRange`.
 pub fn range_bytes(
     alloc: Global,
     params: &Params,

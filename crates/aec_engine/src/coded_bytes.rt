@@ -1,4 +1,4 @@
-//! Coding of stored samples in memory, with no source and no sink between.
+//! Codes stored samples in memory, without a source and a sink.
 
 ghost use Rattle.std.specs.Prelude.{◌≡◌, ◌⊎◌, [], Some, Ok, false, length, IfOk, IfErr};
 ghost use Rattle.aec_params.specs.declared.fault.Fault.TheVariants.{Memory};
@@ -13,12 +13,13 @@ use aec_interval::StreamCoder;
 use aec_params::{Fault, Limits, Params};
 use std::alloc::Global;
 
-/// For at most so many bytes of samples room is made before they are coded. Longer code grows as
-/// it is made.
+/// Room for the code is made in advance for at most this many bytes of samples. Longer code grows
+/// while it is made.
 const SHORT: usize = 65536;
 
-/// Returns an empty list, with room for the code of `len` bytes of samples if they are at most
-/// `SHORT`: code has seldom more than nine bits for each byte. Without memory it has no room.
+/// Returns an empty list with room for the code of `len` bytes of samples, or of `SHORT` bytes if
+/// that is less: code seldom takes more than nine bits a byte. If the allocation fails, it has no
+/// room.
 fn roomy_bits(alloc: Global, len: usize) -> BitBuf
     ensures { result.list ≡ [] }
 {
@@ -52,8 +53,8 @@ fn bytes_in(alloc: Global, bits: &BitBuf) -> Result<Vec<u8>, Fault>
     Ok(bytes)
 }
 
-/// Returns the bytes of the code of stored samples. The refusals in their order: at each sample
-/// `TooManySamples`, then `SampleRange`. `Memory` can come at any time. `limits.bytes` is not used.
+/// Returns the bytes of the code of stored samples. Fails at the first refused sample, with
+/// `TooManySamples` before `SampleRange`, or at any time with `Memory`. `limits.bytes` is not used.
 pub fn encode_bytes(
     alloc: Global,
     params: &Params,
@@ -70,7 +71,7 @@ pub fn encode_bytes(
 }
 
 /// Puts the bytes that bits fill to the front of a buffer, if there is room for all of them.
-/// Returns how many bytes they are.
+/// Returns how many bytes they take.
 fn put_front(bits: &BitBuf, out: &mut [u8]) -> u64
     ensures len { result ≡ length (bytes_of bits.now.list) }
     ensures left { out.new ≡ left_of (Ok (bytes_of bits.now.list)) out.old }
@@ -82,11 +83,11 @@ fn put_front(bits: &BitBuf, out: &mut [u8]) -> u64
     len
 }
 
-/// Puts the bytes of the code of stored samples to the front of a buffer, if there is room for all
-/// of them, and leaves the rest of it; else leaves all of it. Returns how many bytes they are. The
-/// refusals are those of `encode_bytes`; the buffer is then as it was.
+/// Puts the bytes of the code of stored samples to the front of a buffer if there is room for all
+/// of them, and changes no other byte of it. Returns how many bytes they take. Fails as
+/// `encode_bytes` does; the buffer is unchanged then.
 ///
-/// Memory is taken for the code, and for 4,096 samples or those of a longer interval.
+/// Allocates room for the code, and for 4,096 samples or those of a longer interval.
 pub fn encode_into(
     alloc: Global,
     params: &Params,

@@ -1,4 +1,5 @@
-//! Edits from nothing over the coder of intervals, and the stream that they leave decoded.
+//! Makes edits over the coder of intervals, beginning with no samples, and decodes the resulting
+//! stream.
 
 ghost use Rattle.std.specs.Prelude.{◌≡◌, ◌≤◌, ◌^◌, [], length, Some, IfOk, IfErr};
 ghost use Rattle.aec_params.specs.declared.fault.Fault.TheVariants.{Memory};
@@ -18,20 +19,20 @@ use aec_interval::{AecCodec, decode_all};
 use aec_params::{Edit, Fault, Params};
 use std::alloc::Global;
 
-/// What edits have left, and what their stream is decoded to.
+/// The result of edits, and the samples that their stream is decoded to.
 #[derive(Debug, Drop)]
 pub struct Decoded {
-    /// What became of each edit.
+    /// The outcome of each edit.
     pub outcomes: Vec<Outcome>,
     /// How many intervals were coded.
     pub calls: u64,
     /// The bytes of the stream.
     pub stream: Vec<u8>,
-    /// The samples that the stream is decoded to with their count.
+    /// The samples that the stream is decoded to, given their number.
     pub samples: Vec<i64>,
 }
 
-/// What edits have left: the bytes of their stream, the bits of these, and the number of samples.
+/// The result of edits: their stream, as bytes and as bits, and the number of samples.
 #[derive(Drop)]
 struct Written {
     outcomes: Vec<Outcome>,
@@ -41,7 +42,7 @@ struct Written {
     count: u64,
 }
 
-/// Makes edits, from no samples on, and gives the stream that they leave.
+/// Makes edits, beginning with no samples, and returns the resulting stream.
 fn write_stream(
     alloc: Global,
     params: &Params,
@@ -75,12 +76,12 @@ fn write_stream(
     })
 }
 
-/// Makes edits, from no samples on, and decodes the bytes of the stream that they leave with the
+/// Makes edits, beginning with no samples, and decodes the bytes of the resulting stream, given the
 /// number of samples.
 ///
-/// Each edit has the outcome that the definition says for the samples and the calls that the edits
-/// before it have left. The bytes are those of the stream of the samples that the accepted edits
-/// leave, and with their number the bytes are read as these samples. Fails only with `Memory`.
+/// Each edit has the outcome that is defined for the samples and calls that earlier edits left. The
+/// bytes are the stream of the samples that the accepted edits leave, and given the number of these
+/// samples the bytes are read as these samples. Fails only with `Memory`.
 pub fn decode_edited(
     alloc: Global,
     params: &Params,

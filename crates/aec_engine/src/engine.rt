@@ -1,4 +1,4 @@
-//! The engines: what is written is a stated function of the inputs.
+//! The engines: contracts state what they write as a function of the inputs.
 
 mod bit_intake;
 mod coding;

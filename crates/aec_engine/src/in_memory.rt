@@ -38,7 +38,7 @@ impl<'a> Source for SliceSource<'a> {
     }
 }
 
-// A vector takes all bytes, so that want of memory is all that a failed write can mean.
+// Returns `Memory` for `Write`: a write to a vector fails only for lack of memory.
 pub(crate) fn refusal(fault: Fault) -> Fault
     ensures memory { fault ≡ WriteFault → result ≡ Memory }
     ensures other { (result ≡ fault) ⊎ (result ≡ Memory) }
@@ -49,8 +49,8 @@ pub(crate) fn refusal(fault: Fault) -> Fault
     }
 }
 
-/// Returns the stored bytes of the samples that coded bytes are read as: with a count the first
-/// `count`, without one all.
+/// Returns the stored bytes of the samples that coded bytes are read as: the first `count`, or all
+/// without a count.
 pub fn decode_bytes(
     alloc: Global,
     params: &Params,

@@ -1,6 +1,6 @@
-//! What the program does with bytes, without a word of its command line and without a file: the
-//! engines over any source and sink, coding and decoding in memory, edits from nothing, and scripts
-//! of edits.
+//! What the program does with bytes, without its command line and its files: the engines over any
+//! source and sink, coding and decoding in memory, edits that begin with no samples, and scripts of
+//! edits.
 #![tactic(auto)]
 
 mod bytes_range;

@@ -1,11 +1,11 @@
-//! Numbers that words write in decimal digits.
+//! Numbers written in decimal digits.
 
 ghost use Rattle.std.specs.Prelude.{◌≡◌};
 ghost use Rattle.aec_engine.specs.Numerals.{decimal_in, range_in};
 ghost use Rattle.aec_engine.specs.Scripts.{value_in};
 
 #[tactic(auto, using(crate::proofs::NumeralLemmas::digits_alone))]
-/// The number that a text writes in digits alone.
+/// Parses a text of digits alone as a number of 64 bits.
 pub(crate) fn decimal_in(text: &str) -> Option<u64>
     ensures { result ≡ decimal_in 64 text.now }
 {
@@ -17,7 +17,7 @@ pub(crate) fn decimal_in(text: &str) -> Option<u64>
 }
 
 #[tactic(auto, using(crate::proofs::ValueLemmas::digits_after_a_minus))]
-/// The number that a text writes in digits after a minus or nothing.
+/// Parses a text of digits, after a minus or nothing, as a signed number of 64 bits.
 pub(crate) fn signed_decimal_in(text: &str) -> Option<i64>
     ensures { result ≡ value_in text.now }
 {

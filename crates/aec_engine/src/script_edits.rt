@@ -13,7 +13,7 @@ use crate::script_reading::{cut_line, edit_on_line};
 use aec_params::{Edit, Fault};
 use std::alloc::Global;
 
-/// Whether a line, whose number is given, is one that `script` reads; else `Script`.
+/// Fails with `Script`, which names the line's number, if `script` doesn't read the line.
 fn judge_line(number: u64, text: &[u8]) -> Result<(), Fault>
     ensures ok { IfOk result (λ _. meaning_of text.now ≢ unknown) }
     ensures refuses { IfErr result (λ e.
@@ -26,7 +26,7 @@ fn judge_line(number: u64, text: &[u8]) -> Result<(), Fault>
 }
 
 #[tactic(auto, using(crate::proofs::ScriptLineLemmas::listed_known))]
-/// Judges the lines of a script, and keeps nothing. `Script` names the first one that `script`
+/// Judges the lines of a script, and keeps nothing. `Script` names the first line that `script`
 /// doesn't read.
 pub(crate) fn judge_script(bytes: &[u8]) -> Result<(), Fault>
     ensures ok { IfOk result (λ _. (listing_of bytes.now).bad ≡ None) }
@@ -52,8 +52,8 @@ pub(crate) struct NextEdit {
 }
 
 /// What is left of a script: its next edit, the planned overwrites and how many of them were read,
-/// how many lines were read of the text, and the text after these. So no more of a script is kept
-/// than its text, its plan and the values of one line.
+/// how many lines of the text were read, and the text after these lines. Besides its text and its
+/// plan, only the values of one line are kept.
 #[derive(Drop)]
 pub(crate) struct EditsAhead<'p, 'a> {
     pub(crate) next: Option<NextEdit>,
@@ -64,7 +64,7 @@ pub(crate) struct EditsAhead<'p, 'a> {
 }
 
 impl<'p, 'a> EditsAhead<'p, 'a> {
-    /// All edits of a script.
+    /// Begins with all edits of a script ahead.
     pub(crate) fn new(alloc: Global, plan: &'p Plan<'a>) -> Result<EditsAhead<'p, 'a>, Fault>
         requires sound { (listing_in plan.now).bad ≡ None }
         requires few { plan.now.number + text_left (text_behind plan.now) ≤ 2 ^ 63 }
@@ -83,7 +83,7 @@ impl<'p, 'a> EditsAhead<'p, 'a> {
         Ok(ahead)
     }
 
-    /// The next line and its number.
+    /// Takes the next line and its number.
     fn next_line(&mut self) -> Option<(u64, &'a [u8])>
         requires { AreKnown self.old }
         ensures cut { MatchOption result (behind self.old ≡ no_edits)
@@ -104,7 +104,7 @@ impl<'p, 'a> EditsAhead<'p, 'a> {
         Some((self.number, line))
     }
 
-    /// Leaves the next edit, and reads lines up to the one after it.
+    /// Drops the next edit, and reads lines up to the edit after it.
     pub(crate) fn advance(&mut self, alloc: Global) -> Result<(), Fault>
         requires known { AreKnown self.old }
         ensures ok { IfOk result (λ _. left_in self.new ≡ behind self.old) }

@@ -10,8 +10,8 @@ use crate::script_words::{next_word, number_of, value_of};
 use aec_params::{Edit, Fault, Samples};
 use std::alloc::Global;
 
-/// What a line says, judged before its values are kept: those of an edit are still text, in which
-/// each word is a value.
+/// What a line says, judged before its values are kept: the values of an edit are still a text, in
+/// which each word is a value.
 #[derive(Drop)]
 pub(crate) enum Line<'a> {
     Nothing,
@@ -23,9 +23,9 @@ pub(crate) enum Line<'a> {
     Unknown,
 }
 
-/// Whether each word of a text is a value. Twice a text is gone through, here and in `values_of`,
-/// by the same `next_word` and `value_of`: a script is judged whole before a value of it is kept,
-/// so that a line that is none is `Script` where memory is wanting too.
+/// Returns whether each word of a text is a value. A text is read twice, here and in `values_of`,
+/// by the same `next_word` and `value_of`: a script is judged whole before a value is kept, so that
+/// a bad line fails with `Script` even if memory is lacking.
 fn are_values(text: &[u8]) -> bool
     ensures { result ≡ are_values text.now }
 {
@@ -39,7 +39,7 @@ fn are_values(text: &[u8]) -> bool
     true
 }
 
-/// `FIRST V..`
+/// Parses `FIRST V..`.
 fn overwrite_line(words: &[u8]) -> Line<'_>
     ensures says { said result ≡ change_if (overwrite_in (words_of words.now)) }
     ensures judged { IsJudged result }
@@ -53,7 +53,7 @@ fn overwrite_line(words: &[u8]) -> Line<'_>
     }
 }
 
-/// `V..`
+/// Parses `V..`.
 fn append_line(values: &[u8]) -> Line<'_>
     ensures says { said result ≡ change_if (append_in (words_of values.now)) }
     ensures judged { IsJudged result }
@@ -65,7 +65,7 @@ fn append_line(values: &[u8]) -> Line<'_>
     }
 }
 
-/// `COUNT`
+/// Parses `COUNT`.
 fn truncate_line<'a>(words: &[u8]) -> Line<'a>
     ensures says { said result ≡ change_if (truncate_in (words_of words.now)) }
     ensures judged { IsJudged result }
@@ -79,7 +79,7 @@ fn truncate_line<'a>(words: &[u8]) -> Line<'a>
     }
 }
 
-/// `FIRST V..`
+/// Parses `FIRST V..`.
 fn insert_line(words: &[u8]) -> Line<'_>
     ensures says { said result ≡ change_if (insert_in (words_of words.now)) }
     ensures judged { IsJudged result }
@@ -93,7 +93,7 @@ fn insert_line(words: &[u8]) -> Line<'_>
     }
 }
 
-/// `FIRST LEN`
+/// Parses `FIRST LEN`.
 fn remove_line<'a>(words: &[u8]) -> Line<'a>
     ensures says { said result ≡ change_if (remove_in (words_of words.now)) }
     ensures judged { IsJudged result }
@@ -110,7 +110,7 @@ fn remove_line<'a>(words: &[u8]) -> Line<'a>
     }
 }
 
-/// A line by its first word and what follows it.
+/// Parses a line, given its first word and what follows that word.
 fn named_line<'a>(name: &[u8], words: &'a [u8]) -> Line<'a>
     requires { 0 < length name.now }
     ensures says { said result ≡ meaning_of_words (name.now ∷ words_of words.now) }
@@ -137,7 +137,7 @@ fn named_line<'a>(name: &[u8], words: &'a [u8]) -> Line<'a>
     Line::Unknown
 }
 
-/// What a line says.
+/// Returns what a line says.
 pub(crate) fn parsed_line(text: &[u8]) -> Line<'_>
     ensures says { said result ≡ meaning_of text.now }
     ensures judged { IsJudged result }
@@ -149,7 +149,7 @@ pub(crate) fn parsed_line(text: &[u8]) -> Line<'_>
     }
 }
 
-/// The values of a text, each word of which is one.
+/// Returns the values of a text, each word of which must be a value.
 fn values_of(alloc: Global, text: &[u8]) -> Result<Samples, Fault>
     requires { are_values text.now ≡ true }
     ensures ok { IfOk result (λ values. values_in (words_of text.now) ≡ Some values) }
@@ -167,7 +167,7 @@ fn values_of(alloc: Global, text: &[u8]) -> Result<Samples, Fault>
     Ok(Samples::new(values))
 }
 
-/// The edit of a line, or that it says nothing.
+/// Returns the edit of a line; `None` if it says nothing.
 pub(crate) fn edit_of(alloc: Global, line: Line<'_>) -> Result<Option<Edit>, Fault>
     requires judged { IsJudged line }
     requires known { said line ≢ unknown }

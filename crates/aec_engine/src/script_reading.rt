@@ -1,4 +1,4 @@
-//! Scripts read as edits.
+//! Reads scripts as edits.
 
 ghost use Rattle.std.specs.Prelude.{◌≡◌, ◌<◌, ◌≤◌, ◌∷◌, ◌+◌, ◌⊎◌, ◌≢◌, ℕ, [], Some, None, length, IfOk, IfErr, option_map};
 ghost use Rattle.aec_params.specs.declared.fault.Fault.TheVariants.{Memory, Script as ScriptFault};
@@ -10,7 +10,7 @@ use crate::scripts::Script;
 use aec_params::{Edit, Fault};
 use std::alloc::Global;
 
-/// The first line of a text, and what follows it where a line feed does.
+/// Returns the first line of a text, and what follows its line feed, if it has one.
 pub(crate) fn cut_line(text: &[u8]) -> (&[u8], Option<&[u8]>)
     ensures lines { lines_of text.now
         ≡ result.0.now ∷ lines_left (option_map (λ rest. rest.now) result.1) }
@@ -24,7 +24,7 @@ pub(crate) fn cut_line(text: &[u8]) -> (&[u8], Option<&[u8]>)
     (text, None)
 }
 
-/// The edit of a line whose number is given, or that it says nothing.
+/// Returns the edit of a line; `None` if it says nothing. `Script` names `number`.
 pub(crate) fn edit_on_line(alloc: Global, number: u64, text: &[u8]) -> Result<Option<Edit>, Fault>
     ensures ok { IfOk result (λ edit. kept edit ≡ meaning_of text.now) }
     ensures refuses { IfErr result (λ e. RefusesLine (meaning_of text.now) number e) }
@@ -36,7 +36,7 @@ pub(crate) fn edit_on_line(alloc: Global, number: u64, text: &[u8]) -> Result<Op
     edit_of(alloc, line)
 }
 
-/// Puts the edit of a line, if there is one, and the number of the line after those before it.
+/// Appends the edit of a line, if there is one, and the line's number to a script.
 fn put_edit(read: &mut Script, edit: Option<Edit>, number: u64) -> Result<(), Fault>
     ensures ok { IfOk result (λ _. (rest : Listing) →
         after_listed read.old.edits.items read.old.lines.items (listed number (kept edit) rest)
@@ -51,7 +51,7 @@ fn put_edit(read: &mut Script, edit: Option<Edit>, number: u64) -> Result<(), Fa
 }
 
 #[tactic(auto, using(crate::proofs::ScriptLineLemmas::refused_line))]
-/// Puts what a line asks for, whose number is given, after what the lines before it do.
+/// Reads a line, and appends its edit, if there is one, and its number to a script.
 fn take_line(alloc: Global, number: u64, text: &[u8], read: &mut Script) -> Result<(), Fault>
     ensures ok { IfOk result (λ _. (rest : Listing) →
         after_listed read.old.edits.items read.old.lines.items
@@ -66,13 +66,13 @@ fn take_line(alloc: Global, number: u64, text: &[u8], read: &mut Script) -> Resu
     put_edit(read, edit, number)
 }
 
-/// Returns the edits of a script. A line ends with a line feed, the last one may lack it; one
-/// carriage return before it is no part of the line. Spaces and tabs part words. A line is
-/// `overwrite FIRST V..`, `append V..`, `insert FIRST V..`, `remove FIRST LEN` or `truncate COUNT`.
-/// A line without a word says nothing, nor does one whose first word begins with `#`.
+/// Returns the edits of a script. A line ends with a line feed, which the last line may lack; one
+/// carriage return before that end is no part of the line. Spaces and tabs separate words. A line
+/// is `overwrite FIRST V..`, `append V..`, `insert FIRST V..`, `remove FIRST LEN` or `truncate
+/// COUNT`. A line without a word, or whose first word begins with `#`, says nothing.
 ///
-/// Fails with `Script` at the first line that is none of these, counted from 1 among all lines; or
-/// with `Memory`, only if an edit stands before that line. Takes a time linear in the length.
+/// Fails with `Script` at the first line that is none of these, counted from 1 among all lines.
+/// Fails with `Memory` only if there is an edit before that line. Takes time linear in the length.
 pub fn script(alloc: Global, bytes: &[u8]) -> Result<Script, Fault>
     ensures ok { let read : Listing = listing_of bytes.now in
         IfOk result (λ s. (read.bad ≡ None) × (s.edits.items ≡ read.edits)

@@ -1,4 +1,4 @@
-//! The words of a line of a script, and the numbers that they write.
+//! The words of a script's line, and the numbers that they stand for.
 
 ghost use Rattle.std.specs.Prelude.{◌≡◌, ◌<◌, ◌≤◌, ◌∷◌, [], false, length, slice_index, MatchOption, IfSome};
 ghost use Rattle.std.specs.List.{position_or_len};
@@ -9,14 +9,14 @@ ghost use Rattle.aec_engine.specs.Scripts.{is_blank, words_of, value_in};
 use crate::numerals::{decimal_in, signed_decimal_in};
 use std::str;
 
-/// Whether a byte parts words: a space or a tab.
+/// Returns whether a byte separates words: a space or a tab.
 fn is_blank(byte: u8) -> bool
     ensures { result ≡ is_blank byte }
 {
     byte == b' ' || byte == b'\t'
 }
 
-/// A line from its first word on.
+/// Returns a line from its first word on.
 fn from_first_word(line: &[u8]) -> &[u8]
     ensures words { words_of result.now ≡ words_of line.now }
     ensures starts { 0 < length result.now → is_blank (slice_index result.now 0) ≡ false }
@@ -29,7 +29,7 @@ fn from_first_word(line: &[u8]) -> &[u8]
     rest
 }
 
-/// How many bytes stand before the first blank.
+/// Returns the number of bytes before the first blank.
 fn word_len(line: &[u8]) -> usize
     ensures value { result ≡ position_or_len is_blank line.now }
     ensures within { result ≤ length line.now }
@@ -42,7 +42,7 @@ fn word_len(line: &[u8]) -> usize
     line.len()
 }
 
-/// The first word of a line and what follows it; `None` where the line has no word.
+/// Returns the first word of a line and what follows it; `None` if the line has no word.
 pub(crate) fn next_word(line: &[u8]) -> Option<(&[u8], &[u8])>
     ensures words { MatchOption result (words_of line.now ≡ [])
         (λ cut. words_of line.now ≡ cut.0.now ∷ words_of cut.1.now) }
@@ -56,14 +56,14 @@ pub(crate) fn next_word(line: &[u8]) -> Option<(&[u8], &[u8])>
     Some(rest.split_at(word_len(rest)))
 }
 
-/// A word as text; `None` where it is none, and then it writes no number.
+/// Returns a word as text; `None` if it isn't UTF-8, and then it is no number.
 fn text_of(word: &[u8]) -> Option<&str>
     ensures { MatchOption result (¬ (IsUtf8 word.now)) (λ text. text.now ≡ word.now) }
 {
     str::from_utf8(word).ok()
 }
 
-/// The number that a word writes in decimal digits alone, of 64 bits.
+/// Parses a word of decimal digits alone as a number of 64 bits.
 #[tactic(auto, using(crate::proofs::ScriptNumberLemmas::no_number))]
 pub(crate) fn number_of(word: &[u8]) -> Option<u64>
     ensures { result ≡ decimal_in 64 word.now }
@@ -74,8 +74,7 @@ pub(crate) fn number_of(word: &[u8]) -> Option<u64>
     }
 }
 
-/// The number that a word writes in decimal digits after a minus or nothing, of 64 bits with its
-/// sign.
+/// Parses a word of decimal digits, after a minus or nothing, as a signed number of 64 bits.
 #[tactic(auto, using(crate::proofs::ScriptNumberLemmas::no_value))]
 pub(crate) fn value_of(word: &[u8]) -> Option<i64>
     ensures { result ≡ value_in word.now }

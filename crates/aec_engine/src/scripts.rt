@@ -1,4 +1,4 @@
-//! Edits as a script has them, and why a script was not carried out.
+//! The edits of a script, and why a script was not carried out.
 
 use aec_params::{Edit, Fault};
 use thiserror::Error;
@@ -13,7 +13,7 @@ pub struct Script {
 /// Why a stream was not edited.
 #[derive(Clone, Copy, Debug, PartialEq, Eq, Error)]
 pub enum EditFault {
-    /// Not because of one edit: the script, the stream, memory or a device.
+    /// The fault of the script, the stream, memory or a device, not of one edit.
     #[error("{0}")]
     Plain(Fault),
     /// The edit on this line of the script is refused.
@@ -21,7 +21,7 @@ pub enum EditFault {
     Line { line: u64, fault: Fault },
 }
 
-/// A refusal that isn't that of one edit.
+/// Converts a fault that isn't that of one edit.
 impl From<Fault> for EditFault {
     ghost use Rattle.std.specs.Prelude.{◌≡◌};
     ghost use Rattle.aec_engine.specs.declared.scripts.EditFault.TheVariants.{Plain};

@@ -1,4 +1,4 @@
-//! Fresh samples and their code, an interval at a time, in lists that one edit leaves to the next.
+//! Codes fresh samples one interval at a time, in lists that each edit keeps for the next.
 
 ghost use Rattle.std.specs.Prelude.{◌≡◌, ◌<◌, ◌≤◌, [], length, drop, OnOk, IfErr, ◌*◌, vec_capacity};
 ghost use Rattle.aec_params.specs.declared.fault.Fault.TheVariants.{Memory};
@@ -12,8 +12,8 @@ use aec_params::Fault;
 use std::alloc::Global;
 use std::mem;
 
-/// Samples that are to be coded: those before, the values, those after them, and those of the old
-/// intervals from number `next` up to number `end`, which are still to be decoded.
+/// Samples that are to be coded: `front`, the values, `back`, and then the samples of the old
+/// intervals from number `next` up to number `end`, which aren't decoded yet.
 #[derive(Debug, Drop)]
 pub(crate) struct Fresh<'a> {
     pub front: Vec<i64>,
@@ -24,10 +24,9 @@ pub(crate) struct Fresh<'a> {
 }
 
 impl<'a> Fresh<'a> {
-    /// Keeps the first `head` and the last `tail` of the samples in front, with the values between
-    /// them. If there are as many values as samples between, the values are written over these;
-    /// otherwise the last samples move behind the values. Fails with `Memory` if an allocation
-    /// fails.
+    /// Keeps the first `head` and the last `tail` samples of `front`, with the values between them.
+    /// If there are as many values as samples between, the values overwrite these samples;
+    /// otherwise the last samples move to `back`. Fails with `Memory` if an allocation fails.
     pub fn keep_ends(&mut self, head: usize, tail: usize) -> Result<(), Fault>
         requires { tail ≤ length self.old.front.items }
         ensures ok { OnOk result (KeepsEnds head tail self.old self.new) }
@@ -45,8 +44,8 @@ impl<'a> Fresh<'a> {
         Ok(())
     }
 
-    /// Moves values and what follows them to the front, until it holds a whole interval. `Memory`
-    /// where a growth was refused.
+    /// Moves values, and then samples of `back`, to `front`, until it contains a whole interval or
+    /// both are empty. Fails with `Memory` if an allocation fails.
     pub fn gather_held(&mut self, most: usize) -> Result<(), Fault>
         ensures ok { OnOk result (MovesToFront most self.old self.new) }
         ensures fault { IfErr result (λ e. e ≡ Memory) }
@@ -63,7 +62,7 @@ impl<'a> Fresh<'a> {
     }
 }
 
-/// Takes the first items away.
+/// Removes the first `len` items.
 pub(crate) fn drop_front(items: &mut Vec<i64>, len: usize)
     requires { len ≤ length items.old.items }
     ensures { items.new.items ≡ drop len items.old.items }
@@ -73,8 +72,8 @@ pub(crate) fn drop_front(items: &mut Vec<i64>, len: usize)
     items.truncate(count - len);
 }
 
-/// Empty lists, after an accepted edit with the room that it has left: for fresh samples in front
-/// and behind, and for their code.
+/// Empty lists for the fresh samples before and after the values, and for their code. They have the
+/// room that the last accepted edit left.
 #[derive(Debug, Drop)]
 pub(crate) struct Scratch {
     pub front: Vec<i64>,
@@ -88,7 +87,7 @@ pub(crate) struct Scratch {
 }
 
 impl Scratch {
-    /// Lists with no room. Takes no memory.
+    /// Returns lists without room. Allocates nothing.
     pub fn new(alloc: Global) -> Scratch
         ensures { IsScratchRoom 0 (vec_capacity result.front) (vec_capacity result.back)
             result.coded.bits.room (vec_capacity result.coded.starts) }
@@ -100,8 +99,8 @@ impl Scratch {
         }
     }
 
-    /// These lists, emptied. Those with more room than edits of two intervals of `most` samples
-    /// need are let go.
+    /// Returns these lists, emptied. Frees those with more room than edits of two intervals of
+    /// `most` samples need.
     pub fn of(alloc: Global, front: Vec<i64>, back: Vec<i64>, coded: Coded, most: usize) -> Scratch
         requires { most ≤ 262144 }
         ensures room { IsScratchRoom most (vec_capacity result.front) (vec_capacity result.back)
@@ -115,7 +114,7 @@ impl Scratch {
     }
 }
 
-/// The list without its items. One that has room for more than `most` is let go.
+/// Returns the list without its items. Frees its room if that is for more than `most` items.
 fn emptied(alloc: Global, mut items: Vec<i64>, most: usize) -> Vec<i64>
     ensures items { result.items ≡ [] }
     ensures capacity { vec_capacity result ≤ most }
@@ -136,7 +135,8 @@ impl<C: Codec> Workspace<C> {
     ghost use Rattle.aec_edit.specs.Coming.{coming, HasOldPart, Gathers, HasNext, CodesNext, CanBeCoded, CodesFresh};
     ghost use Rattle.aec_edit.specs.Unchanged.{KeepsSamples, IsOnlyRead};
 
-    /// Brings the next interval of fresh samples to the front. `Memory` where a growth was refused.
+    /// Moves the next interval of fresh samples to `front`. Fails with `Memory` if an allocation
+    /// fails.
     fn gather(&mut self, fresh: &mut Fresh<'_>) -> Result<(), Fault>
         requires { HasOldPart C.format self.old fresh.old }
         ensures ok { OnOk result (Gathers C.format C.read self.old self.new fresh.old fresh.new) }
@@ -156,9 +156,9 @@ impl<C: Codec> Workspace<C> {
         Ok(())
     }
 
-    /// Codes the next interval of fresh samples after others. Where it stands whole in the values,
-    /// it is coded from there; else it is brought to the front. `Memory` where a growth was
-    /// refused; the call may have been made then.
+    /// Codes the next interval of fresh samples, and appends its code. An interval that lies whole
+    /// in the values is coded from there; any other is moved to `front`. Fails with `Memory` if an
+    /// allocation fails; the codec may have been called by then.
     fn code_next(&mut self, fresh: &mut Fresh<'_>, coded: &mut Coded) -> Result<(), Fault>
         requires { HasNext C.format C.called self.old fresh.old }
         ensures ok { OnOk result (CodesNext C.format C.called C.read self.old self.new
@@ -181,8 +181,8 @@ impl<C: Codec> Workspace<C> {
         Ok(())
     }
 
-    /// Codes fresh samples, so many as `count` says. `Memory` where a growth was refused; some
-    /// calls may have been made then.
+    /// Codes `count` fresh samples. Fails with `Memory` if an allocation fails; some calls may have
+    /// been made by then.
     pub(crate) fn code_fresh(&mut self, fresh: &mut Fresh<'_>, count: u64) -> Result<Coded, Fault>
         requires fresh { CanBeCoded C.format self.old fresh.old count }
         requires calls { C.called self.old.codec + div_ceil count (C.format self.old.codec).most
@@ -204,8 +204,7 @@ impl<C: Codec> Workspace<C> {
         Ok(coded)
     }
 
-    /// Empty lists for samples before values and after them, in the room that the edit before has
-    /// left.
+    /// Returns empty lists for samples before and after values, in the room from the last edit.
     pub(crate) fn take_lists(&mut self) -> (Vec<i64>, Vec<i64>)
         ensures empty { (result.0.items ≡ []) × (result.1.items ≡ []) }
         ensures same { self.new ≡ self.old }
@@ -221,7 +220,7 @@ impl<C: Codec> Workspace<C> {
         (front, back)
     }
 
-    /// The code of no samples, in such room.
+    /// Returns the code of no samples, in the room from the last edit.
     pub(crate) fn take_coded(&mut self) -> Coded
         ensures none { IsNoCode result }
         ensures same { self.new ≡ self.old }

@@ -1,4 +1,4 @@
-//! The bits of a source that is read to its end, or to a limit.
+//! Reads the bits of a source to its end, or to a limit.
 
 ghost use Rattle.std.specs.Prelude.{◌≡◌, ◌≤◌, IfErr, IfOk, length, true};
 ghost use Rattle.aec_params.specs.declared.fault.Fault.TheVariants.{Memory};
@@ -10,8 +10,8 @@ use aec_bits::{BitBuf, Source};
 use aec_params::Fault;
 use std::alloc::Global;
 
-/// The bits of the bytes of a source up to its end, up to its failure, or past `limit` bytes, and
-/// whether it failed. `Memory` alone is refused.
+/// Returns the bits of a source's bytes up to its end, up to its failure, or past `limit` bytes,
+/// and whether it failed. Fails only with `Memory`.
 fn read_bits_past<R: Source>(
     alloc: Global,
     source: &mut R,
@@ -33,7 +33,7 @@ fn read_bits_past<R: Source>(
     Ok((bits, false))
 }
 
-/// The bits of the bytes of a source up to its end. The refusals are those of `read_whole`.
+/// Returns the bits of a source's bytes up to its end. Fails as `read_whole` does.
 pub(crate) fn read_bits<R: Source>(
     alloc: Global,
     source: &mut R,

@@ -1,4 +1,4 @@
-//! Stored samples to coded data.
+//! Codes stored samples.
 
 ghost use Rattle.std.specs.Prelude.{ℕ, List, Bool};
 ghost use Rattle.aec_params.specs.Codewords.{bytes_of};
@@ -12,7 +12,7 @@ use aec_interval::StreamCoder;
 use aec_params::{Fault, Limits, Params};
 use std::alloc::Global;
 
-/// Begins, and writes the bytes that all bits fill. `Write` where the sink fails.
+/// Calls `begin`, and writes the bytes that all bits fill. Fails with `Write` if the sink fails.
 fn deliver_bits<W: Sink>(bits: &BitBuf, sink: &mut W) -> Result<(), Fault>
     ensures { let put : Putting = putting_of W.taken W.begun W.mark W.failed sink.old sink.new in
         Delivers (bytes_of bits.now.list) put result }
@@ -21,12 +21,11 @@ fn deliver_bits<W: Sink>(bits: &BitBuf, sink: &mut W) -> Result<(), Fault>
     bits.write_to(sink)
 }
 
-/// Codes the stored samples of a source, each piece before the next is taken, to the source's end,
-/// its failure or the first sample that is refused, and writes the bytes of their code. The
-/// refusals are returned as they are met: at each sample `TooManySamples`, then `SampleRange`;
-/// `Read` where the source fails; `Memory`. Nothing has been written then and `begin` was not
-/// called. After `begin` only `Write` can come, and a front of the answer has been written.
-/// `limits.bytes` is not used.
+/// Codes the stored samples of a source, each piece before it takes the next, to the source's end,
+/// its failure or the first refused sample, and writes the bytes of their code. Returns the first
+/// refusal that it meets: at each sample `TooManySamples`, then `SampleRange`; `Read` if the source
+/// fails; `Memory`. On these refusals nothing is written and `begin` isn't called. After `begin` it
+/// fails only with `Write`, with a prefix of the bytes written. `limits.bytes` is not used.
 pub fn encode<R: Source, W: Sink>(
     alloc: Global,
     params: &Params,

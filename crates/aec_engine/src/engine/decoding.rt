@@ -1,5 +1,5 @@
-//! Coded data back to stored samples: the first samples' bytes are kept while the bits are judged,
-//! so that only the later bits are read twice.
+//! Decodes coded data: the bytes of the first samples are kept while the bits are judged, so that
+//! only the later bits are read twice.
 
 ghost use Rattle.std.specs.Prelude.{◌≡◌, ℕ, ◌+◌, ◌*◌, ◌<◌, ◌≤◌, ◌^◌, ◌⊎◌, true, length, vec_len, vec_capacity, IfOk, IfErr, OnOk};
 ghost use Rattle.aec_params.specs.Params.{interval_len, storage_len};
@@ -18,16 +18,16 @@ use aec_interval::StreamReader;
 use aec_params::{Fault, Limits, Params};
 use std::alloc::Global;
 
-/// The most bytes that are kept in more memory than any decoding takes.
+/// The most bytes that are kept if that takes more memory than every decoding does.
 const KEPT: usize = 1 << 24;
 
-/// The most bytes of a block for which such memory is taken. To read longer blocks twice takes less
-/// time than to take memory for their bytes.
+/// The most bytes of a block for which more memory is allocated: reading longer blocks twice takes
+/// less time than allocating memory for their bytes.
 const SHORT: usize = 32;
 
 /// Returns the most bytes that may be kept before more room is made: one for each bit that was
 /// read, or none if a block has more than `SHORT` bytes. So a short stream takes little memory,
-/// however many samples it stands for.
+/// however many samples it codes.
 fn most_kept(params: &Params, reader: &StreamReader) -> u64
     ensures bits { result ≤ reader.now.bit }
     ensures long { 32 < storage_len params.now * params.now.block_size → result ≡ 0 }
@@ -40,13 +40,13 @@ fn most_kept(params: &Params, reader: &StreamReader) -> u64
     read
 }
 
-/// Returns the length up to which `bytes` may be filled. If `more` bytes don't fit after those
-/// that `bytes` holds, the length is less than the sum of both.
+/// Returns the length up to which `bytes` may be filled. If `more` bytes don't fit after those in
+/// `bytes`, the length is less than the sum of both.
 ///
-/// As long as `bytes` holds at most `WAITING` bytes, the function takes no memory: they and `more`
-/// fit into the buffer of any decoding. After that it doubles the room, up to `KEPT` bytes. It
-/// returns 0 if `bytes` holds more than `most` bytes, if `KEPT` bytes are too few, or if the
-/// allocation fails.
+/// As long as `bytes` contains at most `WAITING` bytes, the function allocates nothing: they and
+/// `more` fit into the buffer of every decoding. After that it doubles the room, up to `KEPT`
+/// bytes. It returns 0 if `bytes` contains more than `most` bytes, if `KEPT` bytes are too few, or
+/// if the allocation fails.
 fn make_room(bytes: &mut Vec<u8>, more: usize, most: u64) -> usize
     ensures there { result ≤ vec_capacity bytes.new }
     ensures few { AreFewKept result more most }
@@ -91,9 +91,9 @@ fn has_room(bytes: &mut Vec<u8>, room: &mut usize, more: usize, most: u64) -> bo
     len <= *room && more <= *room - len
 }
 
-/// Reads the samples from where the reader is, after `before` samples whose bytes are kept, and
-/// keeps the bytes of those that come first, as many as there is room for. Returns how many samples
-/// are kept then: the reader is after them. The refusals are those of judging.
+/// Reads on after `before` samples whose bytes are kept, and keeps the bytes of the next samples as
+/// far as there is room. Returns how many samples are then kept: the reader is after them. Fails as
+/// judging does.
 pub(crate) fn keep_more(
     params: &Params,
     reader: &mut StreamReader,
@@ -128,9 +128,9 @@ pub(crate) fn keep_more(
     Ok(kept)
 }
 
-/// Reads the samples of a stream from its first bit on, and keeps the bytes of the first samples,
-/// as many as there is room for. Returns how many samples these are: the reader is after them. The
-/// refusals are those of judging.
+/// Reads the samples of a stream from its first bit on, and keeps the bytes of the first samples as
+/// far as there is room. Returns how many samples are kept: the reader is after them. Fails as
+/// judging does.
 fn keep_front(
     params: &Params,
     reader: &mut StreamReader,
@@ -153,18 +153,18 @@ fn keep_front(
     keep_more(params, reader, 0, samples, bytes)
 }
 
-/// Reads the source whole, and writes the bytes of the samples that it codes: with a count the
-/// first `count`, without one all. The refusals in their order: `Read`, `StreamTooLong` and
-/// `Memory` as they are met while the source is read; then those of `decode_all`; then `Memory`,
-/// for the room that the second reading takes. That `Memory` comes last is no part of the contract.
-/// Nothing has been written then and `begin` was not called. After `begin` only `Write` can come,
-/// and a front of the answer has been written.
+/// Reads the source whole, and writes the bytes of the samples that it codes: the first `count`, or
+/// all without a count. The refusals in their order: `Read`, `StreamTooLong` and `Memory` as they
+/// are met while the source is read; those of `decode_all`; `Memory`, for the room that the second
+/// reading takes. That `Memory` comes last is no part of the contract. On these refusals nothing is
+/// written and `begin` isn't called. After `begin` it fails only with `Write`, with a prefix of the
+/// bytes written.
 ///
-/// Not in the contract: while the bits are judged, the bytes of the first samples are kept, as far
-/// as there is room for them; the rest isn't kept but read twice. Any decoding takes memory for the
-/// bytes of the source, for 2,048 samples or those of a longer interval, for the bytes of an
-/// interval, and for a piece of 64 KiB: if that is refused, it ends with `Memory`, or with the
-/// refusal of the bits. Kept bytes that don't fit there take 16 MiB at most: if that is refused,
+/// Not in the contract: while the bits are judged, the bytes of the first samples are kept as far
+/// as there is room; the rest is read twice. Every decoding allocates room for the bytes of the
+/// source, for 2,048 samples or those of a longer interval, for the bytes of an interval, and for a
+/// piece of 64 KiB: if one of these allocations fails, it ends with `Memory` or with the refusal of
+/// the bits. Kept bytes that don't fit there take at most 16 MiB: if that allocation fails,
 /// decoding goes on and keeps no more.
 pub fn decode<R: Source, W: Sink>(
     alloc: Global,

@@ -1,4 +1,4 @@
-//! Coded data edited by a script.
+//! Edits coded data by a script.
 
 ghost use Rattle.std.specs.Prelude.{◌≡◌, ◌<◌, ◌≤◌, ◌⊎◌, length, slice_index, None, Ok, IfOk, IfErr, OnOk};
 ghost use Rattle.std.specs.Io.KnownBytes.{Appends};
@@ -28,7 +28,7 @@ use aec_interval::AecCodec;
 use aec_params::{Fault, Limits, Params};
 use std::alloc::Global;
 
-/// The text of a script that a source gives. Its lines have been judged.
+/// Reads the text of a script from a source, and judges its lines.
 fn read_script<Q: Source>(alloc: Global, limits: Limits, from: &mut Q) -> Result<Vec<u8>, Fault>
     ensures ok { let took : Taking = taking_of Q.left Q.failed from.old from.new in
         IfOk result (λ text. GaveScript took limits.bytes (listing_of text.items)) }
@@ -41,8 +41,9 @@ fn read_script<Q: Source>(alloc: Global, limits: Limits, from: &mut Q) -> Result
     Ok(text)
 }
 
-/// Makes the edits of a script that are ahead, up to the first that is refused: those before it are
-/// made, and it is named by its line. Want of memory for the values of the next one is plain.
+/// Makes the edits that are ahead, up to the first that is refused: the edits before it are made,
+/// and the fault names its line. Fails with plain `Memory` if there is none for the values of the
+/// next edit.
 fn carry_rest<C: Codec>(
     alloc: Global,
     workspace: &mut Workspace<C>,
@@ -71,9 +72,10 @@ fn carry_rest<C: Codec>(
     Ok(())
 }
 
-/// A workspace with the samples that edits of a script leave of those that bits are read as, over a
-/// codec that has coded nothing. The bits are judged whole before memory is taken for samples, and
-/// before an edit is made. The lines of the script were judged.
+/// Reads bits as samples, makes the edits of a script on them, and returns a workspace with the
+/// samples that are left. `codec` must have coded nothing, and the lines of the script must have
+/// been judged. All bits are judged before memory is allocated for samples and before an edit is
+/// made.
 fn edit_bits<C: Codec + Drop>(
     alloc: Global,
     codec: C,
@@ -108,7 +110,8 @@ fn edit_bits<C: Codec + Drop>(
     Ok(workspace)
 }
 
-/// Begins, and writes the bytes of the code of a workspace's samples. `Write` where the sink fails.
+/// Calls `begin`, and writes the bytes of the code of a workspace's samples. Fails with `Write` if
+/// the sink fails.
 fn deliver_code<C: Codec, W: Sink>(workspace: &Workspace<C>, sink: &mut W) -> Result<(), Fault>
     ensures { let put : Putting = putting_of W.taken W.begun W.mark W.failed sink.old sink.new in
         Delivers (bytes_of (code_of (C.format workspace.now.codec) workspace.now.samples)) put
@@ -118,10 +121,10 @@ fn deliver_code<C: Codec, W: Sink>(workspace: &Workspace<C>, sink: &mut W) -> Re
     workspace.write_to(sink)
 }
 
-/// Does what `edit` does over a codec of intervals that has coded nothing, and gives the workspace
-/// whose stream was written. This shows how often the codec was called: once for each interval of
-/// the source's samples, and once for each interval that an edit codes.
-/// The refusals are those of `edit`.
+/// Does what `edit` does, over a codec of intervals that has coded nothing, and returns the
+/// workspace whose stream it wrote. The workspace shows how often the codec was called: once for
+/// each interval of the source's samples, and once for each interval that an edit codes. Fails as
+/// `edit` does.
 pub fn edit_over<C: Codec + Drop, Q: Source, R: Source, W: Sink>(
     alloc: Global,
     codec: C,
@@ -152,16 +155,16 @@ pub fn edit_over<C: Codec + Drop, Q: Source, R: Source, W: Sink>(
 }
 
 /// Reads a script whole, then the source, makes the edits of the script on the samples that the
-/// source codes (with a count the first `count`, without one all), and writes the bytes of the code
-/// of the samples that they leave.
+/// source codes (the first `count`, or all without a count), and writes the bytes of the code of
+/// the samples that the edits leave.
 ///
 /// The refusals in their order: `Read`, `StreamTooLong` and `Memory` as they are met while the
-/// script is read, then `Script` (and until then nothing is taken of the source); those of
-/// `decode`; `Memory`, also where there is no room to read a line again when its edit is to be
-/// made. The first edit that is refused for its place, the limit, its values or want of calls is
-/// named by its line and ends the run; so is the first that lacks memory, in the order in which
-/// they are made; all other refusals are plain. Nothing has been written then and `begin` was not
-/// called. After `begin` only `Write` can come, and a front of the answer has been written.
+/// script is read, then `Script` (up to here nothing is taken from the source); those of `decode`;
+/// `Memory`, also if there is no room to read a line again before its edit is made. The run ends at
+/// the first edit that is refused for its place, the limit, its values or lack of calls, and the
+/// fault names its line; so it does for the first edit that lacks memory, in the order in which
+/// edits are made. All other faults name no line. On these refusals nothing is written and `begin`
+/// isn't called. After `begin` it fails only with `Write`, with a prefix of the bytes written.
 pub fn edit<Q: Source, R: Source, W: Sink>(
     alloc: Global,
     params: &Params,
@@ -183,7 +186,7 @@ pub fn edit<Q: Source, R: Source, W: Sink>(
     }
 }
 
-/// The line of the edit at a place of a script.
+/// Returns the line of the edit at a place of a script.
 fn line_of(script: &Script, place: usize) -> u64
     requires { place < length script.now.lines.items }
     ensures { result ≡ slice_index script.now.lines.items place }
@@ -191,8 +194,8 @@ fn line_of(script: &Script, place: usize) -> u64
     script.lines[place]
 }
 
-/// Makes the edits of a script, up to the first that is refused: those before it are made, and it
-/// is named by its line.
+/// Makes the edits of a script, up to the first that is refused: the edits before it are made, and
+/// the fault names its line.
 pub fn carry_out<C: Codec>(workspace: &mut Workspace<C>, script: &Script) -> Result<(), EditFault>
     requires lines { length script.now.edits.items ≤ length script.now.lines.items }
     ensures ok { OnOk result (edits_left (C.format workspace.old.codec) workspace.old.limit

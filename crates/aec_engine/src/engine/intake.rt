@@ -1,4 +1,4 @@
-//! A source read to its end, or to a limit.
+//! Reads a source to its end, or to a limit.
 
 ghost use Rattle.std.specs.Prelude.{◌≡◌, ◌≤◌, IfErr, IfOk, length, true};
 ghost use Rattle.aec_params.specs.declared.fault.Fault.TheVariants.{Memory};
@@ -8,11 +8,11 @@ use aec_bits::Source;
 use aec_params::Fault;
 use std::alloc::Global;
 
-/// How many bytes are asked of a source at a time: few enough for the stack.
+/// How many bytes are taken from a source at a time: few enough for the stack.
 pub(crate) const PIECE: usize = 8192;
 
-/// The bytes of a source up to its end, up to its failure, or past `limit` bytes, and whether it
-/// failed. `Memory` alone is refused.
+/// Returns the bytes of a source up to its end, up to its failure, or past `limit` bytes, and
+/// whether it failed. Fails only with `Memory`.
 pub(crate) fn read_past<R: Source>(
     alloc: Global,
     source: &mut R,
@@ -35,8 +35,8 @@ pub(crate) fn read_past<R: Source>(
     Ok((bytes, false))
 }
 
-/// The bytes of a source up to its end. `StreamTooLong` where there are more than `limit`, `Read`
-/// where the source fails before that, `Memory`.
+/// Returns the bytes of a source up to its end. Fails with `StreamTooLong` if there are more than
+/// `limit`, with `Read` if the source fails before that, or with `Memory`.
 pub(crate) fn read_whole<R: Source>(
     alloc: Global,
     source: &mut R,

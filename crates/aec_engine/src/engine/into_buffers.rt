@@ -1,7 +1,7 @@
-//! Decodes coded bytes in memory into a buffer. Samples that come at once are put there at once if
-//! they are all that are asked for. Else the first samples' bytes are kept while judging, and the
-//! rest is put into the buffer when reading again. The buffer can't be a `Sink`: contracts say
-//! what the sink that an engine hands back has taken, and not that it still holds the same buffer.
+//! Decodes coded bytes in memory into a buffer. If the first reading returns all samples asked for,
+//! they are put there at once. Else the bytes of the first samples are kept while judging, and a
+//! second reading puts the rest into the buffer. The buffer can't be a `Sink`: contracts say what
+//! the sink that an engine returns has taken, but not that it still has the same buffer.
 
 ghost use Rattle.std.specs.Prelude.{◌≡◌, ℕ, ◌+◌, ◌*◌, ◌<◌, ◌≤◌, ◌^◌, ◌++◌, List, [], ℤ, None, Some, Ok, true, false, length, take, drop, max, vec_len, vec_capacity, IsOk, IfOk, IfErr, OnOk};
 ghost use Rattle.std.specs.List.{AllByRecursion};
@@ -24,8 +24,8 @@ use aec_interval::StreamReader;
 use aec_params::{Fault, Limits, Params, put_samples};
 use std::alloc::Global;
 
-/// The bits of coded bytes, which are at most `limit`; else `StreamTooLong`, before any memory is
-/// taken.
+/// Returns the bits of coded bytes. If there are more than `limit` bytes, fails with
+/// `StreamTooLong` before it allocates.
 fn bits_of(alloc: Global, coded: &[u8], limit: u64) -> Result<BitBuf, Fault>
     ensures ok { IfOk result (λ bits. GaveWhole (Some coded.now) (Some []) 0 limit bits.list) }
     ensures refuses { IfErr result (RefusesIntake (Some coded.now) (Some []) 0 limit) }
@@ -110,7 +110,7 @@ fn put_range_front(
 }
 
 /// Puts kept bytes, and after them the bytes of the rest of the samples, to the front of a buffer,
-/// if there is room for them. Returns how many bytes they are. Allocates nothing.
+/// if there is room for them. Returns how many bytes they take. Allocates nothing.
 fn put_kept(
     params: &Params,
     reader: &mut StreamReader,
@@ -138,11 +138,11 @@ fn put_kept(
     Ok(size as u64)
 }
 
-/// The first reading takes at most so many samples, or one interval if it is longer.
+/// The first reading reads at most this many samples, or one interval if that is longer.
 const FIRST: u64 = 4096;
 
-/// Returns for how many samples room is made at first: for the blocks of those that are asked for,
-/// but at most for `FIRST` samples, or an interval if it is longer.
+/// Returns for how many samples room is made at first: for the blocks of the samples asked for, but
+/// at most for `FIRST` samples, or for one longer interval.
 fn first_samples(params: &Params, count: Option<u64>) -> usize
     ensures { result ≤ max 4096 (interval_len params.now) }
 {
@@ -160,7 +160,7 @@ fn first_room(alloc: Global, params: &Params, count: Option<u64>) -> Result<Vec<
     Ok(samples)
 }
 
-/// Returns whether so many samples are all that are asked for.
+/// Returns whether `samples` is the number of samples that are asked for.
 fn are_all(count: Option<u64>, samples: usize) -> bool
     ensures { result ≡ true → count ≡ Some samples }
 {
@@ -208,8 +208,8 @@ fn put_first(params: &Params, samples: &[i64], out: &mut [u8]) -> u64
     size as u64
 }
 
-/// Returns the bytes of the samples that were read first into so many places, with room for those
-/// of an interval and for `WAITING` bytes, or for the bytes of the places if these are few. So a
+/// Returns the bytes of the samples that were read first. There is also room for the bytes of an
+/// interval and for `WAITING` bytes, or for the bytes of `places` samples if these are few. So a
 /// short answer takes little memory.
 fn first_bytes(
     alloc: Global,
@@ -246,9 +246,9 @@ fn room_for_rest(params: &Params, left: u64, samples: &mut Vec<i64>) -> Result<(
     Ok(())
 }
 
-/// Keeps the bytes of the samples that were read first, and of those that come next, judges the
-/// bits after them, then puts these bytes to the front of a buffer, if there is room, and after
-/// them the bytes of the rest, read again.
+/// Keeps the bytes of the samples that were read first and of the next ones, and judges the bits
+/// after them. Then puts the kept bytes to the front of a buffer, if there is room, and after them
+/// the bytes of the rest, which it reads again.
 fn decode_rest_into(
     alloc: Global,
     params: &Params,
@@ -281,8 +281,8 @@ fn decode_rest_into(
     put_kept(params, reader, &bytes, rest, samples, out)
 }
 
-/// Reads the samples that come at once, and puts their bytes to the front of a buffer, if there is
-/// room and they are all that are asked for; else goes on as `decode_rest_into` does.
+/// Reads the first samples. If they are all that are asked for, puts their bytes to the front of a
+/// buffer, if there is room; else goes on as `decode_rest_into` does.
 fn decode_bits_into(
     alloc: Global,
     params: &Params,
@@ -304,14 +304,14 @@ fn decode_bits_into(
     decode_rest_into(alloc, params, &mut reader, &mut samples, out)
 }
 
-/// Puts the stored bytes of the samples that coded bytes are read as to the front of a buffer,
-/// where there is room for all of them, and leaves the rest of it; else leaves all of it. How many
-/// bytes they are. The refusals are those of `decode_bytes`; the buffer is as it was then.
+/// Puts the stored bytes of the samples that coded bytes are read as to the front of a buffer if
+/// there is room for all of them, and changes no other byte of it. Returns how many bytes they
+/// take. Fails as `decode_bytes` does; the buffer is unchanged then.
 ///
-/// Memory is taken for the coded bytes, and for an interval of samples, or more but at most 4,096.
-/// Unless a count is given and the samples read first are all of them, memory is also taken for the
-/// bytes of an interval and 64 KiB, which are kept while the coded bytes are judged; of short
-/// blocks for up to 16 MiB, if there is memory. What comes after the kept bytes is read twice.
+/// Allocates room for the coded bytes, and for an interval of samples, or more but at most 4,096.
+/// Unless a count is given and the first reading returns all samples, it also allocates room for
+/// the bytes of an interval and 64 KiB, which are kept while the coded bytes are judged, and for
+/// short blocks up to 16 MiB, if there is memory. The samples after the kept bytes are read twice.
 pub fn decode_into(
     alloc: Global,
     params: &Params,
@@ -327,9 +327,9 @@ pub fn decode_into(
     decode_bits_into(alloc, params, limits, count, &bits, out)
 }
 
-/// Reads coded bits twice: judges them and the range first, then puts the bytes of its samples to
-/// the front of a buffer, where there is room, read from the last interval on that begins at or
-/// before it.
+/// Reads coded bits twice: first it judges them and the range, then it reads on from the last
+/// interval that begins at or before the range, and puts the bytes of the range to the front of a
+/// buffer, if there is room.
 fn range_bits_into(
     alloc: Global,
     params: &Params,
@@ -355,8 +355,8 @@ fn range_bits_into(
     put_range_front(alloc, params, &mut reader, part, out)
 }
 
-/// Does the same as `decode_into` with `len` of these samples from place `first` on. The refusals
-/// are those of `range_bytes`.
+/// Does the same as `decode_into` for `len` of the samples, from place `first` on. Fails as
+/// `range_bytes` does.
 pub fn range_into(
     alloc: Global,
     params: &Params,

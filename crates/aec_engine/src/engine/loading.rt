@@ -1,5 +1,6 @@
-//! Loads coded bits' samples into a workspace by whole intervals. Leading overwrites of a script,
-//! of samples already loaded, are applied meanwhile, while little of the stream follows them.
+//! Loads the samples of coded bits into a workspace by whole intervals. Meanwhile it makes the
+//! leading overwrites of a script on samples already loaded, while little of the stream follows
+//! them.
 
 ghost use Rattle.std.specs.Prelude.{◌≡◌, ◌+◌, ◌<◌, ◌≤◌, ◌/◌, ◌%◌, ◌-◌, ◌^◌, ◌⊎◌, ◌++◌, min, max, length, true, false, [], IfOk, IfErr, OnOk};
 ghost use Rattle.std.specs.Int.{div_ceil};
@@ -24,11 +25,11 @@ use aec_interval::StreamReader;
 use aec_params::{Edit, Fault, Limits, Params};
 use std::alloc::Global;
 
-/// Puts the samples of the next interval in the place of those that were handed in, and after them
-/// those of more intervals, as long as they are `AT_ONCE` at most; false where none are left. An
-/// interval after the first comes by way of `spare`.
+/// Replaces `samples` by those of the next interval, and appends those of more intervals while they
+/// are at most `AT_ONCE` in all. Returns false if no samples are left. Each interval after the
+/// first is read into `spare` first.
 ///
-/// What has been judged is refused for want of memory alone.
+/// Fails only with `Memory` if the bits have been judged.
 fn next_intervals(
     params: &Params,
     reader: &mut StreamReader,
@@ -57,7 +58,7 @@ fn next_intervals(
     Ok(true)
 }
 
-/// Appends samples to others. `Memory` where a growth was refused.
+/// Appends samples to others. Fails with `Memory` if an allocation fails.
 fn append_behind(samples: &mut Vec<i64>, more: &[i64]) -> Result<(), Fault>
     ensures ok { OnOk result (samples.new.items ≡ samples.old.items ++ more.now) }
     ensures fault { IfErr result (λ e. e ≡ Memory) }
@@ -66,11 +67,11 @@ fn append_behind(samples: &mut Vec<i64>, more: &[i64]) -> Result<(), Fault>
     Ok(())
 }
 
-/// Past so many calls of the coder no edit is made before all samples are there: whether calls
-/// enough are left for it is not in question so far below `u64::MAX`.
+/// After this many calls of the coder no edit is made before all samples are loaded. Until then
+/// enough calls are surely left for an edit, so far below `u64::MAX`.
 const CALLS: u64 = 1 << 62;
 
-/// Whether an edit only overwrites places among the first `count`.
+/// Returns whether an edit only overwrites places among the first `count`.
 fn is_inside(edit: &Edit, count: u64) -> bool
     ensures inside { result ≡ true → IsInside count edit.now }
     ensures outside { result ≡ false → IsInside count edit.now → ⊥ }
@@ -84,12 +85,12 @@ fn is_inside(edit: &Edit, count: u64) -> bool
     }
 }
 
-/// Makes the edits of a script that overwrite samples which are there, up to the first other one,
+/// Makes the edits of a script that overwrite samples already loaded, up to the first other edit,
 /// and leaves the others ahead.
 ///
-/// Whatever samples come after those that are there, these edits leave the same of all. The first
-/// that is refused is named by its line; want of memory for the values of the next one is plain.
-/// None is made once the coder was called `2^62` times.
+/// These edits leave the same, whatever samples are loaded after them. If an edit is refused, the
+/// fault names its line. Fails with plain `Memory` if there is none for the values of the next
+/// edit. Makes no edit once the coder was called `2^62` times.
 fn carry_early<C: Codec>(
     alloc: Global,
     workspace: &mut Workspace<C>,
@@ -123,10 +124,8 @@ fn carry_early<C: Codec>(
     Ok(())
 }
 
-/// Appends the samples that coded bits stand for to an empty workspace over a codec that has coded
-/// nothing, and makes edits of a script meanwhile. Those that are left are ahead then.
-///
-/// No clause uses the premise `room`. It proves that room is there before the first append.
+/// Appends the samples of coded bits to an empty workspace over a codec that has coded nothing, and
+/// meanwhile makes edits of a script. The edits that are left are then ahead.
 pub(crate) fn append_all<C: Codec>(
     alloc: Global,
     params: &Params,
@@ -157,9 +156,8 @@ pub(crate) fn append_all<C: Codec>(
     Ok(())
 }
 
-/// A reader of bits that have been judged whole: it is at the first bit, and the samples can be
-/// read; beside it what judging told. Takes no memory. The refusals are those of `decode_all`, but
-/// for want of memory.
+/// Judges all bits, and returns a reader at the first bit, whose samples can be read, with the
+/// result of judging. Allocates nothing. Fails as `decode_all` does, but not with `Memory`.
 pub(crate) fn judged_reader<'a>(
     alloc: Global,
     params: &Params,
@@ -200,8 +198,8 @@ impl Room {
     }
 }
 
-/// Returns an empty workspace with at least this room. Fails with `Memory` only if there is room to
-/// reserve: then an allocation fails, or there would be more than 2^62 bits.
+/// Returns an empty workspace with at least this room. Fails with `Memory` if an allocation fails
+/// or there would be more than 2^62 bits, but not if `room` is none.
 pub(crate) fn roomy_workspace<C: Codec + Drop>(
     alloc: Global,
     codec: C,

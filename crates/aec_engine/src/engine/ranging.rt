@@ -1,4 +1,4 @@
-//! A part of coded data back to stored samples.
+//! Decodes a range of the samples of coded data.
 
 ghost use Rattle.std.specs.Prelude.{◌≡◌, ◌+◌, ◌<◌, ◌≤◌, IfErr, OnOk};
 ghost use Rattle.aec_params.specs.declared.fault.Fault.TheVariants.{OutOfRange};
@@ -12,7 +12,7 @@ use aec_interval::StreamReader;
 use aec_params::{Fault, Limits, Params};
 use std::alloc::Global;
 
-/// Refuses places that are outside so many samples.
+/// Fails with `OutOfRange` if `first + len` exceeds `total`.
 pub(crate) fn judge_range(first: u64, len: u64, total: u64) -> Result<(), Fault>
     ensures within { OnOk result (first + len ≤ total) }
     ensures refuses { IfErr result (λ fault. (fault ≡ OutOfRange total) × (total < first + len)) }
@@ -25,11 +25,11 @@ pub(crate) fn judge_range(first: u64, len: u64, total: u64) -> Result<(), Fault>
 
 /// Reads the source whole, and writes the bytes of `len` of the samples that it codes, from place
 /// `first` on. The refusals in their order: those of `decode`, so that coded data after the range
-/// are judged too; then `OutOfRange` if the range passes the samples, whose number is `count` if
-/// one is given; then `Memory`. That `Memory` comes last is no part of the contract. Nothing has
-/// been written then and `begin` was not called. After `begin` only `Write` can come, and a front
-/// of the answer has been written. Not in the contract: no samples are kept while the bits are
-/// judged, and only the intervals that the range lies in are read again.
+/// are judged too; `OutOfRange` if the range passes the samples, whose number is `count` if one is
+/// given; `Memory`. That `Memory` comes last is no part of the contract. On these refusals nothing
+/// is written and `begin` isn't called. After `begin` it fails only with `Write`, with a prefix of
+/// the bytes written. Not in the contract: no samples are kept while the bits are judged, and only
+/// the intervals that the range lies in are read again.
 pub fn range<R: Source, W: Sink>(
     alloc: Global,
     params: &Params,

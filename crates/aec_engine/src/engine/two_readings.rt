@@ -25,8 +25,8 @@ struct Begin {
     before: u64,
 }
 
-/// Of two places the one from which a range is read: the later one, unless the range begins before
-/// it.
+/// Returns the one of two places from which a range is read: `here`, the later one, unless the
+/// range begins before it.
 fn last_begin(noted: Begin, here: Begin, first: u64) -> Begin
     ensures here { here.before ≤ first → result ≡ here }
     ensures noted { first < here.before → result ≡ noted }
@@ -47,8 +47,8 @@ fn come_back(reader: &mut StreamReader, place: ReachedPlace) -> u64
     end
 }
 
-/// What judging tells: how many samples there are, how many of them lie before the place that was
-/// gone back to, and how many bits they were read from.
+/// The result of judging: the number of samples, how many of them lie before the place to which the
+/// reader went back, and how many bits they were read from.
 #[derive(Clone, Copy)]
 pub(crate) struct Judged {
     pub(crate) total: u64,
@@ -56,8 +56,8 @@ pub(crate) struct Judged {
     pub(crate) bits: u64,
 }
 
-/// Goes over all samples from where the reader is, after `before` samples, and back to the last
-/// interval from there on that begins at or before sample `first`. Never fails with `Memory`.
+/// Judges all samples from where the reader is, after `before` samples, and goes back to the last
+/// interval that it passed and that begins at or before sample `first`. Never fails with `Memory`.
 pub(crate) fn judge_from(
     params: &Params,
     reader: &mut StreamReader,
@@ -97,7 +97,7 @@ pub(crate) fn judge_from(
     })
 }
 
-/// The same from the first bit on.
+/// Does the same from the first bit on.
 pub(crate) fn judge_samples(
     params: &Params,
     reader: &mut StreamReader,
@@ -116,7 +116,7 @@ pub(crate) fn judge_samples(
     judge_from(params, reader, 0, first)
 }
 
-/// Goes over all samples from the first bit on, and back to it. Takes no memory.
+/// Judges all samples from the first bit on, and goes back to that bit. Allocates nothing.
 pub(crate) fn judge_all(params: &Params, reader: &mut StreamReader) -> Result<Judged, Fault>
     requires start { IsAtStart reader.old params.now }
     ensures ok { IfOk result (λ judged. Judges reader.old reader.new judged.bits judged.total) }
@@ -129,8 +129,8 @@ pub(crate) fn judge_all(params: &Params, reader: &mut StreamReader) -> Result<Ju
     Ok(judged)
 }
 
-/// A part of the samples, `len` of them from place `first` on, and how many lie before the reader
-/// that is to read it.
+/// A part of the samples: `len` of them from place `first` on. `before` samples lie before the
+/// reader that is to read the part.
 #[derive(Clone, Copy)]
 pub(crate) struct Part {
     pub(crate) before: u64,
@@ -138,7 +138,7 @@ pub(crate) struct Part {
     pub(crate) len: u64,
 }
 
-/// Of samples those after the first `skip`, at most `left` of them.
+/// Returns the samples after the first `skip`, at most `left` of them.
 pub(crate) fn part_of(samples: &[i64], skip: u64, left: u64) -> &[i64]
     ensures { result.now ≡ samples_from skip left samples.now }
 {
@@ -146,18 +146,18 @@ pub(crate) fn part_of(samples: &[i64], skip: u64, left: u64) -> &[i64]
     &rest[..(left as usize).min(rest.len())]
 }
 
-/// The bytes of so many samples have room in so many bytes.
+/// Returns a number of samples whose bytes fit into this many bytes.
 pub(crate) fn samples_within(bytes: usize) -> u64
     ensures fit { 4 * result ≤ bytes }
 {
     bytes as u64 / 4
 }
 
-/// How many samples' bytes are appended at once: few enough to be cleared and then filled in the
-/// nearest memory.
+/// The number of samples whose bytes are appended at once: few enough to be cleared and then filled
+/// in the nearest memory.
 const STORED_AT_ONCE: usize = 256;
 
-/// Appends the bytes of samples. Takes no memory.
+/// Appends the bytes of samples. Allocates nothing.
 pub(crate) fn append_stored(params: &Params, samples: &[i64], bytes: &mut Vec<u8>)
     requires held { AllByRecursion (IsHeld params.now) samples.now }
     requires room { vec_len bytes.old + 4 * length samples.now ≤ vec_capacity bytes.old }
@@ -172,7 +172,7 @@ pub(crate) fn append_stored(params: &Params, samples: &[i64], bytes: &mut Vec<u8
     }
 }
 
-/// Appends the bytes of a few samples: places are cleared for all of them, and then filled.
+/// Appends the bytes of a few samples: clears places for all of them, and then fills these places.
 fn append_part(params: &Params, samples: &[i64], bytes: &mut Vec<u8>)
     requires held { AllByRecursion (IsHeld params.now) samples.now }
     requires room { vec_len bytes.old + 4 * length samples.now ≤ vec_capacity bytes.old }
@@ -189,10 +189,10 @@ fn append_part(params: &Params, samples: &[i64], bytes: &mut Vec<u8>)
 /// The samples of short intervals are read together, up to this number.
 pub(crate) const AT_ONCE: usize = 2048;
 
-/// So many bytes wait at most before they are put.
+/// At most this many bytes wait before they are put.
 pub(crate) const WAITING: usize = 65536;
 
-/// Puts all bytes that wait, and then none do.
+/// Puts all bytes that wait to the sink, and empties `bytes`.
 fn put_waiting<W: Sink>(bytes: &mut Vec<u8>, sink: &mut W) -> Result<(), Fault>
     ensures puts { PutsAllOrFront (W.taken sink.old) (W.taken sink.new) bytes.old.items result }
     ensures none { OnOk result (bytes.new.items ≡ []) }
@@ -205,8 +205,7 @@ fn put_waiting<W: Sink>(bytes: &mut Vec<u8>, sink: &mut W) -> Result<(), Fault>
     Ok(())
 }
 
-/// Puts the bytes of samples after those that wait, as soon as they are a piece; else they wait
-/// too.
+/// Appends the bytes of samples to those that wait, and puts all of them once they are a piece.
 fn put_part<W: Sink>(
     params: &Params,
     samples: &[i64],
@@ -262,7 +261,7 @@ fn put_range<W: Sink>(
     put_all(sink, bytes)
 }
 
-/// Begins, and puts all bytes that wait. `Write` where the sink fails.
+/// Calls `begin`, and puts all bytes that wait. Fails with `Write` if the sink fails.
 #[tactic(auto, using(crate::proofs::PutRangeLemmas::begun_then, crate::proofs::PutRangeLemmas::begun_front, crate::proofs::PutRangeLemmas::front_none))]
 fn begin_with<W: Sink>(bytes: &mut Vec<u8>, sink: &mut W) -> Result<(), Fault>
     ensures delivers { let put : Putting
@@ -275,8 +274,8 @@ fn begin_with<W: Sink>(bytes: &mut Vec<u8>, sink: &mut W) -> Result<(), Fault>
     put_waiting(bytes, sink)
 }
 
-/// Begins, puts all bytes that wait, and then a part of the samples, read again. `Write` where the
-/// sink fails.
+/// Calls `begin`, puts all bytes that wait, and then a part of the samples, read again. Fails with
+/// `Write` if the sink fails.
 #[tactic(auto, using(crate::proofs::PutRangeLemmas::puts_behind, crate::proofs::PutRangeLemmas::front_behind))]
 pub(crate) fn deliver_range<W: Sink>(
     params: &Params,
@@ -326,8 +325,8 @@ pub(crate) fn buffers(alloc: Global, params: &Params) -> Result<(Vec<i64>, Vec<u
     Ok((samples, bytes))
 }
 
-/// Makes room, begins, and writes the bytes of a part of the samples. `Memory` where the room is
-/// refused; nothing was begun then.
+/// Makes room, calls `begin`, and writes the bytes of a part of the samples. Fails with `Memory` if
+/// an allocation fails; `begin` isn't called then.
 pub(crate) fn write_range<W: Sink>(
     alloc: Global,
     params: &Params,
