@@ -115,6 +115,7 @@ impl Params {
     pub fn known_allowed(&self)
         ensures { IsAllowed self.now }
     {
+        let _settings = &self.settings;
     }
 
     /// Bits of an identifier, 1 to 5, by the bits per sample and the code set (FORMAT.md §6).

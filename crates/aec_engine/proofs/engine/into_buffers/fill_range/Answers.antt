@@ -45,26 +45,22 @@ put_behind-at-requires-clause-room c =
 
 pub loop-left-preserved : goal.loop-left-preserved
 loop-left-preserved c =
+    let p = c.args.part in let l = c.loop-left in let r = c.args.reader.now in let s = c.args.params.now in
     let is = c.part_of-wanted.ensures ∙ ap (samples_from _ _) c.deref.ensures.value in
     let a = subst IsAllowed (sym c.requires.settings) c.known_allowed.ensures in let step = c.in_ok-next_few.ensures.read c.if-branch.true in
-    let room = part_fits c.args.reader.now c.loop-left.reader c.args.params.now c.args.part.first c.args.part.len c.loop-left.skip c.loop-left.left
-    c.loop-left.at
-    c.loop-left.out a c.loop-left.invariant.puts c.loop-left.invariant.within
-    (c.requires.read.0, c.requires.read.1, c.loop-left.invariant.whole ∙ c.requires.read.2) c.next_few.new.self c.next_few.new.samples.items
+    let room = part_fits r l.reader s p.first p.len l.skip l.left l.at l.out a l.invariant.puts l.invariant.within
+    (c.requires.read.0, c.requires.read.1, l.invariant.whole ∙ c.requires.read.2) c.next_few.new.self c.next_few.new.samples.items
     c.part_of-wanted.result.now step c.next_few.ensures.ends is in
-    let long = length-behind c.args.params.now c.loop-left.at c.loop-left.out c.put_behind-at.new.out c.part_of-wanted.result.now room
-    c.put_behind-at.ensures.bytes in
+    let long = length-behind s l.at l.out c.put_behind-at.new.out c.part_of-wanted.result.now room c.put_behind-at.ensures.bytes in
     record {
-      puts = puts_more c.args.reader.now c.loop-left.reader c.next_few.new.self c.args.params.now c.args.part.first c.args.part.len c.loop-left.skip
-      c.loop-left.left _ _
-          _ _ _ [] [] c.next_few.new.samples.items c.part_of-wanted.result.now a c.loop-left.invariant.puts step c.next_few.ensures.few
-          c.next_few.ensures.ends is
-          (puts_behind c.args.params.now c.loop-left.at c.put_behind-at.result c.loop-left.out c.put_behind-at.new.out c.part_of-wanted.result.now
-          c.loop-left.invariant.within c.put_behind-at.ensures.bytes c.put_behind-at.ensures.end) (omega arith) refl;
+      puts = puts_more r l.reader c.next_few.new.self s p.first p.len l.skip l.left _ _ _ _ _ [] [] c.next_few.new.samples.items
+          c.part_of-wanted.result.now a l.invariant.puts step c.next_few.ensures.few c.next_few.ensures.ends is
+          (puts_behind s l.at c.put_behind-at.result l.out c.put_behind-at.new.out c.part_of-wanted.result.now l.invariant.within
+          c.put_behind-at.ensures.bytes c.put_behind-at.ensures.end) (omega arith) refl;
       within = omega (arith, c.put_behind-at.ensures.end, room, long);
-      whole = long ∙ c.loop-left.invariant.whole;
-      few = omega (arith, c.loop-left.invariant.few);
-      room = λ some. omega (arith, c.loop-left.invariant.room some, c.next_few.ensures.capacity);
+      whole = long ∙ l.invariant.whole;
+      few = omega (arith, l.invariant.few);
+      room = λ some. omega (arith, l.invariant.room some, c.next_few.ensures.capacity);
     }
 
 pub returns-else-branch-clause-filled : goal.returns-else-branch-clause-filled
