@@ -35,19 +35,19 @@ pub record BeginsWithNumber (n value : ℕ) (list rest : List Bool) : Type 0 whe
   pub fits : value < 2 ^ n
   pub bits : list ≡ binary n value ++ rest
 
--- how many zeros come from a place of a list on before a 1 bit; `None` if no 1 bit follows
+-- the number of zeros from a place of a list up to the next 1 bit; `None` if no 1 bit follows
 pub record CountsZeros (list : List Bool) (start : ℕ) (zeros : Option ℕ) : Type 0 where
   pub cases : MatchOption zeros (has_one (drop start list) ≡ false)
       (λ v. (start + v < length list) × (drop start list ≡ fs v ++ drop (start + v + 1) list))
   pub some : is_some zeros ≡ has_one (drop start list)
 
--- a place so much further on
+-- a place k further on
 abbrev pub further : ℕ → Option ℕ → Option ℕ
 further k None = None
 further k (Some place) = Some (k + place)
 
--- the place after so many 1 bits; none where there are fewer (bit by bit, where the code counts the
--- 1 bits of words, and then of halves)
+-- the place after n 1 bits; none if there are fewer (bit by bit, where the code counts the 1 bits
+-- of words, and then of halves)
 abbrev pub behind_ones : ℕ → List Bool → Option ℕ
 behind_ones zero bits = Some 0
 behind_ones (suc n) [] = None

@@ -8,7 +8,7 @@ use Rattle.aec_params.specs.declared.fault.Fault.{Fault}
 abbrev pub FailsOnce : {X : Type 0} → Fault → ℕ → ℕ → Result X Fault → Type 0
 FailsOnce fault old new result = MatchResult result (λ _. (old ≡ 0) × (new ≡ 0)) (λ e. (e ≡ fault) × (new ≡ 1))
 
--- a count one higher, or as it was at the greatest that 64 bits have
+-- a count plus one, at most 2^64 - 1
 abbrev pub counted : ℕ → ℕ
 counted n = min (n + 1) (2 ^ 64 - 1)
 

@@ -5,12 +5,13 @@ use Rattle.aec_params.specs.declared.edit.Edit.TheVariants.{Overwrite, Append, T
 use Rattle.aec_bits.specs.Codec.{Format, AreHeld, IsLawful, code_of}
 use Rattle.aec_bits.specs.Refusals.{refusal_of}
 
--- samples cut at the end of an interval: the code of both parts, one after the other
+-- if samples are cut at the end of an interval, their code is the codes of both parts, one after
+-- the other
 abbrev pub CutsAtIntervals : Type 0
 CutsAtIntervals = (f : Format) (k : ℕ) (a b : List ℤ) → 1 ≤ f.most → length a ≡ k * f.most
     → code_of f (a ++ b) ≡ code_of f a ++ code_of f b
 
--- one interval has its own bits as its code
+-- the code of one interval is its own bits
 abbrev pub CodesIntervals : Type 0
 CodesIntervals = (f : Format) (s : List ℤ) → 1 ≤ length s → length s ≤ f.most → code_of f s ≡ f.bits_of s
 
@@ -21,7 +22,7 @@ StandsBetween = (f : Format) (k : ℕ) (s : List ℤ) → 1 ≤ f.most → k * f
     → code_of f s ≡ code_of f (take (k * f.most) s)
     ++ (f.bits_of (take f.most (drop (k * f.most) s)) ++ code_of f (drop ((k + 1) * f.most) s))
 
--- of a lawful codec a code and a number of samples have one list of samples, whatever bits follow
+-- with a lawful codec, a code and a number of samples determine the samples, whatever bits follow
 abbrev pub HasOneList : Type 0
 HasOneList = (f : Format) (a b : List ℤ) (x y : List Bool) → IsLawful f → AreHeld f a → AreHeld f b
     → length a ≡ length b
@@ -35,8 +36,8 @@ JudgesPlacesFirst = (f : Format) (limit first len : ℕ) (s values : List ℤ)
     × (length s < first → refusal_of f limit s (Insert first values) ≡ Some (OutOfRange (length s)))
     × (length s < first + len → refusal_of f limit s (Remove first len) ≡ Some (OutOfRange (length s)))
 
--- an append past the limit is refused for it whatever the values are; so is an insertion at a place
--- up to the end of the samples
+-- an append past the limit is refused for the limit, whatever the values are; so is an insertion at
+-- a place up to the end of the samples
 abbrev pub JudgesTheLimitFirst : Type 0
 JudgesTheLimitFirst = (f : Format) (limit first : ℕ) (s values : List ℤ) → limit < length s + length values
     → (refusal_of f limit s (Append values) ≡ Some (TooManySamples limit))

@@ -3,22 +3,22 @@ use Rattle.std.specs.Prelude.{ℕ, ◌≡◌, ◌+◌, ◌-◌, ◌*◌, ◌^◌
 use Rattle.std.specs.Int.{div_ceil}
 use Rattle.aec_bits.specs.Words.{bits_of_words}
 
--- whether there are as many words as `len` bits need, and every bit past these is a zero
+-- whether there are exactly the words that `len` bits need, and every bit past these is a zero
 abbrev pub ArePacked : List ℕ → ℕ → Type 0
 ArePacked words len =
     (length words ≡ div_ceil len 64) × (drop len (bits_of_words words) ≡ replicate (64 * length words - len) false)
 
--- whether so many bits of words are a list, and the words are no more than it needs, with zeros
--- past its end
+-- whether the first `len` bits of words are a list, and the words are no more than it needs, with
+-- zeros past its end
 abbrev pub Keep : List ℕ → ℕ → List Bool → Type 0
 Keep words len list = (take len (bits_of_words words) ≡ list) × ArePacked words len
 
--- there is room for so many bits in all, at most 2^62
+-- there is room for `total` bits in all, at most 2^62
 pub record HasRoomFor {Z : Type 0} (total : ℕ) (words : Vec ℕ Z) : Type 0 where
   pub bound : total ≤ 2 ^ 62
   pub room : total ≤ 64 * vec_capacity words
 
--- words keep a list of `len` bits, and there is room for so many more
+-- words keep a list of `len` bits, and there is room for `more` more bits
 pub record CanGrow {Z : Type 0} (len more : ℕ) (words : Vec ℕ Z) : Type 0 where
   pub bound : len + more ≤ 2 ^ 62
   pub room : len + more ≤ 64 * vec_capacity words

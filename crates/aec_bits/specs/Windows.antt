@@ -11,7 +11,7 @@ unfoldable pub bits_from : ℕ → ℕ → List Bool → List Bool
 bits_from place n list = take n (drop place list ++ replicate 64 false)
 
 -- The lowest `left` bits of a word are the `left` bits of a list before the place `end`. A reader
--- takes them from the top; the others of the word are read already.
+-- takes them from the top; the other bits of the word are already read.
 pub record IsWindow (list : List Bool) (word left end : ℕ) : Type 0 where
   pub size : left ≤ 64
   pub order : left ≤ end
@@ -41,7 +41,7 @@ pub record BeginsWindow (codeword : List Bool) (n : ℕ) (w rest : Window) : Typ
   pub left : rest.left + n ≡ w.left
   pub end : rest.end ≡ w.end
 
--- so many numbers of w bits each fit one word, and w is at most 32
+-- `count` numbers of w bits each fit one word, and w is at most 32
 pub record FitWord (w count : ℕ) : Type 0 where
   pub width : w ≤ 32
   pub there : w * count ≤ 64

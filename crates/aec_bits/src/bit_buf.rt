@@ -50,7 +50,7 @@ impl BitBuf {
     ghost use Rattle.aec_bits.specs.WordBits.{word_bits};
     ghost use Rattle.aec_bits.specs.Windows.{bits_from};
 
-    /// Returns an empty list. Takes no memory.
+    /// Returns an empty list. Allocates nothing.
     pub fn new(alloc: Global) -> BitBuf
         ensures list { result.list ≡ [] }
         ensures room { result.room ≡ 0 }
@@ -94,7 +94,7 @@ impl BitBuf {
         self.len().div_ceil(8)
     }
 
-    /// Byte `i` of the bytes that the bits fill; zeros fill the last one.
+    /// Returns byte `i` of the bytes that the bits fill; zeros fill up the last one.
     #[tactic(auto, using(crate::proofs::CodewordLemmas::byte_counts, crate::proofs::PackedLemmas::packed_lengths))]
     pub fn byte(&self, i: u64) -> u8
         requires { i < length (bytes_of self.now.list) }
@@ -103,8 +103,8 @@ impl BitBuf {
         number_at(&self.words, 8 * i, 8) as u8
     }
 
-    /// Puts the bytes of words, of those that the bits fill, into all of a piece: from word `first`
-    /// on, eight bytes of each.
+    /// Fills `piece` with the bytes of words, of those that the bits fill: from word `first` on,
+    /// eight bytes of each.
     #[tactic(auto, using(crate::proofs::CodewordLemmas::byte_counts, crate::proofs::PackedLemmas::packed_lengths))]
     pub(crate) fn put_words(&self, first: u64, piece: &mut [u8])
         requires eights { length piece.old % 8 ≡ 0 }
@@ -116,7 +116,8 @@ impl BitBuf {
         BigEndian::write_u64_into(words, piece);
     }
 
-    /// The number that `width` bits spell from place `start` on, the most significant first.
+    /// Returns the number that `width` bits spell from place `start` on, the most significant
+    /// first.
     pub(crate) fn number(&self, start: u64, width: u32) -> u64
         requires width { width ≤ 64 }
         requires within { start + width ≤ length self.now.list }
@@ -126,7 +127,7 @@ impl BitBuf {
         number_at(&self.words, start, width)
     }
 
-    /// The word of the 64 bits from place `start` on; zeros stand past the end.
+    /// Returns the word of the 64 bits from place `start` on; bits past the end are zeros.
     #[inline(always)]
     pub(crate) fn word_from(&self, start: u64) -> u64
         requires { start ≤ length self.now.list }
@@ -136,7 +137,8 @@ impl BitBuf {
         padded_word_at(&self.words, start)
     }
 
-    /// How many zeros come from place `start` on before a 1 bit; `None` if no 1 bit follows.
+    /// Returns the number of zeros from place `start` up to the next 1 bit; `None` if no 1 bit
+    /// follows.
     pub(crate) fn zeros_before_one(&self, start: u64) -> Option<u64>
         requires { start ≤ length self.now.list }
         ensures zeros { CountsZeros self.now.list start result }
@@ -145,7 +147,7 @@ impl BitBuf {
         zeros_at(&self.words, start)
     }
 
-    /// Whether so many more bits surely need no further memory.
+    /// Returns true only if `bits` more bits need no further memory.
     #[inline(always)]
     fn has_room_for(&self, bits: u64) -> bool
         ensures { result ≡ true → bits ≤ self.now.room }
@@ -154,7 +156,7 @@ impl BitBuf {
         bits <= MOST_BITS - self.len && bits / 64 < free as u64
     }
 
-    /// Makes room for so many more bits.
+    /// Makes room for `bits` more bits.
     #[inline(always)]
     pub fn reserve(&mut self, bits: u64) -> Result<(), Fault>
         ensures ok { OnOk result (bits ≤ self.new.room) }
@@ -170,7 +172,8 @@ impl BitBuf {
         Err(Fault::Memory)
     }
 
-    /// Makes room for so many more bits, where memory may be needed. False if a growth was refused.
+    /// Makes room for `bits` more bits, and allocates if needed. Returns false if a growth was
+    /// refused.
     #[inline(never)]
     fn grow_by(&mut self, bits: u64) -> bool
         ensures grown { result ≡ true → bits ≤ self.new.room }
@@ -198,8 +201,8 @@ impl BitBuf {
         Ok(())
     }
 
-    /// Appends the bits of `value` in `width` bits, for which there is room, the most significant
-    /// first. Takes no memory.
+    /// Appends the bits of `value` in `width` bits, the most significant first. Requires room for
+    /// them. Allocates nothing.
     #[inline(always)]
     pub fn push_reserved(&mut self, value: u64, width: u32)
         requires number { FitsWidth width value }
@@ -252,8 +255,8 @@ impl BitBuf {
         Ok(())
     }
 
-    /// Replaces the bits from place `start` up to place `stop` by those of another list. Takes no
-    /// memory where the list does not get longer.
+    /// Replaces the bits from place `start` up to place `stop` by the bits of another list.
+    /// Allocates nothing if the list does not get longer.
     pub fn splice(&mut self, start: u64, stop: u64, with: &BitBuf) -> Result<(), Fault>
         requires order { start ≤ stop }
         requires within { stop ≤ length self.old.list }
@@ -273,8 +276,8 @@ impl BitBuf {
         Ok(())
     }
 
-    /// Appends zeros up to a multiple of 8 bits, and the room shrinks by their number. Takes no
-    /// memory and always succeeds: the words of the bits hold the rest of the last byte too.
+    /// Appends zeros up to a multiple of 8 bits; the room shrinks by their number. Allocates
+    /// nothing and always succeeds: the last word also holds the rest of the last byte.
     #[tactic(auto, using(crate::proofs::BitBufLemmas::padded, crate::proofs::PackedLemmas::packed_lengths))]
     pub fn pad_to_byte(&mut self) -> Result<(), Fault>
         ensures succeeds { IsOk result }
@@ -285,8 +288,8 @@ impl BitBuf {
         Ok(())
     }
 
-    /// Returns the bits of bytes, the most significant bit of each first. `Memory` where a growth
-    /// was refused, never for no bytes.
+    /// Returns the bits of bytes, the most significant bit of each first. Fails with `Memory` if an
+    /// allocation fails, never for an empty slice.
     pub fn from_bytes(alloc: Global, bytes: &[u8]) -> Result<BitBuf, Fault>
         ensures ok { IfOk result (λ b. b.list ≡ bits_of_bytes bytes.now) }
         ensures fault { IfErr result (λ e. (e ≡ Memory) × (0 < length bytes.now)) }
@@ -296,7 +299,7 @@ impl BitBuf {
         Ok(bits)
     }
 
-    /// Keeps the first `len` bits, and the room grows by the number of bits cut. Takes no memory.
+    /// Keeps the first `len` bits; the room grows by the number of removed bits. Allocates nothing.
     pub fn truncate(&mut self, len: u64)
         requires { len ≤ length self.old.list }
         ensures list { self.new.list ≡ take len self.old.list }
@@ -310,7 +313,7 @@ impl BitBuf {
 ghost use Rattle.std.specs.Prelude.{◌≡◌};
 ghost use Rattle.aec_params.specs.Cutting.{up_to_multiple};
 
-/// How many bits are missing up to a multiple of 8.
+/// Returns how many bits are missing up to a multiple of 8.
 pub(crate) fn missing_bits(len: u64) -> u64
     ensures { result ≡ up_to_multiple 8 len }
 {

@@ -10,7 +10,7 @@ use aec_params::Fault;
 use std::marker::Model;
 
 /// A place in a list of bits, from which bits are read in order. Contracts see the list and the
-/// place. No call takes memory.
+/// place. No call allocates.
 #[derive(Debug, Drop)]
 pub struct BitReader<'a> {
     buf: &'a BitBuf,
@@ -54,7 +54,7 @@ impl<'a> BitReader<'a> {
         self.pos
     }
 
-    /// Goes to place `pos`.
+    /// Moves to place `pos`.
     pub fn seek(&mut self, pos: u64)
         requires { pos ≤ length self.old.list }
         ensures list { self.new.list ≡ self.old.list }
@@ -83,8 +83,8 @@ impl<'a> BitReader<'a> {
         Ok(value)
     }
 
-    /// Reads zeros and the 1 that ends them; returns how many zeros. Fails with `Truncated` and the
-    /// present place if no 1 is left.
+    /// Reads zeros and the 1 that ends them. Returns the number of zeros. Fails with `Truncated`
+    /// and the present place if no 1 is left.
     pub fn read_fs(&mut self) -> Result<u64, Fault>
         ensures bits { IfOk result (λ v.
             drop self.old.pos self.old.list ≡ fs v ++ drop (self.old.pos + v + 1) self.old.list) }
@@ -105,8 +105,8 @@ impl<'a> BitReader<'a> {
 
     /// Puts the numbers of the next fundamental sequences into `numbers`, if each is below 64, and
     /// moves past them. Returns false if at one of them the next 64 bits, or those that are left,
-    /// have no 1; `read_fs` may still read it. The reader then hasn't moved, and what `numbers`
-    /// holds isn't said.
+    /// have no 1; `read_fs` may still read it. The reader then hasn't moved, and the contents of
+    /// `numbers` are unspecified.
     #[inline(always)]
     pub fn read_sequences(&mut self, numbers: &mut [u32]) -> bool
         ensures bits { result ≡ true →
@@ -129,9 +129,8 @@ impl<'a> BitReader<'a> {
         }
     }
 
-    /// Puts the numbers that the next `width` bits each spell into `numbers`, the most significant
-    /// bit first. `Truncated` with the present place where fewer bits are left than all of them
-    /// have.
+    /// Fills `numbers` with the next numbers of `width` bits each, the most significant bit first.
+    /// Fails with `Truncated` and the present place if fewer bits are left than all numbers need.
     #[inline(always)]
     pub fn read_numbers(&mut self, width: u32, numbers: &mut [u32]) -> Result<(), Fault>
         requires { width ≤ 32 }
@@ -167,8 +166,8 @@ impl<'a> BitReader<'a> {
         }
     }
 
-    /// Moves past the `count`-th next 1 bit. Returns how many bits that took. Fails with
-    /// `Truncated` and the present place if fewer are left.
+    /// Moves past the next `count` 1 bits. Returns how many bits it moved past. Fails with
+    /// `Truncated` and the present place if fewer 1 bits are left.
     pub fn skip_ones(&mut self, count: u64) -> Result<u64, Fault>
         ensures place { MatchResult result
             (λ gone. behind_ones count (drop self.old.pos self.old.list) ≡ Some gone)
@@ -190,8 +189,8 @@ impl<'a> BitReader<'a> {
         }
     }
 
-    /// Goes to the next multiple of 8, or to the end where that comes first. A place that is a
-    /// multiple of 8 stays.
+    /// Moves to the next multiple of 8, or to the end if that comes first. Doesn't move from a
+    /// multiple of 8.
     pub fn skip_to_byte(&mut self)
         ensures list { self.new.list ≡ self.old.list }
         ensures pos { self.new.pos
@@ -201,7 +200,7 @@ impl<'a> BitReader<'a> {
         self.pos = (self.pos + missing_bits(self.pos)).min(len);
     }
 
-    /// Returns whether no bit that is left is a 1. True at the end.
+    /// Returns whether all bits that are left are zeros. True at the end.
     pub fn rest_is_zero(&self) -> bool
         ensures { result ≡ not (has_one (drop self.now.pos self.now.list)) }
     {

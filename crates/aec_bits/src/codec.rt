@@ -8,7 +8,7 @@ ghost use Rattle.aec_bits.specs.Codec.{Format, IsLawful, IsInterval, BeginsAt};
 use crate::bit_buf::BitBuf;
 use aec_params::Fault;
 
-/// A coder of intervals, with counts of what it was called for.
+/// A coder of intervals. It counts the coded intervals and the calls of `decode`.
 pub trait Codec {
     /// The bits of an interval, the greatest number of samples in one, and which numbers are
     /// samples.
@@ -17,31 +17,31 @@ pub trait Codec {
     /// The count of coded intervals, from where the codec began to count.
     ghost called: { Self → ℕ };
 
-    /// The count of calls of `decode`, up to the greatest number of 64 bits.
+    /// The count of `decode` calls, at most `u64::MAX`.
     ghost read: { Self → ℕ };
 
-    /// The format is lawful, as `IsLawful` says: intervals of one length are told apart by their
-    /// bits.
+    /// The format is lawful, as `IsLawful` says: the bits of intervals distinguish those of one
+    /// length.
     ghost lawful: { (c : Self) → IsLawful (format c) };
 
-    /// The greatest number of samples in an interval, 1 to 262,144.
+    /// Returns the greatest number of samples in an interval, 1 to 262,144.
     fn interval_len(&self) -> u64
         ensures { result ≡ (format self.now).most };
 
-    /// Whether a number is a sample.
+    /// Returns whether a number is a sample.
     fn holds(&self, x: i64) -> bool
         ensures { result ≡ (format self.now).holds x };
 
-    /// The count of coded intervals, from where the codec began to count.
+    /// Returns the count of coded intervals, from where the codec began to count.
     fn calls(&self) -> u64
         ensures { result ≡ called self.now };
 
-    /// The count of calls of `decode`, up to the greatest number of 64 bits.
+    /// Returns the count of `decode` calls, at most `u64::MAX`.
     fn reads(&self) -> u64
         ensures { result ≡ read self.now };
 
-    /// Appends the bits of an interval. Fails with `Spent` exactly if `calls` is `u64::MAX`, then
-    /// with `Memory` if a growth is refused; the bits and `calls` are then as before.
+    /// Appends the bits of an interval. Fails with `Spent` exactly if `calls` is `u64::MAX`, else
+    /// with `Memory` if an allocation fails; on an error the bits and `calls` are unchanged.
     fn code(&mut self, samples: &[i64], out: &mut BitBuf) -> Result<(), Fault>
         requires { IsInterval (format self.old) samples.now }
         ensures ok { OnOk result (out.new.list
@@ -55,7 +55,7 @@ pub trait Codec {
         ensures same_format { format self.new ≡ format self.old };
 
     /// Appends the `count` samples of the interval whose bits begin at place `pos`. Fails with
-    /// `Memory` if a growth is refused; the samples in `out` are then as before.
+    /// `Memory` if an allocation fails; the samples in `out` are then unchanged.
     fn decode(
         &mut self,
         stream: &BitBuf,

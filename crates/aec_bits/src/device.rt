@@ -7,49 +7,51 @@ ghost use Rattle.aec_bits.specs.Devices.{FailsOnce, counted};
 
 use aec_params::Fault;
 
-/// Bytes to be taken in order.
+/// A source of bytes, which are taken in order.
 pub trait Source {
-    /// The bytes that are left to be taken, where they are known.
+    /// The bytes that are left to be taken, if they are known.
     ghost left: { Self → Option (List ℕ) };
 
-    /// How often the source has failed: 0, and from the first failure on 1.
+    /// 1 if the source has failed, else 0.
     ghost failed: { Self → ℕ };
 
-    /// Puts the next bytes at the front of `buf`. The number of them, which is 0 only at the end or
-    /// for an empty `buf`. `Read` where the source fails or has failed; nothing is taken then.
+    /// Puts the next bytes at the front of `buf`. Returns their number, which is 0 only at the end
+    /// or for an empty `buf`. Fails with `Read` if the source fails or has failed before; nothing
+    /// is then taken.
     fn take(&mut self, buf: &mut [u8]) -> Result<usize, Fault>
         ensures bound { IfOk result (λ k. k ≤ length buf.new) }
         ensures bytes { ReadConsumes (left self.old) (left self.new) result buf.new }
         ensures failure { FailsOnce ReadFault (failed self.old) (failed self.new) result };
 
-    /// How often the source has failed: 0, and from the first failure on 1.
+    /// Returns 1 if the source has failed, else 0.
     fn failures(&self) -> u64
         ensures { result ≡ failed self.now };
 }
 
-/// Takes bytes in order.
+/// A sink, which takes bytes in order.
 pub trait Sink {
-    /// The bytes that the sink has taken, where they are known.
+    /// The bytes that the sink has taken, if they are known.
     ghost taken: { Self → Option (List ℕ) };
 
-    /// How often the sink has failed: 0, and from the first failure on 1.
+    /// 1 if the sink has failed, else 0.
     ghost failed: { Self → ℕ };
 
-    /// How often `begin` has been called, refused calls too, up to the greatest number of 64 bits.
+    /// The count of `begin` calls, refused calls included, at most `u64::MAX`.
     ghost begun: { Self → ℕ };
 
-    /// What the sink had taken when `begin` was called last, where this kind of sink tells it.
+    /// The bytes that the sink had taken at the last call of `begin`, if they are known.
     ghost mark: { Self → Option (List ℕ) } = { λ _. None };
 
-    /// Makes ready for bytes, and takes none. `Write` where the sink fails or has failed.
+    /// Makes the sink ready for bytes, and takes none. Fails with `Write` if the sink fails or has
+    /// failed before.
     fn begin(&mut self) -> Result<(), Fault>
         ensures bytes { Keeps (taken self.old) (taken self.new) }
         ensures count { begun self.new ≡ counted (begun self.old) }
         ensures order { Keeps (mark self.new) (taken self.old) }
         ensures failure { FailsOnce WriteFault (failed self.old) (failed self.new) result };
 
-    /// Takes bytes from the front of the piece. The number of them, which is 0 only for an empty
-    /// piece. `Write` where the sink fails or has failed; it has taken nothing then.
+    /// Takes bytes from the front of the piece. Returns their number, which is 0 only for an empty
+    /// piece. Fails with `Write` if the sink fails or has failed before; nothing is then taken.
     fn put(&mut self, piece: &[u8]) -> Result<usize, Fault>
         ensures bound { IfOk result (λ k. k ≤ length piece.now) }
         ensures progress { IfOk result (λ k. 0 < length piece.now → 0 < k) }
@@ -58,11 +60,11 @@ pub trait Sink {
         ensures order { mark self.new ≡ mark self.old }
         ensures failure { FailsOnce WriteFault (failed self.old) (failed self.new) result };
 
-    /// How often the sink has failed: 0, and from the first failure on 1.
+    /// Returns 1 if the sink has failed, else 0.
     fn failures(&self) -> u64
         ensures { result ≡ failed self.now };
 
-    /// How often `begin` has been called.
+    /// Returns how often `begin` has been called.
     fn begins(&self) -> u64
         ensures { result ≡ begun self.now };
 }

@@ -4,8 +4,8 @@ use crate::device::{Sink, Source};
 use aec_params::Fault;
 use std::io::{Read, Write};
 
-/// The bytes of a reader. Any error of a read is a failure, also an interrupted one; after it each
-/// further call of `take` fails.
+/// The bytes of a reader. Any error of a read is a failure, an interrupted read included. After a
+/// failure each further call of `take` fails.
 #[derive(Drop)]
 pub struct ReadSource<R> {
     inner: R,
@@ -15,7 +15,7 @@ pub struct ReadSource<R> {
 impl<R: Read> ReadSource<R> {
     ghost use Rattle.std.specs.Prelude.{◌≡◌};
 
-    /// Returns a source of the bytes that the reader has left. Takes no memory.
+    /// Returns a source of the bytes that the reader has left. Allocates nothing.
     pub fn new(inner: R) -> ReadSource<R>
         ensures left { ⟦<ReadSource<R> as Source>⟧.left result ≡ R.remaining inner }
         ensures failed { ⟦<ReadSource<R> as Source>⟧.failed result ≡ 0 }
@@ -60,9 +60,9 @@ impl<R: Read> Source for ReadSource<R> {
     }
 }
 
-/// Takes bytes into a writer. Any error of a write is a failure, also an interrupted one, and so is
-/// a write that takes nothing of a piece that isn't empty; after it each further call of `put` or
-/// `begin` fails.
+/// Takes bytes into a writer. Any error of a write is a failure, an interrupted write included; so
+/// is a write that takes nothing of a piece that isn't empty. After a failure each further call of
+/// `put` or `begin` fails.
 #[derive(Drop)]
 pub struct WriteSink<W> {
     inner: W,
@@ -73,7 +73,7 @@ pub struct WriteSink<W> {
 impl<W: Write> WriteSink<W> {
     ghost use Rattle.std.specs.Prelude.{◌≡◌};
 
-    /// Returns a sink that appends to what the writer holds. Takes no memory.
+    /// Returns a sink that appends to what the writer holds. Allocates nothing.
     pub fn new(inner: W) -> WriteSink<W>
         ensures taken { ⟦<WriteSink<W> as Sink>⟧.taken result ≡ W.contents inner }
         ensures failed { ⟦<WriteSink<W> as Sink>⟧.failed result ≡ 0 }

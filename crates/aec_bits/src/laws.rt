@@ -22,7 +22,7 @@ pub struct Octets {
 impl Octets {
     ghost use Rattle.std.specs.Prelude.{◌≡◌};
 
-    /// A codec that counts on from so many calls. Takes no memory.
+    /// Returns a codec whose count begins at `calls`. Allocates nothing.
     pub fn new(_alloc: Global, calls: u64) -> Octets
         ensures format { ⟦<Octets as Codec>⟧.format result ≡ octets }
         ensures calls { ⟦<Octets as Codec>⟧.called result ≡ calls }
@@ -87,7 +87,8 @@ impl Codec for Octets {
     }
 }
 
-/// Samples cut at the end of an interval have the code of both parts, one after the other.
+/// If samples are cut at the end of an interval, their code is the codes of both parts, one after
+/// the other.
 pub fn cuts_at_intervals()
     ensures { CutsAtIntervals }
 {}
@@ -103,17 +104,17 @@ pub fn stands_between()
     ensures { StandsBetween }
 {}
 
-/// Of a lawful codec a code and a number of samples have one list of samples, whatever bits follow.
+/// With a lawful codec, a code and a number of samples determine the samples, whatever bits follow.
 pub fn has_one_list()
     ensures { HasOneList }
 {}
 
-/// An edit at a place past the samples is refused for that, whatever its values are.
+/// An edit at a place past the samples is refused for its place, whatever its values are.
 pub fn judges_places_first()
     ensures { JudgesPlacesFirst }
 {}
 
-/// An append or an insertion past the limit is refused for it, whatever its values are.
+/// An append or an insertion past the limit is refused for the limit, whatever its values are.
 pub fn judges_the_limit_first()
     ensures { JudgesTheLimitFirst }
 {}

@@ -14,7 +14,7 @@ ghost use Rattle.aec_bits.specs.Words.{bits_of_words};
 ghost use Rattle.aec_bits.specs.WordBits.{word_bits};
 ghost use Rattle.aec_bits.specs.Windows.{bits_from};
 
-/// The number that `width` bits of a word spell from place `at` on.
+/// Returns the number that `width` bits of a word spell from place `at` on.
 #[inline(always)]
 fn part_of(word: u64, at: u32, width: u32) -> u64
     requires { IsPartOfWord at width }
@@ -24,7 +24,7 @@ fn part_of(word: u64, at: u32, width: u32) -> u64
     (word << at) >> (64 - width)
 }
 
-/// The word that begins at place `at` of a word, with another one after it.
+/// Returns the word that begins at place `at` of the first of two consecutive words.
 #[inline(always)]
 fn joined(first: u64, second: u64, at: u32) -> u64
     requires { IsInnerPlace at }
@@ -33,7 +33,7 @@ fn joined(first: u64, second: u64, at: u32) -> u64
     (first << at) | (second >> (64 - at))
 }
 
-/// The number that `width` bits spell from place `start` on, the most significant first.
+/// Returns the number that `width` bits spell from place `start` on, the most significant first.
 #[inline(always)]
 pub(crate) fn number_at(words: &[u64], start: u64, width: u32) -> u64
     requires width { width ≤ 64 }
@@ -52,7 +52,7 @@ pub(crate) fn number_at(words: &[u64], start: u64, width: u32) -> u64
     part_of(joined(words[place], words[place + 1], at), 0, width)
 }
 
-/// The word whose bits begin at place `start`.
+/// Returns the word whose bits begin at place `start`.
 #[inline(always)]
 pub(crate) fn word_at(words: &[u64], start: u64) -> u64
     requires { start + 64 ≤ 64 * length words.now }
@@ -67,7 +67,7 @@ pub(crate) fn word_at(words: &[u64], start: u64) -> u64
     joined(words[place], words[place + 1], at)
 }
 
-/// A word, or zero past the end.
+/// Returns the word at a place, or zero past the end.
 #[inline(always)]
 fn word_or_zero(words: &[u64], place: usize) -> u64
     ensures { result ≡ slice_index_or words.now place 0 }
@@ -78,7 +78,7 @@ fn word_or_zero(words: &[u64], place: usize) -> u64
     }
 }
 
-/// The word whose bits begin at place `start`; zeros stand past the end.
+/// Returns the word whose bits begin at place `start`; bits past the end are zeros.
 #[inline(always)]
 pub(crate) fn padded_word_at(words: &[u64], start: u64) -> u64
     requires { start ≤ 64 * length words.now }
@@ -92,7 +92,7 @@ pub(crate) fn padded_word_at(words: &[u64], start: u64) -> u64
     word_or_zero(words, place) << at
 }
 
-/// A word of which `width` bits from place `at` on were overwritten by a number.
+/// Returns a word with `width` bits from place `at` on overwritten by a number.
 #[inline(always)]
 fn put_in_word(word: u64, at: u32, width: u32, value: u64) -> u64
     requires part { IsPartOfWord at width }
@@ -128,7 +128,8 @@ pub(crate) fn put_number(words: &mut [u64], start: u64, width: u32, value: u64)
     words[place + 1] = second;
 }
 
-/// How many zeros a word has from place `at` on before a 1 bit; `None` if no 1 bit follows in it.
+/// Returns the number of zeros in a word from place `at` up to the next 1 bit; `None` if none
+/// follows.
 #[inline(always)]
 fn zeros_in_word(word: u64, at: u32) -> Option<u32>
     requires { at < 64 }
@@ -144,7 +145,7 @@ fn zeros_in_word(word: u64, at: u32) -> Option<u32>
     Some(rest.leading_zeros() - at)
 }
 
-/// How many zeros come from place `start` on before a 1 bit; `None` if no 1 bit follows.
+/// Returns the number of zeros from place `start` up to the next 1 bit; `None` if no 1 bit follows.
 pub(crate) fn zeros_at(words: &[u64], start: u64) -> Option<u64>
     requires within { start ≤ 64 * length words.now }
     requires bound { 64 * length words.now ≤ 2 ^ 63 }

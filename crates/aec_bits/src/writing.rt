@@ -1,4 +1,4 @@
-//! The bytes that a list of bits fills, written to a sink or put into a buffer.
+//! Writes the bytes that a list of bits fills to a sink or into a buffer.
 
 ghost use Rattle.std.specs.Prelude.{◌≡◌, ◌+◌, ◌-◌, ◌/◌, ◌%◌, ◌<◌, ◌≤◌, min, length, take, drop, OnOk, OnErr, IfErr};
 ghost use Rattle.std.specs.Io.KnownBytes.{Appends};
@@ -10,14 +10,14 @@ use crate::bit_buf::BitBuf;
 use crate::device::Sink;
 use aec_params::Fault;
 
-/// How many bytes are handed to a sink at a time. They are on the stack, and fewer than those that
-/// an engine reads at a time. So the stack doesn't grow when writing begins.
+/// The number of bytes that a sink gets at a time. They are on the stack, and fewer than an engine
+/// reads at a time, so the stack doesn't grow when writing begins.
 const PIECE_LEN: usize = 4096;
 
 impl BitBuf {
-    /// Appends the bytes that the bits fill to what the sink has taken; zeros fill the last one.
-    /// `Write` where the sink fails, which has then taken the front of these bytes. Takes no
-    /// memory, and doesn't call `begin`.
+    /// Writes the bytes that the bits fill to the sink; zeros fill up the last byte. Fails with
+    /// `Write` if the sink fails; the sink has then taken a first part of these bytes. Allocates
+    /// nothing, and doesn't call `begin`.
     pub fn write_to<W: Sink>(&self, out: &mut W) -> Result<(), Fault>
         ensures ok { OnOk result (Appends (W.taken out.old) (W.taken out.new)
             (bytes_of self.now.list)) }
@@ -40,8 +40,8 @@ impl BitBuf {
         Ok(())
     }
 
-    /// Replaces all bytes of a buffer of the right length by those that the bits fill; zeros fill
-    /// the last one.
+    /// Replaces all bytes of a buffer of the right length by the bytes that the bits fill; zeros
+    /// fill up the last byte.
     pub fn put_bytes(&self, out: &mut [u8])
         requires { length out.old ≡ length (bytes_of self.now.list) }
         ensures { out.new ≡ bytes_of self.now.list }
@@ -50,8 +50,8 @@ impl BitBuf {
     }
 }
 
-/// Puts the bytes from byte `first` on into a piece, as many as it holds and there are. The number
-/// of them.
+/// Puts the bytes from byte `first` on into a piece, until it is full or none are left. Returns
+/// their number.
 fn fill(buf: &BitBuf, first: u64, piece: &mut [u8]) -> usize
     requires within { first ≤ length (bytes_of buf.now.list) }
     requires eights { first % 8 ≡ 0 }
@@ -68,7 +68,7 @@ fn fill(buf: &BitBuf, first: u64, piece: &mut [u8]) -> usize
     count
 }
 
-/// Puts all bytes of a piece to a sink, in as many calls as it needs.
+/// Writes all bytes of a piece to a sink, in one call of `put` after another.
 pub fn put_all<W: Sink>(out: &mut W, piece: &[u8]) -> Result<(), Fault>
     ensures ok { OnOk result (Appends (W.taken out.old) (W.taken out.new) piece.now) }
     ensures front { OnErr result (AppendsFront (W.taken out.old) (W.taken out.new) piece.now) }

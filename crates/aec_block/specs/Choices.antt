@@ -11,7 +11,7 @@ use Rattle.aec_block.specs.declared.choice.Coding.{Coding}
 use Rattle.aec_block.specs.declared.choice.Coding.TheVariants.{NoCompression, SecondExtension, Split}
 use Rattle.aec_block.specs.declared.choice.Choice.{Choice}
 
--- a reference sample's pattern fits n bits, where there is one
+-- a reference sample's pattern fits n bits, if there is one
 abbrev pub FitsReference : Settings → Option ℕ → Type 0
 FitsReference s reference = HasReference s (is_some reference) reference
 
@@ -52,6 +52,6 @@ pub record Names (s : Settings) (b : Block) (c : CodedDataSet) (choice : Choice)
 abbrev pub IsChoice : Settings → Block → Choice → Type 0
 IsChoice s b choice = Names s b (shortest_spelling s b) choice
 
--- the coding with so many bits, where it is shorter than the best so far, and else that
+-- the coding with `bits` bits if it is shorter than the best so far, else the best so far
 abbrev pub shorter_choice : Choice → Coding → ℕ → Choice
 shorter_choice best coding bits = if nat_lt bits best.bits then record { coding = coding; bits = bits } else best

@@ -1,5 +1,5 @@
--- How the private functions of reading answer: what was taken, in the place of a result, and values
--- where they are small enough. `read_cds` and `skip_cds` cite none of this.
+-- What the private functions of reading return: what was taken, instead of a result, and values if
+-- they are small enough. `read_cds` and `skip_cds` cite none of this.
 use Rattle.std.specs.Prelude.{◌≡◌, ◌≤◌, ◌^◌, ℕ, Bool, nat_lt, true, false, if◌then◌else◌, Option, Some, None, Result, Ok, Err, List, ◌∷◌, length, drop}
 use Rattle.std.specs.List.{list_all}
 use Rattle.aec_bits.specs.BitReader.{Cursor}
@@ -27,7 +27,7 @@ as_taken_by f (Err e) rest = nothing
 abbrev pub no_values : List ℕ → Unit {0}
 no_values values = tt
 
--- something, where a test holds
+-- something, if a test holds
 abbrev pub when : {X : Type 0} → Bool → X → Option X
 when b x = if b then Some x else None
 
@@ -35,25 +35,24 @@ when b x = if b then Some x else None
 abbrev pub all_below : ℕ → List ℕ → Bool
 all_below limit values = list_all (λ v. nat_lt v limit) values
 
--- values, where they are below the limit
+-- values, if they are below the limit
 abbrev pub small_values : ℕ → List ℕ → Option (List ℕ)
 small_values limit values = when (all_below limit values) values
 
--- the members of pairs, of which the first gives way to 0 in the reference place, where there is
--- one
+-- the members of pairs, with 0 instead of the first member if it is in the reference place
 abbrev pub kept_members : Bool → List ℕ → List ℕ
 kept_members true members = 0 ∷ drop 1 members
 kept_members false members = members
 
--- the members of pairs that are kept, where they are below the limit
+-- the members of pairs that are kept, if they are below the limit
 abbrev pub small_members : ℕ → Bool → List ℕ → Option (List ℕ)
 small_members limit placed members = small_values limit (kept_members placed members)
 
--- the block of such values, where they are below the limit
+-- the block of such values, if they are below the limit
 abbrev pub small_block : ℕ → Option ℕ → List ℕ → Option Block
 small_block limit reference values = when (all_below limit values) (block_of_values reference values)
 
--- the block of the members of pairs, where those that are values are below the limit
+-- the block of the members of pairs, if those that are values are below the limit
 abbrev pub pair_block : ℕ → Option ℕ → List ℕ → Option Block
 pair_block limit reference members =
     when (all_below limit (judged_in reference (value_pairs members))) (block_of_members reference members)
@@ -66,9 +65,9 @@ pub record Takes {Y : Type 0} (there : List Bool → Taken Y) (old : Cursor) (re
   pub list : new.list ≡ old.list
   pub within : new.pos ≤ length new.list
 
--- as many fundamental sequences come next as the list before has, and their numbers take its place,
--- where all are below a limit, which the result tells; an error where fewer come. The bits stay,
--- and the place is within them
+-- the numbers of the next fundamental sequences replace the list before, one for one, if all are
+-- below a limit, which the result says; an error if there are fewer. The bits are unchanged, and
+-- the place is within them
 pub record PutsHighs {E : Type 0} (limit : ℕ) (old : Cursor) (before : List ℕ) (result : Result Bool E)
     (new : Cursor) (highs : List ℕ)
     : Type 0 where
@@ -78,8 +77,8 @@ pub record PutsHighs {E : Type 0} (limit : ℕ) (old : Cursor) (before : List �
   pub list : new.list ≡ old.list
   pub within : new.pos ≤ length new.list
 
--- as many numbers come next as the list before has, of so many bits each, and take its place; an
--- error where fewer come. The bits stay, and the place is within them
+-- the next numbers of `width` bits each replace the list before, one for one; an error if there are
+-- fewer. The bits are unchanged, and the place is within them
 pub record PutsNumbers {X E : Type 0} (width : ℕ) (old : Cursor) (before : List ℕ) (result : Result X E) (new : Cursor)
     (numbers : List ℕ) : Type 0 where
   pub taken : values_at (binary_at width) (length before) (bits_at old)
@@ -88,9 +87,9 @@ pub record PutsNumbers {X E : Type 0} (width : ℕ) (old : Cursor) (before : Lis
   pub list : new.list ≡ old.list
   pub within : new.pos ≤ length new.list
 
--- as many values come next as the list before has, split at bit k, and take its place, where all
--- are at most 2^n - 1, which the result tells; an error where fewer come. The bits stay, and the
--- place is within them
+-- the next values, split at bit k, replace the list before, one for one, if all are at most 2^n -
+-- 1, which the result says; an error if there are fewer. The bits are unchanged, and the place is
+-- within them
 pub record PutsSplit {E : Type 0} (s : Settings) (k : ℕ) (old : Cursor) (before : List ℕ) (result : Result Bool E)
     (new : Cursor) (values : List ℕ)
     : Type 0 where

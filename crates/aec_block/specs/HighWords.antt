@@ -5,8 +5,7 @@ use Rattle.std.specs.Prelude.{ℕ, ◌+◌, List, ◌++◌, length}
 use Rattle.aec_params.specs.Codewords.{binary}
 use Rattle.aec_block.specs.Written.{high_parts, Spells}
 
--- a number that goes on from a number of so many bits by the codewords of values without their k
--- low bits
+-- a number of `used` bits, continued by the codewords of values without their k low bits
 abbrev pub GoesOn : ℕ → ℕ → ℕ → List ℕ → ℕ → Type 0
 GoesOn k used start values word =
     Spells (used + length (high_parts k values)) (binary used start ++ high_parts k values) word

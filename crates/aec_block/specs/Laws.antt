@@ -1,4 +1,4 @@
--- The laws of coded data sets: in allowed settings their bits and their place tell which they are.
+-- The laws of coded data sets: in allowed settings their bits and their place determine them.
 use Rattle.std.specs.Prelude.{◌≡◌, ℕ, ◌≤◌, Bool, ◌↔◌, Option, Some, None, List, ◌++◌, length}
 use Rattle.aec_params.specs.declared.settings.Settings.{Settings}
 use Rattle.aec_params.specs.Params.{IsAllowed}
@@ -37,8 +37,8 @@ abbrev pub OneSetStands : Type 0
 OneSetStands = (s : Settings) → IsAllowed s → (is_reference : Bool) (bits : List Bool) (b : ℕ) (c d : CodedDataSet)
     → IsSetAt s is_reference bits b c → IsSetAt s is_reference bits b d → c ≡ d
 
--- the block that a coded data set of a single option stands for: of pairs in a reference block,
--- whatever the first member is; a run of zero blocks is none
+-- the block that a coded data set of a single option stands for: for pairs in a reference block,
+-- whatever the first member is; none for a run of zero blocks
 abbrev pub single_block_of : Option ℕ → Body → Option Block
 single_block_of reference (uncompressed_values values) = Some (block_of_values reference values)
 single_block_of reference (value_pairs members) = Some (block_of_members reference members)

@@ -13,7 +13,7 @@ use Rattle.aec_block.specs.declared.choice.splitting.Splitting.{Splitting}
 use Rattle.aec_block.specs.declared.choice.sums_of_three.ThreeSums.{ThreeSums}
 use Rattle.aec_block.specs.BlockShape.{most_values}
 
--- bits of the reference sample, where there is one
+-- bits of the reference sample, if there is one
 abbrev pub reference_len : Settings → Option ℕ → ℕ
 reference_len s None = 0
 reference_len s (Some r) = s.bits
@@ -22,7 +22,7 @@ reference_len s (Some r) = s.bits
 abbrev pub head_length : Settings → Option ℕ → ℕ
 head_length s reference = id_len s + reference_len s reference
 
--- the values without their k low bits, added up
+-- the sum of the values without their k low bits
 abbrev pub sum_of_shifted : ℕ → List ℕ → ℕ
 sum_of_shifted k values = sum_by (λ v. v / 2 ^ k) values
 
@@ -31,12 +31,12 @@ pub record CanSum (k : ℕ) (values : List ℕ) : Type 0 where
   pub k_below : k < 32
   pub len : length values ≤ most_values
 
--- a total of the values without their k low bits, which is at most so much
+-- the sum of the values without their k low bits, which is at most `most`
 pub record IsSum (k : ℕ) (values : List ℕ) (most total : ℕ) : Type 0 where
   pub sum : total ≡ sum_of_shifted k values
   pub bound : total ≤ most
 
--- eight lanes that add up to so much
+-- eight lanes that add up to `total`
 pub record AddUpTo (lanes : List ℕ) (total : ℕ) : Type 0 where
   pub len : length lanes ≡ 8
   pub sum : sum_l lanes ≡ total
@@ -94,7 +94,7 @@ pairs_length [] = 0
 pairs_length (a ∷ []) = 0
 pairs_length (a ∷ (b ∷ values)) = pair_number a b + 1 + pairs_length values
 
--- the length if it is at most so much; or nothing, if it is above 2^31 bits, which no block by no
+-- the length, at most `most`; or nothing, only if it is above 2^31 bits, which no block by no
 -- compression has
 pub record IsLengthIfShort (bits most : ℕ) (told : Option ℕ) : Type 0 where
   pub some : IfSome told (λ n. (n ≡ bits) × (n ≤ most))

@@ -36,7 +36,7 @@ abbrev pub mapped_offsets : ℕ → ℕ → List ℕ → List ℕ
 mapped_offsets top p [] = []
 mapped_offsets top p (x ∷ xs) = mapped_offset top p x ∷ mapped_offsets top x xs
 
--- the offset for which m is coded at p, where both sides of p have room for it: above p for even m,
+-- the offset for which m is coded at p, if both sides of p have room for it: above p for even m,
 -- below for odd
 abbrev pub near_offset : ℕ → ℕ → ℕ
 near_offset p m = if m % 2 == 0 then p + m / 2 else p - (m / 2 + 1)
@@ -51,12 +51,12 @@ abbrev pub AreNear : ℕ → ℕ → List ℕ → Type 0
 AreNear top p [] = ⊤
 AreNear top p (m ∷ ms) = (m ≤ 2 * offset_room top p) × AreNear top (near_offset p m) ms
 
--- from where differences lead that follow each other, the first from p on, modulo 2^32
+-- the places where consecutive differences start, the first at p, modulo 2^32
 abbrev pub places_before : ℕ → List ℕ → List ℕ
 places_before p [] = []
 places_before p (d ∷ ds) = p ∷ places_before ((p + d) % 2 ^ 32) ds
 
--- and where each leads
+-- the places that these differences lead to
 abbrev pub places_after : ℕ → List ℕ → List ℕ
 places_after p [] = []
 places_after p (d ∷ ds) = ((p + d) % 2 ^ 32) ∷ places_after ((p + d) % 2 ^ 32) ds

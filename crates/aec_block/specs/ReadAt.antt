@@ -8,7 +8,7 @@ use Rattle.aec_params.specs.CodedDataSets.{Body, uncompressed_values, value_pair
 use Rattle.aec_block.specs.declared.reading.Kind.{Kind}
 use Rattle.aec_block.specs.declared.reading.Kind.TheVariants.{ZeroBlocks, SecondExtension, Split, NoCompression}
 
--- what begins the bits, with the bits after it; nothing where none of its kind does
+-- what begins the bits, with the bits after it; `nothing` if nothing of its kind does
 pub data Taken (X : Type 0) : Type 0 where
   nothing : Taken X
   taken : X → List Bool → Taken X
@@ -31,12 +31,12 @@ fs_at [] = nothing
 fs_at (true ∷ bits) = taken 0 bits
 fs_at (false ∷ bits) = map_taken (λ v. v + 1) (fs_at bits)
 
--- the number of so many bits
+-- the number of `width` bits
 abbrev pub binary_at : ℕ → List Bool → Taken ℕ
 binary_at width bits = if nat_le width (length bits) then taken (bits_number (take width bits)) (drop width bits)
     else nothing
 
--- so many numbers in a row
+-- n numbers in a row
 abbrev pub values_at : (List Bool → Taken ℕ) → ℕ → List Bool → Taken (List ℕ)
 values_at value_at zero bits = taken [] bits
 values_at value_at (suc n) bits = then_at (value_at bits)
@@ -44,7 +44,7 @@ values_at value_at (suc n) bits = then_at (value_at bits)
 
 -- ---- the parts of a coded data set
 
--- an identifier of so many bits; one more bit tells the zero block from the second extension
+-- the kind by the last bit of a longer identifier: the zero block or the second extension
 abbrev pub kind_of_last : ℕ → Kind
 kind_of_last last = if last == 0 then ZeroBlocks else SecondExtension
 
@@ -61,7 +61,7 @@ kind_after len number bits = if number == 0 then map_taken kind_of_last (binary_
 abbrev pub kind_at : ℕ → List Bool → Taken Kind
 kind_at len bits = then_at (binary_at len bits) (kind_after len)
 
--- the reference sample, where one is due
+-- the reference sample, if one is due
 abbrev pub reference_at : Settings → Bool → List Bool → Taken (Option ℕ)
 reference_at s true bits = map_taken (λ r. Some r) (binary_at s.bits bits)
 reference_at s false bits = taken None bits
@@ -89,7 +89,7 @@ pair_with_number (suc m) = next_pair (pair_with_number m)
 abbrev pub before_members : Pair → List ℕ → List ℕ
 before_members p members = p.first ∷ (p.second ∷ members)
 
--- the members of so many pairs
+-- the members of n pairs
 abbrev pub members_at : ℕ → List Bool → Taken (List ℕ)
 members_at zero bits = taken [] bits
 members_at (suc n) bits = then_at (fs_at bits)
@@ -105,7 +105,7 @@ joined_values k (high ∷ highs) (low ∷ lows) = (high * 2 ^ k + low) ∷ joine
 abbrev pub lows_at : ℕ → ℕ → List ℕ → List Bool → Taken (List ℕ)
 lows_at k n highs bits = map_taken (joined_values k highs) (values_at (binary_at k) n bits)
 
--- so many values, split at bit k
+-- n values, split at bit k
 abbrev pub split_at : ℕ → ℕ → List Bool → Taken (List ℕ)
 split_at k n bits = then_at (values_at fs_at n bits) (lows_at k n)
 

@@ -1,5 +1,4 @@
--- What the reading of a coded data set answers: what the one stands for that begins at the
--- position.
+-- What reading a coded data set returns: what the one that begins at the position stands for.
 use Rattle.std.specs.Prelude.{◌≡◌, ℕ, ◌+◌, ◌<◌, Bool, true, false, Option, Some, None, List, length, ⊤}
 use Rattle.aec_params.specs.declared.settings.Settings.{Settings}
 use Rattle.aec_params.specs.Params.{id_len}
@@ -19,7 +18,7 @@ use Rattle.aec_block.specs.declared.reading.Kind.TheVariants.{ZeroBlocks, Second
 use Rattle.aec_block.specs.ReadAt.{Taken, nothing, taken, set_of, kind_at, cds_at}
 use Rattle.aec_block.specs.Gathering.{when}
 
--- a run's number of blocks, or `Rest` if only the place would give it (as `told_blocks` has it)
+-- a run's number of blocks, or `Rest` if it depends on the place (as `told_blocks` has it)
 abbrev pub as_run_len : Option ℕ → RunLen
 as_run_len None = Rest
 as_run_len (Some z) = Blocks z
@@ -39,12 +38,12 @@ answer_of reference (zero_blocks m) = Zeros reference (run_len_of m)
 abbrev pub cds_of : CodedDataSet → Cds
 cds_of c = answer_of c.reference c.body
 
--- what it stands for, where its values are at most 2^n - 1 (as the code judges it; the clauses of
+-- what it stands for, if its values are at most 2^n - 1 (as the code judges it; the clauses of
 -- `read_cds` prove that this is the format's reading)
 abbrev pub checked : Settings → CodedDataSet → Option Cds
 checked s c = when (has_small_values s c) (cds_of c)
 
--- what a reference and a body stand for, where the values are at most 2^n - 1
+-- what a reference and a body stand for, if the values are at most 2^n - 1
 abbrev pub checked_body : Settings → Option ℕ → Body → Option Cds
 checked_body s reference body = checked s (set_of reference body)
 
@@ -53,12 +52,12 @@ abbrev pub as_cds : Found → Block → Cds
 as_cds SingleFound block = Single block
 as_cds (ZerosFound reference len) block = Zeros reference len
 
--- what was found, with the block that it was read into, where something was found
+-- what was found, with the block that it was read into, if something was found
 abbrev pub as_read : Option Found → Block → Option Cds
 as_read None block = None
 as_read (Some found) block = Some (as_cds found block)
 
--- k is below 32 where it is a splitting option's
+-- the k of a splitting option is below 32
 abbrev pub HasShortSplit : Kind → Type 0
 HasShortSplit (Split k) = k < 32
 HasShortSplit ZeroBlocks = ⊤

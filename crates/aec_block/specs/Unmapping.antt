@@ -16,7 +16,7 @@ pub record Unmaps (s : Settings) (p : ℤ) (values : List ℕ) (old new : List �
   pub mapped : mapped_after s p more ≡ values
 
 -- new samples are the old ones and those that values stand for, the first of them predicted from p;
--- `last` is the last of them, or p where there are none
+-- `last` is the last of them, or p if there are none
 pub record UnmapsTo (s : Settings) (p last : ℤ) (values : List ℕ) (old new : List ℤ) : Type 0 where
   pub so_far : Unmaps s p values old new
   pub last_is : last_or (Some p) so_far.more ≡ Some last
@@ -27,12 +27,12 @@ pub record IsOnlySample (s : Settings) (p : ℤ) (m : ℕ) (x : ℤ) : Type 0 wh
   pub undone : mapped_value s p x ≡ m
   pub only : (y : ℤ) → IsHeld s y → mapped_value s p y ≡ m → y ≡ x
 
--- held samples, and as many places for their values
+-- held samples, and a list of equal length for their values
 pub record HaveValuePlaces (s : Settings) (samples : List ℤ) (places : List ℕ) : Type 0 where
   pub held : AllByRecursion (IsHeld s) samples
   pub len : length samples ≡ length places
 
--- values of n bits, and as many places for their samples
+-- values of n bits, and a list of equal length for their samples
 pub record HaveSamplePlaces (s : Settings) (values : List ℕ) (places : List ℤ) : Type 0 where
   pub mapped : AllByRecursion (λ v. v < 2 ^ s.bits) values
   pub len : length places ≡ length values
@@ -42,8 +42,8 @@ pub record PutsSamples (s : Settings) (p : ℤ) (values : List ℕ) (old new : L
   pub items : Unmaps s p values [] new
   pub len : length new ≡ length old
 
--- where samples are predicted, values that stand for samples after the one at an offset, and as
--- many places for these
+-- with preprocessing, values that stand for samples after the one at an offset, and a list of equal
+-- length for these
 pub record CanUnmap (s : Settings) (offset : ℕ) (values : List ℕ) (places : List ℤ) : Type 0 where
   pub on : s.preprocess ≡ true
   pub within : offset ≤ top_offset s

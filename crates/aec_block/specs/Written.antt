@@ -24,7 +24,7 @@ pub record FitsPart (width value : ℕ) : Type 0 where
   pub narrow : width < 64
   pub fits : value < 2 ^ width
 
--- the values can be split at bit k, below 32, and take so many bits without their k low bits
+-- the values can be split at bit k, below 32, and take `len` bits without their k low bits
 -- (computed once)
 pub record IsHighLen (k : ℕ) (values : List ℕ) (len : ℕ) : Type 0 where
   pub k_below : k < 32

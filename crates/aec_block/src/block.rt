@@ -4,12 +4,12 @@ use smallvec::SmallVec;
 use std::alloc::Global;
 use std::marker::Model;
 
-/// The most values of a block.
+/// The greatest number of values in a block.
 pub const MOST_VALUES: usize = 64;
 
-/// A block of at most 64 mapped values, and the reference sample's pattern if it has one: then the
-/// first value is 0 (the reference place). The values lie in the block itself, so no call takes
-/// memory.
+/// A block of at most 64 mapped values, and the reference sample's pattern if it has one. The first
+/// value is then 0 (the reference place). The values are stored in the block itself, so no call
+/// allocates.
 #[derive(Debug, Drop)]
 pub struct Block {
     reference: Option<u32>,
@@ -20,7 +20,7 @@ ghost use Rattle.std.specs.Prelude.{◌≡◌, ◌≤◌, [], length};
 ghost use Rattle.aec_params.specs.Places.{placed_values};
 ghost use Rattle.aec_block.specs.BlockShape.{most_values};
 
-/// How many values stand in the reference place.
+/// Returns the number of values in the reference place, 0 or 1.
 pub(crate) fn places_before(reference: Option<u32>) -> usize
     ensures value { result ≡ length (placed_values reference []) }
     ensures most { result ≤ 1 }
@@ -31,7 +31,7 @@ pub(crate) fn places_before(reference: Option<u32>) -> usize
 /// The values of a block of zeros, which are copied faster than they are pushed.
 static ZEROS: [u32; MOST_VALUES] = [0; MOST_VALUES];
 
-/// Replaces values by so many zeros.
+/// Replaces the values by `len` zeros.
 fn set_len(values: &mut SmallVec<u32, MOST_VALUES>, len: usize)
     requires most { len ≤ most_values }
     requires room { values.old.capacity ≡ most_values }
@@ -62,7 +62,7 @@ impl Block {
     ghost use Rattle.aec_params.specs.Spellings.{written_values};
     ghost use Rattle.aec_block.specs.BlockShape.{most_values, IsSound};
 
-    /// Returns a block with no values but the 0 in the reference place, where there is a reference.
+    /// Returns a block with no values, except the 0 in the reference place if there is a reference.
     pub fn new(alloc: Global, reference: Option<u32>) -> Block
         ensures reference { result.reference ≡ reference }
         ensures values { result.values ≡ placed_values reference [] }
@@ -74,8 +74,8 @@ impl Block {
         Block { reference, values }
     }
 
-    /// Begins anew with so many values, of which the one in the reference place is 0, where there
-    /// is a reference. What the others are isn't said.
+    /// Restarts the block with `len` values. If there is a reference, the value in its place is 0.
+    /// The other values are unspecified.
     #[inline(always)]
     pub(crate) fn restart(&mut self, reference: Option<u32>, len: usize)
         requires most { len ≤ most_values }
@@ -116,7 +116,7 @@ impl Block {
         self.values.as_slice()
     }
 
-    /// Returns the pattern of the reference sample, where the block has one.
+    /// Returns the pattern of the reference sample, if the block has one.
     pub fn reference(&self) -> Option<u32>
         ensures value { result ≡ self.now.reference }
         ensures sound { IsSound self.now }
@@ -124,7 +124,7 @@ impl Block {
         self.reference
     }
 
-    /// The block, lent.
+    /// Borrows the block.
     #[inline(always)]
     pub(crate) fn lent(&self) -> BlockRef<'_>
         ensures { result ≡ self.now }
@@ -163,8 +163,8 @@ impl<'a> BlockRef<'a> {
     ghost use Rattle.aec_params.specs.Spellings.{written_values};
     ghost use Rattle.aec_block.specs.BlockShape.{block_with, most_values, IsSound};
 
-    /// The block of a reference, where there is one, and of values with the one in the reference
-    /// place.
+    /// Returns the block of a reference, if there is one, and of values with the one in the
+    /// reference place.
     #[inline(always)]
     pub(crate) fn new(reference: Option<u32>, values: &'a [u32]) -> BlockRef<'a>
         requires { IsSound (block_with reference values.now) }
@@ -173,7 +173,7 @@ impl<'a> BlockRef<'a> {
         BlockRef { reference, values }
     }
 
-    /// The values, with the one in the reference place.
+    /// Returns the values, with the one in the reference place.
     #[inline(always)]
     pub(crate) fn values(&self) -> &'a [u32]
         ensures value { result.now ≡ self.now.values }
@@ -182,7 +182,7 @@ impl<'a> BlockRef<'a> {
         self.values
     }
 
-    /// The pattern of the reference sample, where the block has one.
+    /// Returns the pattern of the reference sample, if the block has one.
     #[inline(always)]
     pub(crate) fn reference(&self) -> Option<u32>
         ensures value { result ≡ self.now.reference }
@@ -191,7 +191,7 @@ impl<'a> BlockRef<'a> {
         self.reference
     }
 
-    /// The values that are written one by one: those after the reference place, where there is
+    /// Returns the values that are written one by one: those after the reference place, if there is
     /// one.
     #[inline(always)]
     #[tactic(auto, using(crate::proofs::BlockLemmas::some_values))]

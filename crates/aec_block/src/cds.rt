@@ -2,10 +2,10 @@
 
 use crate::block::Block;
 
-/// How many zero blocks a run stands for.
+/// The number of zero blocks that a run stands for.
 #[derive(Clone, Copy, Debug, PartialEq, Eq)]
 pub enum RunLen {
-    /// So many.
+    /// This many.
     Blocks(u64),
     /// All that the segment has left: the remainder code.
     Rest,
@@ -16,7 +16,7 @@ pub enum RunLen {
 pub enum Cds {
     /// One block, by any option.
     Single(Block),
-    /// A run of zero blocks, of which the first has the reference sample where there is one.
+    /// A run of zero blocks; the first has the reference sample if there is one.
     Zeros { reference: Option<u32>, len: RunLen },
 }
 
@@ -25,8 +25,8 @@ pub enum Cds {
 pub enum Found {
     /// One block, by any option: the block that it was read into.
     Single,
-    /// A run of zero blocks, of which the first has the reference sample where there is one. What
-    /// stands in the block that was lent isn't said.
+    /// A run of zero blocks; the first has the reference sample if there is one. The contents of
+    /// the lent block are unspecified.
     Zeros { reference: Option<u32>, len: RunLen },
 }
 
@@ -36,7 +36,7 @@ impl Found {
     ghost use Rattle.aec_block.specs.ReadCds.{as_cds};
     ghost use Rattle.aec_block.specs.SkipCds.{read_len};
 
-    /// For how many blocks it stands.
+    /// Returns how many blocks the coded data set stands for.
     pub fn stands_for(self) -> RunLen
         ensures { (values : Values) → result ≡ read_len (as_cds self values) }
     {

@@ -37,7 +37,7 @@ pub struct Choice {
     pub bits: u64,
 }
 
-/// How many sample-splitting options there are, by the length of identifiers.
+/// Returns how many sample-splitting options there are, by the length of identifiers.
 #[inline(always)]
 fn split_options(params: &Params, id_len: u32) -> u32
     requires allowed { IsAllowed params.now }
@@ -48,7 +48,7 @@ fn split_options(params: &Params, id_len: u32) -> u32
     (1 << id_len) - 2
 }
 
-/// The option of so many bits, where it is shorter than the best so far, and else that one.
+/// Returns the option of `bits` bits if it is shorter than the best so far, else the best so far.
 #[inline(always)]
 fn shorter_of(best: Choice, coding: Coding, bits: u64) -> Choice
     ensures { result ≡ shorter_choice best coding bits }
@@ -60,7 +60,7 @@ fn shorter_of(best: Choice, coding: Coding, bits: u64) -> Choice
     }
 }
 
-/// The second extension, where it is shorter than the best so far, and else that one.
+/// Returns the second extension if it is shorter than the best so far, else the best so far.
 #[inline(always)]
 #[tactic(auto, using(crate::proofs::ChoiceLemmas::too_long))]
 fn shorter_of_pairs(params: &Params, id_len: u32, block: &BlockRef, best: Choice) -> Choice
@@ -74,9 +74,9 @@ fn shorter_of_pairs(params: &Params, id_len: u32, block: &BlockRef, best: Choice
     }
 }
 
-/// Whether the second extension is longer than splitting: where there are splitting options, and k
-/// isn't 0 or the values add up to their number or more, since a pair's codeword has at least twice
-/// as many bits as the pair adds up to.
+/// Returns whether there are splitting options and either k isn't 0 or the values add up to at
+/// least their number. The second extension is then longer than splitting, since a pair's codeword
+/// has at least twice as many bits as the pair adds up to.
 #[inline(always)]
 fn pairs_are_longer(options: u32, split: Splitting, count: u64) -> bool
     requires { count ≤ most_values }
@@ -85,7 +85,7 @@ fn pairs_are_longer(options: u32, split: Splitting, count: u64) -> bool
     0 < options && (0 < split.k || 2 * count <= split.bits)
 }
 
-/// Splitting, where it is shorter than the best so far, and else that one.
+/// Returns splitting if it is shorter than the best so far, else the best so far.
 #[inline(always)]
 fn shorter_of_split(
     params: &Params,
@@ -103,8 +103,8 @@ fn shorter_of_split(
     shorter_of(best, Coding::Split(split.k), u64::from(head) + split.bits)
 }
 
-/// The shortest option for a block whose values after the reference place are given too, so that
-/// their number can be known where this is inlined.
+/// Returns the shortest option for a block whose values after the reference place are given too, so
+/// that their number can be known where this is inlined.
 #[inline(always)]
 pub(crate) fn choose_among(params: &Params, id_len: u32, block: &BlockRef, values: &[u32]) -> Choice
     requires { IsPrepared params.now id_len block.now values.now }

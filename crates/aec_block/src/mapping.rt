@@ -14,9 +14,9 @@ ghost use Rattle.aec_block.specs.Unmapping.{IsOnlySample};
 
 use aec_params::Params;
 
-/// What is coded for the offset `x` at the prediction `p`: differences within the room on both
-/// sides of `p` count in turn on both sides, those beyond it go on from there. Twice a difference
-/// within the room, and one less below `p`; no branch depends on the sample.
+/// Returns the value that is coded for the offset `x` at the prediction `p`. Differences within the
+/// room on both sides of `p` alternate between the sides: twice the difference, and one less below
+/// `p`. Larger ones are numbered after these. No branch depends on the sample.
 pub(crate) fn map_offset(top: u32, p: u32, x: u32) -> u32
     requires prediction { p ≤ top }
     requires offset { x ≤ top }
@@ -28,8 +28,8 @@ pub(crate) fn map_offset(top: u32, p: u32, x: u32) -> u32
     distance + distance.min(room) - u32::from((x < p) & (distance <= room))
 }
 
-/// The offset for which `m` is coded at the prediction `p`. What it would be on either side of the
-/// room's end is computed before one is taken, so that no branch depends on the sign or parity.
+/// Returns the offset for which `m` is coded at the prediction `p`. Computes the offsets on both
+/// sides of the room's end before it takes one, so that no branch depends on the sign or parity.
 pub(crate) fn unmap_offset(top: u32, p: u32, m: u32) -> u32
     requires prediction { p ≤ top }
     requires mapped { m ≤ top }
@@ -46,7 +46,7 @@ pub(crate) fn unmap_offset(top: u32, p: u32, m: u32) -> u32
     if m <= 2 * room { near } else { far }
 }
 
-/// The offset of the greatest sample.
+/// Returns the offset of the greatest sample.
 #[tactic(auto, using(crate::proofs::MappingLemmas::offsets))]
 pub(crate) fn greatest_offset(params: &Params) -> u32
     ensures value { result ≡ top_offset params.now }
@@ -55,7 +55,7 @@ pub(crate) fn greatest_offset(params: &Params) -> u32
     ((1u64 << params.bits()) - 1) as u32
 }
 
-/// How far a sample lies above the least one.
+/// Returns how far a sample lies above the least one.
 #[tactic(auto, using(crate::proofs::MappingLemmas::offsets))]
 pub(crate) fn offset_of(params: &Params, x: i64) -> u32
     requires { IsHeld params.now x }
@@ -65,7 +65,7 @@ pub(crate) fn offset_of(params: &Params, x: i64) -> u32
     x.abs_diff(params.x_min()) as u32
 }
 
-/// How far a number lies above another.
+/// Returns how far a number lies above another.
 pub(crate) fn offset_above(least: i64, x: i64) -> u32
     requires above { least ≤ℤ x }
     requires near { unsigned_abs (x -ℤ least) < 2 ^ 32 }
@@ -74,7 +74,7 @@ pub(crate) fn offset_above(least: i64, x: i64) -> u32
     (x - least) as u32
 }
 
-/// The sample that lies so far above the least one.
+/// Returns the sample that lies `offset` above the least one.
 #[tactic(auto, using(crate::proofs::MappingLemmas::offsets))]
 fn sample_at(params: &Params, offset: u32) -> i64
     requires { offset ≤ top_offset params.now }
@@ -84,8 +84,8 @@ fn sample_at(params: &Params, offset: u32) -> i64
     params.x_min() + i64::from(offset)
 }
 
-/// Returns what is coded for the sample `x` at the prediction `p`; without preprocessing the
-/// sample's pattern. Below `2^n`.
+/// Returns the value, below `2^n`, that is coded for the sample `x` at the prediction `p`: without
+/// preprocessing, the sample's pattern.
 #[tactic(auto, using(crate::proofs::MappingLemmas::mapping))]
 pub fn map(params: &Params, p: i64, x: i64) -> u32
     requires prediction { IsHeld params.now p }

@@ -34,7 +34,7 @@ pub(crate) enum Kind {
     NoCompression,
 }
 
-/// The kind that the next bits identify.
+/// Reads the kind that the next bits identify.
 #[inline(always)]
 pub(crate) fn read_kind(params: &Params, reader: &mut BitReader) -> Result<Kind, Fault>
     requires within { reader.old.pos ≤ length reader.old.list }
@@ -60,7 +60,7 @@ pub(crate) fn read_kind(params: &Params, reader: &mut BitReader) -> Result<Kind,
     })
 }
 
-/// The reference sample's pattern.
+/// Reads the reference sample's pattern.
 #[inline(always)]
 pub(crate) fn read_pattern(params: &Params, reader: &mut BitReader) -> Result<u32, Fault>
     requires within { reader.old.pos ≤ length reader.old.list }
@@ -71,7 +71,7 @@ pub(crate) fn read_pattern(params: &Params, reader: &mut BitReader) -> Result<u3
     Ok(pattern as u32)
 }
 
-/// The reference sample's pattern, where one is due.
+/// Reads the reference sample's pattern, if one is due.
 #[inline(always)]
 pub(crate) fn read_reference(
     params: &Params,
@@ -89,7 +89,7 @@ pub(crate) fn read_reference(
     Ok(Some(pattern))
 }
 
-/// How many zero blocks the number of a run's code stands for; 4 is the remainder code.
+/// Returns how many zero blocks the number of a run's code stands for; 4 is the remainder code.
 fn run_len(number: u64) -> RunLen
     ensures { result ≡ run_len_of number }
 {
@@ -100,14 +100,14 @@ fn run_len(number: u64) -> RunLen
     }
 }
 
-/// One block, where its values fit.
+/// Returns one block, if its values fit.
 fn single(fit: bool) -> Option<Found>
     ensures { result ≡ when fit Single }
 {
     if fit { Some(Found::Single) } else { None }
 }
 
-/// What follows the identifier and the reference sample, read into the block; none where a
+/// Reads what follows the identifier and the reference sample into the block. Returns `None` if a
 /// value is above the greatest that the width has.
 #[inline(always)]
 pub(crate) fn read_body(
@@ -137,8 +137,8 @@ pub(crate) fn read_body(
     }
 }
 
-/// One coded data set, read into the block; none where a value is above the greatest that the width
-/// has.
+/// Reads one coded data set into the block. Returns `None` if a value is above the greatest that
+/// the width has.
 #[inline(always)]
 fn read_set(
     params: &Params,
@@ -157,11 +157,11 @@ fn read_set(
 }
 
 /// Reads the one coded data set that begins at the reader's place, of a block with a reference
-/// sample or of another, and moves past it. If it stands for one block, `block` then contains it,
-/// whatever it contained before. Fails with `Truncated` if none begins there, with `ValueTooLarge`
-/// if one does with a value above the greatest of the width; both name the reader's place, and the
-/// reader hasn't moved. What `block` contains after a run or a refusal isn't said. Never fails with
-/// `Memory`.
+/// sample or of another, and moves past it. If it stands for one block, `block` then contains that
+/// block, whatever it contained before. Fails with `Truncated` if none begins there, with
+/// `ValueTooLarge` if a value of it is above the greatest of the width. Both faults name the
+/// reader's place, and the reader hasn't moved. After a run or a refusal the contents of `block`
+/// are unspecified. Never fails with `Memory`.
 pub fn read_into(
     params: &Params,
     reader: &mut BitReader,
@@ -184,7 +184,7 @@ pub fn read_into(
     Err(fault)
 }
 
-/// A coded data set that was read into a block.
+/// Returns the coded data set that was read into a block.
 fn cds_found(found: Found, block: Block) -> Cds
     ensures { result ≡ as_cds found block }
 {
@@ -196,8 +196,8 @@ fn cds_found(found: Found, block: Block) -> Cds
 
 /// Reads the one coded data set that begins at the reader's place, of a block with a reference
 /// sample or of another, and moves past it. Fails with `Truncated` if none begins there, with
-/// `ValueTooLarge` if one does with a value above the greatest of the width; both name the reader's
-/// place, and the reader hasn't moved. Never fails with `Memory`.
+/// `ValueTooLarge` if a value of it is above the greatest of the width. Both faults name the
+/// reader's place, and the reader hasn't moved. Never fails with `Memory`.
 pub fn read_cds(
     alloc: Global,
     params: &Params,

@@ -1,4 +1,4 @@
-//! The shortest coded data set of a block, compiled for each number of values that is known.
+//! Writes the shortest coded data set of a block, with code compiled for a known number of values.
 
 ghost use Rattle.std.specs.Prelude.{Some, None};
 ghost use Rattle.aec_block.specs.BlockShape.{block_with};
@@ -12,8 +12,8 @@ use aec_bits::BitBuf;
 use aec_params::{Fault, Params};
 
 /// Appends the shortest coded data set of a block of `N` values without a reference. Blocks with a
-/// reference have a function of their own: in a single one the compiler joins code of both kinds,
-/// and blocks of 8 values take up to 5 % more instructions.
+/// reference have a function of their own: in a single function the compiler joins code of both
+/// kinds, and blocks of 8 values take up to 5 % more instructions.
 #[inline(always)]
 fn write_others<const N: usize>(
     params: &Params,
@@ -51,10 +51,10 @@ fn write_first<const N: usize>(
     write_values::<N, WITH_REFERENCE>(params, id_len, &block, after, choice, out)
 }
 
-/// Appends the shortest coded data set of the block of a reference, where there is one, and of `N`
-/// values with the one in the reference place, compiled for that number: what `write_block` appends
-/// by the option of `choose`. `Memory` where a growth was refused, never if there is room for the
-/// coded data set; nothing has changed then.
+/// Appends the shortest coded data set of the block of a reference, if there is one, and of `N`
+/// values with the one in the reference place. Compiled for that number; appends what `write_block`
+/// appends by the option of `choose`. Fails with `Memory` if an allocation fails, never if there is
+/// room for the coded data set; nothing is then changed.
 #[inline(always)]
 pub fn write_shortest_of<const N: usize>(
     params: &Params,

@@ -21,7 +21,7 @@ use crate::skipping::skipped_values::{skip_split, skip_uncompressed};
 use aec_bits::BitReader;
 use aec_params::{Fault, Params};
 
-/// For how many blocks a coded data set stands that was read, where its values fit.
+/// Returns how many blocks a coded data set that was read stands for, if its values fit.
 fn len_read(found: Option<Found>) -> Option<RunLen>
     ensures { (values : Values) → result ≡ option_map read_len (as_read found values) }
 {
@@ -31,16 +31,16 @@ fn len_read(found: Option<Found>) -> Option<RunLen>
     }
 }
 
-/// One block, where its values fit.
+/// Returns one block, if its values fit.
 fn one_block(fit: bool) -> Option<RunLen>
     ensures { result ≡ when fit (Blocks 1) }
 {
     if fit { Some(RunLen::Blocks(1)) } else { None }
 }
 
-/// Goes over what follows the identifier and the reference sample. For how many blocks it
-/// stands; none where a value is above the greatest that the width has. Pairs, and values that are
-/// split at a bit above the width, are read into the block `values`.
+/// Moves past what follows the identifier and the reference sample. Returns how many blocks it
+/// stands for; `None` if a value is above the greatest that the width has. Pairs, and values that
+/// are split at a bit above the width, are read into the block `values`.
 fn skip_body(
     params: &Params,
     reader: &mut BitReader,
@@ -67,8 +67,8 @@ fn skip_body(
     }
 }
 
-/// Goes over one coded data set. For how many blocks it stands; none where a value is above the
-/// greatest that the width has.
+/// Moves past one coded data set. Returns how many blocks it stands for; `None` if a value is above
+/// the greatest that the width has.
 fn skip_set(
     params: &Params,
     reader: &mut BitReader,
@@ -86,10 +86,10 @@ fn skip_set(
     skip_body(params, reader, kind, reference, values)
 }
 
-/// Moves past the one coded data set that begins at the reader's place. `values` is a block that it
-/// may be read into; what is left in it isn't said. Returns for how many blocks the coded data set
-/// stands: one, those of its run, or all that the segment has left. The refusals are those of
-/// `read_into`; the reader then hasn't moved. Never fails with `Memory`.
+/// Moves past the one coded data set that begins at the reader's place. It may be read into the
+/// block `values`, whose contents are then unspecified. Returns how many blocks the coded data set
+/// stands for: one, those of its run, or all that the segment has left. Fails as `read_into` does;
+/// the reader then hasn't moved. Never fails with `Memory`.
 pub fn skip_cds(
     params: &Params,
     reader: &mut BitReader,

@@ -1,4 +1,4 @@
-//! What is written for one block, and for a run of zero blocks.
+//! Writes one block, or a run of zero blocks.
 
 mod after_reference;
 mod gathered;
@@ -26,7 +26,7 @@ use crate::writing::joined_low_parts::low_word;
 use aec_bits::BitBuf;
 use aec_params::{Fault, Params};
 
-/// Gathers the reference sample, where there is one.
+/// Gathers the reference sample, if there is one.
 #[inline(always)]
 fn put_reference(
     params: &Params,
@@ -44,7 +44,7 @@ fn put_reference(
     }
 }
 
-/// Gathers an identifier of so many bits and the reference sample, where there is one.
+/// Gathers an identifier of `width` bits, and the reference sample, if there is one.
 #[inline(always)]
 #[tactic(auto, using(crate::proofs::WritingLemmas::parts))]
 fn put_head(
@@ -81,8 +81,8 @@ fn put_each_low_part(
     gathered
 }
 
-/// Gathers the lowest `width` bits of each value: of `N` values at a time, and one by one of the
-/// last few, fewer than `N`.
+/// Gathers the lowest `width` bits of each value: `N` values at a time, and the last few, fewer
+/// than `N`, one by one.
 #[tactic(auto, using(crate::proofs::WritingLemmas::behind))]
 #[inline(always)]
 fn put_low_groups<const N: usize>(
@@ -103,8 +103,8 @@ fn put_low_groups<const N: usize>(
     put_each_low_part(&values[whole..], width, gathered, out)
 }
 
-/// Gathers the lowest `width` bits of each value, as many values at a time as fit a word with those
-/// of two, four or eight, or of all seven after a reference.
+/// Gathers the lowest `width` bits of each value, two, four or eight values at a time, as their
+/// bits fit a word, or all seven after a reference.
 #[inline(always)]
 fn put_low_parts(values: &[u32], width: u32, gathered: Gathered, out: &mut BitBuf) -> Gathered
     requires width { width ≤ 32 }
@@ -196,8 +196,8 @@ fn put_paired(params: &Params, id_len: u32, block: &BlockRef, out: &mut BitBuf)
     put_pairs(block.values(), head, out).append_to(out);
 }
 
-/// How many of the bits of a block that is split with `k` are those of its values without their low
-/// bits.
+/// Returns how many bits of a block that is split with `k` are those of its values without their
+/// low bits.
 #[inline(always)]
 fn high_len(
     params: &Params,
@@ -216,7 +216,7 @@ fn high_len(
     bits - head - values.len() as u64 * u64::from(k)
 }
 
-/// Appends a block by splitting with `k`, for which there is room, in so many bits.
+/// Appends a block by splitting with `k`, in `bits` bits, for which there is room.
 #[tactic(auto, using(crate::proofs::WritingLemmas::parts))]
 #[inline(always)]
 fn put_split(
@@ -248,9 +248,10 @@ pub(crate) const WITHOUT_REFERENCE: usize = 1;
 /// The copy for blocks of a known number of values with a reference.
 pub(crate) const WITH_REFERENCE: usize = 2;
 
-/// Appends the coded data set of a block whose values after the reference place are given too, by
-/// the option of `choose`. `Memory` where a growth was refused. `N` and `COPY` are for the compiler
-/// alone: it inlines this much code only into a single caller, so each caller has its own copy.
+/// Appends the coded data set of a block by the option of `choose`. The values after the reference
+/// place are given too. Fails with `Memory` if an allocation fails. `N` and `COPY` are for the
+/// compiler alone: it inlines this much code only into a single caller, so each caller has its own
+/// copy.
 #[inline(always)]
 pub(crate) fn write_values<const N: usize, const COPY: usize>(
     params: &Params,
@@ -277,9 +278,9 @@ pub(crate) fn write_values<const N: usize, const COPY: usize>(
     Ok(())
 }
 
-/// Appends the coded data set of a block that is in no run, by the option of `choose`. `Memory`
-/// where a growth was refused, never if there is room for the coded data set; nothing has changed
-/// then.
+/// Appends the coded data set of a block that is in no run, by the option of `choose`. Fails with
+/// `Memory` if an allocation fails, never if there is room for the coded data set; nothing is then
+/// changed.
 pub fn write_block(
     params: &Params,
     block: &Block,
@@ -294,8 +295,8 @@ pub fn write_block(
     write_values::<0, OF_ANY_BLOCK>(params, params.id_len(), &lent, lent.written(), choice, out)
 }
 
-/// The number that the code of a run of `z` blocks spells: 4, the remainder code, for a run of five
-/// or more that ends its segment.
+/// Returns the number that the code of a run of `z` blocks spells: 4, the remainder code, for a run
+/// of five or more that ends its segment.
 fn code_of_run(z: u32, to_end: bool) -> u32
     requires { 1 ≤ z }
     ensures { result ≡ run_code z to_end }
@@ -309,9 +310,9 @@ fn code_of_run(z: u32, to_end: bool) -> u32
     }
 }
 
-/// Appends the coded data set of a run of `z` zero blocks, of which the first has the reference
-/// where there is one, and which ends its segment or not. `Memory` where a growth was refused,
-/// never if there is room for the coded data set; nothing has changed then.
+/// Appends the coded data set of a run of `z` zero blocks. The first has the reference, if there is
+/// one; `to_end` says whether the run ends its segment. Fails with `Memory` if an allocation fails,
+/// never if there is room for the coded data set; nothing is then changed.
 #[inline(always)]
 #[tactic(auto, using(crate::proofs::WritingLemmas::parts))]
 pub fn write_run(

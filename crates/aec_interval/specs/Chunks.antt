@@ -12,12 +12,12 @@ use Rattle.aec_params.specs.Blocks.{Block, filled_samples, reference_of, with_re
 use Rattle.aec_block.specs.BlockShape.{IsSound}
 use Rattle.aec_block.specs.Choices.{IsFull}
 
--- the values of samples after the sample before them; after none an interval starts
+-- the values of samples after the sample before them; if there is none before, an interval starts
 abbrev pub values_after : Settings → Option ℤ → List ℤ → List ℕ
 values_after s None v = mapped_values s v
 values_after s (Some previous) v = mapped_after s previous v
 
--- the reference sample of a block after them, where there is one
+-- the reference sample of a block after the sample before it, if there is one
 abbrev pub reference_after : Settings → Option ℤ → List ℤ → Option ℕ
 reference_after s None v = reference_of s v
 reference_after s (Some previous) v = None
@@ -27,7 +27,7 @@ abbrev pub block_after : Settings → Option ℤ → List ℤ → Block
 block_after s previous v =
     record { reference = reference_after s previous v; values = values_after s previous (filled_samples s v) }
 
--- it is this one, which can be coded
+-- b is `block_after` of these samples, and it can be coded
 pub record IsFilledBlock (s : Settings) (previous : Option ℤ) (v : List ℤ) (b : Block) : Type 0 where
   pub value : b ≡ block_after s previous v
   pub full : IsFull s b
@@ -39,12 +39,12 @@ blocks_after s previous v =
     with_reference (reference_after s previous v)
     (pieces_of s.block_size (values_after s previous (filled_samples s v)))
 
--- the sample before is one of the settings, where there is one
+-- the sample before, if there is one, is a sample of the settings
 abbrev pub HoldsPrevious : Settings → Option ℤ → Type 0
 HoldsPrevious s None = ⊤
 HoldsPrevious s (Some previous) = IsHeld s previous
 
--- samples after the one before them, at most so many blocks
+-- samples after the one before them, at most `most` blocks
 pub record AreSamplesAfter (s : Settings) (previous : Option ℤ) (most : ℕ) (v : List ℤ) : Type 0 where
   pub previous_held : HoldsPrevious s previous
   pub held : AllByRecursion (IsHeld s) v

@@ -1,5 +1,5 @@
--- What a coder that is fed in pieces was meant to say: however its input is cut, it gives the
--- stream of all samples.
+-- The laws of a coder that is fed in pieces: however its input is cut, the result is the stream of
+-- all samples.
 use Rattle.std.specs.Prelude.{◌≡◌, ℕ, ◌≤◌, Bool, Ok, ℤ, List, [], ◌++◌, length}
 use Rattle.std.specs.List.{flat_map}
 use Rattle.aec_params.specs.declared.settings.Settings.{Settings}
@@ -27,7 +27,7 @@ pub record IsStreamSoFar (s : Settings) (limit : ℕ) (bytes : List ℕ) (before
 -- however bytes are cut into pieces, a new coder's stream or refusal is that of the same bytes in
 -- one piece
 pub record CutsMakeNoDifference (s : Settings) (limit : ℕ) : Type 0 where
-  -- where all pieces are taken, what was appended and what `finish` appends is the stream of the
+  -- if all pieces are taken, what was appended and what `finish` appends is the stream of the
   -- samples of all bytes
   pub stream : (pieces : List (List ℕ)) (before after : List Bool) (d : Coder)
       → FeedsAll (fresh_coder s limit) pieces before after d
@@ -41,8 +41,8 @@ pub record CutsMakeNoDifference (s : Settings) (limit : ℕ) : Type 0 where
       (fault : Fault)
       → FeedsAll (fresh_coder s limit) pieces before between d → StopsFeeding d piece between after fault
       → StopsFeeding (fresh_coder s limit) (all_bytes pieces ++ (piece ++ rest)) before after fault
-  -- which is the one of all samples: the first that is out of range before the limit, or too many
-  -- of them
+  -- which is the refusal of all samples: the first that is out of range before the limit, or too
+  -- many of them
   pub judged : (bytes : List ℕ) → (taken_of (fresh_coder s limit) bytes).refusal
       ≡ judged_samples limit (samples_of_bytes s bytes)
   -- step by step: nothing is taken at first, and a piece more after what was taken

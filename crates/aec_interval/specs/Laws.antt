@@ -1,4 +1,4 @@
--- What the definitions of intervals, streams and readings were meant to say.
+-- The laws of intervals, streams and readings.
 use Rattle.std.specs.Prelude.{◌≡◌, ℕ, ◌<◌, ◌≤◌, Bool, false, Option, Some, ◌⊎◌, ⊤, ℤ, List, [], ◌∷◌, ◌++◌, length}
 use Rattle.std.specs.List.{AllByRecursion, flat_map}
 use Rattle.aec_params.specs.declared.settings.Settings.{Settings}
@@ -10,7 +10,7 @@ use Rattle.aec_params.specs.Streams.{stream_of}
 use Rattle.aec_params.specs.Reading.{ReadsBlocks, IsReading}
 use Rattle.aec_params.specs.Faults.{IsFault}
 
--- held samples of one interval: at least one, and no more than it has places
+-- held samples of one interval: at least one, and no more than an interval has
 pub record AreOfInterval (s : Settings) (samples : List ℤ) : Type 0 where
   pub held : AllByRecursion (IsHeld s) samples
   pub some : 0 < length samples
@@ -28,7 +28,7 @@ IntervalsAreTold = (s : Settings) (a b : List ℤ) (x y : List Bool) → IsAllow
     → AreOfInterval s b → length a ≡ length b
     → interval_bits s a ++ x ≡ interval_bits s b ++ y → (a ≡ b) × (x ≡ y)
 
--- the code of samples, read with their count, gives the samples, whatever bits follow
+-- the code of samples, read with their count, is read as these samples, whatever bits follow
 abbrev pub StreamsAreReadBack : Type 0
 StreamsAreReadBack = (s : Settings) (limit : ℕ) (samples : List ℤ) (rest : List Bool) → IsAllowed s
     → AllByRecursion (IsHeld s) samples
@@ -69,16 +69,17 @@ ReadsEach s [] [] = ⊤
 ReadsEach s (code ∷ codes) (v ∷ intervals) = ReadsBlocks s code (blocks_of s v) × ReadsEach s codes intervals
 ReadsEach s codes intervals = ⊥
 
--- such codes for the intervals of samples, one after the other, are read with the count of the
--- samples as the samples, whatever bits follow, where nothing is padded
+-- if nothing is padded, such codes for the intervals of samples, one after the other, are read with
+-- the count of the samples as the samples, whatever bits follow
 abbrev pub EachCodeIsRead : Type 0
 EachCodeIsRead = (s : Settings) (limit : ℕ) (samples : List ℤ) (codes : List (List Bool)) (rest : List Bool)
     → IsAllowed s → s.pad ≡ false
     → AllByRecursion (IsHeld s) samples → ReadsEach s codes (intervals_of s samples)
     → IsReading s (Some (length samples)) limit (flat_map (λ code. code) codes ++ rest) samples
 
--- no coded data sets for the blocks of an interval have fewer bits than its code, and none for
--- those of all intervals than the code of all samples, where nothing is padded
+-- no coded data sets for the blocks of an interval have fewer bits than its code before padding; if
+-- nothing is padded, none for the blocks of all intervals have fewer bits than the code of all
+-- samples
 pub record CodesAreShortest (s : Settings) (samples : List ℤ) : Type 0 where
   pub interval : AreOfInterval s samples → (bits : List Bool) → ReadsBlocks s bits (blocks_of s samples)
       → length (unpadded_bits s samples) ≤ length bits

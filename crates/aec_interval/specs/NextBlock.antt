@@ -33,13 +33,13 @@ IsNextBlock s samples b = IsBlockOf s (s.preprocess && (length samples % interva
 abbrev pub FillsNext : Settings → List ℤ → List ℤ → List Block → Type 0
 FillsNext s old new more = (blocks : List Block) → FillBlocks s old blocks → FillBlocks s new (blocks ++ more)
 
--- so many zero blocks, the first with this reference
+-- z zero blocks, the first with this reference
 abbrev pub run_blocks : Settings → Option ℕ → ℕ → List Block
 run_blocks s reference zero = []
 run_blocks s reference (suc z) = zero_block s reference ∷ replicate z (zero_block s None)
 
 -- the sample that a zero block with this reference repeats after these: that of its reference, or
--- else the prediction, and 0 where nothing is predicted
+-- else the prediction, or 0 if nothing is predicted
 abbrev pub sample_of_zeros : Settings → Option ℕ → List ℤ → ℤ
 sample_of_zeros s (Some r) samples = pattern_value s r
 sample_of_zeros s None samples = if s.preprocess then last_sample samples else pos 0

@@ -1,6 +1,6 @@
 -- For proofs alone: no public contract cites this file.
 -- What the private functions of `reading` compute: what a coded data set that was read stands for
--- after so many blocks. The contract of `decode_all` cites `IsReading` and `IsFault` instead.
+-- after other blocks. The contract of `decode_all` cites `IsReading` and `IsFault` instead.
 use Rattle.std.specs.Prelude.{ℕ, ◌+◌, ◌-◌, ◌%◌, ◌≤◌, min, nat_lt, if◌then◌else◌, Option, Some, None, Result, Ok, Err, ℤ, List, [], ◌∷◌}
 use Rattle.std.specs.Int.{div_ceil}
 use Rattle.aec_params.specs.declared.settings.Settings.{Settings}
@@ -16,7 +16,7 @@ use Rattle.aec_block.specs.declared.cds.Cds.{Cds}
 use Rattle.aec_block.specs.declared.cds.Cds.TheVariants.{Single, Zeros}
 use Rattle.aec_interval.specs.NextBlock.{IsNextBlock, run_blocks}
 
--- how many blocks the length of a run is at block p of an interval
+-- how many blocks the length of a run means at block p of an interval
 abbrev pub run_count : Settings → ℕ → RunLen → ℕ
 run_count s p (Blocks z) = z
 run_count s p Rest = segment_left s p
@@ -39,14 +39,15 @@ kept_count s (Some count) i z = min z (div_ceil count s.block_size - i)
 abbrev pub blocks_before_end : Settings → ℕ → ℕ
 blocks_before_end s i = s.interval - i % s.interval
 
--- it can come after samples of i blocks, and so many of its blocks are in their interval
+-- what was read can come after samples of i blocks, and its first `kept` blocks are in their
+-- interval
 abbrev pub IsNextCds : Settings → ℕ → List ℤ → ℕ → Cds → Type 0
 IsNextCds s i samples kept (Single b) = IsNextBlock s samples b
 IsNextCds s i samples kept (Zeros reference len) =
     (1 ≤ kept) × ((i % s.interval + kept ≤ s.interval)
     × HasReference s (is_reference_block s (i % s.interval)) reference)
 
--- so many of its blocks
+-- the first `kept` of its blocks
 abbrev pub cds_front : Settings → ℕ → Cds → List Block
 cds_front s kept (Single b) = b ∷ []
 cds_front s kept (Zeros reference len) = run_blocks s reference kept

@@ -36,39 +36,40 @@ abbrev pub bits_of_run : Settings → Option ℕ → ℕ → Bool → List Bool
 bits_of_run s reference zero is_last = []
 bits_of_run s reference (suc z) is_last = run_bits s reference (suc z) is_last
 
--- a run with one zero block more, which has this reference
+-- a run with one more zero block, which has this reference
 abbrev pub longer_run : Run → Option ℕ → Run
 longer_run run reference =
     record { reference = (if run.blocks == 0 then reference else run.reference); blocks = run.blocks + 1 }
 
--- a run of at most so many blocks, whose reference fits
+-- a run of at most `most` blocks, whose reference fits
 pub record IsRun (s : Settings) (most : ℕ) (run : Run) : Type 0 where
   pub few : run.blocks ≤ most
   pub reference : FitsReference s run.reference
 
--- the bits from before stand in front of what there is now
+-- the new bits begin with the old bits
 abbrev pub IsKept : List Bool → List Bool → Type 0
 IsKept old new = take (length old) new ≡ old
 
--- a code is appended; or memory is refused, and the bits from before stay in front
+-- a code is appended; or the fault is `Memory`, and the new bits still begin with the old bits
 pub record Writes (code old : List Bool) (result : Result (Unit {0}) Fault) (new : List Bool) : Type 0 where
   pub ok : OnOk result (new ≡ old ++ code)
   pub kept : IsKept old new
   pub fault : IfErr result (λ e. e ≡ Memory)
 
--- a code is appended; or memory is refused, and the bits are as before
+-- a code is appended; or the fault is `Memory`, and the bits are unchanged
 pub record WritesAll (code old : List Bool) (result : Result (Unit {0}) Fault) (new : List Bool) : Type 0 where
   pub ok : OnOk result (new ≡ old ++ code)
   pub err : OnErr result (new ≡ old)
   pub fault : IfErr result (λ e. e ≡ Memory)
 
--- the samples of one block more of a segment stand after a run
+-- the samples of the next block of a segment come after a run
 pub record AreNext (s : Settings) (previous : Option ℤ) (samples : List ℤ) (before : Run) : Type 0 where
   pub block : AreBlockAfter s previous samples
   pub run : IsRun s (segment_len - 1) before
 
--- a block is taken after a run: whatever blocks come next, what is written with what is then still
--- to be written are the bits of all. The bits from before stay, and memory alone is refused
+-- a block is taken after a run: whatever blocks come next, the written bits and those then still to
+-- be written are together the bits of all. The new bits begin with the old bits, and the only fault
+-- is `Memory`
 pub record TakesBlock (s : Settings) (block : Block) (before : Run) (old : Bits) (result : Result Run Fault)
     (new : Bits) : Type 0 where
   pub ok : (rest : List Block) → IfOk result

@@ -1,5 +1,5 @@
--- What a reading that goes interval by interval was meant to say: its steps together are the
--- reading of all bits.
+-- The laws of a reading that goes interval by interval: its steps together are the reading of all
+-- bits.
 use Rattle.std.specs.Prelude.{◌≡◌, ℕ, ◌%◌, Bool, true, false, Option, ℤ, List, [], ◌++◌}
 use Rattle.aec_params.specs.declared.settings.Settings.{Settings}
 use Rattle.aec_params.specs.declared.fault.Fault.{Fault}
@@ -14,14 +14,14 @@ use Rattle.aec_interval.specs.Pieces.{Place, place_at, is_wanted_at, ReadsInterv
 pub record StepsAreTheReading (p : Place) (xs : List ℤ) : Type 0 where
   -- the samples of a step come after them
   pub more : (ys : List ℤ) (q : Place) → ReadsInterval p ys q → HasRead q (xs ++ ys)
-  -- where no more is wanted they are what the bits are read as
+  -- if no more is wanted, the samples so far are what the bits are read as
   pub all : is_wanted_at p ≡ false → IsReading p.settings p.count p.limit p.bits xs
   -- the refusal of a step is that of all bits
   pub refused : (fault : Fault) → RefusesAt p fault → RefusesReading p.settings p.count p.limit p.bits 0 0 fault
-  -- where the bits are read as samples, a step is refused for want of memory alone
+  -- if the bits are read as samples, a step is refused only with `Memory`
   pub memory_only : (samples : List ℤ) (fault : Fault) → IsReading p.settings p.count p.limit p.bits samples
       → RefusesAt p fault → fault ≡ Memory
-  -- and what was read is a front of them
+  -- and the samples so far are a front of these samples
   pub front : (samples : List ℤ) → (is_wanted_at p ≡ true → p.block % p.settings.interval ≡ 0)
       → IsReading p.settings p.count p.limit p.bits samples
       → (ys : List ℤ) × (samples ≡ xs ++ ys)

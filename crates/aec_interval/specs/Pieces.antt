@@ -42,8 +42,8 @@ pub record ReadsPiece (p : Place) (samples : List ℤ) (q : Place) : Type 0 wher
   pub counted : samples ≡ counted_from p.settings p.count p.block all_samples
   pub same : q ≡ place_at p.settings p.count p.limit p.bits q.block q.bit
 
--- one step: more is wanted where an interval begins, and its samples are read, to its end where
--- more is wanted after them
+-- one step: more is wanted where an interval begins, and its samples are read, to its end if more
+-- is wanted after them
 pub record ReadsInterval (p : Place) (samples : List ℤ) (q : Place) : Type 0 where
   pub wanted : is_wanted_at p ≡ true
   pub begins : p.block % p.settings.interval ≡ 0

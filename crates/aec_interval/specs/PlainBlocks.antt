@@ -19,9 +19,9 @@ pub record IsUntestedAt (s : Settings) (wanted : Wanted) (end i : ℕ) (cursor :
   pub behind : wanted.first < i
   pub untested : IsUntestedEnd s wanted.count wanted.limit wanted.first end
 
--- n blocks further: the list is the same, the samples are held, and where none of the blocks needs
--- a test, each reading that has come to the first with the old samples has come past the last
--- with the new ones
+-- n blocks further: the list is the same, the samples are held, and if none of the blocks needs a
+-- test, each reading that has come to the first with the old samples has come past the last with
+-- the new ones
 pub record ReadsPlain (s : Settings) (n : ℕ) (old : Cursor) (samples : List ℤ) (new : Cursor)
     (more : List ℤ) : Type 0 where
   pub list : new.list ≡ old.list
@@ -37,7 +37,7 @@ pub record FillsBlocks (s : Settings) (most from : ℕ) (old : Cursor) (before :
   pub within : count ≤ most
   pub len : length after ≡ length before
 
--- for how many blocks room is made at once, at most: `BLOCKS_AT_FIRST`, and those of
+-- the greatest number of blocks for which room is made at once: `BLOCKS_AT_FIRST`, and those of
 -- `SAMPLES_AT_ONCE` samples
 abbrev pub most_at_once : Settings → ℕ
 most_at_once s = 2 + 120 / s.block_size

@@ -1,5 +1,5 @@
--- What the private functions of `stream_coder::pieces` keep: a coder that was not refused anything,
--- by its parts. `StreamCoder::feed` cites none of this.
+-- What the private functions of `stream_coder::pieces` keep: a coder without a refusal, by its
+-- parts. `StreamCoder::feed` cites none of this.
 use Rattle.std.specs.Prelude.{◌≡◌, ℕ, ◌+◌, ◌*◌, ◌/◌, ◌%◌, ◌<◌, ◌≤◌, ◌⊎◌, nat_lt, if◌then◌else◌, Bool, Option, None, Result, MatchResult, ℤ, List, [], ◌++◌, length}
 use Rattle.std.specs.Result.{result_err}
 use Rattle.std.specs.List.{AllByRecursion}
@@ -23,7 +23,7 @@ coder_with terms progress rest refusal = record {
   refusal = refusal;
 }
 
--- a coder by its parts, refused nothing
+-- a coder by its parts, without a refusal
 abbrev pub coder_at : Terms → Progress → List ℕ → Coder
 coder_at terms progress rest = coder_with terms progress rest None
 
@@ -43,7 +43,7 @@ pub record IsProgressWithRest (terms : Terms) (so_far : Progress) (rest : List �
   pub progress : IsProgress terms so_far
   pub short : length rest < storage_len terms.params
 
--- so many samples are fewer than an interval has, or those of whole intervals
+-- `count` samples are fewer than an interval has, or those of whole intervals
 abbrev pub IsFewOrWhole : ℕ → ℕ → Type 0
 IsFewOrWhole interval count = (count < interval) ⊎ (count % interval ≡ 0)
 
@@ -61,18 +61,19 @@ pub record IsPart (terms : Terms) (progress : Progress) (bytes : List ℕ) : Typ
   pub good : result_err (samples_of_bytes terms.params bytes) ≡ None
   pub within : progress.count + length bytes / storage_len terms.params ≤ terms.limit
 
--- the answer to a piece: it is taken, and the coder is d then, or it is refused
+-- the result of a piece: it is taken, and the coder is then d, or it is refused
 abbrev pub AnswersPiece : {X : Type 0} → Coder → List ℕ → List Bool → Result X Fault → Coder → List Bool → Type 0
 AnswersPiece c piece before result d after =
     MatchResult result (λ _. Feeds c piece before after d) (λ fault. StopsFeeding c piece before after fault)
 
--- bytes are taken or refused if no sample is begun; samples of an incomplete interval are held then
+-- bytes are taken or refused if no sample is begun; the held samples are then those of an
+-- incomplete interval
 pub record TakesPart (terms : Terms) (old : Progress) (bytes : List ℕ) (before : List Bool)
     (result : Result (Unit {0}) Fault) (new : Progress) (after : List Bool) : Type 0 where
   pub takes : AnswersPiece (coder_at terms old []) bytes before result (coder_at terms new []) after
   pub progress : IsProgress terms new
 
--- the front of a piece is taken, and the coder is d then; `left` is what comes after that front
+-- the front of a piece is taken, and the coder is then d; `left` is what comes after that front
 pub record FeedsFront (c : Coder) (piece left : List ℕ) (before after : List Bool) (d : Coder) : Type 0 where
   pub front : List ℕ
   pub cut : piece ≡ front ++ left

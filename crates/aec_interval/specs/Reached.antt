@@ -8,7 +8,7 @@ use Rattle.aec_params.specs.CodedDataSets.{CodedDataSet}
 use Rattle.aec_params.specs.Reading.{LeadsTo, stream_blocks, kept_blocks, IsBlockReading, FillBlocks, counted_samples}
 use Rattle.aec_params.specs.Faults.{IsFault}
 
--- samples that fill so many blocks (`decode_all` cites `IsReading` and `IsFault` instead of this,
+-- samples that fill `count` blocks (`decode_all` cites `IsReading` and `IsFault` instead of this,
 -- `IsReached` and `IsReadFrom`)
 pub record AreFilled (s : Settings) (count : ℕ) (samples : List ℤ) : Type 0 where
   pub blocks : List Block

@@ -11,8 +11,8 @@ use Rattle.aec_interval.specs.Reached.{IsReached}
 use Rattle.aec_interval.specs.Steps.{IsUntestedEnd}
 use Rattle.aec_interval.specs.PlainBlocks.{IsUntestedAt}
 
--- the samples of all blocks before block `last` are asked for, where a count is given, and else
--- keep the limit; count and limit are at most 2^32, and no interval is padded
+-- the samples of all blocks before block `last` are asked for, if a count is given, and else keep
+-- the limit; count and limit are at most 2^32, and no interval is padded
 pub record AreWithin (s : Settings) (count : Option ℕ) (limit last : ℕ) : Type 0 where
   pub unpadded : s.pad ≡ false
   pub low : limit ≤ 2 ^ 32
@@ -24,8 +24,8 @@ abbrev pub begun_at : Option ℕ → ℕ → ℕ → ℕ → Wanted
 begun_at count limit first start = record { first = first; start = start; count = count; limit = limit }
 
 -- the first block of an interval was read, with its reference sample if there is one: the list is
--- the same, the samples are held, and each reading that begins there is after that block with
--- these samples, where its interval needs no test
+-- the same, the samples are held, and each reading that begins there is after that block with these
+-- samples, if its interval needs no test
 pub record ReadsFirst (s : Settings) (old new : Cursor) (samples : List ℤ) : Type 0 where
   pub list : new.list ≡ old.list
   pub held : AllByRecursion (IsHeld s) samples

@@ -1,6 +1,6 @@
--- Going over coded data sets without their samples: what the private functions of
--- `reading::skipping` compute, what a `StreamReader` answers that goes over an interval, and why
--- there are samples all the same.
+-- Skipping coded data sets without making their samples: what the private functions of
+-- `reading::skipping` compute, what a `StreamReader` that skips an interval returns, and why there
+-- are samples all the same.
 use Rattle.std.specs.Prelude.{◌≡◌, ◌<◌, ◌+◌, ◌-◌, ◌*◌, ◌%◌, ℕ, min, Bool, Option, Some, None, ℤ, List, length}
 use Rattle.aec_params.specs.declared.settings.Settings.{Settings}
 use Rattle.aec_params.specs.declared.fault.Fault.{Fault}

@@ -24,8 +24,8 @@ pub record ComesNext (s : Settings) (i next : ℕ) : Type 0 where
   pub few : next < 2 ^ 34
 
 -- block `last` is a bound, not always the greatest: no block of the interval that begins at block
--- `first` needs a test of its place before it, since each is needed, where there is a count, and
--- keeps the limit, and after none of them does padding follow. It is below 2^34, as all places are
+-- `first` needs a test of its place before it, since each is needed, if there is a count, and keeps
+-- the limit, and after none of them does padding follow. It is below 2^34, as all places are
 pub record IsUntestedEnd (s : Settings) (count : Option ℕ) (limit first last : ℕ) : Type 0 where
   pub within : last ≤ first + s.interval
   pub unpadded : s.pad ≡ true → last < first + s.interval
@@ -33,8 +33,8 @@ pub record IsUntestedEnd (s : Settings) (count : Option ℕ) (limit first last :
   pub keeps : keeps_limit s count limit last ≡ true
   pub few : last < 2 ^ 34
 
--- the interval that begins at block `first` was gone over up to block `next` at position b: to its
--- end, where more is wanted there
+-- the interval that begins at block `first` was skipped up to block `next` at position b: to its
+-- end, if more is wanted there
 pub record IsGoneOver (s : Settings) (count : Option ℕ) (bits : List Bool) (first next b : ℕ) : Type 0 where
   pub forward : first < next
   pub within : next ≤ first + s.interval

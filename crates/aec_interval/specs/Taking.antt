@@ -16,7 +16,7 @@ pub record TakenSamples : Type 0 where
 abbrev pub none_taken : Option Fault → TakenSamples
 none_taken refusal = record { samples = []; refusal = refusal }
 
--- sample i, which is out of range where its bytes are no sample
+-- sample i, which is out of range if its bytes are no sample
 abbrev pub in_range : ℕ → Option ℤ → Result ℤ Fault
 in_range i None = Err (SampleRange i)
 in_range i (Some x) = Ok x

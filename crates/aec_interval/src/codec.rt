@@ -17,8 +17,8 @@ use aec_params::{Fault, Params};
 use std::alloc::Global;
 
 /// A codec of reference sample intervals, each padded by its own length if the parameters pad. It
-/// counts the intervals that it has coded, and the calls of `decode`. Only `code` and `decode` take
-/// memory.
+/// counts the intervals that it has coded, and the calls of `decode`. Only `code` and `decode`
+/// allocate.
 #[derive(Debug, Drop)]
 pub struct AecCodec {
     params: Params,
@@ -30,7 +30,7 @@ pub struct AecCodec {
 }
 
 impl AecCodec {
-    /// Returns a codec whose count begins at 0. Takes no memory.
+    /// Returns a codec whose count begins at 0. Allocates nothing.
     pub fn new(alloc: Global, params: Params) -> AecCodec
         ensures params { result.params ≡ params }
         ensures format { ⟦<AecCodec as Codec>⟧.format result ≡ interval_format params }
@@ -40,7 +40,7 @@ impl AecCodec {
         AecCodec::with_calls(alloc, params, 0)
     }
 
-    /// Returns a codec whose count begins at `calls`. Takes no memory.
+    /// Returns a codec whose count begins at `calls`. Allocates nothing.
     pub fn with_calls(alloc: Global, params: Params, calls: u64) -> AecCodec
         ensures params { result.params ≡ params }
         ensures format { ⟦<AecCodec as Codec>⟧.format result ≡ interval_format params }
@@ -94,8 +94,8 @@ impl Codec for AecCodec {
         self.reads
     }
 
-    /// Appends the code of an interval. Fails with `Spent` exactly if `calls` is `u64::MAX`, then
-    /// with `Memory` if a growth is refused; the bits and `calls` are then as before.
+    /// Appends the code of an interval. Fails with `Spent` exactly if `calls` is `u64::MAX`, else
+    /// with `Memory` if an allocation fails; on an error the bits and `calls` are unchanged.
     fn code(&mut self, samples: &[i64], out: &mut BitBuf) -> Result<(), Fault>
         requires { IsInterval (interval_format self.old.params) samples.now }
         ensures ok { OnOk result (out.new.list
@@ -117,7 +117,7 @@ impl Codec for AecCodec {
     }
 
     /// Appends the `count` samples of the interval whose code begins at bit `pos`. Fails with
-    /// `Memory` if a growth is refused; the samples in `out` are then as before.
+    /// `Memory` if an allocation fails; the samples in `out` are then unchanged.
     fn decode(
         &mut self,
         stream: &BitBuf,
@@ -141,7 +141,7 @@ impl Codec for AecCodec {
     }
 }
 
-/// How many intervals are coded with one more; none where they are the greatest number of 64 bits.
+/// Returns the count of coded intervals plus one; `None` if the count is `u64::MAX`.
 fn one_call_more(calls: u64) -> Option<u64>
     ensures some { IfSome result (λ more. more ≡ calls + 1) }
     ensures none { (result ≡ None) ↔ (calls ≡ 2 ^ 64 - 1) }
@@ -149,7 +149,7 @@ fn one_call_more(calls: u64) -> Option<u64>
     calls.checked_add(1)
 }
 
-/// How often a codec was asked to decode with one time more, up to the greatest number of 64 bits.
+/// Returns the count of `decode` calls plus one, at most `u64::MAX`.
 fn one_read_more(reads: u64) -> u64
     ensures { result ≡ counted reads }
 {
@@ -157,7 +157,7 @@ fn one_read_more(reads: u64) -> u64
 }
 
 /// Appends the `count` samples of the interval whose code begins at bit `pos`. Fails with `Memory`
-/// if a growth is refused; the samples in `out` are then as before.
+/// if an allocation fails; the samples in `out` are then unchanged.
 fn append_decoded(
     alloc: Global,
     params: &Params,
@@ -182,8 +182,8 @@ fn append_decoded(
     append_list(&samples, out)
 }
 
-/// Puts the first `count` samples that the bits from this place on stand for, those of one interval
-/// at most, into an empty list.
+/// Puts the first `count` samples that the bits from place `pos` on stand for, at most those of one
+/// interval, into an empty list.
 fn read_counted(
     alloc: Global,
     params: &Params,
@@ -216,8 +216,8 @@ fn read_counted(
     Ok(())
 }
 
-/// Puts the samples of such an interval into an empty list. `Memory` where a growth was refused;
-/// the list is then empty.
+/// Puts the samples of the interval whose code begins at bit `pos` into an empty list. Fails with
+/// `Memory` if an allocation fails; the list is then empty.
 fn fill_empty(
     alloc: Global,
     params: &Params,
@@ -244,7 +244,7 @@ fn fill_empty(
     }
 }
 
-/// Appends samples. `Memory` where a growth was refused.
+/// Appends samples. Fails with `Memory` if an allocation fails.
 fn append_list(samples: &[i64], out: &mut Vec<i64>) -> Result<(), Fault>
     ensures ok { OnOk result (out.new.items ≡ out.old.items ++ samples.now) }
     ensures fault { IfErr result (λ e. e ≡ Memory) }

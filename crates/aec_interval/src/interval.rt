@@ -30,7 +30,7 @@ use aec_block::write_shortest_of;
 use aec_params::{Fault, Params};
 use std::alloc::Global;
 
-/// Whether a segment goes on after the first blocks of its interval, which are so many.
+/// Returns whether a segment goes on after the first `blocks` blocks of its interval.
 #[inline(always)]
 fn segment_goes_on(blocks: u32, interval: u32) -> bool
     ensures inside { result ≡ true → (blocks < interval) × (0 < blocks % segment_len) }
@@ -40,7 +40,7 @@ fn segment_goes_on(blocks: u32, interval: u32) -> bool
 }
 
 /// Takes the samples of the next block of a segment, after a run: by code compiled for `N` if they
-/// are a whole block of `N`, else by `write_short`. A zero block joins the run, any other one is
+/// are a whole block of `N`, else by `write_short`. A zero block joins the run, any other block is
 /// written after it. Returns the run that is then still to be written. Fails with `Memory` if an
 /// allocation fails.
 #[inline(always)]
@@ -70,7 +70,7 @@ fn write_next<const N: usize>(
     Ok(NO_RUN)
 }
 
-/// How many zero bits pad the bits from `start` up to `end` to whole bytes.
+/// Returns how many zero bits pad the bits from `start` up to `end` to whole bytes.
 fn missing_bits(start: u64, end: u64) -> u32
     requires { start ≤ end }
     ensures value { result ≡ up_to_multiple 8 (end - start) }
@@ -140,8 +140,8 @@ fn write_known_intervals<const N: usize>(
     end_interval(&own, start, out)
 }
 
-/// Appends the code of samples, interval by interval. `Memory` where a growth was refused; the bits
-/// from before are then still in front.
+/// Appends the code of samples, interval by interval. Fails with `Memory` if an allocation fails;
+/// `out` then still begins with its old bits.
 pub(crate) fn write_intervals(
     alloc: Global,
     params: &Params,
@@ -161,8 +161,8 @@ pub(crate) fn write_intervals(
     )
 }
 
-/// Appends the code of samples, interval by interval. `Memory` where a growth was refused; the bits
-/// are then as before.
+/// Appends the code of samples, interval by interval. Fails with `Memory` if an allocation fails;
+/// the bits are then unchanged.
 pub(crate) fn append_intervals(
     alloc: Global,
     params: &Params,
@@ -180,8 +180,8 @@ pub(crate) fn append_intervals(
     written
 }
 
-/// Appends the code of an interval. `Memory` where a growth was refused; the bits are then as
-/// before.
+/// Appends the code of an interval. Fails with `Memory` if an allocation fails; the bits are then
+/// unchanged.
 pub(crate) fn append_interval(
     alloc: Global,
     params: &Params,

@@ -1,5 +1,5 @@
-//! Laws of intervals, streams and readings. Their functions do nothing: what each one's contract
-//! says is proved.
+//! Laws of intervals, streams and readings. The contract of each function is a law, and its body is
+//! empty.
 
 ghost use Rattle.aec_interval.specs.Laws.{
   IntervalsAreRead,
@@ -14,7 +14,7 @@ ghost use Rattle.aec_interval.specs.CutLaws.{AllCutsMakeNoDifference};
 ghost use Rattle.aec_interval.specs.PieceLaws.{AllStepsAreTheReading};
 ghost use Rattle.aec_interval.specs.Skipping.{AllSetsStandForSamples};
 
-/// The code of an interval is lawful coded data sets for its blocks.
+/// The code of an interval consists of lawful coded data sets for its blocks.
 pub fn intervals_are_read()
     ensures { IntervalsAreRead }
 {}
@@ -24,29 +24,30 @@ pub fn intervals_are_told()
     ensures { IntervalsAreTold }
 {}
 
-/// The code of samples, read with their count, gives the samples, whatever bits follow it.
+/// The code of samples, read with their count, is read as these samples, whatever bits follow it.
 pub fn streams_are_read_back()
     ensures { StreamsAreReadBack }
 {}
 
-/// For all bits there is a reading or a fault, not both, and of each at most one.
+/// All bits have either one reading or one fault, never both.
 pub fn bits_are_read_in_one_way()
     ensures { AllBitsAreReadInOneWay }
 {}
 
-/// The samples of a reading are held, and with a count they are so many.
+/// The samples of a reading are held; with a count, their number is the count.
 pub fn readings_are_samples()
     ensures { AllReadingsAreSamples }
 {}
 
-/// No coded data sets for the blocks of an interval have fewer bits than its code, nor for those of
-/// all intervals than the code of all samples where nothing is padded.
+/// No coded data sets for the blocks of an interval have fewer bits than its code before padding.
+/// If nothing is padded, none for the blocks of all intervals have fewer bits than the code of all
+/// samples.
 pub fn codes_are_shortest()
     ensures { AllCodesAreShortest }
 {}
 
-/// Coded data sets for the blocks of each interval, one after the other, are read with the count
-/// of the samples as the samples, whatever bits follow, where nothing is padded. So all that
+/// If nothing is padded, coded data sets for the blocks of each interval, one after the other, are
+/// read with the count of the samples as the samples, whatever bits follow. So all that
 /// `codes_are_shortest` compares with the code of the samples is read as these samples.
 pub fn each_code_is_read()
     ensures { EachCodeIsRead }
@@ -64,7 +65,7 @@ pub fn steps_are_the_reading()
     ensures { AllStepsAreTheReading }
 {}
 
-/// Lawful coded data sets stand for samples, from where an interval begins on.
+/// Lawful coded data sets from the start of an interval on stand for samples.
 pub fn coded_data_sets_stand_for_samples()
     ensures { AllSetsStandForSamples }
 {}

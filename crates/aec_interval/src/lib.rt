@@ -1,4 +1,4 @@
-//! The coder of reference sample intervals, the reading of whole streams, and the laws that tie
+//! The coder of reference sample intervals, the reading of whole streams, and the laws that connect
 //! them.
 #![tactic(auto)]
 

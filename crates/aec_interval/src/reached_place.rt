@@ -1,7 +1,7 @@
 //! A place that a reader has reached.
 
-/// Where a `StreamReader` was between two steps, or when all was read: the block that comes next,
-/// and the bit at which its coded data set would begin.
+/// The place of a `StreamReader` between two steps, or after all was read: the next block, and the
+/// bit at which its coded data set would begin.
 #[derive(Clone, Copy, Debug)]
 pub struct ReachedPlace {
     pub block: u64,

@@ -31,8 +31,8 @@ use aec_block::{Block, Found, RunLen, read_into};
 use aec_params::{Fault, Params};
 use std::alloc::Global;
 
-/// The block and the bit where an interval begins, how many samples are asked for from block 0 on,
-/// if that is said, and how many may come.
+/// The block and the bit where an interval begins, the number of samples that are asked for from
+/// block 0 on, if it is given, and their greatest number.
 #[derive(Clone, Copy)]
 pub(crate) struct Wanted {
     pub(crate) first: u64,
@@ -41,15 +41,15 @@ pub(crate) struct Wanted {
     pub(crate) limit: u64,
 }
 
-/// Whether so many blocks are fewer than `count` samples need.
+/// Returns whether `blocks` blocks are fewer than `count` samples need.
 fn are_fewer(params: &Params, blocks: u64, count: u64) -> bool
     ensures { result ≡ nat_lt blocks (div_ceil count params.now.block_size) }
 {
     blocks.saturating_mul(u64::from(params.block_size())) < count
 }
 
-/// Whether a coded data set is wanted at this block: with a count while blocks are needed, so that
-/// trailing bytes are ignored, without one while the rest is not all zeros.
+/// Returns whether a coded data set is wanted at this block: with a count, while blocks are needed,
+/// so that trailing bytes are ignored; without a count, while the rest is not all zeros.
 pub(crate) fn wants_more(params: &Params, wanted: Wanted, reader: &BitReader, block: u64) -> bool
     ensures { result ≡ is_wanted params.now wanted.count reader.now.list block reader.now.pos }
 {
@@ -59,7 +59,8 @@ pub(crate) fn wants_more(params: &Params, wanted: Wanted, reader: &BitReader, bl
     }
 }
 
-/// Whether an interval goes on at this block: it does not end there or before, and more is wanted.
+/// Returns whether an interval goes on at this block: it does not end there or before, and more is
+/// wanted.
 pub(crate) fn goes_on(
     params: &Params,
     wanted: Wanted,
@@ -73,7 +74,7 @@ pub(crate) fn goes_on(
     block < end && wants_more(params, wanted, reader, block)
 }
 
-/// How many blocks the segment of this block of an interval has left.
+/// Returns how many blocks the segment of this block of an interval has left.
 fn blocks_left(params: &Params, place: u64) -> u64
     requires { place < params.now.interval }
     ensures value { result ≡ segment_left params.now place }
@@ -84,7 +85,7 @@ fn blocks_left(params: &Params, place: u64) -> u64
     (segment - place % segment).min(u64::from(params.interval()) - place)
 }
 
-/// Whether the block at this place of an interval has a reference sample.
+/// Returns whether the block at this place of an interval has a reference sample.
 pub(crate) fn has_reference(params: &Params, place: u64) -> bool
     ensures value { result ≡ is_reference_block params.now place }
     ensures allowed { IsAllowed params.now }
@@ -93,7 +94,8 @@ pub(crate) fn has_reference(params: &Params, place: u64) -> bool
     params.preprocess() && place == 0
 }
 
-/// Whether so many blocks keep the limit of samples; with a count that was judged beforehand.
+/// Returns whether `blocks` blocks keep the limit of samples. With a count, always true: the count
+/// was tested before.
 fn within_limit(params: &Params, wanted: Wanted, blocks: u64) -> bool
     requires { blocks < 2 ^ 40 }
     ensures { result ≡ keeps_limit params.now wanted.count wanted.limit blocks }
@@ -101,8 +103,8 @@ fn within_limit(params: &Params, wanted: Wanted, blocks: u64) -> bool
     wanted.count.is_some() || blocks * u64::from(params.block_size()) <= wanted.limit
 }
 
-/// After a full interval, with padding, goes to the next byte: the padding skip. `untested_end` of
-/// `plain` leaves to it the blocks that padding may follow.
+/// With padding, moves to the next byte after a full interval: the padding skip. `untested_end` of
+/// `plain` excludes the blocks that padding may follow.
 pub(crate) fn skip_padding(params: &Params, reader: &mut BitReader, block: u64)
     ensures list { reader.new.list ≡ reader.old.list }
     ensures pos { reader.new.pos ≡ begin_of params.now reader.old.list block reader.old.pos }
@@ -112,7 +114,7 @@ pub(crate) fn skip_padding(params: &Params, reader: &mut BitReader, block: u64)
     }
 }
 
-/// How many blocks that is at this block of an interval.
+/// Returns how many blocks `len` means at block `place` of an interval.
 pub(crate) fn block_count(params: &Params, place: u64, len: RunLen) -> u64
     requires { place < params.now.interval }
     ensures { result ≡ run_count params.now place len }
@@ -123,9 +125,9 @@ pub(crate) fn block_count(params: &Params, place: u64, len: RunLen) -> u64
     }
 }
 
-/// The number of the block after a coded data set that begins at this bit, at this place of its
-/// interval, and stands for so many blocks. `RunTooLong` where its segment has fewer left, then
-/// `TooManySamples`.
+/// Returns the number of the block after a coded data set that begins at bit `bit`, at place
+/// `place` of its interval, and stands for `len` blocks. Fails with `RunTooLong` if its segment has
+/// fewer left, else with `TooManySamples` past the limit.
 pub(crate) fn place_next(
     params: &Params,
     wanted: Wanted,
@@ -156,8 +158,8 @@ pub(crate) fn place_next(
     Ok(next)
 }
 
-/// How many of the blocks from `block` up to `next` are kept: with a count those that are still
-/// needed.
+/// Returns how many of the blocks from `block` up to `next` are kept: with a count those that are
+/// still needed.
 fn blocks_kept(params: &Params, wanted: Wanted, block: u64, next: u64) -> u64
     requires needed { IfSome wanted.count (λ count. block ≤ div_ceil count params.now.block_size) }
     requires forward { block ≤ next }
@@ -172,8 +174,8 @@ fn blocks_kept(params: &Params, wanted: Wanted, block: u64, next: u64) -> u64
     }
 }
 
-/// Appends the samples of the first blocks of a coded data set that come next, after `block`
-/// others; where it is of one block, that was read into `values`. Takes no memory.
+/// Appends the samples of the first `kept` blocks of a coded data set, after `block` others. If it
+/// is one block, that block was read into `values`. Allocates nothing.
 fn push_cds(
     params: &Params,
     found: Found,
@@ -198,7 +200,7 @@ fn push_cds(
     }
 }
 
-/// Makes room for the samples of so many blocks more.
+/// Makes room for the samples of `blocks` more blocks.
 fn reserve_blocks(params: &Params, blocks: u64, samples: &mut Vec<i64>) -> Result<(), Fault>
     requires { blocks ≤ params.now.interval }
     ensures items { samples.new.items ≡ samples.old.items }
@@ -215,9 +217,9 @@ fn reserve_blocks(params: &Params, blocks: u64, samples: &mut Vec<i64>) -> Resul
     Ok(())
 }
 
-/// Reads the coded data set of a block that is wanted, at this place of its interval, into the
-/// block `values`, and appends its samples. The number of the block that comes then. `Memory` comes
-/// only where there was no room for the samples that the interval has left.
+/// Reads the coded data set of a wanted block, at place `place` of its interval, into the block
+/// `values`, and appends its samples. Returns the number of the next block. Fails with `Memory`
+/// only if there was no room for the samples that the interval has left.
 fn read_next(
     params: &Params,
     wanted: Wanted,
@@ -260,9 +262,9 @@ fn read_next(
     Ok(next)
 }
 
-/// Reads the interval that begins at a block that is wanted, up to its end or as far as blocks are
-/// wanted, and appends its samples. Each coded data set is read into the block `values`. The number
-/// of the block that comes then.
+/// Reads the interval that begins at a wanted block, up to its end or as far as blocks are wanted,
+/// and appends its samples. Each coded data set is read into the block `values`. Returns the number
+/// of the next block.
 pub(crate) fn read_interval(
     params: &Params,
     wanted: Wanted,
@@ -301,7 +303,7 @@ pub(crate) fn read_interval(
     }
 }
 
-/// Keeps of the samples from `wanted.first` on those that are asked for.
+/// Keeps those samples that are asked for; the first is that of block `wanted.first`.
 pub(crate) fn cut_to_count(params: &Params, wanted: Wanted, samples: &mut Vec<i64>)
     requires { wanted.first < 2 ^ 34 }
     ensures items { samples.new.items
@@ -314,8 +316,8 @@ pub(crate) fn cut_to_count(params: &Params, wanted: Wanted, samples: &mut Vec<i6
     }
 }
 
-/// Puts the samples that the bits from `wanted.start` on stand for into an empty list: with a count
-/// the first `count`, and without one all samples of all blocks.
+/// Puts the samples that the bits from `wanted.start` on stand for into an empty list: with a
+/// count, the first `count`; without one, all samples of all blocks.
 pub(crate) fn decode_list(
     alloc: Global,
     params: &Params,
@@ -354,8 +356,8 @@ pub(crate) fn decode_list(
     Ok(())
 }
 
-/// The samples that the bits from `wanted.start` on stand for: with a count the first `count`, and
-/// without one all samples of all blocks.
+/// Returns the samples that the bits from `wanted.start` on stand for: with a count, the first
+/// `count`; without one, all samples of all blocks.
 pub(crate) fn decode_from(
     alloc: Global,
     params: &Params,

@@ -4,10 +4,10 @@
 ghost use Rattle.std.specs.Prelude.{◌≡◌};
 ghost use Rattle.aec_interval.specs.NextBlock.{last_sample};
 
-/// The blocks of a segment; the last of an interval may have fewer.
+/// The number of blocks in a segment; the last segment of an interval may have fewer.
 pub(crate) const SEGMENT_BLOCKS: u32 = 64;
 
-/// The sample from which the next one is predicted: the last, or 0 where there is none.
+/// Returns the sample from which the next one is predicted: the last, or 0 if there is none.
 pub(crate) fn previous_of(samples: &[i64]) -> i64
     ensures { result ≡ last_sample samples.now }
 {

@@ -14,8 +14,8 @@ use std::alloc::Global;
 use std::marker::Model;
 
 /// Codes stored samples that come in pieces, cut anywhere: each interval as soon as it is complete.
-/// Of the input it keeps, beside the number of samples so far and its refusal, fewer samples than
-/// an interval has and fewer bytes than a sample has. After a refusal each call returns the same
+/// Of the input it keeps only the number of samples so far, its refusal, fewer samples than an
+/// interval has, and fewer bytes than a sample has. After a refusal each call returns the same
 /// refusal.
 #[derive(Debug, Drop)]
 pub struct StreamCoder {
@@ -44,7 +44,7 @@ impl StreamCoder {
     ghost use Rattle.aec_params.specs.Streams.{stream_of};
     ghost use Rattle.aec_interval.specs.Feeding.{fresh_coder, Feeds, StopsFeeding};
 
-    /// Returns a coder that was fed nothing. It takes at most `limit` samples. Takes no memory.
+    /// Returns a coder that was fed nothing. It takes at most `limit` samples. Allocates nothing.
     pub fn new(alloc: Global, params: Params, limit: u64) -> StreamCoder
         ensures { result ≡ fresh_coder params limit }
     {
@@ -61,7 +61,7 @@ impl StreamCoder {
     }
 
     /// Returns the number of whole samples that are not coded yet, fewer than an interval has.
-    /// Takes no memory.
+    /// Allocates nothing.
     pub fn held(&self) -> u64
         ensures value { result ≡ length self.now.held }
         ensures few { result < interval_len self.now.settings }
@@ -69,13 +69,14 @@ impl StreamCoder {
         self.progress.held.len() as u64
     }
 
-    /// Takes the samples that a piece completes, and appends the code of the intervals that are
-    /// complete with it.
+    /// Takes the samples that a piece completes, and appends the code of the intervals that it
+    /// completes.
     ///
-    /// The refusals, sample by sample: `TooManySamples` past the limit, `SampleRange` with the
-    /// sample's index counted from the first of all pieces, `Memory` at a sample that is neither.
-    /// What was appended is the code of the intervals complete before it; for `Memory`, of the
-    /// first of these intervals. From then on each call returns that refusal and appends nothing.
+    /// Fails at the first refused sample: with `TooManySamples` past the limit; with `SampleRange`
+    /// and its index, counted from the first of all pieces; with `Memory` at a sample that is
+    /// neither too many nor out of range. What was appended is then the code of the intervals
+    /// complete before that sample; for `Memory`, of the first of these intervals. From then on
+    /// each call returns the same refusal and appends nothing.
     pub fn feed(&mut self, piece: &[u8], out: &mut BitBuf) -> Result<(), Fault>
         ensures ok { OnOk result (Feeds self.old piece.now out.old.list out.new.list self.new) }
         ensures refuses { MatchOption self.old.refusal
@@ -95,9 +96,9 @@ impl StreamCoder {
         taken
     }
 
-    /// Appends the code of the samples that are held; the bytes of a sample that is not complete
-    /// are ignored. Fails with the refusal that there was, or with `Memory`, only if samples are
-    /// held; nothing is appended then.
+    /// Appends the code of the samples that are held; ignores the bytes of an incomplete sample.
+    /// Fails with an earlier refusal; else with `Memory` if samples are held and an allocation
+    /// fails. On an error nothing is appended.
     pub fn finish(self, out: &mut BitBuf) -> Result<(), Fault>
         ensures ok { OnOk result (out.new.list
             ≡ out.old.list ++ stream_of self.settings self.held) }

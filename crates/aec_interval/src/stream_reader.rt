@@ -12,8 +12,7 @@ use std::alloc::Global;
 use std::marker::Model;
 
 /// Reads the samples that coded bits stand for, as `decode_all` does, and hands them out interval
-/// by interval. It keeps none of them, but the values of one block. Contracts see the place where
-/// it is.
+/// by interval. It keeps no samples, only the values of one block. Contracts see its place.
 #[derive(Debug, Drop)]
 pub struct StreamReader<'a> {
     params: Params,
@@ -45,8 +44,9 @@ impl<'a> StreamReader<'a> {
     ghost use Rattle.aec_interval.specs.Pieces.{place_at, is_wanted_at, IsPlace, ReadsInterval, ReadsIntervals, RefusesAt};
     ghost use Rattle.aec_interval.specs.Skipping.{HasInterval, IsFaultAt};
 
-    /// Returns a reader at the first bit, which asks for the first `count` samples, or if `None`
-    /// for all of them. `TooManySamples` where a given count is above `limit`. Never `Memory`.
+    /// Returns a reader at the first bit. It asks for the first `count` samples, or for all samples
+    /// if `count` is `None`. Fails with `TooManySamples` if a given count is above `limit`, never
+    /// with `Memory`.
     pub fn new(
         alloc: Global,
         params: Params,
@@ -70,7 +70,7 @@ impl<'a> StreamReader<'a> {
         })
     }
 
-    /// Goes back to the first bit.
+    /// Moves back to the first bit.
     pub fn restart(&mut self)
         ensures { self.new ≡ place_at self.old.settings self.old.count self.old.limit self.old.bits
             0 0 }
@@ -80,7 +80,7 @@ impl<'a> StreamReader<'a> {
         self.block = 0;
     }
 
-    /// Returns where the reader is, to come back to by `go_back`.
+    /// Returns the reader's place, for `go_back`.
     pub fn place(&self) -> ReachedPlace
         ensures block { result.block ≡ self.now.block }
         ensures bit { result.bit ≡ self.now.bit }
@@ -92,7 +92,8 @@ impl<'a> StreamReader<'a> {
         }
     }
 
-    /// Goes back, or forth, to a place that a reader of these bits under these terms has reached.
+    /// Moves back, or forward, to a place that a reader of these bits under these terms has
+    /// reached.
     pub fn go_back(&mut self, place: ReachedPlace)
         requires reached { let old = self.old in
             IsPlace (place_at old.settings old.count old.limit old.bits place.block place.bit) }
@@ -104,13 +105,13 @@ impl<'a> StreamReader<'a> {
         self.block = place.block;
     }
 
-    /// Replaces the vector's items by the samples of the next interval, at most as many as an
-    /// interval has; returns false if none are left.
+    /// Replaces the vector's items by the samples of the next interval, no more than an interval
+    /// has. Returns false if none are left.
     ///
-    /// The refusals are those of `decode_all`, each where its interval is met. `Memory` comes only
-    /// where the vector had no room for the samples of a whole interval. After a refusal, and where
-    /// none are left, the reader is where it was, and the vector is empty: a call that lacked
-    /// memory can be made again.
+    /// Fails as `decode_all` does, with each fault at its interval. Fails with `Memory` only if the
+    /// vector had no room for the samples of a whole interval. After a refusal, or if none are
+    /// left, the reader hasn't moved, and the vector is empty: a call that lacked memory can be
+    /// repeated.
     pub fn next(&mut self, samples: &mut Vec<i64>) -> Result<bool, Fault>
         ensures more { IfOk result (λ more. more ≡ is_wanted_at self.old) }
         ensures read { IfOk result
@@ -152,8 +153,8 @@ impl<'a> StreamReader<'a> {
         }
     }
 
-    /// Whether several intervals may be read at once, as far as the next coded data set tells. The
-    /// reader stays.
+    /// Returns whether several intervals may be read at once, judged by the next coded data set
+    /// alone. The reader doesn't move.
     fn comes_short(&mut self) -> bool
         ensures { self.new ≡ self.old }
     {
@@ -161,8 +162,8 @@ impl<'a> StreamReader<'a> {
             || comes_zero_interval(&self.params, &mut self.reader)
     }
 
-    /// Reads the next intervals into the vector, if they are short and it has room for them. Else
-    /// false, and the reader is where it was.
+    /// Reads the next intervals into the vector, if they are short and the vector has room for
+    /// them. Else returns false, and the reader hasn't moved.
     fn next_short(&mut self, most: u64, samples: &mut Vec<i64>) -> bool
         ensures read { result ≡ true → ReadsIntervals self.old samples.new.items self.new }
         ensures at_most { result ≡ true → vec_len samples.new ≤ most }
@@ -190,9 +191,9 @@ impl<'a> StreamReader<'a> {
         true
     }
 
-    /// Replaces the vector's items by the samples of the next interval, as `next`
-    /// does, or of several next intervals: then at most `most` samples. How many intervals it
-    /// reads isn't promised. All else is as with `next`.
+    /// Replaces the vector's items by the samples of the next interval, as `next` does, or of
+    /// several next intervals: then at most `most` samples. How many intervals it reads is
+    /// unspecified. All else is as with `next`.
     pub fn next_few(&mut self, most: u64, samples: &mut Vec<i64>) -> Result<bool, Fault>
         ensures more { IfOk result (λ more. more ≡ is_wanted_at self.old) }
         ensures read { IfOk result
@@ -217,11 +218,10 @@ impl<'a> StreamReader<'a> {
         self.next(samples)
     }
 
-    /// Goes over the next interval as `next` does, without its samples. Returns how many of them
-    /// are asked for; `None` where no more is wanted.
+    /// Moves past the next interval as `next` does, without making its samples. Returns how many of
+    /// these are asked for; `None` if no more is wanted.
     ///
-    /// The refusals are those of `next`, but for want of memory, and the reader is then where it
-    /// was. Never fails with `Memory`.
+    /// Fails as `next` does, but never with `Memory`; the reader then hasn't moved.
     pub fn skip(&mut self) -> Result<Option<u64>, Fault>
         ensures more { IfOk result (λ len. is_some len ≡ is_wanted_at self.old) }
         ensures skipped { IfOk result (λ len. IfSome len (λ n. HasInterval self.old n self.new)) }

@@ -1,4 +1,4 @@
-//! The code of a whole list of samples.
+//! Codes a whole list of samples.
 
 ghost use Rattle.std.specs.Prelude.{◌≡◌, ◌≤◌, Bool, false, List, Some, length, IfOk, IfErr, MatchOption};
 ghost use Rattle.std.specs.List.{AllByRecursion, flat_map};
@@ -15,7 +15,7 @@ use aec_bits::BitBuf;
 use aec_params::{Fault, Params};
 use std::alloc::Global;
 
-/// The index of the first number that is no sample of the parameters.
+/// Returns the index of the first number that is no sample of the parameters.
 pub(crate) fn unheld_index(params: &Params, samples: &[i64]) -> Option<u64>
     ensures { result ≡ first_unheld (is_held params.now) 0 samples.now }
 {
@@ -27,7 +27,7 @@ pub(crate) fn unheld_index(params: &Params, samples: &[i64]) -> Option<u64>
     None
 }
 
-/// The code of samples, interval by interval; `Memory` where a growth was refused.
+/// Returns the code of samples, interval by interval. Fails with `Memory` if an allocation fails.
 fn code_intervals(alloc: Global, params: &Params, samples: &[i64]) -> Result<BitBuf, Fault>
     requires { AllByRecursion (IsHeld params.now) samples.now }
     ensures ok { IfOk result (λ b. b.list ≡ stream_of params.now samples.now) }
@@ -39,13 +39,13 @@ fn code_intervals(alloc: Global, params: &Params, samples: &[i64]) -> Result<Bit
     Ok(out)
 }
 
-/// Returns the code of samples, without the zeros that fill its last byte. `SampleRange` with the
-/// index of the first number that is no sample of the parameters, judged before any memory is
-/// taken; then `Memory` where a growth was refused.
+/// Returns the code of samples, without the zeros that fill its last byte. Fails with `SampleRange`
+/// and the index of the first number that is no sample of the parameters, checked before anything
+/// is allocated; else with `Memory` if an allocation fails.
 ///
 /// Without padding no coded data sets for the same blocks are shorter: take for each interval any
 /// bits that the definitions read as its blocks, including the filler of the last block, by any
-/// options and any runs. Together these bits are at least as many as ours.
+/// options and any runs. Together these bits are never fewer than ours.
 pub fn encode_all(alloc: Global, params: &Params, samples: &[i64]) -> Result<BitBuf, Fault>
     ensures ok { IfOk result (λ b. b.list ≡ stream_of params.now samples.now) }
     ensures shortest { params.now.pad ≡ false → IfOk result (λ b. (codes : List (List Bool))

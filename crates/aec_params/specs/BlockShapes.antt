@@ -6,7 +6,7 @@ use Rattle.aec_params.specs.Blocks.{Block}
 use Rattle.aec_params.specs.CodedDataSets.{HasReference}
 use Rattle.aec_params.specs.Places.{is_reference_block, placed_members}
 
--- 0 stands in the reference place, where there is one (§4)
+-- 0 is in the reference place, if there is one (§4)
 abbrev pub HasReferencePlace : Option ℕ → List ℕ → Type 0
 HasReferencePlace reference values = values ≡ placed_members reference values
 

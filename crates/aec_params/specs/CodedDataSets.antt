@@ -5,7 +5,7 @@ use Rattle.aec_params.specs.declared.settings.Settings.{Settings}
 use Rattle.aec_params.specs.Params.{id_len, split_count}
 use Rattle.aec_params.specs.Codewords.{fs, binary}
 
--- what stands after the identifier and the reference sample (§7; by one of four kinds. A run is the
+-- what follows the identifier and the reference sample (§7; by one of four kinds. A run is the
 -- number that its code spells)
 pub data Body : Type 0 where
   -- no compression: the values
@@ -42,7 +42,7 @@ identifier s (value_pairs values) = binary (id_len s + 1) 1
 identifier s (split_values k values) = binary (id_len s) (k + 1)
 identifier s (zero_blocks m) = binary (id_len s + 1) 0
 
--- the reference sample in n bits, where there is one (§7)
+-- the reference sample in n bits, if there is one (§7)
 abbrev pub reference_bits : Settings → Option ℕ → List Bool
 reference_bits s None = []
 reference_bits s (Some r) = binary s.bits r
@@ -61,7 +61,7 @@ body_bits s (zero_blocks m) = fs m
 abbrev pub cds_bits : Settings → CodedDataSet → List Bool
 cds_bits s c = identifier s c.body ++ (reference_bits s c.reference ++ body_bits s c.body)
 
--- a reference sample stands there exactly where one is due, and fits n bits (§7)
+-- there is a reference sample exactly if one is due, and it fits n bits (§7)
 abbrev pub HasReference : Settings → Bool → Option ℕ → Type 0
 HasReference s true (Some r) = r < 2 ^ s.bits
 HasReference s true None = ⊥

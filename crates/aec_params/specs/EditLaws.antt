@@ -1,4 +1,4 @@
--- What the definitions of edits were meant to say: how many intervals one codes and opens.
+-- The laws of edits: how many intervals an edit codes and opens.
 use Rattle.std.specs.Prelude.{◌≡◌, ℕ, ◌+◌, ◌-◌, ◌*◌, ◌/◌, ◌%◌, ◌<◌, ◌≤◌, ◌==◌, nat_lt, min, if◌then◌else◌, ⊤, true, false, Option, Some, None, List, [], length}
 use Rattle.std.specs.List.{range_with_len, list_any}
 use Rattle.std.specs.Int.{div_ceil}
@@ -15,8 +15,8 @@ MovesNone (Truncate count) = ⊤
 MovesNone (Insert first values) = ⊥
 MovesNone (Remove first len) = ⊥
 
--- the intervals that an edit touches are consecutive, and one that moves no sample opens at most
--- two of those that it codes
+-- the intervals that an edit touches are consecutive; an edit that moves no sample opens at most
+-- two of the intervals that it codes
 pub record EditsTouchFew : Type 0 where
   pub touched : (n first len : ℕ) → 0 < n → 0 < len
       → touched_intervals n first len ≡ range_with_len (first / n) ((first + len - 1) / n - first / n + 1)
@@ -28,13 +28,14 @@ pub record EditsTouchFew : Type 0 where
   pub opened : (n old : ℕ) (edit : Edit) → 0 < n → MovesNone edit
       → (opened_intervals n old edit ≤ 2) × (opened_intervals n old edit ≤ needed_calls n old edit)
 
--- none for a place where an interval of n samples begins, one for a place inside of one
+-- 0 for a place where an interval of n samples begins, 1 for a place inside of an interval
 abbrev pub inside_calls : ℕ → ℕ → ℕ
 inside_calls n first = if first % n == 0 then 0 else 1
 
--- how many `moved_intervals` are. Whole intervals that come are coded, and so is the interval that
--- their place is inside of; that one alone where whole intervals go. Otherwise all from that of the
--- place on are coded, and all of these that keep a sample are opened
+-- how many `moved_intervals` there are. If whole intervals are inserted, they are coded, and so is
+-- the interval that their place is inside of; if whole intervals are removed, only that interval is
+-- coded. Otherwise all intervals from that of the place on are coded, and those that keep a sample
+-- are opened
 pub record MovesByLength : Type 0 where
   pub inserted : (n old first : ℕ) (values : Samples) → 0 < n
       → needed_calls n old (Insert first values)
@@ -57,17 +58,17 @@ pub record MovesByLength : Type 0 where
       else (if len % n == 0 then (if first % n == 0 then 0 else (if first + len == old then 1 else 2))
       else length kept))
 
--- an exchange of places among old samples: those of `gone` for `fresh` new ones
+-- an exchange among old samples: the places of `gone` for `fresh` new places
 pub record Exchange : Type 0 where
   pub old : ℕ
   pub gone : Stretch
   pub fresh : ℕ
 
--- how many samples it leaves
+-- how many samples there are after an exchange
 abbrev pub count_after : Exchange → ℕ
 count_after x = x.gone.first + x.fresh + (x.old - x.gone.stop)
 
--- where the sample that it leaves at a place stood before it: nowhere if it is new
+-- where the sample that is at a place after an exchange was before it: nowhere if it is new
 abbrev pub stood_at : Exchange → ℕ → Option ℕ
 stood_at x place =
     if nat_lt place x.gone.first then Some place
@@ -78,14 +79,14 @@ pub record IsFromBefore (n : ℕ) (x : Exchange) (k i : ℕ) : Type 0 where
   pub count : min (k * n + n) (count_after x) - k * n ≡ min (i * n + n) x.old - i * n
   pub each : (j : ℕ) → k * n + j < min (k * n + n) (count_after x) → stood_at x (k * n + j) ≡ Some (i * n + j)
 
--- an interval after an exchange is one of some, and was not there before it; or it is none of them,
--- and was
+-- an interval after an exchange is one of the given ones and did not exist before it; or it is none
+-- of them and did
 pub record IsNewIfOneOf (n : ℕ) (x : Exchange) (intervals : List ℕ) (k : ℕ) : Type 0 where
   pub one : list_any (λ i. i == k) intervals ≡ true → (i : ℕ) → IsFromBefore n x k i → ⊥
   pub none : list_any (λ i. i == k) intervals ≡ false → (i : ℕ) × IsFromBefore n x k i
 
--- what `moved_intervals` are in the samples that an insertion or a removal leaves: those intervals
--- that were not there before
+-- in the samples after an insertion or a removal, `moved_intervals` are those intervals that did
+-- not exist before it
 pub record MovesCodeWhatIsNew : Type 0 where
   pub inserted : (n old first len k : ℕ) → 0 < n → first ≤ old → k < div_ceil (old + len) n
       → IsNewIfOneOf n (record { old = old; gone = record { first = first; stop = first }; fresh = len })
@@ -94,14 +95,14 @@ pub record MovesCodeWhatIsNew : Type 0 where
       → IsNewIfOneOf n (record { old = old; gone = record { first = first; stop = first + len }; fresh = 0 })
       (moved_intervals n len (old - len) (record { first = first; stop = first })) k
 
--- an interval before an exchange is one of some, and is not there after it; or it is none of them,
--- and is
+-- an interval before an exchange is one of the given ones and no longer exists after it; or it is
+-- none of them and does
 pub record IsLostIfOneOf (n : ℕ) (x : Exchange) (intervals : List ℕ) (i : ℕ) : Type 0 where
   pub one : list_any (λ k. k == i) intervals ≡ true → (k : ℕ) → IsFromBefore n x k i → ⊥
   pub none : list_any (λ k. k == i) intervals ≡ false → (k : ℕ) × IsFromBefore n x k i
 
--- what `moved_intervals` are in the samples before an insertion or a removal: those intervals that
--- are not there after it. The ones among them that keep a sample are opened
+-- in the samples before an insertion or a removal, `moved_intervals` are those intervals that no
+-- longer exist after it. Those that keep a sample are opened
 pub record MovesOpenWhatIsLost : Type 0 where
   pub inserted : (n old first len i : ℕ) → 0 < n → first ≤ old → i < div_ceil old n
       → IsLostIfOneOf n (record { old = old; gone = record { first = first; stop = first }; fresh = len })
@@ -110,8 +111,8 @@ pub record MovesOpenWhatIsLost : Type 0 where
       → IsLostIfOneOf n (record { old = old; gone = record { first = first; stop = first + len }; fresh = 0 })
       (moved_intervals n len old (record { first = first; stop = first + len })) i
 
--- an insertion after the last sample codes as many as the append, and a removal up to the end as
--- many as the truncate
+-- an insertion after the last sample codes the same number of intervals as the append, and a
+-- removal up to the end the same number as the truncate
 pub record EndsMeet : Type 0 where
   pub inserted : (n old : ℕ) (values : Samples) → 0 < n
       → needed_calls n old (Insert old values) ≡ needed_calls n old (Append values)

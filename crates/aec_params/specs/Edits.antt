@@ -33,16 +33,16 @@ reached_intervals n places = range_with_len (places.first / n) (div_ceil places.
 abbrev pub cut_calls : ℕ → ℕ → ℕ → ℕ
 cut_calls n old count = if count == old then 0 else (if count % n == 0 then 0 else 1)
 
--- the intervals that are cut anew where len samples come or go: none if len is 0. If len fills
--- whole intervals, later samples keep their grouping, so only the intervals that the places reach.
--- Otherwise all intervals of `count` samples, from the first place's on
+-- the intervals that are cut anew if len samples are inserted or removed: none if len is 0; if len
+-- fills whole intervals, those that the places reach, since later samples keep their grouping;
+-- otherwise all intervals of `count` samples from that of the first place on
 abbrev pub moved_intervals : ℕ → ℕ → ℕ → Stretch → List ℕ
 moved_intervals n len count places =
     if len == 0 then [] else reached_intervals n
     (record { first = places.first; stop = if len % n == 0 then places.stop else count })
 
 -- how many intervals of n samples an edit of old samples codes: those of the result that hold a new
--- sample or are cut anew (of an insertion or a removal those not there before: law
+-- sample or are cut anew (of an insertion or a removal those that did not exist before: law
 -- `moves_code_what_is_new`; how many, by lengths: law `moves_by_length`)
 abbrev pub needed_calls : ℕ → ℕ → Edit → ℕ
 needed_calls n old (Overwrite first values) = length (touched_intervals n first (length values))
@@ -63,7 +63,7 @@ abbrev pub keeping_intervals : ℕ → ℕ → Stretch → List ℕ → List ℕ
 keeping_intervals n old places intervals = filter (keeps_a_sample n old places) intervals
 
 -- how many intervals hold a sample that an edit keeps and codes anew, so that they have to be
--- decoded first (of an insertion or a removal those that are not there after it: law
+-- decoded first (of an insertion or a removal those that no longer exist after it: law
 -- `moves_open_what_is_lost`)
 abbrev pub opened_intervals : ℕ → ℕ → Edit → ℕ
 opened_intervals n old (Overwrite first values) =

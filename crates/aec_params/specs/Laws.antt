@@ -1,5 +1,5 @@
--- What the definitions of the format were meant to say: codewords tell numbers apart, values and
--- pieces give back what they came from.
+-- The laws of the definitions of the format: codewords distinguish numbers, and values and pieces
+-- determine what they were made from.
 use Rattle.std.specs.Prelude.{◌≡◌, ℕ, ◌+◌, ◌^◌, ◌<◌, ◌≤◌, Bool, true, ℤ, Option, ⊤, List, [], ◌∷◌, ◌++◌, length, map}
 use Rattle.std.specs.List.{flat_map, list_all, AllByRecursion}
 use Rattle.aec_params.specs.Codewords.{fs, binary, bits_number, padded_to_byte, bytes_of, bits_of_bytes}
@@ -15,13 +15,13 @@ use Rattle.aec_params.specs.BlockShapes.{AreBlocksFrom}
 
 -- ---- codewords
 
--- two fundamental sequences begin the same bits only if their numbers are equal, and then the bits
--- after them are
+-- two fundamental sequences begin the same bits only if their numbers are equal; the bits after
+-- them are then equal too
 abbrev pub FundamentalSequencesDiffer : Type 0
 FundamentalSequencesDiffer = (a b : ℕ) (u v : List Bool) → fs a ++ u ≡ fs b ++ v → (a ≡ b) × (u ≡ v)
 
--- two numbers below 2^w, in w bits, begin the same bits only if they are equal, and then the bits
--- after them are
+-- two numbers below 2^w, in w bits, begin the same bits only if they are equal; the bits after them
+-- are then equal too
 abbrev pub BinaryNumbersDiffer : Type 0
 BinaryNumbersDiffer = (w a b : ℕ) (u v : List Bool) → a < 2 ^ w → b < 2 ^ w → binary w a ++ u ≡ binary w b ++ v
     → (a ≡ b) × (u ≡ v)
@@ -37,12 +37,12 @@ pub record BinaryNumbersAreReadBack : Type 0 where
   pub below : (bits : List Bool) → bits_number bits < 2 ^ length bits
   pub bits : (bits : List Bool) → binary (length bits) (bits_number bits) ≡ bits
 
--- the code of what passes the test tells its key, whatever bits follow
+-- the code of anything that passes the test determines its key, whatever bits follow
 abbrev pub TellsKeys : {X K : Type 0} → (X → Bool) → (X → List Bool) → (X → K) → Type 0
 TellsKeys {X} test code key =
     (a b : X) (u v : List Bool) → test a ≡ true → test b ≡ true → code a ++ u ≡ code b ++ v → (key a ≡ key b) × (u ≡ v)
 
--- a code that tells its keys also tells those of lists of equal length
+-- a code that determines keys also determines those of lists of equal length
 abbrev pub ListsAreTold : Type 0 → Type 0 → Type 0
 ListsAreTold X K = (test : X → Bool) (code : X → List Bool) (key : X → K) → TellsKeys test code key
     → (xs ys : List X) (u v : List Bool) → length xs ≡ length ys → list_all test xs ≡ true → list_all test ys ≡ true
@@ -57,19 +57,19 @@ pub record EachNumberIsOnePair : Type 0 where
 
 -- ---- samples and values
 
--- at the prediction p, the samples and the values below 2^n stand for one another
+-- at the prediction p, samples correspond one-to-one to the values below 2^n
 pub record EachValueIsOneSample (s : Settings) (p : ℤ) : Type 0 where
   pub fits : (x : ℤ) → IsHeld s x → mapped_value s p x < 2 ^ s.bits
   pub one_to_one : (x y : ℤ) → IsHeld s x → IsHeld s y → mapped_value s p x ≡ mapped_value s p y → x ≡ y
   pub onto : (m : ℕ) → m < 2 ^ s.bits → (x : ℤ) × IsHeld s x × (mapped_value s p x ≡ m)
 
--- the samples and their patterns of n bits stand for one another
+-- samples correspond one-to-one to their patterns of n bits
 pub record EachPatternIsOneSample (s : Settings) : Type 0 where
   pub fits : (x : ℤ) → IsHeld s x → sample_pattern s x < 2 ^ s.bits
   pub one_to_one : (x y : ℤ) → IsHeld s x → IsHeld s y → sample_pattern s x ≡ sample_pattern s y → x ≡ y
   pub onto : (m : ℕ) → m < 2 ^ s.bits → (x : ℤ) × IsHeld s x × (sample_pattern s x ≡ m)
 
--- samples stand for values and for patterns one to one, at any settings of the format and any
+-- samples correspond one-to-one to values and to patterns, at any settings of the format and any
 -- prediction that is a sample
 pub record SamplesAreValues : Type 0 where
   pub values : (s : Settings) (p : ℤ) → IsAllowed s → IsHeld s p → EachValueIsOneSample s p
@@ -77,7 +77,7 @@ pub record SamplesAreValues : Type 0 where
 
 -- ---- pieces
 
--- lists of n members each, but for the last, which may be shorter and is not empty
+-- lists of n members each, except the last, which may be shorter but is not empty
 abbrev pub AreCut : {X : Type 0} → ℕ → List (List X) → Type 0
 AreCut n [] = ⊤
 AreCut n (piece ∷ []) = (0 < length piece) × (length piece ≤ n)
@@ -91,7 +91,7 @@ pub record PiecesAreTheCut (X : Type 0) : Type 0 where
   pub unique : (n : ℕ) (pieces : List (List X)) → 0 < n → AreCut n pieces
       → pieces_of n (flat_map (λ (piece : List X). piece) pieces) ≡ pieces
 
--- whole pieces in front of a list are its first pieces
+-- if whole pieces come before a list, they are the first pieces of both together
 abbrev pub WholePiecesComeFirst : Type 0 → Type 0
 WholePiecesComeFirst X = (n : ℕ) (pieces : List (List X)) (xs : List X) → 0 < n
     → AllByRecursion (λ (piece : List X). length piece ≡ n) pieces
@@ -99,7 +99,8 @@ WholePiecesComeFirst X = (n : ℕ) (pieces : List (List X)) (xs : List X) → 0 
 
 -- ---- bytes
 
--- bytes are the bits filled up to a whole byte, and bytes are the bytes of their bits
+-- bits turned into bytes and back are the padded bits; bytes turned into bits and back are the
+-- bytes
 pub record BytesAreBits : Type 0 where
   pub filled : (bits : List Bool) → length (padded_to_byte bits) ≡ next_multiple_of (length bits) 8
   pub bits : (bits : List Bool) → bits_of_bytes (bytes_of bits) ≡ padded_to_byte bits
@@ -110,7 +111,7 @@ pub record BytesAreBits : Type 0 where
 
 -- ---- samples and blocks
 
--- held samples are known from their number and their blocks, those of one interval and all
+-- the number and the blocks of held samples determine the samples, in one interval and in all
 pub record BlocksTellSamples : Type 0 where
   pub interval : (s : Settings) (xs ys : List ℤ) → IsAllowed s → AllByRecursion (IsHeld s) xs
       → AllByRecursion (IsHeld s) ys
@@ -118,14 +119,14 @@ pub record BlocksTellSamples : Type 0 where
   pub all : (s : Settings) (xs ys : List ℤ) → IsAllowed s → AllByRecursion (IsHeld s) xs → AllByRecursion (IsHeld s) ys
       → length xs ≡ length ys → all_blocks_of s xs ≡ all_blocks_of s ys → xs ≡ ys
 
--- the blocks of held samples are those in the format's shape, and no others
+-- the blocks of held samples are exactly the blocks in the format's shape
 pub record SamplesAreBlocks : Type 0 where
   pub shape : (s : Settings) (xs : List ℤ) → IsAllowed s → AllByRecursion (IsHeld s) xs
       → AreBlocksFrom s 0 (all_blocks_of s xs)
   pub onto : (s : Settings) (blocks : List Block) → IsAllowed s → AreBlocksFrom s 0 blocks
       → (samples : List ℤ) × FillBlocks s samples blocks
 
--- each reading of blocks is one of samples, and of one list alone
+-- each reading of blocks is a reading of samples, and of only one list
 pub record ReadingsHaveSamples : Type 0 where
   pub samples : (s : Settings) (count : Option ℕ) (limit : ℕ) (bits : List Bool) (blocks : List Block) → IsAllowed s
       → IsBlockReading s count limit bits 0 0 blocks → (samples : List ℤ) × FillBlocks s samples blocks

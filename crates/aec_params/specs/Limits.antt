@@ -1,7 +1,8 @@
--- How much a run takes in: at most so many samples, and so many bytes of coded data or of a script.
+-- The limits of a run's input: the greatest number of samples, and of bytes of coded data or of a
+-- script.
 use Rattle.std.specs.Prelude.{ℕ, ◌≤◌, ◌^◌}
 
--- the most samples, and the most bytes
+-- the greatest number of samples, and of bytes
 pub record Caps : Type 0 where
   pub samples : ℕ
   pub bytes : ℕ

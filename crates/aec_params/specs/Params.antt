@@ -29,7 +29,7 @@ settings_fault s =
     else (if not (is_between 1 4096 s.interval) then Some Interval
     else (if s.restricted && nat_lt 4 s.bits then Some RestrictedWidth else None)))
 
--- the settings where no option says otherwise (COMMAND: Options)
+-- the settings if no option says otherwise (COMMAND: Options)
 abbrev pub usual_settings : Settings
 usual_settings = record {
   bits = 8;

@@ -12,7 +12,7 @@ use Rattle.aec_params.specs.CodedDataSets.{Body, uncompressed_values, value_pair
 abbrev pub segment_left : Settings → ℕ → ℕ
 segment_left s p = min (segment_len - p % segment_len) (s.interval - p)
 
--- how many blocks the number of a run's code gives by itself: `None` for 4, which means all that
+-- how many blocks the number of a run's code means by itself: `None` for 4, which means all that
 -- the segment has left (§8; the code keeps the remainder apart until it knows the place)
 abbrev pub told_blocks : ℕ → Option ℕ
 told_blocks m = if nat_lt m 4 then Some (m + 1) else (if m == 4 then None else Some m)
@@ -47,8 +47,8 @@ pub record IsLawfulAt (s : Settings) (p : ℕ) (c : CodedDataSet) : Type 0 where
   pub small : has_small_values s c ≡ true
   pub within : stays_in_segment s p c ≡ true
 
--- values with 0 put in the reference place, where there is one (§4; lists, where the code puts the
--- 0 first and goes on)
+-- values with 0 put in the reference place, if there is one (§4; lists, where the code puts the 0
+-- first and goes on)
 abbrev pub placed_values : Option ℕ → List ℕ → List ℕ
 placed_values None values = values
 placed_values (Some r) values = 0 ∷ values

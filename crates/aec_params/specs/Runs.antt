@@ -31,7 +31,7 @@ groups_of [] = []
 groups_of (b ∷ blocks) = if is_zero_block b then with_zero_block b.reference (groups_of blocks)
     else single_block b ∷ groups_of blocks
 
--- the number that is written for a run of z blocks; the remainder code, 4, only where the run ends
--- the coded blocks of its segment (§8)
+-- the number that is written for a run of z blocks; the remainder code, 4, only if the run ends the
+-- coded blocks of its segment (§8)
 abbrev pub run_code : ℕ → Bool → ℕ
 run_code z is_last = if nat_le z 4 then z - 1 else (if is_last then 4 else z)

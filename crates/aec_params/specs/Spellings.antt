@@ -6,7 +6,7 @@ use Rattle.aec_params.specs.Params.{split_count}
 use Rattle.aec_params.specs.Blocks.{Block}
 use Rattle.aec_params.specs.CodedDataSets.{CodedDataSet, uncompressed_values, value_pairs, split_values, cds_bits}
 
--- the values that are written one by one: those after the reference place, where there is one (§7)
+-- the values that are written one by one: those after the reference place, if there is one (§7)
 abbrev pub after_reference : Option ℕ → List ℕ → List ℕ
 after_reference None values = values
 after_reference (Some r) values = drop 1 values

@@ -31,8 +31,8 @@ abbrev pub has_sign_above : Settings → ℕ → Bool
 has_sign_above s u =
     (u / 2 ^ (s.bits - 1) == 2 ^ (8 * storage_len s - (s.bits - 1)) - 1)
 
--- the sample that a stored number is: its unused bits are zero, or copies of its sign if samples
--- are signed (§2)
+-- the sample of a stored number: its unused bits are zero, or copies of its sign if samples are
+-- signed (§2)
 abbrev pub sample_of_number : Settings → ℕ → Option ℤ
 sample_of_number s u =
     if nat_lt u (2 ^ s.bits) then Some (pattern_value s u)
@@ -60,7 +60,7 @@ samples_of_groups s i (g ∷ gs) = sample_before (sample_of_number s (number_in 
 abbrev pub samples_of_bytes : Settings → List ℕ → Result (List ℤ) ℕ
 samples_of_bytes s bytes = samples_of_groups s 0 (byte_groups s bytes)
 
--- given samples, and behind them those of the bytes, if all these are samples
+-- given samples, and after them those of the bytes, if all these are samples
 abbrev pub samples_behind : List ℤ → Result (List ℤ) ℕ → Result (List ℤ) ℕ
 samples_behind xs (Ok ys) = Ok (xs ++ ys)
 samples_behind xs (Err k) = Err k

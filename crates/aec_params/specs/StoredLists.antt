@@ -1,14 +1,15 @@
 -- For proofs alone: no public contract cites this file.
--- What the private functions of `judging` find in numbers of as many bytes each.
+-- What the private functions of `judging` find in numbers of equal width.
 use Rattle.std.specs.Prelude.{ℕ, ◌-◌, ◌*◌, ◌/◌, ◌^◌, ◌<◌, ◌≤◌, ◌⊎◌, if◌then◌else◌, List, length, drop}
 use Rattle.aec_params.specs.declared.settings.Settings.{Settings}
 use Rattle.aec_params.specs.Params.{storage_len}
 
--- from which number on the unused bits copy the sign; past all numbers where samples are unsigned
+-- the number from which on the unused bits copy the sign; if samples are unsigned, a number above
+-- all
 abbrev pub least_extended : Settings → ℕ
 least_extended s = 2 ^ (8 * storage_len s) - (if s.signed then 2 ^ (s.bits - 1) else 0)
 
--- below `low`, or from `high` on
+-- below `low`, or at least `high`
 abbrev pub IsOutside : ℕ → ℕ → ℕ → Type 0
 IsOutside low high u = (u < low) ⊎ (high ≤ u)
 

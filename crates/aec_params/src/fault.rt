@@ -37,8 +37,8 @@ pub enum Fault {
     /// A place is outside the samples that are present.
     #[error("position outside the {count} samples")]
     OutOfRange { count: u64 },
-    /// An interval, or an edit that fits, needs more calls of the interval coder than are left of
-    /// `u64::MAX`. No call is made then.
+    /// An interval, or an edit that fits, needs more calls of the interval coder than are left up
+    /// to `u64::MAX`. No call is made.
     #[error("coder calls are spent")]
     Spent,
     /// A growth was refused.
@@ -56,7 +56,7 @@ pub enum Fault {
     /// A coded input or a script is longer than the limit.
     #[error("input is longer than {limit} bytes")]
     StreamTooLong { limit: u64 },
-    /// With `even_blocks`: the block size is no even number from 8 to 64.
+    /// With `even_blocks`: the block size is not an even number from 8 to 64.
     #[error("block size must be even, 8 to 64")]
     EvenBlockSize,
 }

@@ -1,4 +1,4 @@
-//! Whether the unused bits of stored samples are what their width allows.
+//! Tests whether the unused bits of stored samples are what their width allows.
 
 ghost use Rattle.std.specs.Prelude.{None, ◌≡◌, ◌≤◌, true};
 ghost use Rattle.std.specs.Result.{result_err};
@@ -10,8 +10,8 @@ use crate::params::Params;
 use crate::stored::sample_of;
 use byteorder::{BigEndian, ByteOrder, LittleEndian};
 
-/// Returns the index of the first sample whose unused bits are not what its width allows. Takes no
-/// memory.
+/// Returns the index of the first sample whose unused bits are not what its width allows. Allocates
+/// nothing.
 pub fn first_bad(params: &Params, bytes: &[u8]) -> Option<u64>
     ensures { result ≡ result_err (samples_of_bytes params.now bytes.now) }
 {
@@ -21,7 +21,7 @@ pub fn first_bad(params: &Params, bytes: &[u8]) -> Option<u64>
     find_bad(params, bytes)
 }
 
-/// The same, found sample by sample.
+/// Does what `first_bad` does, sample by sample.
 fn find_bad(params: &Params, bytes: &[u8]) -> Option<u64>
     ensures { result ≡ result_err (samples_of_bytes params.now bytes.now) }
 {
@@ -33,7 +33,8 @@ fn find_bad(params: &Params, bytes: &[u8]) -> Option<u64>
     None
 }
 
-/// From which number on the unused bits copy the sign; past all numbers where samples are unsigned.
+/// Returns the number from which on the unused bits copy the sign; if samples are unsigned, a
+/// number above all.
 fn least_extended(params: &Params) -> u64
     ensures { result ≡ least_number_extended params.now }
 {
@@ -45,7 +46,8 @@ fn least_extended(params: &Params) -> u64
     }
 }
 
-/// True only where the unused bits of all samples are what their width allows; false says nothing.
+/// Returns true only if the unused bits of all samples are what their width allows; false means
+/// nothing.
 fn are_all_good(params: &Params, bytes: &[u8]) -> bool
     ensures { result ≡ true → result_err (samples_of_bytes params.now bytes.now) ≡ None }
 {
@@ -62,7 +64,7 @@ fn are_all_good(params: &Params, bytes: &[u8]) -> bool
     }
 }
 
-/// True only where the numbers of `width` bytes are all below `low` or from `high` on; false says
+/// Returns true only if each number of `width` bytes is below `low` or at least `high`; false means
 /// nothing.
 fn are_outside<T: ByteOrder>(bytes: &[u8], width: usize, low: u64, high: u64) -> bool
     requires few { width ≤ 4 }
@@ -80,7 +82,7 @@ fn are_outside<T: ByteOrder>(bytes: &[u8], width: usize, low: u64, high: u64) ->
     }
 }
 
-/// The same, inlined where the width is known.
+/// `are_outside`, inlined for a known width.
 #[inline(always)]
 fn is_each_outside<T: ByteOrder>(bytes: &[u8], width: usize, low: u64, high: u64) -> bool
     requires few { width ≤ 4 }
@@ -95,8 +97,8 @@ fn is_each_outside<T: ByteOrder>(bytes: &[u8], width: usize, low: u64, high: u64
     outside
 }
 
-/// A number no less than any of those of `width` bytes each: the bits that are set in one of them
-/// or more. That it is no greater than these bits isn't said.
+/// Returns the bits that are set in at least one of the numbers of `width` bytes. The clause says
+/// only that no number is greater than the result.
 fn joined_bits<T: ByteOrder>(bytes: &[u8], width: usize) -> u32
     requires few { width ≤ 4 }
     requires some { 1 ≤ width }
@@ -110,7 +112,7 @@ fn joined_bits<T: ByteOrder>(bytes: &[u8], width: usize) -> u32
     }
 }
 
-/// The same, inlined where the width is known.
+/// `joined_bits`, inlined for a known width.
 #[inline(always)]
 fn joined_bits_of_each<T: ByteOrder>(bytes: &[u8], width: usize) -> u32
     requires few { width ≤ 4 }
@@ -124,7 +126,7 @@ fn joined_bits_of_each<T: ByteOrder>(bytes: &[u8], width: usize) -> u32
     joined
 }
 
-/// A number no less than two others: the bits that are set in either.
+/// Returns the bits that are set in either of two numbers. Neither number is greater.
 #[inline(always)]
 #[tactic(auto, using(crate::proofs::StoredListLemmas::joins))]
 fn joined_with(bits: u32, number: u32) -> u32

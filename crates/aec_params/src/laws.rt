@@ -1,5 +1,4 @@
-//! Laws of the format's definitions. Their functions do nothing: what each one's contract says is
-//! proved.
+//! Laws of the format's definitions. The contract of each function is a law, and its body is empty.
 
 ghost use Rattle.aec_params.specs.Laws.{FundamentalSequencesDiffer, BinaryNumbersDiffer, CodewordLengths, BinaryNumbersAreReadBack, ListsAreTold, EachNumberIsOnePair, SamplesAreValues, PiecesAreTheCut, WholePiecesComeFirst, BytesAreBits, BlocksTellSamples, SamplesAreBlocks, ReadingsHaveSamples};
 ghost use Rattle.aec_params.specs.EditLaws.{EditsTouchFew, MovesByLength, MovesCodeWhatIsNew, MovesOpenWhatIsLost, EndsMeet, MovesOpenFew, MovesCodeNothing};
@@ -34,13 +33,13 @@ pub fn each_number_is_one_pair()
     ensures { EachNumberIsOnePair }
 {}
 
-/// With allowed settings samples stand one to one for the values below 2^n, at each prediction that
-/// is a sample; and for their patterns of n bits.
+/// With allowed settings, samples correspond one-to-one to the values below 2^n at each prediction
+/// that is a sample, and to their patterns of n bits.
 pub fn samples_are_values()
     ensures { SamplesAreValues }
 {}
 
-/// The pieces of a list join to it, are cut as their definition says, and no other lists are.
+/// The pieces of a list join to this list and are cut as defined; no other lists are both.
 pub fn pieces_are_the_cut<X>()
     ensures { PiecesAreTheCut X }
 {}
@@ -50,50 +49,51 @@ pub fn whole_pieces_come_first<X>()
     ensures { WholePiecesComeFirst X }
 {}
 
-/// Bits as bytes and back.
+/// Bits turned into bytes and back are the padded bits; bytes turned into bits and back are the
+/// bytes.
 pub fn bytes_are_bits()
     ensures { BytesAreBits }
 {}
 
-/// Held samples are known from their number and their blocks.
+/// The number and the blocks of held samples determine the samples.
 pub fn blocks_tell_samples()
     ensures { BlocksTellSamples }
 {}
 
-/// The blocks of held samples are those in the shape that the format has, and no others.
+/// The blocks of held samples are exactly the blocks in the format's shape.
 pub fn samples_are_blocks()
     ensures { SamplesAreBlocks }
 {}
 
-/// Each reading of blocks is one of samples, and of one list alone.
+/// Each reading of blocks is a reading of samples, and of only one list.
 pub fn readings_have_samples()
     ensures { ReadingsHaveSamples }
 {}
 
-/// Which intervals an edit touches, and that one that moves no sample opens at most two of those
-/// that it codes.
+/// States which intervals an edit touches. An edit that moves no sample opens at most two of the
+/// intervals that it codes.
 pub fn edits_touch_few()
     ensures { EditsTouchFew }
 {}
 
-/// How many intervals an insertion and a removal code and open, by lengths alone.
+/// States how many intervals an insertion and a removal code and open, by lengths alone.
 pub fn moves_by_length()
     ensures { MovesByLength }
 {}
 
-/// An insertion and a removal code just those intervals that weren't there before.
+/// An insertion and a removal code exactly the intervals that did not exist before.
 pub fn moves_code_what_is_new()
     ensures { MovesCodeWhatIsNew }
 {}
 
-/// An insertion and a removal open just those intervals that aren't there after them and keep a
+/// An insertion and a removal open exactly the intervals that no longer exist afterwards and keep a
 /// sample.
 pub fn moves_open_what_is_lost()
     ensures { MovesOpenWhatIsLost }
 {}
 
-/// An insertion at the end codes as many intervals as the append does, a removal up to the end as
-/// many as the truncate.
+/// An insertion at the end codes the same number of intervals as the append; a removal up to the
+/// end codes the same number as the truncate.
 pub fn ends_meet()
     ensures { EndsMeet }
 {}
@@ -103,7 +103,8 @@ pub fn moves_open_few()
     ensures { MovesOpenFew }
 {}
 
-/// Which insertions and removals code nothing.
+/// An insertion or removal of nothing, a removal of whole intervals, and a removal from the start
+/// of an interval to the end code nothing.
 pub fn moves_code_nothing()
     ensures { MovesCodeNothing }
 {}

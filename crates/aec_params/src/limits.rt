@@ -1,8 +1,8 @@
-//! How much a run takes in.
+//! The limits of a run's input.
 
 use std::marker::Model;
 
-/// At most so many samples, and so many bytes of coded data or of a script.
+/// The greatest number of samples, and of bytes of coded data or of a script.
 #[derive(Clone, Copy, Debug, PartialEq, Eq)]
 pub struct Limits {
     samples: u64,
@@ -25,8 +25,8 @@ impl Limits {
     ghost use Rattle.std.specs.Prelude.{◌≡◌, ◌≤◌, SomeIff};
     ghost use Rattle.aec_params.specs.Limits.{Caps, AreLimits};
 
-    /// Limits of so many samples and bytes; `None` where there are more than 2^32 samples or 2^40
-    /// bytes.
+    /// Returns limits of these samples and bytes; `None` if there are more than 2^32 samples or
+    /// 2^40 bytes.
     pub fn new(samples: u64, bytes: u64) -> Option<Limits>
         ensures { let caps : Caps = record
             { samples = samples; bytes = bytes } in SomeIff result (AreLimits caps) caps }

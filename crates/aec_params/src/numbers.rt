@@ -5,7 +5,7 @@ ghost use Rattle.std.specs.Prelude.{◌≡◌, ◌<◌, ◌≤◌, ◌^◌, ◌+
 
 use byteorder::ByteOrder;
 
-/// The number in the first `width` bytes.
+/// Returns the number in the first `width` bytes.
 #[inline(always)]
 pub(crate) fn first_number<T: ByteOrder>(bytes: &[u8], width: usize) -> u64
     requires few { width ≤ 4 }
@@ -22,7 +22,7 @@ pub(crate) fn first_number<T: ByteOrder>(bytes: &[u8], width: usize) -> u64
     }
 }
 
-/// Writes a number to the first `width` bytes and leaves the others.
+/// Writes a number to the first `width` bytes and leaves the other bytes.
 #[inline(always)]
 pub(crate) fn put_number<T: ByteOrder>(out: &mut [u8], number: u64, width: usize)
     requires few { width ≤ 4 }

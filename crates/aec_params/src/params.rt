@@ -1,4 +1,4 @@
-//! Settings that the format has, and the numbers that follow from them.
+//! Settings that the format allows, and the numbers that follow from them.
 
 ghost use Rattle.std.specs.Prelude.{◌≡◌, if◌then◌else◌};
 ghost use Rattle.aec_params.specs.declared.fault.Fault.TheVariants.{BlockSize, EvenBlockSize};
@@ -27,7 +27,7 @@ impl Model for Params {
     ghost inverse = { λ s. record { settings = s } };
 }
 
-/// Whether the block size is one that the settings may have.
+/// Returns whether the settings may have their block size.
 fn has_block_size(settings: Settings) -> bool
     ensures { result ≡ may_have_block_size settings }
 {
@@ -39,7 +39,7 @@ fn has_block_size(settings: Settings) -> bool
     }
 }
 
-/// The refusal of a block size.
+/// Returns the fault of a wrong block size.
 fn block_size_fault(even_blocks: bool) -> Fault
     ensures { result ≡ (if even_blocks then EvenBlockSize else BlockSize) }
 {
@@ -55,9 +55,10 @@ impl Params {
     ghost use Rattle.std.specs.Result.{result_err};
     ghost use Rattle.aec_params.specs.Params.{IsAllowed, settings_fault, interval_len as samples_in_interval, id_len as identifier_len, k_max as greatest_k, x_min as least_sample, x_max as greatest_sample, storage_len, is_held, IsHeld, sample_pattern, pattern_value};
 
-    /// Parameters for the settings. The rules are judged in this order: bits per sample 1 to 32;
-    /// block size 8, 16, 32 or 64, or with `even_blocks` an even number from 8 to 64; interval 1 to
-    /// 4096 blocks; the restricted set for at most 4 bits. The first that is broken is the refusal.
+    /// Returns parameters for the settings. Checks the rules in this order: bits per sample 1 to
+    /// 32; block size 8, 16, 32 or 64, or with `even_blocks` an even number from 8 to 64; interval
+    /// 1 to 4096 blocks; the restricted set for at most 4 bits. Fails with the fault of the first
+    /// broken rule.
     pub fn new(settings: Settings) -> Result<Params, Fault>
         ensures ok { IfOk result (λ p. p ≡ settings) }
         ensures allowed { IfOk result (λ p. IsAllowed p) }
@@ -78,7 +79,7 @@ impl Params {
         Ok(Params { settings })
     }
 
-    /// Bits per sample, n.
+    /// Returns the bits per sample, n.
     pub fn bits(&self) -> u32
         ensures value { result ≡ self.now.bits }
         ensures allowed { IsAllowed self.now }
@@ -86,7 +87,7 @@ impl Params {
         self.settings.bits
     }
 
-    /// Samples in a block, J.
+    /// Returns the number of samples in a block, J.
     pub fn block_size(&self) -> u32
         ensures value { result ≡ self.now.block_size }
         ensures allowed { IsAllowed self.now }
@@ -94,7 +95,7 @@ impl Params {
         self.settings.block_size
     }
 
-    /// Blocks in a reference sample interval, r.
+    /// Returns the number of blocks in a reference sample interval, r.
     pub fn interval(&self) -> u32
         ensures value { result ≡ self.now.interval }
         ensures allowed { IsAllowed self.now }
@@ -102,7 +103,7 @@ impl Params {
         self.settings.interval
     }
 
-    /// Samples in a reference sample interval, 8 to 262,144.
+    /// Returns the number of samples in a reference sample interval, 8 to 262,144.
     pub fn interval_len(&self) -> u64
         ensures value { result ≡ samples_in_interval self.now }
         ensures allowed { IsAllowed self.now }
@@ -118,7 +119,8 @@ impl Params {
         let _settings = &self.settings;
     }
 
-    /// Bits of an identifier, 1 to 5, by the bits per sample and the code set (FORMAT.md §6).
+    /// Returns the number of bits of an identifier, 1 to 5, by the bits per sample and the code set
+    /// (FORMAT.md §6).
     pub fn id_len(&self) -> u32
         ensures value { result ≡ identifier_len self.now }
         ensures allowed { IsAllowed self.now }
@@ -132,8 +134,8 @@ impl Params {
         }
     }
 
-    /// Returns the greatest k of a sample-splitting option; `None` where identifiers have one bit
-    /// and there is none.
+    /// Returns the greatest k of a sample-splitting option; `None` if identifiers have one bit,
+    /// since there is then no such option.
     pub fn k_max(&self) -> Option<u32>
         ensures value { result ≡ greatest_k self.now }
         ensures allowed { IsAllowed self.now }
@@ -168,7 +170,7 @@ impl Params {
         }
     }
 
-    /// Bytes of a stored sample, 1 to 4.
+    /// Returns the number of bytes of a stored sample, 1 to 4.
     pub fn storage(&self) -> usize
         ensures value { result ≡ storage_len self.now }
         ensures allowed { IsAllowed self.now }
@@ -228,7 +230,8 @@ impl Params {
         (x.cast_unsigned() % (1u64 << self.bits())) as u32
     }
 
-    /// Whether a pattern stands for a negative sample: of signed samples the upper half does.
+    /// Returns whether a pattern is that of a negative sample: in the upper half, if samples are
+    /// signed.
     fn is_negative(&self, pattern: u32) -> bool
         ensures value { result ≡ (self.now.signed && nat_le (2 ^ (self.now.bits - 1)) pattern) }
         ensures allowed { IsAllowed self.now }

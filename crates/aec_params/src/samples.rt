@@ -2,7 +2,7 @@
 
 use std::marker::Model;
 
-/// Samples in order. Contracts see the list of them.
+/// Samples in order. Contracts see their list.
 #[derive(Debug, Drop)]
 pub struct Samples {
     items: Vec<i64>,
@@ -19,7 +19,7 @@ impl Model for Samples {
 impl Samples {
     ghost use Rattle.std.specs.Prelude.{◌≡◌};
 
-    /// Returns the samples of a vector, which is taken over without a copy.
+    /// Returns the samples of a vector. Takes the vector over without a copy.
     pub fn new(items: Vec<i64>) -> Samples
         ensures { result ≡ items.items }
     {

@@ -1,12 +1,11 @@
-//! What a user asks of the coder, before anything is checked.
+//! The settings that a user requests, before anything is checked.
 
-/// The parameters of a stream as they are asked for. `Params::new` says which the format has.
+/// The requested parameters of a stream. `Params::new` checks whether the format allows them.
 #[derive(Clone, Copy, Debug, PartialEq, Eq)]
 pub struct Settings {
     /// Bits per sample, n.
     pub bits: u32,
-    /// Samples in a block, J: 8, 16, 32 or 64, and with `even_blocks` every even number from 8 to
-    /// 64.
+    /// Samples in a block, J: 8, 16, 32 or 64, or with `even_blocks` any even number from 8 to 64.
     pub block_size: u32,
     /// Blocks in a reference sample interval, r.
     pub interval: u32,
@@ -22,14 +21,12 @@ pub struct Settings {
     pub pad: bool,
     /// Whether the restricted set of code options is used.
     pub restricted: bool,
-    /// Whether the block size may be any even number from 8 to 64. It says nothing else of the
-    /// stream.
+    /// Whether the block size may be any even number from 8 to 64. This changes nothing else.
     pub even_blocks: bool,
 }
 
 impl Settings {
-    /// What the command takes where no option says otherwise: 8 bits, unsigned, in blocks of 8 and
-    /// intervals of 2 blocks, preprocessed.
+    /// The command's defaults: 8 bits, unsigned, blocks of 8, intervals of 2 blocks, preprocessed.
     pub const USUAL: Settings = Settings {
         bits: 8,
         block_size: 8,
@@ -48,7 +45,7 @@ impl Default for Settings {
     ghost use Rattle.std.specs.Prelude.{◌≡◌};
     ghost use Rattle.aec_params.specs.Params.{usual_settings};
 
-    /// The usual settings.
+    /// Returns the usual settings.
     fn default() -> Settings
         ensures { result ≡ usual_settings }
     {

@@ -1,4 +1,4 @@
-//! One sample as it is stored: its bytes into it, and back.
+//! One stored sample: from its bytes to the sample, and back.
 
 ghost use Rattle.std.specs.Prelude.{IfSome, ◌≡◌, ◌<◌, ◌≤◌, ◌^◌, ◌*◌, ◌%◌, ◌++◌, drop, length};
 ghost use Rattle.aec_params.specs.Params.{IsHeld, pattern_value, storage_len};
@@ -8,8 +8,8 @@ use crate::numbers::{first_number, put_number};
 use crate::params::Params;
 use byteorder::{BigEndian, LittleEndian};
 
-/// Returns the sample that the bytes of one sample are; `None` where its unused bits are not what
-/// its width allows. Takes no memory.
+/// Returns the sample whose bytes are `group`; `None` if its unused bits are not what its width
+/// allows. Allocates nothing.
 pub fn sample_of(params: &Params, group: &[u8]) -> Option<i64>
     requires { length group.now ≡ storage_len params.now }
     ensures value { result ≡ sample_of_number params.now (number_in params.now group.now) }
@@ -25,7 +25,7 @@ pub fn sample_of(params: &Params, group: &[u8]) -> Option<i64>
     None
 }
 
-/// The number in the bytes of one sample.
+/// Returns the number in the bytes of one sample.
 fn number_of(params: &Params, group: &[u8]) -> u64
     requires { length group.now ≡ storage_len params.now }
     ensures { result ≡ number_in params.now group.now }
@@ -38,7 +38,7 @@ fn number_of(params: &Params, group: &[u8]) -> u64
     }
 }
 
-/// Whether the bits of a stored number from its sign bit on are all set.
+/// Returns whether the bits of a stored number from its sign bit on are all set.
 fn has_sign_bits(params: &Params, number: u64) -> bool
     ensures { result ≡ has_sign_above params.now number }
 {
@@ -47,7 +47,7 @@ fn has_sign_bits(params: &Params, number: u64) -> bool
     number >> low == (1u64 << high) - 1
 }
 
-/// The sample whose pattern is the low n bits of a number.
+/// Returns the sample whose pattern is the low n bits of a number.
 pub(crate) fn low_value(params: &Params, number: u64) -> i64
     ensures value { result ≡ pattern_value params.now (number % 2 ^ params.now.bits) }
     ensures held { IsHeld params.now result }
@@ -55,7 +55,7 @@ pub(crate) fn low_value(params: &Params, number: u64) -> i64
     params.value((number % (1u64 << params.bits())) as u32)
 }
 
-/// A sample in all bits of its bytes, as an unsigned number.
+/// Returns a sample in all bits of its bytes, as an unsigned number.
 fn full_width(params: &Params, x: i64) -> u64
     requires { IsHeld params.now x }
     ensures value { result ≡ stored_number params.now x }
@@ -64,8 +64,8 @@ fn full_width(params: &Params, x: i64) -> u64
     x.cast_unsigned() % (1u64 << (8 * params.storage()))
 }
 
-/// Writes the bytes of a sample to the front of `out` and leaves the others. The number of them,
-/// `storage`.
+/// Writes the bytes of a sample to the front of `out` and leaves the other bytes. Returns their
+/// number, `storage`.
 pub fn put_sample(params: &Params, x: i64, out: &mut [u8; 4]) -> usize
     requires { IsHeld params.now x }
     ensures bytes { out.new ≡ stored_bytes params.now x ++ drop (storage_len params.now) out.old }

@@ -1,5 +1,4 @@
-//! Lists of samples as they are stored. The width and the order of their bytes are settled once for
-//! a list.
+//! Lists of stored samples. The width and the byte order are chosen once for each list.
 
 ghost use Rattle.std.specs.Prelude.{None, Ok, Err, IfOk, IfErr, OnOk, OnErr, ◌≡◌, ◌<◌, ◌≤◌, ◌+◌, ◌*◌, ◌/◌, ◌%◌, ◌^◌, ℕ, ℤ, true, length, get_or, vec_len, vec_capacity};
 ghost use Rattle.std.specs.Int.{w64};
@@ -22,8 +21,8 @@ use std::alloc::Global;
 /// sample are ignored.
 ///
 /// Fails with `SampleRange` and the index of the first sample whose unused bits are not what its
-/// width allows. The whole input is judged first; then the call may fail with `Memory`, but not for
-/// bytes without a whole sample.
+/// width allows. The whole input is checked first. Then the call fails with `Memory` if an
+/// allocation fails, never for bytes without a whole sample.
 pub fn read_samples(alloc: Global, params: &Params, bytes: &[u8]) -> Result<Vec<i64>, Fault>
     ensures answer { AnswersSamples (λ v. v.items) (samples_of_bytes params.now bytes.now) result }
     ensures memory { result ≡ Err Memory → 0 < length bytes.now / storage_len params.now }
@@ -34,8 +33,8 @@ pub fn read_samples(alloc: Global, params: &Params, bytes: &[u8]) -> Result<Vec<
     collect_samples(alloc, params, bytes)
 }
 
-/// Returns the samples of bytes without a bad one, as `first_bad` finds it. Fails with `Memory`,
-/// but not for bytes without a whole sample.
+/// Returns the samples of bytes in which `first_bad` finds none. Fails with `Memory` if an
+/// allocation fails, never for bytes without a whole sample.
 pub fn collect_samples(alloc: Global, params: &Params, bytes: &[u8]) -> Result<Vec<i64>, Fault>
     requires { result_err (samples_of_bytes params.now bytes.now) ≡ None }
     ensures ok { IfOk result (λ v. samples_of_bytes params.now bytes.now ≡ Ok v.items) }
@@ -47,8 +46,8 @@ pub fn collect_samples(alloc: Global, params: &Params, bytes: &[u8]) -> Result<V
     Ok(samples)
 }
 
-/// Appends the samples of bytes without a bad one, as `first_bad` finds it. Fails with `Memory` if
-/// a growth is refused; nothing is appended then.
+/// Appends the samples of bytes in which `first_bad` finds none. Fails with `Memory` if an
+/// allocation fails; nothing is then appended.
 pub fn append_samples(params: &Params, bytes: &[u8], samples: &mut Vec<i64>) -> Result<(), Fault>
     requires { result_err (samples_of_bytes params.now bytes.now) ≡ None }
     ensures ok { OnOk result (samples_behind samples.old.items
@@ -71,8 +70,8 @@ pub fn append_samples(params: &Params, bytes: &[u8], samples: &mut Vec<i64>) -> 
     Ok(())
 }
 
-/// Puts the samples of bytes without a bad one, as `first_bad` finds it, into a slice of their
-/// number. Takes no memory.
+/// Puts the samples of bytes in which `first_bad` finds none into a slice of exactly their number.
+/// Allocates nothing.
 pub fn load_samples(params: &Params, bytes: &[u8], out: &mut [i64])
     requires good { result_err (samples_of_bytes params.now bytes.now) ≡ None }
     requires room { length out.old ≡ length bytes.now / storage_len params.now }
@@ -87,8 +86,7 @@ pub fn load_samples(params: &Params, bytes: &[u8], out: &mut [i64])
     }
 }
 
-/// Puts the samples whose patterns are the low n bits of the numbers of `width` bytes in the places
-/// of as many.
+/// Fills `out` with the samples whose patterns are the low n bits of the numbers of `width` bytes.
 fn load_numbers<T: ByteOrder>(params: &Params, bytes: &[u8], width: usize, out: &mut [i64])
     requires few { width ≤ 4 }
     requires some { 1 ≤ width }
@@ -106,7 +104,7 @@ fn load_numbers<T: ByteOrder>(params: &Params, bytes: &[u8], width: usize, out: 
     }
 }
 
-/// The same, inlined where the width is known.
+/// `load_numbers`, inlined for a known width.
 #[inline(always)]
 fn load_each<T: ByteOrder>(params: &Params, bytes: &[u8], width: usize, out: &mut [i64])
     requires few { width ≤ 4 }
@@ -123,7 +121,7 @@ fn load_each<T: ByteOrder>(params: &Params, bytes: &[u8], width: usize, out: &mu
     }
 }
 
-/// The sample whose pattern is the low n bits of a number of at most four bytes.
+/// Returns the sample whose pattern is the low n bits of a number of at most four bytes.
 #[inline(always)]
 fn value_of(params: &Params, number: u64) -> i64
     requires { number < 2 ^ 32 }
@@ -137,8 +135,8 @@ fn value_of(params: &Params, number: u64) -> i64
     }
 }
 
-/// The same for signed samples, with no choice by the sign: half of the patterns is added before
-/// the low bits are taken, and taken away again.
+/// `value_of` for signed samples, without a branch on the sign: adds half the number of patterns
+/// before it takes the low bits, and subtracts it again.
 #[inline(always)]
 fn signed_value_of(params: &Params, number: u64) -> i64
     requires signed { params.now.signed ≡ true }
@@ -151,8 +149,8 @@ fn signed_value_of(params: &Params, number: u64) -> i64
     raised.cast_signed() - half.cast_signed()
 }
 
-/// Writes the bytes of samples, which the parameters hold, one after the other; `out` is exactly as
-/// long as these bytes. Takes no memory.
+/// Writes the bytes of samples that the parameters hold, one after the other; `out` is exactly as
+/// long as these bytes. Allocates nothing.
 pub fn put_samples(params: &Params, samples: &[i64], out: &mut [u8])
     requires held { AllByRecursion (IsHeld params.now) samples.now }
     requires room { length out.old ≡ storage_len params.now * length samples.now }
@@ -181,7 +179,7 @@ fn put_numbers<T: ByteOrder>(samples: &[i64], width: usize, out: &mut [u8])
     }
 }
 
-/// The same, inlined where the width is known.
+/// `put_numbers`, inlined for a known width.
 #[inline(always)]
 fn put_each<T: ByteOrder>(samples: &[i64], width: usize, out: &mut [u8])
     requires few { width ≤ 4 }
@@ -194,7 +192,7 @@ fn put_each<T: ByteOrder>(samples: &[i64], width: usize, out: &mut [u8])
     }
 }
 
-/// The number in the low bytes of a sample.
+/// Returns the number in the low bytes of a sample.
 fn low_number(x: i64, width: usize) -> u64
     requires { width ≤ 4 }
     ensures value { result ≡ low_bytes w64 width x }

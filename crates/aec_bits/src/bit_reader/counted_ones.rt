@@ -8,8 +8,8 @@ ghost use Rattle.aec_bits.specs.Ones.{HasNthOne};
 
 use crate::bit_buf::BitBuf;
 
-/// Bits, as a number, in which the `nth` one is looked for, and how many places of the word stand
-/// before them.
+/// Bits of a word, as a number, in which the `nth` one is sought, and how many places of the word
+/// come before these bits.
 #[derive(Clone, Copy)]
 struct Stretch {
     bits: u64,
@@ -17,7 +17,7 @@ struct Stretch {
     before: u32,
 }
 
-/// The half of a stretch, of `width` bits, in which the one is.
+/// Returns the half of a stretch, of `width` bits, that contains the 1 bit that is sought.
 #[inline(always)]
 fn half_with_one(stretch: Stretch, width: u32) -> Stretch
     requires width { width ≤ 32 }
@@ -42,7 +42,7 @@ fn half_with_one(stretch: Stretch, width: u32) -> Stretch
     }
 }
 
-/// The place after the `nth` 1 bit of a word.
+/// Returns the place after the `nth` 1 bit of a word.
 #[inline(always)]
 fn behind_in_word(word: u64, nth: u32) -> u32
     requires some { 0 < nth }
@@ -63,7 +63,7 @@ fn behind_in_word(word: u64, nth: u32) -> u32
     half_with_one(of_2, 1).before + 1
 }
 
-/// How many bits from place `start` on end with the `count`-th 1; `None` where fewer follow.
+/// Returns how many bits from place `start` on end with the `count`-th 1; `None` if fewer follow.
 pub(crate) fn bits_to_one(buf: &BitBuf, start: u64, count: u64) -> Option<u64>
     requires within { start ≤ length buf.now.list }
     requires some { 0 < count }

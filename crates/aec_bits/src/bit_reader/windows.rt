@@ -1,4 +1,4 @@
-//! Several codewords read at once, from a word that holds the next bits.
+//! Reads several codewords at once, from a word that holds the next bits.
 
 ghost use Rattle.std.specs.Prelude.{◌≡◌, ◌+◌, ◌-◌, ◌*◌, ◌/◌, ◌<◌, ◌≤◌, ◌^◌, ◌++◌, ◌%◌, ◌∷◌, [], nat_le, false, length, take, drop, count_ones, MatchOption};
 ghost use Rattle.aec_params.specs.Codewords.{fs, binary};
@@ -9,7 +9,8 @@ ghost use Rattle.aec_bits.specs.Windows.{IsClearWindow, IsWholeWindow, IsTopOne,
 use crate::bit_buf::BitBuf;
 use std::simd::prelude::*;
 
-/// The next bits of a list: the lowest `left` bits of a word, which stand before place `end`.
+/// The next bits of a list: the lowest `left` bits of a word. In the list they end before place
+/// `end`.
 #[derive(Clone, Copy)]
 struct Window {
     word: u64,
@@ -17,7 +18,7 @@ struct Window {
     end: u64,
 }
 
-/// The place of the first bit of a window.
+/// Returns the place of the first bit of a window.
 #[inline(always)]
 fn place_of(window: Window) -> u64
     requires { window.left ≤ window.end }
@@ -26,7 +27,7 @@ fn place_of(window: Window) -> u64
     window.end - u64::from(window.left)
 }
 
-/// The 64 bits from place `start` on.
+/// Returns the window of the 64 bits from place `start` on.
 #[inline(always)]
 fn window_from(buf: &BitBuf, start: u64) -> Window
     requires { start ≤ length buf.now.list }
@@ -40,7 +41,7 @@ fn window_from(buf: &BitBuf, start: u64) -> Window
     }
 }
 
-/// A window, or if it has no 1 bit left the window of the 64 bits at its place.
+/// Returns the given window if it has a 1 bit left, else the window of the 64 bits at its place.
 #[inline(always)]
 fn with_one(buf: &BitBuf, window: Window) -> Window
     requires { IsClearWindow buf.now.list window }
@@ -55,7 +56,7 @@ fn with_one(buf: &BitBuf, window: Window) -> Window
     window_from(buf, place_of(window))
 }
 
-/// The place of the topmost one of a word, counted from the lowest bit.
+/// Returns the place of the topmost 1 bit of a word, counted from the lowest bit.
 #[inline(always)]
 fn top_one(word: u64) -> u32
     requires { 0 < word }
@@ -64,7 +65,7 @@ fn top_one(word: u64) -> u32
     word.leading_zeros() ^ 63
 }
 
-/// The number of the fundamental sequence that begins a window, and what is left after it.
+/// Returns the number of the fundamental sequence that begins a window, and what is left after it.
 #[inline(always)]
 fn next_sequence(window: Window) -> (u32, Window)
     requires size { window.left ≤ 64 }
@@ -125,7 +126,7 @@ fn sequences_within(window: Window, numbers: &mut [u32]) -> Window
     rest
 }
 
-/// Whether so many 1 bits are left in a window.
+/// Returns whether a window has `count` 1 bits left.
 #[inline(always)]
 fn has_ones(window: Window, count: usize) -> bool
     ensures { result ≡ nat_le count (count_ones window.word) }
@@ -133,7 +134,7 @@ fn has_ones(window: Window, count: usize) -> bool
     count <= window.word.count_ones() as usize
 }
 
-/// A window, or if it has fewer than `count` 1 bits left the window of the 64 bits at its place.
+/// Returns the given window if it has `count` 1 bits left, else that of the 64 bits at its place.
 #[inline(always)]
 fn with_ones(buf: &BitBuf, window: Window, count: usize) -> Window
     requires { IsClearWindow buf.now.list window }
@@ -187,8 +188,8 @@ pub(crate) fn sequences_from(buf: &BitBuf, start: u64, numbers: &mut [u32]) -> O
     }
 }
 
-/// The number that the first `width` bits of a window spell, and what is left after them. The mask
-/// leaves nothing at width 0, where the window may be whole.
+/// Returns the number that the first `width` bits of a window spell, and what is left after them.
+/// At width 0 the mask clears all bits, since the shift of a whole window wraps.
 #[inline(always)]
 fn next_number(window: Window, width: u32) -> (u32, Window)
     requires width { width ≤ 32 }
@@ -208,7 +209,7 @@ fn next_number(window: Window, width: u32) -> (u32, Window)
     ((window.word.wrapping_shr(left) & mask) as u32, rest)
 }
 
-/// What moves the second to the fourth of four numbers at a word's top there, by their width.
+/// The factors that move each of four numbers at a word's top to the top, by their width.
 static POWERS: [[u32; 4]; 9] = [
     [1, 1, 1, 1],
     [1, 2, 4, 8],
@@ -221,7 +222,7 @@ static POWERS: [[u32; 4]; 9] = [
     [1, 256, 65536, 16777216],
 ];
 
-/// The row of a width.
+/// Returns the row of a width.
 #[inline(always)]
 fn powers_of(width: u32) -> [u32; 4]
     requires { width ≤ 8 }
@@ -230,7 +231,7 @@ fn powers_of(width: u32) -> [u32; 4]
     POWERS[width as usize]
 }
 
-/// The 32 bits of a word from place `at` on.
+/// Returns the 32 bits of a word from place `at` on.
 #[inline(always)]
 fn half_from(word: u64, at: u32) -> u32
     requires { at < 64 }
@@ -239,7 +240,7 @@ fn half_from(word: u64, at: u32) -> u32
     ((word << at) >> 32) as u32
 }
 
-/// The numbers of so many bits that stand at the top of four lanes, once powers moved them there.
+/// Returns the numbers of `width` bits at the top of four lanes, after `powers` moved them there.
 #[inline(always)]
 fn top_numbers(halves: &[u32; 4], powers: &[u32; 4], width: u32) -> [u32; 4]
     requires { width < 32 }
@@ -249,7 +250,7 @@ fn top_numbers(halves: &[u32; 4], powers: &[u32; 4], width: u32) -> [u32; 4]
     ((lanes >> u32x4::splat(1)) >> u32x4::splat(31 - width)).to_array()
 }
 
-/// The eight numbers of so many bits at the top of a word.
+/// Returns the eight numbers of `width` bits each at the top of a word.
 #[inline(always)]
 fn eight_numbers(word: u64, width: u32) -> [u32; 8]
     requires { width ≤ 8 }
@@ -265,7 +266,7 @@ fn eight_numbers(word: u64, width: u32) -> [u32; 8]
     ]
 }
 
-/// The four numbers of so many bits at the top of a word.
+/// Returns the four numbers of `width` bits each at the top of a word.
 #[inline(always)]
 fn four_numbers(word: u64, width: u32) -> [u32; 4]
     requires { width ≤ 16 }
@@ -277,8 +278,8 @@ fn four_numbers(word: u64, width: u32) -> [u32; 4]
     top_numbers(&[half, half, next, next], &[1, power, 1, power], width)
 }
 
-/// Puts the numbers that `width` bits each of a word spell, from its first bit on, into `numbers`,
-/// one by one.
+/// Fills `numbers`, one by one, with the numbers of `width` bits each from the first bit of a word
+/// on.
 #[inline(always)]
 fn any_numbers_within(word: u64, width: u32, numbers: &mut [u32])
     requires { FitWord width (length numbers.old) }
@@ -297,7 +298,7 @@ fn any_numbers_within(word: u64, width: u32, numbers: &mut [u32])
     }
 }
 
-/// The same: up to eight or four at once.
+/// `any_numbers_within`, with up to eight or four numbers at once.
 #[inline(always)]
 fn numbers_within(word: u64, width: u32, numbers: &mut [u32])
     requires { FitWord width (length numbers.old) }
@@ -331,8 +332,8 @@ fn numbers_by<const N: usize>(buf: &BitBuf, start: u64, width: u32, numbers: &mu
     numbers_within(buf.word_from(place), width, &mut numbers[done..]);
 }
 
-/// Puts the numbers that the next `width` bits each spell from place `start` on into `numbers`:
-/// eight, four or two at a time, by their width.
+/// Fills `numbers` with the numbers of `width` bits each from place `start` on: eight, four or two
+/// at a time, by their width.
 #[inline(always)]
 pub(crate) fn numbers_from(buf: &BitBuf, start: u64, width: u32, numbers: &mut [u32])
     requires width { width ≤ 32 }

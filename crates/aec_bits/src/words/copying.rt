@@ -1,4 +1,4 @@
-//! Stretches of bits in words, copied and moved.
+//! Copies and moves stretches of bits in words.
 
 ghost use Rattle.std.specs.Prelude.{◌*◌, ◌≤◌};
 ghost use Rattle.aec_bits.specs.Stretches.{HaveCopied, CanCopy};
@@ -37,7 +37,7 @@ fn copy_chunk(words: &mut [u64], at: u64, with: &[u64], from: u64, width: u32)
     put_number(words, at, width, number_at(with, from, width));
 }
 
-/// Overwrites words from word `place` on by the bits of other words from place `from` on.
+/// Overwrites `count` words from word `place` on by the bits of other words from place `from` on.
 fn copy_words(words: &mut [u64], place: usize, with: &[u64], from: u64, count: usize)
     requires { CanCopy from (64 * place) (64 * count) with.now words.old }
     ensures { HaveCopied from (64 * place) (64 * count) with.now words.old words.new }
@@ -57,7 +57,7 @@ fn copy_words(words: &mut [u64], place: usize, with: &[u64], from: u64, count: u
     );
 }
 
-/// The same word by word.
+/// `copy_words`, word by word.
 fn copy_each(words: &mut [u64], place: usize, with: &[u64], from: u64, count: usize)
     requires { CanCopy from (64 * place) (64 * count) with.now words.old }
     ensures { HaveCopied from (64 * place) (64 * count) with.now words.old words.new }
@@ -82,7 +82,7 @@ pub(crate) fn move_bits(words: &mut [u64], from: u64, to: u64, count: u64)
     }
 }
 
-/// The same towards the front.
+/// `move_bits` towards the front.
 fn move_down(words: &mut [u64], from: u64, to: u64, count: u64)
     requires order { to ≤ from }
     requires copy { CanCopy from to count words.old words.old }
@@ -109,7 +109,7 @@ fn move_down(words: &mut [u64], from: u64, to: u64, count: u64)
     );
 }
 
-/// The same towards the end.
+/// `move_bits` towards the end.
 fn move_up(words: &mut [u64], from: u64, to: u64, count: u64)
     requires order { from ≤ to }
     requires copy { CanCopy from to count words.old words.old }
@@ -146,7 +146,7 @@ fn move_chunk(words: &mut [u64], from: u64, to: u64, width: u32)
     put_number(words, to, width, value);
 }
 
-/// Moves bits from place `from` on to word `place` and those after it, the first first.
+/// Moves bits from place `from` on to word `place` and those after it, beginning with the first.
 fn move_words_down(words: &mut [u64], from: u64, place: usize, count: usize)
     requires order { 64 * place ≤ from }
     requires copy { CanCopy from (64 * place) (64 * count) words.old words.old }
@@ -166,7 +166,7 @@ fn move_words_down(words: &mut [u64], from: u64, place: usize, count: usize)
     );
 }
 
-/// The same word by word.
+/// `move_words_down`, word by word.
 fn move_each_down(words: &mut [u64], from: u64, place: usize, count: usize)
     requires order { 64 * place ≤ from }
     requires copy { CanCopy from (64 * place) (64 * count) words.old words.old }
@@ -177,7 +177,7 @@ fn move_each_down(words: &mut [u64], from: u64, place: usize, count: usize)
     }
 }
 
-/// Moves bits from place `from` on to word `place` and those after it, the last first.
+/// Moves bits from place `from` on to word `place` and those after it, beginning with the last.
 fn move_words_up(words: &mut [u64], from: u64, place: usize, count: usize)
     requires order { from ≤ 64 * place }
     requires copy { CanCopy from (64 * place) (64 * count) words.old words.old }
@@ -192,7 +192,7 @@ fn move_words_up(words: &mut [u64], from: u64, place: usize, count: usize)
     move_each_up(words, from, place, rest);
 }
 
-/// The same word by word.
+/// `move_words_up`, word by word.
 fn move_each_up(words: &mut [u64], from: u64, place: usize, count: usize)
     requires order { from ≤ 64 * place }
     requires copy { CanCopy from (64 * place) (64 * count) words.old words.old }

@@ -1,4 +1,4 @@
-//! Bits that begin within a word, copied and moved four words at a time.
+//! Copies and moves bits that begin within a word, four words at a time.
 
 ghost use Rattle.std.specs.Prelude.{◌≡◌, ◌+◌, ◌*◌, ◌%◌, ◌<◌, ◌≤◌, length, take, drop};
 ghost use Rattle.aec_bits.specs.Words.{bits_of_words};
@@ -6,7 +6,7 @@ ghost use Rattle.aec_bits.specs.Stretches.{IsInnerPlace, HaveCopied, CanCopy};
 
 use std::simd::prelude::*;
 
-/// Overwrites four times so many words from word `place` on by the bits of other words from place
+/// Overwrites four times `fours` words from word `place` on by the bits of other words from place
 /// `from` on.
 pub(crate) fn copy_fours(words: &mut [u64], place: usize, with: &[u64], from: u64, fours: usize)
     requires shifted { 0 < from % 64 }
@@ -20,7 +20,8 @@ pub(crate) fn copy_fours(words: &mut [u64], place: usize, with: &[u64], from: u6
     }
 }
 
-/// Moves bits from place `from` on to word `place` and those after it, the first four words first.
+/// Moves bits from place `from` on to word `place` and those after it, beginning with the first
+/// four words.
 pub(crate) fn move_fours_down(words: &mut [u64], from: u64, place: usize, fours: usize)
     requires shifted { 0 < from % 64 }
     requires order { 64 * place ≤ from }
@@ -34,7 +35,8 @@ pub(crate) fn move_fours_down(words: &mut [u64], from: u64, place: usize, fours:
     }
 }
 
-/// Moves bits from place `from` on to word `place` and those after it, the last four words first.
+/// Moves bits from place `from` on to word `place` and those after it, beginning with the last four
+/// words.
 pub(crate) fn move_fours_up(words: &mut [u64], from: u64, place: usize, fours: usize)
     requires shifted { 0 < from % 64 }
     requires order { from ≤ 64 * place }
@@ -50,7 +52,7 @@ pub(crate) fn move_fours_up(words: &mut [u64], from: u64, place: usize, fours: u
     }
 }
 
-/// The four words that begin at place `at` of word `from` and of those after it.
+/// Returns the four words whose bits begin at place `at` of word `from`.
 #[inline(always)]
 fn joined_four(words: &[u64], from: usize, at: u32) -> u64x4
     requires inside { IsInnerPlace at }
@@ -74,7 +76,7 @@ fn move_four(words: &mut [u64], from: usize, at: u32, place: usize)
     joined_four(words, from, at).copy_to_slice(&mut words[place..]);
 }
 
-/// The same from other words.
+/// `move_four` from other words.
 #[inline(always)]
 fn copy_four(words: &mut [u64], place: usize, with: &[u64], from: usize, at: u32)
     requires inside { IsInnerPlace at }

@@ -16,7 +16,7 @@ pub(crate) fn append_octets(words: &mut Vec<u64>, len: u64, bytes: &[u8])
     append_each(words, len + 8 * eights.len() as u64, behind);
 }
 
-/// The same for bytes that are whole eights.
+/// `append_octets` for a multiple of eight bytes.
 fn append_eights(words: &mut Vec<u64>, len: u64, bytes: &[u8])
     requires eights { length bytes.now % 8 ≡ 0 }
     requires grow { CanGrow len (8 * length bytes.now) words.old }
@@ -28,7 +28,7 @@ fn append_eights(words: &mut Vec<u64>, len: u64, bytes: &[u8])
     }
 }
 
-/// The same byte by byte.
+/// `append_octets`, byte by byte.
 fn append_each(words: &mut Vec<u64>, len: u64, bytes: &[u8])
     requires { CanGrow len (8 * length bytes.now) words.old }
     ensures { Extends len (8 * length bytes.now) (bits_of_bytes bytes.now) words.old words.new }
@@ -38,7 +38,7 @@ fn append_each(words: &mut Vec<u64>, len: u64, bytes: &[u8])
     }
 }
 
-/// The eight bytes from byte `start` on.
+/// Returns the eight bytes from byte `start` on.
 #[inline]
 fn eight_at(bytes: &[u8], start: usize) -> [u8; 8]
     requires { start + 8 ≤ length bytes.now }
@@ -49,7 +49,7 @@ fn eight_at(bytes: &[u8], start: usize) -> [u8; 8]
     eight
 }
 
-/// The word of eight bytes.
+/// Returns the word of eight bytes.
 #[inline]
 fn word_of(eight: [u8; 8]) -> u64
     ensures { binary 64 result ≡ bits_of_bytes eight }

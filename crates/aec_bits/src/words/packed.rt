@@ -10,7 +10,7 @@ ghost use Rattle.aec_bits.specs.Packed.{ArePacked, Keep, HasRoomFor, CanGrow, Ex
 use crate::words::copying::{copy_bits, move_bits};
 use crate::words::put_number;
 
-/// Appends zero words, for which there is room, until there are as many as `len` bits need.
+/// Appends zero words, for which there is room, until the words hold `len` bits.
 pub(crate) fn grow(words: &mut Vec<u64>, len: u64)
     requires { HasRoomFor len words.old }
     ensures bits { bits_of_words words.new.items
@@ -35,7 +35,7 @@ pub(crate) fn cut(words: &mut Vec<u64>, len: u64)
     put_number(words.as_mut_slice(), len, (64 * count - len) as u32, 0);
 }
 
-/// The last word.
+/// Returns the last word.
 #[inline]
 fn last_of(words: &Vec<u64>) -> u64
     requires { 0 < vec_len words.now }
@@ -93,7 +93,7 @@ pub(crate) fn append_bits(words: &mut Vec<u64>, len: u64, with: &[u64], count: u
 }
 
 /// Replaces the bits from place `start` up to place `stop` of a list of `len` bits by the first
-/// `count` bits of other words. There is room for what the list gets longer.
+/// `count` bits of other words. There is room for the bits that the list gains.
 pub(crate) fn splice_bits(
     words: &mut Vec<u64>,
     len: u64,

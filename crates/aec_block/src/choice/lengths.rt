@@ -10,7 +10,8 @@ ghost use Rattle.aec_block.specs.Choices.{IsPrepared};
 use crate::block::BlockRef;
 use aec_params::Params;
 
-/// An identifier of `id_len` bits, the usual length, and the reference sample where there is one.
+/// Returns the length of an identifier of `id_len` bits, the usual length, and of the reference
+/// sample, if there is one.
 #[inline(always)]
 pub(crate) fn head_len(params: &Params, id_len: u32, reference: Option<u32>) -> u32
     requires id_len { id_len ≡ identifier_len params.now }
@@ -23,7 +24,7 @@ pub(crate) fn head_len(params: &Params, id_len: u32, reference: Option<u32>) -> 
     }
 }
 
-/// The codeword of a pair.
+/// Returns the length of a pair's codeword.
 pub(crate) fn pair_len(a: u32, b: u32) -> u128
     ensures len { result ≡ pair_number a b + 1 }
     ensures bound { result ≤ 2 ^ 66 }
@@ -32,8 +33,8 @@ pub(crate) fn pair_len(a: u32, b: u32) -> u128
     sum * (sum + 1) / 2 + u128::from(b) + 1
 }
 
-/// The codeword of a pair whose sum is below 2^16. That of any other is longer than each block by
-/// no compression.
+/// Returns the length of a pair's codeword if the pair's sum is below 2^16. The codeword of any
+/// other pair is longer than each block by no compression.
 #[tactic(auto, using(crate::proofs::LengthLemmas::great_pairs))]
 fn small_pair_len(a: u32, b: u32) -> Option<u64>
     ensures { IsLengthIfShort (pair_number a b + 1) (2 ^ 32) result }
@@ -46,7 +47,8 @@ fn small_pair_len(a: u32, b: u32) -> Option<u64>
     }
 }
 
-/// The codewords of consecutive pairs, or nothing at a pair whose codeword alone is too long.
+/// Returns the length of the codewords of consecutive pairs, or `None` if one codeword alone is too
+/// long.
 #[tactic(auto, using(crate::proofs::LengthLemmas::pair_steps))]
 #[inline(never)]
 fn pairs_len(values: &[u32]) -> Option<u64>
@@ -60,7 +62,7 @@ fn pairs_len(values: &[u32]) -> Option<u64>
     Some(sum)
 }
 
-/// The length by no compression.
+/// Returns the length by no compression.
 #[inline(always)]
 pub(crate) fn uncompressed_len(
     params: &Params,
@@ -76,8 +78,8 @@ pub(crate) fn uncompressed_len(
         + values.len() as u64 * u64::from(params.bits())
 }
 
-/// The length by the second extension, or nothing where a codeword alone is longer than each block
-/// by no compression.
+/// Returns the length by the second extension, or `None` if one codeword alone is longer than each
+/// block by no compression.
 #[inline(always)]
 pub(crate) fn paired_len(params: &Params, id_len: u32, block: &BlockRef) -> Option<u64>
     requires id_len { id_len ≡ identifier_len params.now }

@@ -35,9 +35,9 @@ fn first_best(values: &[u32], options: u32) -> Splitting
     with_k(sum, values.len(), last)
 }
 
-/// Returns the shortest option for a block of J values below `2^n`, with a reference below `2^n`
-/// where it has one. Of equal lengths (a tie) the first in this order: no compression, second
-/// extension, splitting with the least k.
+/// Returns the shortest option for a block of J values below `2^n`, with a reference below `2^n` if
+/// it has one. Of equal lengths (a tie) the first in this order: no compression, second extension,
+/// splitting with the least k.
 pub fn choose(params: &Params, block: &Block) -> Choice
     requires { IsFull params.now block.now }
     ensures { IsChoice params.now block.now result }

@@ -15,8 +15,8 @@ pub(crate) struct Splitting {
     pub(crate) bits: u64,
 }
 
-/// Whether so many values are shorter with one low bit more each, by the sums without the low bits,
-/// this time and next.
+/// Returns whether `count` values are shorter with one more low bit each. `sum` is their sum
+/// without the low bits, `next` their sum without one more.
 #[inline(always)]
 pub(crate) fn is_shorter_next(sum: u64, next: u64, count: u64) -> bool
     requires { next + count < 2 ^ 64 }
@@ -25,7 +25,8 @@ pub(crate) fn is_shorter_next(sum: u64, next: u64, count: u64) -> bool
     next + count < sum
 }
 
-/// The values that are split with `k`, by their sum without the low bits.
+/// Returns `k` and the number of bits of `count` values that are split with it; `sum` is their sum
+/// without the low bits.
 #[inline(always)]
 pub(crate) fn with_k(sum: u64, count: usize, k: u32) -> Splitting
     requires sum { sum ≤ 2 ^ 39 }
@@ -41,8 +42,8 @@ pub(crate) fn with_k(sum: u64, count: usize, k: u32) -> Splitting
     }
 }
 
-/// Whether the sum of so many values is more than `3 * count * 2^k`; then one low bit more than `k`
-/// makes them shorter.
+/// Returns whether the sum of `count` values is more than `3 * count * 2^k`. One more low bit than
+/// `k` then makes them shorter.
 #[inline(always)]
 fn is_past(sum: u64, count: u64, k: u32) -> bool
     requires count { count ≤ most_values }
@@ -52,7 +53,7 @@ fn is_past(sum: u64, count: u64, k: u32) -> bool
     (3 * count) << k < sum
 }
 
-/// The k to begin with or the one before it, by the widths of two numbers.
+/// Returns the k to begin with or the one before it, by the widths of two numbers.
 #[inline(always)]
 #[tactic(auto, using(crate::proofs::SplittingLemmas::widths))]
 fn near_first(sum: u64, count: u64) -> u32
@@ -65,7 +66,8 @@ fn near_first(sum: u64, count: u64) -> u32
     zeros.saturating_sub(sum.leading_zeros())
 }
 
-/// The k to begin with, by the sum of the values: each one before it is longer than the next.
+/// Returns the k to begin with, by the sum of the values: with each smaller k the values are longer
+/// than with the next.
 #[inline(always)]
 fn first_k(sum: u64, count: u64, last: u32) -> u32
     requires count { count ≤ most_values }
@@ -83,7 +85,8 @@ fn first_k(sum: u64, count: u64, last: u32) -> u32
     near
 }
 
-/// The sum of values below `2^bits`: in lanes of 32 bits where 64 of them fit these.
+/// Returns the sum of values below `2^bits`: in lanes of 32 bits if the sum of 64 such values fits
+/// these.
 #[inline(always)]
 fn sum_of_values(values: &[u32], bits: u32) -> u64
     requires { AreFewBelow bits values.now }
@@ -96,8 +99,8 @@ fn sum_of_values(values: &[u32], bits: u32) -> u64
     }
 }
 
-/// The sum of values below `2^bits` without their `k` low bits, where that of the values as they
-/// are is known: in lanes of 32 bits where 64 of them fit these.
+/// Returns the sum of values below `2^bits` without their `k` low bits; `total` is their sum with
+/// these bits. Uses lanes of 32 bits if the sum of 64 such values fits these.
 #[inline(always)]
 fn sum_from(values: &[u32], bits: u32, total: u64, k: u32) -> u64
     requires total { IsSum 0 values.now (2 ^ 39) total }
@@ -114,9 +117,9 @@ fn sum_from(values: &[u32], bits: u32, total: u64, k: u32) -> u64
     shifted_sum(values, k)
 }
 
-/// The best k, where it is `first`, the next or the one behind that: each before is longer than the
-/// next, and the values add up to three times their number or less without `first` low bits. Their
-/// sums are those of `all`.
+/// Returns the best k, which is `first` or one of the next two: with each k before `first` the
+/// values are longer than with the next, and they add up to at most `3 * 2^first` times their
+/// number. Their sums are those of `all`.
 #[inline(always)]
 fn best_of_three(all: &[u32], values: &[u32], first: u32) -> Splitting
     requires first { first < 30 }
@@ -138,12 +141,12 @@ fn best_of_three(all: &[u32], values: &[u32], first: u32) -> Splitting
     with_k(sums.third, count, first + 2)
 }
 
-/// The k below `options` with which values below `2^bits` have the fewest bits, and of equal ones
-/// the least; 0 where there are no options. The sums fall by half at least with each k, so what one
-/// more low bit gains never grows: at the first k that one more doesn't make shorter, no later one
-/// does. The sum of the values as they are says where to begin; if two further k exist after that
-/// one, they are enough. The sums are taken of `all`: a 0 in the reference place, which adds
-/// nothing, makes the values fill lanes.
+/// Returns the k below `options` with which values below `2^bits` have the fewest bits, and of
+/// equal ones the least; 0 if there are no options. The sum falls at least by half with each k, so
+/// what one more low bit gains never grows: after the first k whose successor isn't shorter, no
+/// later k is shorter. The sum of the values determines the k to begin with; if two further k exist
+/// after that one, they are enough. The sums are those of `all`: a 0 in the reference place adds
+/// nothing, and with it the values fill lanes.
 #[inline(always)]
 pub(crate) fn best_split(all: &[u32], values: &[u32], bits: u32, options: u32) -> Splitting
     requires below { AllByRecursion (λ v. v < 2 ^ bits) all.now }

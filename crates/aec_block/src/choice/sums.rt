@@ -1,4 +1,4 @@
-//! The values of a block without their low bits, added up in eight lanes of 64 bits.
+//! Adds up the values of a block without their low bits, in eight lanes of 64 bits.
 
 ghost use Rattle.std.specs.Prelude.{◌≡◌, ◌+◌, ◌*◌, ◌/◌, ◌^◌, ◌<◌, ◌≤◌, length, take, drop};
 ghost use Rattle.std.specs.Simd.Lanes.{sum_l};
@@ -7,7 +7,7 @@ ghost use Rattle.aec_block.specs.Lengths.{CanSum, AddUpTo, IsSum};
 
 use std::simd::prelude::*;
 
-/// Eight values without their `k` low bits.
+/// Returns eight values without their `k` low bits.
 #[inline(always)]
 #[tactic(auto, using(crate::proofs::LanesLemmas::shifts))]
 fn shifted_lanes(values: &[u32], k: u32) -> u64x8
@@ -30,7 +30,7 @@ fn added_lanes(sums: u64x8, values: u64x8) -> u64x8
     sums.strict_add(values)
 }
 
-/// The lanes added up.
+/// Returns the sum of the lanes.
 #[inline(always)]
 #[tactic(auto, using(crate::proofs::LanesLemmas::additions))]
 fn sum_of_lanes(sums: u64x8) -> u64
@@ -40,7 +40,7 @@ fn sum_of_lanes(sums: u64x8) -> u64
     sums.strict_reduce_sum()
 }
 
-/// The sum of the values that fill lanes: all but the last few, fewer than eight.
+/// Returns the sum of the values that fill lanes: all but the last few, fewer than eight.
 #[inline(always)]
 pub(crate) fn sum_by_eights(values: &[u32], k: u32) -> u64
     requires { CanSum k values.now }
@@ -54,7 +54,7 @@ pub(crate) fn sum_by_eights(values: &[u32], k: u32) -> u64
     sum_of_lanes(sums)
 }
 
-/// Returns the values behind the last whole eight, fewer than eight.
+/// Returns the values after the last whole eight, fewer than eight.
 #[inline(always)]
 #[tactic(auto, using(crate::proofs::LanesLemmas::rests))]
 pub(crate) fn rest_of_lanes(values: &[u32]) -> &[u32]
@@ -63,7 +63,7 @@ pub(crate) fn rest_of_lanes(values: &[u32]) -> &[u32]
     &values[8 * (values.len() / 8)..]
 }
 
-/// The sum of a few values, one by one.
+/// Returns the sum of a few values, one by one.
 #[inline(always)]
 pub(crate) fn sum_one_by_one(values: &[u32], k: u32) -> u64
     requires { CanSum k values.now }

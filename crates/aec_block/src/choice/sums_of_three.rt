@@ -1,5 +1,5 @@
-//! The sums of a block's values without k, k + 1 and k + 2 low bits, in one pass, where they fit
-//! eight lanes of 32 bits.
+//! The sums of a block's values without k, k + 1 and k + 2 low bits, in one pass, if they fit eight
+//! lanes of 32 bits.
 
 ghost use Rattle.std.specs.Prelude.{◌≡◌, ◌+◌, ◌-◌, ◌*◌, ◌/◌, ◌^◌, ◌<◌, ◌≤◌, length, take};
 ghost use Rattle.std.specs.Simd.Lanes.{sum_l};
@@ -17,7 +17,7 @@ pub(crate) struct ThreeSums {
     pub(crate) third: u64,
 }
 
-/// Eight values without their `k` low bits.
+/// Returns eight values without their `k` low bits.
 #[inline(always)]
 #[tactic(auto, using(crate::proofs::LanesLemmas::shifts))]
 fn small_lanes(values: &[u32], k: u32) -> u32x8
@@ -39,7 +39,7 @@ fn small_added(sums: u32x8, values: u32x8) -> u32x8
     sums.strict_add(values)
 }
 
-/// The lanes added up.
+/// Returns the sum of the lanes.
 #[inline(always)]
 #[tactic(auto, using(crate::proofs::ThreeSumsLemmas::additions))]
 fn small_sum(sums: u32x8) -> u64
@@ -50,7 +50,7 @@ fn small_sum(sums: u32x8) -> u64
     u64::from(sums.strict_reduce_sum())
 }
 
-/// The sums of the values that fill lanes: of all but the last few, fewer than eight.
+/// Returns the sums of the values that fill lanes: of all but the last few, fewer than eight.
 #[inline(always)]
 fn three_by_eights(values: &[u32], k: u32) -> ThreeSums
     requires k { k < 30 }
@@ -73,7 +73,7 @@ fn three_by_eights(values: &[u32], k: u32) -> ThreeSums
     }
 }
 
-/// The sums of a few values, one by one.
+/// Returns the sums of a few values, one by one.
 #[inline(always)]
 fn three_of_few(values: &[u32], k: u32) -> ThreeSums
     requires k { k < 30 }
@@ -87,7 +87,7 @@ fn three_of_few(values: &[u32], k: u32) -> ThreeSums
     }
 }
 
-/// The sums of values without `k` low bits, without one more, and without two more.
+/// Returns the sums of values without `k` low bits, without one more, and without two more.
 #[inline(always)]
 #[tactic(auto, using(crate::proofs::LanesLemmas::joined_sums))]
 pub(crate) fn three_sums(values: &[u32], k: u32) -> ThreeSums
@@ -105,7 +105,7 @@ pub(crate) fn three_sums(values: &[u32], k: u32) -> ThreeSums
     }
 }
 
-/// The sum of the values that fill lanes, of all but the last few, fewer than eight.
+/// Returns the sum of the values that fill lanes, of all but the last few, fewer than eight.
 #[inline(always)]
 fn small_by_eights(values: &[u32], k: u32) -> u64
     requires { FitsLanes k values.now }
@@ -118,7 +118,7 @@ fn small_by_eights(values: &[u32], k: u32) -> u64
     small_sum(sums)
 }
 
-/// The values without their `k` low bits, added up, where the sum fits 32 bits.
+/// Returns the sum of the values without their `k` low bits, which fits 32 bits.
 #[inline(always)]
 #[tactic(auto, using(crate::proofs::LanesLemmas::joined_sums))]
 pub(crate) fn small_shifted_sum(values: &[u32], k: u32) -> u64

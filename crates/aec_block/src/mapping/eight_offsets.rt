@@ -1,4 +1,4 @@
-//! Maps eight offsets at once, each at the one before it.
+//! Maps eight offsets at once, each predicted by the one before it.
 
 ghost use Rattle.std.specs.Prelude.{◌≡◌, ◌+◌, ◌-◌, ◌%◌, ◌^◌, ◌<◌, ◌≤◌, ◌∷◌, ℕ, min, max, length, take, get_or};
 ghost use Rattle.std.specs.List.{AllByRecursion};
@@ -7,7 +7,7 @@ ghost use Rattle.aec_block.specs.Offsets.{mapped_offsets};
 use crate::mapping::small_differences::rooms_at;
 use std::simd::prelude::*;
 
-/// Where each of eight offsets is predicted: at the one before it, the first at `previous`.
+/// Returns the prediction of each of eight offsets: the one before it, for the first `previous`.
 #[inline(always)]
 #[tactic(auto, using(crate::proofs::EightOffsetsLemmas::shifted))]
 fn predictions(previous: u32, offsets: &[u32; 8]) -> [u32; 8]
@@ -19,7 +19,7 @@ fn predictions(previous: u32, offsets: &[u32; 8]) -> [u32; 8]
         .to_array()
 }
 
-/// The lesser ones of eight numbers and eight others.
+/// Returns the lesser number of each of eight pairs.
 #[inline(always)]
 #[tactic(auto, using(crate::proofs::EightOffsetsLemmas::lesser_lanes))]
 fn lesser_of(xs: &[u32; 8], ys: &[u32; 8]) -> [u32; 8]
@@ -31,7 +31,7 @@ fn lesser_of(xs: &[u32; 8], ys: &[u32; 8]) -> [u32; 8]
         .to_array()
 }
 
-/// The greater ones of eight numbers and eight others.
+/// Returns the greater number of each of eight pairs.
 #[inline(always)]
 #[tactic(auto, using(crate::proofs::EightOffsetsLemmas::greater_lanes))]
 fn greater_of(xs: &[u32; 8], ys: &[u32; 8]) -> [u32; 8]
@@ -43,7 +43,7 @@ fn greater_of(xs: &[u32; 8], ys: &[u32; 8]) -> [u32; 8]
         .to_array()
 }
 
-/// Eight numbers and eight others, added up modulo 2^32.
+/// Returns the sum of each of eight pairs, modulo 2^32.
 #[inline(always)]
 #[tactic(auto, using(crate::proofs::EightOffsetsLemmas::sum_lanes))]
 fn sums_of(xs: &[u32; 8], ys: &[u32; 8]) -> [u32; 8]
@@ -53,7 +53,7 @@ fn sums_of(xs: &[u32; 8], ys: &[u32; 8]) -> [u32; 8]
     (u32x8::from_array(*xs) + u32x8::from_array(*ys)).to_array()
 }
 
-/// Eight numbers less eight others, modulo 2^32.
+/// Returns the difference of each of eight pairs, modulo 2^32.
 #[inline(always)]
 #[tactic(auto, using(crate::proofs::EightOffsetsLemmas::difference_lanes))]
 fn differences_of(xs: &[u32; 8], ys: &[u32; 8]) -> [u32; 8]
@@ -63,8 +63,9 @@ fn differences_of(xs: &[u32; 8], ys: &[u32; 8]) -> [u32; 8]
     (u32x8::from_array(*xs) - u32x8::from_array(*ys)).to_array()
 }
 
-/// What is coded for eight offsets, each at the one before it, which is `previous` for the first.
-/// Below its prediction, an offset counts a place more of the room, and one less at the end.
+/// Returns the values that are coded for eight offsets, each predicted by the one before it, the
+/// first by `previous`. For an offset below its prediction, adds 1 to the room and subtracts 1 at
+/// the end.
 #[inline(always)]
 pub(crate) fn map_eight(top: u32, previous: u32, offsets: &[u32; 8]) -> [u32; 8]
     requires { AllByRecursion (λ x. x ≤ top) (previous ∷ offsets.now) }

@@ -12,7 +12,7 @@ use crate::mapping::{greatest_offset, map_offset, offset_above};
 use aec_params::Params;
 use std::simd::prelude::*;
 
-/// Puts how far samples lie above the least one into `values`.
+/// Fills `values` with how far samples lie above the least one.
 #[inline(always)]
 fn put_sample_offsets(params: &Params, samples: &[i64], values: &mut [u32])
     requires { HaveValuePlaces params.now samples.now values.old }
@@ -24,8 +24,8 @@ fn put_sample_offsets(params: &Params, samples: &[i64], values: &mut [u32])
     }
 }
 
-/// Puts what is coded for offsets in their place, each at the one before it, which is `previous`
-/// for the first: one by one.
+/// Replaces offsets, one by one, by the values that are coded for them, each predicted by the
+/// offset before it, the first by `previous`.
 #[inline(always)]
 fn map_each_offset(top: u32, previous: u32, values: &mut [u32])
     requires { AllByRecursion (λ x. x ≤ top) (previous ∷ values.old) }
@@ -53,7 +53,8 @@ fn map_offsets(top: u32, previous: u32, values: &mut [u32])
     u32x8::from_array(map_eight(top, previous, &offsets)).copy_to_slice(values);
 }
 
-/// How far the sample before others lies above the least one. No branch or choice depends on it.
+/// Returns how far the sample `previous` lies above the least one. No branch or choice depends on
+/// this sample.
 #[inline(always)]
 fn first_prediction(params: &Params, previous: i64) -> u32
     requires { IsHeld params.now previous }
@@ -63,8 +64,8 @@ fn first_prediction(params: &Params, previous: i64) -> u32
     offset_above(params.x_min(), previous)
 }
 
-/// Puts what is coded for samples at their predictions, which are the samples before them, into
-/// `values`. In two loops, each of which the compiler can take several values at a time.
+/// Fills `values` with what is coded for samples, each predicted by the sample before it. Uses two
+/// loops; in each the compiler can take several values at a time.
 #[inline(always)]
 fn map_predicted(params: &Params, previous: i64, samples: &[i64], values: &mut [u32])
     requires on { params.now.preprocess ≡ true }
@@ -89,9 +90,9 @@ fn put_patterns(params: &Params, samples: &[i64], values: &mut [u32])
     }
 }
 
-/// Puts what is coded for samples into `values`, each predicted from the one before it, the first
-/// from `previous`. Without preprocessing their patterns are coded, and `previous`, which has to be
-/// a sample all the same, has no effect. Takes no memory.
+/// Fills `values` with what is coded for samples, each predicted from the one before it, the first
+/// from `previous`. Without preprocessing their patterns are coded; `previous` then has no effect,
+/// but must be a sample. Allocates nothing.
 #[inline(always)]
 pub fn map_list(params: &Params, previous: i64, samples: &[i64], values: &mut [u32])
     requires prediction { IsHeld params.now previous }
@@ -105,8 +106,8 @@ pub fn map_list(params: &Params, previous: i64, samples: &[i64], values: &mut [u
     }
 }
 
-/// Puts what is coded for the first samples of an interval into `values`: with preprocessing 0 in
-/// the reference place. Takes no memory.
+/// Fills `values` with what is coded for the first samples of an interval: with preprocessing, 0 in
+/// the reference place. Allocates nothing.
 #[inline(always)]
 pub fn map_first(params: &Params, samples: &[i64], values: &mut [u32])
     requires some { 0 < length samples.now }

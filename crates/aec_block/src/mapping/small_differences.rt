@@ -1,6 +1,6 @@
-//! Unmaps eight values at once where each difference is within t of its prediction on both sides:
-//! then a value determines its difference, sums modulo 2^32 are the offsets, and the t there
-//! confirm the condition.
+//! Unmaps eight values at once if each difference is within the room t on both sides of its
+//! prediction. Then a value determines its difference, sums modulo 2^32 are the offsets, and the
+//! room at each offset confirms the condition.
 
 ghost use Rattle.std.specs.Prelude.{◌≡◌, ◌+◌, ◌-◌, ◌*◌, ◌/◌, ◌^◌, ◌<◌, ◌≤◌, ◌+ℤ◌, true, pos, ℕ, length, take, map as list_map, get_or, vec_len, vec_capacity};
 ghost use Rattle.std.specs.List.{AllByRecursion};
@@ -10,8 +10,8 @@ ghost use Rattle.aec_block.specs.Unmapping.{UnmapsTo};
 
 use std::simd::prelude::*;
 
-/// The differences for which eight near values are coded, modulo 2^32: half of an even value, and
-/// for an odd one the half with all bits turned.
+/// Returns the differences for which eight near values are coded, modulo 2^32: half of an even
+/// value, and for an odd one the half with all bits inverted.
 #[inline(always)]
 #[tactic(auto, using(crate::proofs::NearLaneLemmas::differences))]
 pub(crate) fn near_differences(values: &[u32]) -> [u32; 8]
@@ -24,7 +24,7 @@ pub(crate) fn near_differences(values: &[u32]) -> [u32; 8]
     (halves ^ (u32x8::splat(0) - odd)).to_array()
 }
 
-/// From where eight differences lead that follow each other, the first from an offset: modulo 2^32.
+/// Returns where each of eight consecutive differences starts, the first at `offset`: modulo 2^32.
 #[inline(always)]
 #[tactic(auto, using(crate::proofs::NearLaneLemmas::running))]
 pub(crate) fn running_places(offset: u32, differences: &[u32; 8]) -> [u32; 8]
@@ -38,7 +38,7 @@ pub(crate) fn running_places(offset: u32, differences: &[u32; 8]) -> [u32; 8]
     (four + none.shuffle(four, [0, 1, 2, 3, 8, 9, 10, 11])).to_array()
 }
 
-/// Where each of eight differences leads from its place: modulo 2^32.
+/// Returns the place that each of eight differences leads to from its own place: modulo 2^32.
 #[inline(always)]
 #[tactic(auto, using(crate::proofs::NearLaneLemmas::next_lanes))]
 pub(crate) fn next_places(before: &[u32; 8], differences: &[u32; 8]) -> [u32; 8]
@@ -48,7 +48,7 @@ pub(crate) fn next_places(before: &[u32; 8], differences: &[u32; 8]) -> [u32; 8]
     (u32x8::from_array(*before) + u32x8::from_array(*differences)).to_array()
 }
 
-/// What eight near values at least need of room on both sides.
+/// Returns the least room on both sides that each of eight near values needs.
 #[inline(always)]
 #[tactic(auto, using(crate::proofs::NearLaneLemmas::room_lanes))]
 fn needed_rooms(values: &[u32]) -> [u32; 8]
@@ -59,7 +59,7 @@ fn needed_rooms(values: &[u32]) -> [u32; 8]
     (all - (all >> u32x8::splat(1))).to_array()
 }
 
-/// The room on both sides of those of eight places that are offsets.
+/// Returns the room on both sides of each of eight places that is an offset.
 #[inline(always)]
 #[tactic(auto, using(crate::proofs::NearLaneLemmas::rooms))]
 pub(crate) fn rooms_at(top: u32, places: &[u32; 8]) -> [u32; 8]
@@ -70,8 +70,8 @@ pub(crate) fn rooms_at(top: u32, places: &[u32; 8]) -> [u32; 8]
     below.simd_min(u32x8::splat(top) - below).to_array()
 }
 
-/// True only where none of eight numbers is above its bound; false says nothing. No branch depends
-/// on a single one.
+/// Returns true only if none of eight numbers is above its bound; false means nothing. No branch
+/// depends on a single number.
 #[inline(always)]
 fn are_within(numbers: &[u32; 8], bounds: &[u32; 8]) -> bool
     ensures { result ≡ true → (i : ℕ) → i < 8
@@ -82,8 +82,8 @@ fn are_within(numbers: &[u32; 8], bounds: &[u32; 8]) -> bool
         .all()
 }
 
-/// True only where each of eight values is near at its place, if that is an offset; false says
-/// nothing.
+/// Returns true only if each of eight values is near at its place, if that place is an offset;
+/// false means nothing.
 #[inline(always)]
 pub(crate) fn are_near(top: u32, values: &[u32], before: &[u32; 8]) -> bool
     requires len { length values.now ≡ 8 }

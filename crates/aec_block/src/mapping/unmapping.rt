@@ -9,8 +9,8 @@ use crate::mapping::small_differences::{are_near, near_differences, next_places,
 use crate::mapping::{greatest_offset, offset_of, unmap_offset};
 use aec_params::Params;
 
-/// Puts the samples for which values are coded into `samples`, predicted from the sample at an
-/// offset on, and tells the offset of the last.
+/// Puts the samples for which values are coded into `samples`, the first predicted from the sample
+/// at `offset`. Returns the offset of the last.
 #[inline(always)]
 fn put_each(params: &Params, offset: u32, values: &[u32], samples: &mut [i64]) -> u32
     requires { CanUnmap params.now offset values.now samples.old }
@@ -36,7 +36,7 @@ fn put_far(params: &Params, offset: u32, values: &[u32], samples: &mut [i64]) ->
 }
 
 /// Puts the samples for which eight near values are coded, and whose offsets are given, into
-/// `samples`, and tells the offset of the last.
+/// `samples`. Returns the offset of the last.
 #[inline(always)]
 fn put_near(
     params: &Params,
@@ -60,8 +60,8 @@ fn put_near(
     place
 }
 
-/// Puts the samples for which eight values are coded into `samples`, at once where all are near and
-/// else one by one, and tells the offset of the last.
+/// Puts the samples for which eight values are coded into `samples`, at once if all are near, else
+/// one by one. Returns the offset of the last.
 #[inline(always)]
 fn put_eight(params: &Params, offset: u32, values: &[u32], samples: &mut [i64]) -> u32
     requires can { CanUnmap params.now offset values.now samples.old }
@@ -77,8 +77,8 @@ fn put_eight(params: &Params, offset: u32, values: &[u32], samples: &mut [i64]) 
     put_far(params, offset, values, samples)
 }
 
-/// Puts the samples of the values in front into the front of `samples`, eight at a time as long as
-/// there are eight, and tells the offset of the last.
+/// Puts the samples of the first values into the front of `samples`, eight at a time, until fewer
+/// than eight are left. Returns the offset of the last.
 #[inline(always)]
 fn put_eights(params: &Params, offset: u32, values: &[u32], samples: &mut [i64]) -> u32
     requires { CanUnmap params.now offset values.now samples.old }
@@ -96,8 +96,8 @@ fn put_eights(params: &Params, offset: u32, values: &[u32], samples: &mut [i64])
     last
 }
 
-/// Puts the samples for which values are coded into `samples`, where samples are predicted: eight
-/// at a time, and the last few, fewer than eight, one by one.
+/// Puts the samples for which values are coded into `samples`, with preprocessing: eight at a time,
+/// and the last few, fewer than eight, one by one.
 #[inline(always)]
 fn put_offsets(params: &Params, previous: i64, values: &[u32], samples: &mut [i64])
     requires on { params.now.preprocess ≡ true }
@@ -122,9 +122,9 @@ fn put_values(params: &Params, patterns: &[u32], samples: &mut [i64])
     }
 }
 
-/// Puts the samples for which values are coded into `samples`, whatever stood there, each predicted
-/// from the one before it, the first from `previous`. Without preprocessing the values are their
-/// patterns, and `previous`, which has to be a sample all the same, has no effect. Takes no memory.
+/// Overwrites `samples` with the samples for which values are coded, each predicted from the one
+/// before it, the first from `previous`. Without preprocessing the values are their patterns;
+/// `previous` then has no effect, but must be a sample. Allocates nothing.
 #[inline(always)]
 pub fn unmap_into(params: &Params, previous: i64, values: &[u32], samples: &mut [i64])
     requires prediction { IsHeld params.now previous }

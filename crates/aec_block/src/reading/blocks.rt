@@ -14,7 +14,7 @@ use crate::reading::values::{read_block_split, read_pairs};
 use aec_bits::BitReader;
 use aec_params::{Fault, Params};
 
-/// How many values a block has.
+/// Returns how many values a block has.
 pub(crate) fn block_len(params: &Params) -> usize
     ensures value { result ≡ params.now.block_size }
     ensures some { 0 < result }
@@ -24,7 +24,7 @@ pub(crate) fn block_len(params: &Params) -> usize
     params.block_size() as usize
 }
 
-/// Fills the block with the next numbers, each in as many bits as a sample has.
+/// Fills the block with the next numbers, each as wide as a sample.
 #[inline(always)]
 pub(crate) fn fill_uncompressed(
     params: &Params,
@@ -42,8 +42,8 @@ pub(crate) fn fill_uncompressed(
     read_block_numbers(reader, params.bits(), values)
 }
 
-/// Fills the block with the next values, split at bit `k`. Whether all are at most the greatest
-/// that the width has.
+/// Fills the block with the next values, split at bit `k`. Returns whether all are at most the
+/// greatest that the width has.
 #[inline(always)]
 pub(crate) fn fill_split(
     params: &Params,
@@ -63,9 +63,9 @@ pub(crate) fn fill_split(
     read_block_split(params, reader, k, values)
 }
 
-/// Fills the block with the next pairs. Whether all values are at most the greatest that the width
-/// has. In a reference block the first member of the first pair is no value: any number may stand
-/// there.
+/// Fills the block with the next pairs. Returns whether all values are at most the greatest that
+/// the width has. In a reference block the first member of the first pair is not a value: it may be
+/// any number.
 pub(crate) fn fill_pairs(
     params: &Params,
     reader: &mut BitReader,

@@ -8,7 +8,7 @@ ghost use Rattle.aec_block.specs.Gathering.{as_taken, PutsNumbers, Takes};
 use aec_bits::BitReader;
 use aec_params::Fault;
 
-/// The number that the next `width` bits spell.
+/// Reads the number that the next `width` bits spell.
 #[inline(always)]
 pub(crate) fn read_number(reader: &mut BitReader, width: u32) -> Result<u64, Fault>
     requires width { width ≤ 64 }
@@ -19,14 +19,14 @@ pub(crate) fn read_number(reader: &mut BitReader, width: u32) -> Result<u64, Fau
     reader.read(width)
 }
 
-/// The number of the fundamental sequence that comes next.
+/// Reads the next fundamental sequence, and returns its number.
 pub(crate) fn read_sequence(reader: &mut BitReader) -> Result<u64, Fault>
     ensures { Takes fs_at reader.old (as_taken result) reader.new }
 {
     reader.read_fs()
 }
 
-/// Puts the numbers that the next bits spell, each in `width` bits, into `numbers`.
+/// Fills `numbers` with the next numbers of `width` bits each.
 #[inline(always)]
 pub(crate) fn read_numbers(
     reader: &mut BitReader,
@@ -56,7 +56,7 @@ fn read_known_numbers<const N: usize>(
     read_numbers(reader, width, &mut numbers[..N])
 }
 
-/// Chooses the code of `read_numbers` by how many there are: usual numbers have their own code.
+/// `read_numbers`, with code of its own for each usual count of numbers.
 #[inline(always)]
 pub(crate) fn read_block_numbers(
     reader: &mut BitReader,
@@ -67,7 +67,7 @@ pub(crate) fn read_block_numbers(
     requires within { reader.old.pos ≤ length reader.old.list }
     ensures { PutsNumbers width reader.old numbers.old result reader.new numbers.new }
 {
-    // For speed alone: what the block sizes of the standard leave with a reference and without.
+    // For speed alone: the counts of the standard's block sizes, with a reference and without.
     match numbers.len() {
         7 => read_known_numbers::<7>(reader, width, numbers),
         8 => read_known_numbers::<8>(reader, width, numbers),
@@ -81,7 +81,7 @@ pub(crate) fn read_block_numbers(
     }
 }
 
-/// `read_numbers`, inlined for `N` numbers, the usual number here; else by `read_block_numbers`.
+/// `read_numbers`, inlined for `N` numbers, the usual count here; else `read_block_numbers`.
 #[inline(always)]
 pub(crate) fn read_usual_numbers<const N: usize>(
     reader: &mut BitReader,
@@ -98,8 +98,8 @@ pub(crate) fn read_usual_numbers<const N: usize>(
     read_block_numbers(reader, width, numbers)
 }
 
-/// The two members of the pair with a number. As many steps are made as their sum is, fewer than
-/// the bits of the number's fundamental sequence.
+/// Returns the two members of the pair with a number. The number of steps is the members' sum,
+/// which is less than the bits of the number's fundamental sequence.
 pub(crate) fn pair_of(number: u64) -> (u64, u64)
     ensures first { result.0 ≡ (pair_with_number number).first }
     ensures second { result.1 ≡ (pair_with_number number).second }

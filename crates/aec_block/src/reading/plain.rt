@@ -35,10 +35,10 @@ pub fn comes_plain(params: &Params, reader: &mut BitReader) -> bool
 
 /// Reads the coded data set that begins at the reader's place as one without a reference sample and
 /// moves past it, if it is plain and its values are at most the greatest that the width has:
-/// `values` then contains them. Else returns false, and the reader hasn't moved; what `values`
-/// contains isn't said. Takes no memory. Compiled into the place of the call for blocks of `N`
-/// values; others are read as well. Calls with different `COPY` share no code: the compiler takes a
-/// large function only into the place of its only call.
+/// `values` then contains them. Else returns false; the reader then hasn't moved, and the contents
+/// of `values` are unspecified. Allocates nothing. Inlined for blocks of `N` values; other blocks
+/// are read too. Calls with different `COPY` share no code: the compiler inlines a large function
+/// only into its only caller.
 #[inline(always)]
 #[tactic(auto, using(crate::proofs::NoPlainLemmas::none_stands))]
 pub fn read_plain<const N: usize, const COPY: usize>(
@@ -75,8 +75,8 @@ pub fn read_plain<const N: usize, const COPY: usize>(
     true
 }
 
-/// Puts the values that are written of the coded data set that comes next, one with a reference
-/// sample, into `values`, if it is plain and all are at most the greatest that the width has.
+/// Reads the next coded data set, one with a reference sample, if it is plain and all its values
+/// are at most the greatest that the width has: `values` then contains those that are written.
 /// Returns the pattern of the reference sample; else `None`, or a fault.
 #[inline(always)]
 fn fill_first<const M: usize>(
@@ -117,8 +117,8 @@ fn fill_first<const M: usize>(
 /// Reads the coded data set that begins at the reader's place as one with a reference sample and
 /// moves past it, if it is plain and its values are at most the greatest that the width has:
 /// `values` then contains them, with 0 in the reference place. Returns the pattern of the reference
-/// sample. Else returns `None`, and the reader hasn't moved; what `values` contains isn't said.
-/// Takes no memory. Compiled into the place of the call where `M` values are written.
+/// sample. Else returns `None`; the reader then hasn't moved, and the contents of `values` are
+/// unspecified. Allocates nothing. Inlined for blocks of which `M` values are written.
 #[inline(always)]
 pub fn read_plain_first<const M: usize>(
     params: &Params,

@@ -18,8 +18,8 @@ use crate::reading::{Kind, read_kind, read_reference, run_len};
 use aec_bits::BitReader;
 use aec_params::{Fault, Params};
 
-/// What stands behind the identifier of a run and its reference sample: how many zero blocks it
-/// stands for.
+/// Reads what follows the identifier of a run and its reference sample. Returns how many zero
+/// blocks the run stands for.
 #[inline(always)]
 fn read_len(
     params: &Params,
@@ -34,8 +34,8 @@ fn read_len(
     Ok(run_len(read_sequence(reader)?))
 }
 
-/// The coded data set that comes next, if it is a run: its reference sample, where one is due, and
-/// how many zero blocks it stands for. Else `None`, or a fault.
+/// Reads the next coded data set, if it is a run. Returns its reference sample, if one is due, and
+/// how many zero blocks it stands for; else `None`, or a fault.
 #[inline(always)]
 fn take_run(
     params: &Params,
@@ -63,9 +63,9 @@ fn take_run(
 }
 
 /// Reads the coded data set that begins at the reader's place, of a block with a reference sample
-/// or of another, and goes behind it, if it is a run of zero blocks. Returns its reference sample,
-/// where there is one, and how many blocks it stands for. Else `None`, and the reader is where it
-/// was. Takes no memory.
+/// or of another, and moves past it, if it is a run of zero blocks. Returns its reference sample,
+/// if there is one, and how many blocks it stands for. Else returns `None`, and the reader hasn't
+/// moved. Allocates nothing.
 #[inline(always)]
 pub fn read_run(
     params: &Params,

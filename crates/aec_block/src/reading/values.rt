@@ -1,5 +1,5 @@
 //! Reads values into a list. A value above the greatest that the width has is noted, and reading
-//! goes on behind it.
+//! goes on after it.
 
 ghost use Rattle.std.specs.Prelude.{◌≡◌, ◌≤◌, ◌<◌, ◌+◌, ◌-◌, ◌*◌, ◌/◌, ◌^◌, nat_lt, if◌then◌else◌, length, slice_set};
 ghost use Rattle.std.specs.List.{flat_map};
@@ -14,7 +14,7 @@ use crate::reading::codewords::{pair_of, read_numbers, read_sequence};
 use aec_bits::BitReader;
 use aec_params::{Fault, Params};
 
-/// The number above the greatest value that the width has.
+/// Returns the number after the greatest value that the width has.
 pub(crate) fn value_limit(params: &Params) -> u64
     ensures value { result ≡ 2 ^ params.now.bits }
     ensures least { 0 < result }
@@ -23,7 +23,7 @@ pub(crate) fn value_limit(params: &Params) -> u64
     1 << params.bits()
 }
 
-/// The number above the greatest high part of a value below `limit`.
+/// Returns the number after the greatest high part of a value below `limit`.
 pub(crate) fn high_limit(limit: u64, k: u32) -> u64
     requires some { 0 < limit }
     requires limit { limit ≤ 2 ^ 32 }
@@ -34,7 +34,7 @@ pub(crate) fn high_limit(limit: u64, k: u32) -> u64
     ((limit - 1) >> k) + 1
 }
 
-/// Whether all values are below `limit`.
+/// Returns whether all values are below `limit`.
 #[inline(never)]
 fn are_below(values: &[u32], limit: u64) -> bool
     requires { 0 < limit }
@@ -47,7 +47,7 @@ fn are_below(values: &[u32], limit: u64) -> bool
     u64::from(most) < limit
 }
 
-/// Puts a value at a place if it is below `limit`. Whether it is.
+/// Puts a value at a place if the value is below `limit`. Returns whether it is.
 fn put_value(values: &mut [u32], place: usize, value: u64, limit: u64) -> bool
     requires place { place < length values.old }
     requires limit { limit ≤ 2 ^ 32 }
@@ -62,17 +62,17 @@ fn put_value(values: &mut [u32], place: usize, value: u64, limit: u64) -> bool
     true
 }
 
-/// What stands in a place for the first member of a pair: 0 in the reference place, where that
-/// member is ignored.
+/// Returns what is kept of the first member of a pair: 0 in the reference place, where that member
+/// is ignored.
 fn kept_member(in_reference_place: bool, member: u64) -> u64
     ensures { result ≡ (if in_reference_place then 0 else member) }
 {
     if in_reference_place { 0 } else { member }
 }
 
-/// Fills `values` with the members of the next pairs. Whether all are at most the greatest that the
-/// width has; else some stay as they are. Where the first value is the reference place it is 0, and
-/// any number may stand there.
+/// Fills `values` with the members of the next pairs. Returns whether all are at most the greatest
+/// that the width has; if not, some values are unchanged. A value in the reference place is 0,
+/// whatever number is read there.
 pub(crate) fn read_pairs(
     params: &Params,
     reader: &mut BitReader,
@@ -100,8 +100,8 @@ pub(crate) fn read_pairs(
     Ok(fit)
 }
 
-/// Puts the next numbers into `highs`, one by one. Whether all are below `limit`; else some are
-/// left out.
+/// Puts the next numbers into `highs`, one by one. Returns whether all are below `limit`; if not,
+/// some are left out.
 fn read_long_highs(reader: &mut BitReader, highs: &mut [u32], limit: u64) -> Result<bool, Fault>
     requires within { reader.old.pos ≤ length reader.old.list }
     requires limit { limit ≤ 2 ^ 32 }
@@ -119,9 +119,9 @@ fn read_long_highs(reader: &mut BitReader, highs: &mut [u32], limit: u64) -> Res
     Ok(fit)
 }
 
-/// Whether all values are below `limit`, of which the fundamental sequences are `gone` bits in all.
-/// None is above their sum, which is what these bits are besides the ones; where that isn't below,
-/// each is judged.
+/// Returns whether all values are below `limit`; their fundamental sequences are `gone` bits in
+/// all. No value is above their sum, the number of zeros in these bits. If the sum isn't below
+/// `limit`, each value is tested.
 #[inline(always)]
 fn are_short(values: &[u32], gone: u64, limit: u64) -> bool
     requires some { 0 < limit }
@@ -132,7 +132,8 @@ fn are_short(values: &[u32], gone: u64, limit: u64) -> bool
     gone < limit + values.len() as u64 || are_below(values, limit)
 }
 
-/// Puts the next numbers into `highs`. Whether all are below `limit`; else some are left out.
+/// Puts the next numbers into `highs`. Returns whether all are below `limit`; if not, some are left
+/// out.
 #[inline(always)]
 pub(crate) fn read_highs(
     reader: &mut BitReader,
@@ -151,7 +152,7 @@ pub(crate) fn read_highs(
     read_long_highs(reader, highs, limit)
 }
 
-/// A value from its high part and its lowest `k` bits.
+/// Returns a value from its high part and its lowest `k` bits.
 fn joined(high: u32, low: u32, k: u32) -> u32
     requires shift { k < 32 }
     requires high { high < 2 ^ (32 - k) }
@@ -174,9 +175,10 @@ fn join(values: &mut [u32], lows: &[u32], k: u32)
     }
 }
 
-/// Fills `values`, `M` at most, with the next values, split at bit `k`. Whether all are at most the
-/// greatest that the width has. Where `k` is at most the width, small high parts make small values.
-/// Each `COPY` has one caller: the compiler inlines a large function only if it has one caller.
+/// Fills `values`, `M` at most, with the next values, split at bit `k`. Returns whether all are at
+/// most the greatest that the width has. If `k` is at most the width, values with small high parts
+/// are small. Each `COPY` has one caller: the compiler inlines a large function only if it has one
+/// caller.
 #[inline(always)]
 fn read_split<const M: usize, const COPY: usize>(
     params: &Params,
@@ -237,7 +239,7 @@ pub(crate) fn read_usual_split<const N: usize, const COPY: usize>(
     read_split_apart(params, reader, k, values)
 }
 
-/// `read_split`, which has code of its own for each usual number of values.
+/// `read_split`, with code of its own for each usual number of values.
 #[inline(never)]
 pub(crate) fn read_block_split(
     params: &Params,

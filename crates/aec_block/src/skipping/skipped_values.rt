@@ -1,4 +1,4 @@
-//! Skips values. Those that nothing judges aren't read.
+//! Skips values. Values that need no test aren't read.
 
 ghost use Rattle.std.specs.Prelude.{◌≡◌, ◌≤◌, ◌<◌, ◌*◌, ◌^◌, length};
 ghost use Rattle.aec_params.specs.CodedDataSets.{written_count};
@@ -12,7 +12,8 @@ use crate::reading::values::{high_limit, read_highs, value_limit};
 use aec_bits::BitReader;
 use aec_params::{Fault, Params};
 
-/// How many values a coded data set writes, of a block with a reference sample or of another.
+/// Returns how many values a coded data set writes, of a block with a reference sample or of
+/// another.
 fn count_written(params: &Params, is_ref: bool) -> usize
     ensures value { result ≡ written_count params.now is_ref }
     ensures most { result ≤ most_values }
@@ -20,7 +21,7 @@ fn count_written(params: &Params, is_ref: bool) -> usize
     block_len(params) - usize::from(is_ref)
 }
 
-/// How many bits so many numbers have, each in `width` bits.
+/// Returns how many bits `count` numbers of `width` bits each have.
 fn numbers_len(width: u32, count: usize) -> u64
     requires width { width ≤ 32 }
     requires most { count ≤ most_values }
@@ -29,7 +30,7 @@ fn numbers_len(width: u32, count: usize) -> u64
     u64::from(width) * count as u64
 }
 
-/// Goes over so many numbers, each in `width` bits.
+/// Moves past `count` numbers of `width` bits each.
 fn skip_numbers(reader: &mut BitReader, width: u32, count: usize) -> Result<(), Fault>
     requires width { width ≤ 32 }
     requires most { count ≤ most_values }
@@ -40,7 +41,7 @@ fn skip_numbers(reader: &mut BitReader, width: u32, count: usize) -> Result<(), 
     reader.skip_bits(numbers_len(width, count))
 }
 
-/// Reads so many high parts to judge each. Whether all are below `limit`.
+/// Reads `count` high parts and tests each. Returns whether all are below `limit`.
 #[inline(never)]
 fn judge_highs(reader: &mut BitReader, count: usize, limit: u64) -> Result<bool, Fault>
     requires most { count ≤ most_values }
@@ -54,8 +55,9 @@ fn judge_highs(reader: &mut BitReader, count: usize, limit: u64) -> Result<bool,
     read_highs(reader, &mut highs[..count], limit)
 }
 
-/// Goes over so many high parts. Whether all are below `limit`: none is above their sum, which is
-/// what the bits gone over have besides the ones. Where that isn't below, they are read.
+/// Moves past `count` high parts. Returns whether all are below `limit`. None is above their sum,
+/// the number of zeros in the skipped bits. If the sum isn't below `limit`, the high parts are
+/// read.
 fn skip_highs(reader: &mut BitReader, count: usize, limit: u64) -> Result<bool, Fault>
     requires most { count ≤ most_values }
     requires least { 0 < limit }
@@ -73,7 +75,7 @@ fn skip_highs(reader: &mut BitReader, count: usize, limit: u64) -> Result<bool, 
     judge_highs(reader, count, limit)
 }
 
-/// Goes over the next numbers, each in as many bits as a sample has.
+/// Moves past the next numbers, each as wide as a sample.
 pub(crate) fn skip_uncompressed(
     params: &Params,
     reader: &mut BitReader,
@@ -87,8 +89,8 @@ pub(crate) fn skip_uncompressed(
     skip_numbers(reader, params.bits(), count_written(params, is_ref))
 }
 
-/// Goes over the next values, split at bit `k`, which is at most the width. Whether all are at most
-/// the greatest that the width has: the high parts alone say so.
+/// Moves past the next values, split at bit `k`, which is at most the width. Returns whether all
+/// are at most the greatest that the width has; the high parts alone decide it.
 pub(crate) fn skip_split(
     params: &Params,
     reader: &mut BitReader,

@@ -9,8 +9,8 @@ use crate::writing::joined_high_parts::eight_highs;
 use crate::writing::joined_low_parts::low_word;
 use aec_bits::BitBuf;
 
-/// The codewords of the last seven of eight values without their `k` low bits, one after the other,
-/// where these are fewer than 64 bits.
+/// Returns the codewords of the last seven of eight values without their `k` low bits, one after
+/// the other: fewer than 64 bits.
 #[inline(always)]
 fn high_word_of_seven(all: &[u32], k: u32) -> u64
     requires len { length all.now ≡ 8 }
@@ -26,8 +26,8 @@ fn high_word_of_seven(all: &[u32], k: u32) -> u64
     word
 }
 
-/// The lowest `width` bits of the last seven of eight values, one after the other. The first value
-/// is 0, so its low bits add nothing.
+/// Returns the lowest `width` bits of the last seven of eight values, one after the other. The
+/// first value is 0, so its low bits add nothing.
 #[inline(always)]
 fn low_word_of_seven(all: &[u32], width: u32) -> u64
     requires width { width < 8 }

@@ -27,7 +27,7 @@ impl Gathered {
     ghost use Rattle.aec_params.specs.Codewords.{fs, binary};
     ghost use Rattle.aec_block.specs.Written.{FitsPart, Adds, GathersBits};
 
-    /// No bits.
+    /// Returns no bits.
     #[inline(always)]
     pub(crate) fn new() -> Gathered
         ensures { result ≡ [] }
@@ -35,7 +35,7 @@ impl Gathered {
         Gathered { word: 0, used: 0 }
     }
 
-    /// The bits of a number.
+    /// Returns the bits of a number.
     #[inline(always)]
     pub(crate) fn of_number(value: u64, width: u32) -> Gathered
         requires width { width ≤ 64 }
@@ -48,7 +48,7 @@ impl Gathered {
         }
     }
 
-    /// Whether the word has a place for so many bits more.
+    /// Returns whether the word has places for `width` more bits.
     #[inline(always)]
     fn has_place_for(&self, width: u32) -> bool
         ensures { result ≡ nat_le (length self.now + width) 64 }
@@ -56,7 +56,7 @@ impl Gathered {
         width <= 64 - self.used
     }
 
-    /// These bits and those of a number, for which the word has a place.
+    /// Returns these bits and those of a number, for which the word has places.
     #[inline(always)]
     fn joined(self, value: u64, width: u32) -> Gathered
         requires number { FitsPart width value }
@@ -78,8 +78,8 @@ impl Gathered {
         out.push_reserved(self.word, self.used);
     }
 
-    /// Gathers the bits of a number too. Where the word has no place for them, those before are
-    /// appended to the list, which has room for all.
+    /// Gathers the bits of a number too. If the word has no places for them, appends the bits
+    /// before them to the list, which has room for all.
     #[inline(always)]
     pub(crate) fn put(self, value: u64, width: u32, out: &mut BitBuf) -> Gathered
         requires number { FitsPart width value }

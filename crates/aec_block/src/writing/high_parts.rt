@@ -21,8 +21,8 @@ fn put_each_high_part(values: &[u32], k: u32, mut gathered: Gathered, out: &mut 
     gathered
 }
 
-/// Gathers each of a few values without its `k` low bits: as one number where these are fewer than
-/// 64 bits, else one by one.
+/// Gathers each of a few values without its `k` low bits: as one number if these are fewer than 64
+/// bits, else one by one.
 fn put_high_group(values: &[u32], k: u32, gathered: Gathered, out: &mut BitBuf) -> Gathered
     requires len { length values.now ≤ most_values }
     requires lanes { FitsLanes k values.now }
@@ -36,8 +36,8 @@ fn put_high_group(values: &[u32], k: u32, gathered: Gathered, out: &mut BitBuf) 
     put_each_high_part(values, k, gathered, out)
 }
 
-/// Gathers each value without its `k` low bits: of eight values at a time, and one by one of the
-/// last few.
+/// Gathers each value without its `k` low bits: eight values at a time, and the last few one by
+/// one.
 fn put_high_groups(values: &[u32], k: u32, mut gathered: Gathered, out: &mut BitBuf) -> Gathered
     requires lanes { FitsLanes k values.now }
     requires room { length (gathered ++ high_parts k values.now) ≤ out.old.room }

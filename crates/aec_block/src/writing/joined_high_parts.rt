@@ -9,8 +9,8 @@ ghost use Rattle.aec_block.specs.Written.{high_parts, FitsHighWord, Spells};
 use crate::choice::sums_of_three::small_shifted_sum;
 use std::simd::prelude::*;
 
-/// How many bits the codewords of values without their `k` low bits have, where what is left of the
-/// values adds up to less than 2^32.
+/// Returns how many bits the codewords of values without their `k` low bits have. The values
+/// without these bits add up to less than 2^32.
 #[inline(always)]
 pub(crate) fn high_word_len(values: &[u32], k: u32) -> u64
     requires len { length values.now ≤ most_values }
@@ -20,7 +20,7 @@ pub(crate) fn high_word_len(values: &[u32], k: u32) -> u64
     small_shifted_sum(values, k) + values.len() as u64
 }
 
-/// Eight values without their `k` low bits.
+/// Returns eight values without their `k` low bits.
 #[inline(always)]
 #[tactic(auto, using(crate::proofs::LanesLemmas::shifts))]
 pub(crate) fn eight_highs(values: &[u32], k: u32) -> u32x8
@@ -31,7 +31,7 @@ pub(crate) fn eight_highs(values: &[u32], k: u32) -> u32x8
     u32x8::from_slice(values) >> u32x8::splat(k)
 }
 
-/// A word of codewords, and after them those of eight values without their `k` low bits.
+/// Returns a word of codewords, and after them those of eight values without their `k` low bits.
 #[inline(always)]
 fn with_eight(values: &[u32], k: u32, mut word: u64) -> u64
     requires len { length values.now ≡ 8 }
@@ -46,7 +46,7 @@ fn with_eight(values: &[u32], k: u32, mut word: u64) -> u64
     word
 }
 
-/// A word of codewords, and after them those of a few values without their `k` low bits.
+/// Returns a word of codewords, and after them those of a few values without their `k` low bits.
 #[inline(always)]
 fn with_each(values: &[u32], k: u32, mut word: u64) -> u64
     requires { FitsHighWord k values.now }
@@ -59,9 +59,9 @@ fn with_each(values: &[u32], k: u32, mut word: u64) -> u64
     word
 }
 
-/// The codewords of values without their `k` low bits, one after the other, where these are fewer
-/// than 64 bits: of eight values at a time, whose low bits are taken away in lanes, and one by one
-/// of the last few.
+/// Returns the codewords of values without their `k` low bits, one after the other: fewer than 64
+/// bits. Takes eight values at a time, whose low bits it removes in lanes, and the last few one by
+/// one.
 #[inline(always)]
 pub(crate) fn high_word(values: &[u32], k: u32) -> u64
     requires { FitsHighWord k values.now }

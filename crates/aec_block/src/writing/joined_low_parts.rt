@@ -7,7 +7,7 @@ ghost use Rattle.aec_block.specs.Written.{low_parts, Spells};
 
 use std::simd::prelude::*;
 
-/// The lowest `width` bits of the value at a place.
+/// Returns the lowest `width` bits of the value at a place.
 #[inline(always)]
 #[tactic(auto, using(crate::proofs::LowWordLemmas::low_words))]
 fn low_part(values: &[u32], i: usize, width: u32) -> u64
@@ -19,7 +19,7 @@ fn low_part(values: &[u32], i: usize, width: u32) -> u64
     u64::from(values[i]) % (1 << width)
 }
 
-/// The lowest `width` bits of eight values.
+/// Returns the lowest `width` bits of eight values.
 #[inline(always)]
 fn low_parts_of(values: &[u32], width: u32) -> [u32; 8]
     requires eight { length values.now ≡ 8 }
@@ -29,7 +29,7 @@ fn low_parts_of(values: &[u32], width: u32) -> [u32; 8]
     (u32x8::from_slice(values) & u32x8::splat((1 << width) - 1)).to_array()
 }
 
-/// Eight numbers of `width` bits, one after the other: joined in lanes by twos and fours.
+/// Returns eight numbers of `width` bits, one after the other: joined in lanes by twos and fours.
 #[inline(always)]
 fn joined_eight(numbers: &[u32; 8], width: u32) -> u64
     requires width { width ≤ 7 }
@@ -46,7 +46,7 @@ fn joined_eight(numbers: &[u32; 8], width: u32) -> u64
     (u64::from(fours[0]) << (4 * width)) + u64::from(fours[1])
 }
 
-/// The lowest `width` bits of values, one after the other, where these are fewer than 64 bits.
+/// Returns the lowest `width` bits of values, one after the other: fewer than 64 bits.
 #[inline(always)]
 pub(crate) fn low_word(values: &[u32], width: u32) -> u64
     requires width { width ≤ 32 }

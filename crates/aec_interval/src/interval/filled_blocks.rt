@@ -1,4 +1,4 @@
-//! The samples of whole blocks as mapped values.
+//! Maps the samples of whole blocks.
 
 ghost use Rattle.std.specs.Prelude.{◌≡◌, ◌<◌, length};
 ghost use Rattle.std.specs.List.{AllByRecursion};
@@ -9,7 +9,7 @@ ghost use Rattle.aec_interval.specs.Chunks.{values_after, reference_after, AreBl
 use aec_block::{map_first, map_list};
 use aec_params::Params;
 
-/// The reference of the samples of a block after `previous`, or at an interval's start.
+/// Returns the reference of a block of samples after `previous`, or at an interval's start.
 #[inline(always)]
 pub(crate) fn reference_of(params: &Params, previous: Option<i64>, samples: &[i64]) -> Option<u32>
     requires some { 0 < length samples.now }
@@ -23,7 +23,7 @@ pub(crate) fn reference_of(params: &Params, previous: Option<i64>, samples: &[i6
     }
 }
 
-/// Puts what is coded for samples after `previous`, or at an interval's start, into `values`.
+/// Fills `values` with what is coded for samples after `previous`, or at an interval's start.
 #[inline(always)]
 fn map_samples(params: &Params, previous: Option<i64>, samples: &[i64], values: &mut [u32])
     requires block { AreBlockAfter params.now previous samples.now }
@@ -36,8 +36,8 @@ fn map_samples(params: &Params, previous: Option<i64>, samples: &[i64], values: 
     }
 }
 
-/// Puts the values of the whole block of samples after `previous`, or at an interval's start, into
-/// `values`, and tells the reference, where there is one.
+/// Fills `values` with the values of a whole block of samples after `previous`, or at an interval's
+/// start. Returns the reference, if there is one.
 #[inline(always)]
 pub(crate) fn map_block(
     params: &Params,

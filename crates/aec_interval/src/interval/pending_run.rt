@@ -25,7 +25,7 @@ pub(crate) const NO_RUN: Run = Run {
 };
 
 impl Run {
-    /// The run with one zero block more, which has this reference.
+    /// Returns the run with one more zero block, which has this reference.
     #[inline(always)]
     pub(crate) fn longer(self, reference: Option<u32>) -> Run
         requires { self.blocks < segment_len }
@@ -41,8 +41,8 @@ impl Run {
         }
     }
 
-    /// Appends the run, which ends its segment or not. `Memory` where a growth was refused, and
-    /// nothing has changed then.
+    /// Appends the run; `to_end` says whether it ends its segment. Fails with `Memory` if an
+    /// allocation fails; nothing is then changed.
     #[inline(always)]
     pub(crate) fn write(self, params: &Params, to_end: bool, out: &mut BitBuf) -> Result<(), Fault>
         requires { IsRun params.now (if to_end then segment_len else segment_len - 1) self }
@@ -56,7 +56,7 @@ impl Run {
     }
 }
 
-/// Whether all of some values are 0.
+/// Returns whether all values are 0.
 #[inline(always)]
 pub(crate) fn are_zero(values: &[u32]) -> bool
     ensures { result ≡ list_all (λ v. v == 0) values.now }

@@ -1,4 +1,4 @@
-//! The general road of a block: `filled_block` makes its values, `choose` finds the shortest
+//! The general path of a block: `filled_block` makes its values, `choose` finds the shortest
 //! option, `write_block` writes it. It codes a block of any size, and one that has fewer samples
 //! than the others.
 
@@ -48,7 +48,8 @@ fn push_repeated(block: &mut Block, value: u32, count: usize)
     }
 }
 
-/// The block of samples that follow `previous` or begin an interval, before it is filled up.
+/// Returns the block of samples that follow `previous` or begin an interval, before it is filled
+/// up.
 fn mapped_block(alloc: Global, params: &Params, previous: Option<i64>, samples: &[i64]) -> Block
     requires block { AreBlockAfter params.now previous samples.now }
     requires few { length samples.now ≤ most_values }
@@ -63,7 +64,7 @@ fn mapped_block(alloc: Global, params: &Params, previous: Option<i64>, samples: 
     block
 }
 
-/// The value that fills a block up after its last sample: that sample is repeated.
+/// Returns the value that fills a block up after its last sample: that sample is repeated.
 fn filler(params: &Params, last: i64) -> u32
     requires { IsHeld params.now last }
     ensures { result ≡ mapped_value params.now last last }
@@ -71,8 +72,8 @@ fn filler(params: &Params, last: i64) -> u32
     map(params, last, last)
 }
 
-/// The block of samples that follow `previous` or begin an interval. It is filled up with the last
-/// of them.
+/// Returns the block of samples that follow `previous` or begin an interval. It is filled up with
+/// the last of them.
 fn filled_block(alloc: Global, params: &Params, previous: Option<i64>, samples: &[i64]) -> Block
     requires { AreBlockAfter params.now previous samples.now }
     ensures { IsFilledBlock params.now previous samples.now result }
@@ -84,7 +85,7 @@ fn filled_block(alloc: Global, params: &Params, previous: Option<i64>, samples: 
     block
 }
 
-/// Takes the next block of a segment, after a run: a zero block joins the run, any other one is
+/// Takes the next block of a segment, after a run: a zero block joins the run, any other block is
 /// written after it. Returns the run that is then still to be written. Fails with `Memory` if an
 /// allocation fails.
 fn take_block(params: &Params, block: &Block, run: Run, out: &mut BitBuf) -> Result<Run, Fault>

@@ -1,5 +1,5 @@
-//! Reads plain blocks without a reference sample, one after the other, where none needs a test of
-//! its place: `read_plain_blocks` sets how many blocks, makes their places and keeps the filled,
+//! Reads plain blocks without a reference sample, one after the other, if none needs a test of its
+//! place. `read_plain_blocks` sets how many blocks, makes their places and keeps the filled ones;
 //! `fill_plain_blocks` reads while the next is plain.
 
 ghost use Rattle.std.specs.Prelude.{◌≡◌, ◌≤◌, ◌<◌, ◌+◌, ◌-◌, ◌*◌, ◌%◌, ◌^◌, true, false, max, length, take, vec_len, vec_capacity, IfSome};
@@ -17,19 +17,19 @@ use aec_bits::BitReader;
 use aec_block::{MOST_VALUES, comes_plain, read_plain, unmap_into};
 use aec_params::Params;
 
-/// For so many blocks room is made at first, since often no more come that are plain.
+/// Room is made for this many blocks at first, since often no more plain blocks follow.
 const BLOCKS_AT_FIRST: usize = 2;
 
-/// Then for the blocks of about so many samples more: places are cleared before they are filled, so
-/// those of blocks that aren't read take time in vain.
+/// Then room is made for the blocks of about this many more samples. Places are cleared before they
+/// are filled, so unused places waste time.
 const SAMPLES_AT_ONCE: usize = 120;
 
-/// What clears the places of samples that are to come: `BLOCKS_AT_FIRST` blocks and
-/// `SAMPLES_AT_ONCE` samples have fewer.
+/// Zeros that clear the places of the next samples. `BLOCKS_AT_FIRST` blocks and `SAMPLES_AT_ONCE`
+/// samples have fewer places.
 static PLACES: [i64; 256] = [0; 256];
 
-/// A block before which none of the interval that ends at block `end` needs a test of its place:
-/// each keeps the limit and is needed, and no padding follows it.
+/// Returns a block before which no block of the interval that ends at block `end` needs a test of
+/// its place: each keeps the limit and is needed, and no padding follows it.
 fn untested_end(params: &Params, wanted: Wanted, end: u64) -> u64
     requires limit { wanted.limit ≤ 2 ^ 32 }
     requires counted { IfSome wanted.count (λ count. count ≤ 2 ^ 32) }
@@ -39,16 +39,16 @@ fn untested_end(params: &Params, wanted: Wanted, end: u64) -> u64
     let size = u64::from(params.block_size());
     let samples = wanted.count.unwrap_or(wanted.limit);
     let unpadded = end - u64::from(params.pad());
-    // Of most intervals all blocks are within, which takes no division to tell.
+    // In most intervals all blocks are within. This test needs no division.
     if unpadded.saturating_mul(size) <= samples {
         return unpadded;
     }
     unpadded.min(samples / size)
 }
 
-/// Reads the blocks that come next, `most` of them, as long as they are plain ones, each into
-/// `values`, and puts their samples after the first `from`. How many blocks were read. Each `COPY`
-/// has one caller for each `N`.
+/// Reads the next blocks while they are plain, at most `most`, each into `values`, and puts their
+/// samples after the first `from` samples. Returns how many blocks it read. Each `COPY` has one
+/// caller for each `N`.
 #[inline(always)]
 pub(crate) fn fill_plain_blocks<const N: usize, const COPY: usize>(
     params: &Params,
@@ -123,7 +123,7 @@ fn fill_any_blocks(
     fill_plain_blocks::<0, IN_LONG_INTERVALS>(&own, reader, most, values, samples, from)
 }
 
-/// Chooses the code of `fill_plain_blocks` by the block size: usual sizes have code of their own.
+/// `fill_plain_blocks`, with code of its own for each usual block size.
 fn fill_usual_blocks(
     params: &Params,
     reader: &mut BitReader,
@@ -144,9 +144,8 @@ fn fill_usual_blocks(
     )
 }
 
-/// Reads the plain blocks that come next, before block `end`, where the interval ends, and appends
-/// their samples. The number of the block that comes then. Where memory is refused, no further one
-/// is read.
+/// Reads the next plain blocks, before block `end`, where the interval ends, and appends their
+/// samples. Returns the number of the next block. If an allocation fails, reads no further block.
 #[inline(never)]
 pub(crate) fn read_plain_blocks(
     params: &Params,

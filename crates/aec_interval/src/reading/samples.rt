@@ -10,7 +10,7 @@ use crate::segment::previous_of;
 use aec_block::{Block, unmap_into};
 use aec_params::Params;
 
-/// Appends places for samples that are to come. Takes no memory.
+/// Appends `count` places for the next samples. Allocates nothing.
 #[inline(always)]
 fn push_places(samples: &mut Vec<i64>, count: usize)
     requires room { vec_len samples.old + count ≤ vec_capacity samples.old }
@@ -24,7 +24,7 @@ fn push_places(samples: &mut Vec<i64>, count: usize)
 }
 
 /// Appends the samples for which a block's values are coded, each predicted from the one before it,
-/// the first from `previous`. Takes no memory.
+/// the first from `previous`. Allocates nothing.
 fn push_unmapped(params: &Params, previous: i64, values: &[u32], samples: &mut Vec<i64>)
     requires prediction { IsHeld params.now previous }
     requires mapped { AllByRecursion (λ v. v < 2 ^ params.now.bits) values.now }
@@ -39,7 +39,7 @@ fn push_unmapped(params: &Params, previous: i64, values: &[u32], samples: &mut V
     unmap_into(params, previous, values, &mut all[from..]);
 }
 
-/// Appends the samples of the block that comes next. Takes no memory.
+/// Appends the samples of the next block. Allocates nothing.
 pub(crate) fn push_block(params: &Params, block: &Block, samples: &mut Vec<i64>)
     requires allowed { IsAllowed params.now }
     requires next { IsNextBlock params.now samples.old.items block.now }
@@ -55,7 +55,7 @@ pub(crate) fn push_block(params: &Params, block: &Block, samples: &mut Vec<i64>)
             push_unmapped(params, previous, block.values(), samples);
         }
         Some(pattern) => {
-            // 0 stands in the reference place, which is coded for the prediction itself.
+            // The 0 in the reference place is coded for the prediction itself.
             let first = params.value(pattern);
             push_unmapped(params, first, block.values(), samples);
         }

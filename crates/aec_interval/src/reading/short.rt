@@ -1,6 +1,6 @@
-//! Reads several short intervals at a time, each of plain blocks only or one run of zero blocks,
-//! where no block needs a test of its place: `read_short` says how many may be, `fill_intervals`
-//! goes on while one comes, `fill_interval` reads one, `fill_first_block` its first block.
+//! Reads several short intervals at a time, each of plain blocks only or one run of zero blocks, if
+//! no block needs a test of its place. `read_short` sets the greatest number, `fill_intervals`
+//! reads while one follows, `fill_interval` reads one, `fill_first_block` its first block.
 
 ghost use Rattle.std.specs.Prelude.{◌≡◌, ◌≤◌, ◌<◌, ◌+◌, ◌-◌, ◌*◌, ◌%◌, ◌^◌, ℕ, true, false, length, take, replicate, vec_len, vec_capacity, IfSome};
 ghost use Rattle.std.specs.Option.{is_some};
@@ -19,10 +19,10 @@ use aec_bits::BitReader;
 use aec_block::{comes_plain, read_plain, read_plain_first, read_run, unmap_into};
 use aec_params::Params;
 
-/// At most so many samples are read at a time.
+/// The greatest number of samples that are read at a time.
 const AT_ONCE: u64 = 4096;
 
-/// Intervals of more blocks are read one at a time: what is paid for each is little then.
+/// Intervals of more blocks are read one at a time: the cost of each is then small.
 const MOST_BLOCKS: u32 = 8;
 
 /// Kinds of intervals: one run of zero blocks; plain blocks of samples that are predicted, or not.
@@ -32,8 +32,8 @@ const PREDICTED: usize = 11;
 
 const UNPREDICTED: usize = 12;
 
-/// Reads the block that comes next as the first of its interval, with a reference sample, if it is
-/// a plain one, and puts its samples into the front of `samples`. Else false.
+/// Reads the next block as the first of its interval, with a reference sample, if it is plain, and
+/// puts its samples into the front of `samples`. Else returns false.
 #[inline(always)]
 fn fill_reference_block<const M: usize>(
     params: &Params,
@@ -62,7 +62,7 @@ fn fill_reference_block<const M: usize>(
     }
 }
 
-/// The same without a reference sample, where no sample is predicted.
+/// `fill_reference_block` without a reference sample, if no sample is predicted.
 #[inline(always)]
 fn fill_unpredicted_block<const N: usize>(
     params: &Params,
@@ -88,7 +88,7 @@ fn fill_unpredicted_block<const N: usize>(
     true
 }
 
-/// The same of the first block of an interval of this kind.
+/// `fill_reference_block` or `fill_unpredicted_block`, for an interval of kind `KIND`.
 #[inline(always)]
 fn fill_first_block<const N: usize, const M: usize, const KIND: usize>(
     params: &Params,
@@ -111,8 +111,8 @@ fn fill_first_block<const N: usize, const M: usize, const KIND: usize>(
     }
 }
 
-/// Reads the other blocks of an interval of which the first was read, if they are plain ones, and
-/// puts their samples after those of the first. Else false.
+/// Reads the other blocks of an interval whose first block was read, if they are plain, and puts
+/// their samples after those of the first. Else returns false.
 #[inline(always)]
 fn fill_rest<const N: usize, const COPY: usize>(
     params: &Params,
@@ -134,8 +134,8 @@ fn fill_rest<const N: usize, const COPY: usize>(
     fill_plain_blocks::<N, COPY>(params, reader, rest, values, samples, N) == rest
 }
 
-/// Reads the interval that comes next, if all its blocks are plain ones, and puts its samples into
-/// `samples`. Else false, and the reader is where it was.
+/// Reads the next interval, if all its blocks are plain, and puts its samples into `samples`. Else
+/// returns false, and the reader hasn't moved.
 #[inline(always)]
 fn fill_plain_interval<const N: usize, const M: usize, const KIND: usize>(
     params: &Params,
@@ -162,8 +162,8 @@ fn fill_plain_interval<const N: usize, const M: usize, const KIND: usize>(
     false
 }
 
-/// Reads the run of zero blocks that comes next, if it is as long as the interval that begins with
-/// it, and returns the sample that it repeats. Else `None`, and the reader is where it was.
+/// Reads the next run of zero blocks, if it is as long as the interval that begins with it, and
+/// returns the sample that it repeats. Else returns `None`, and the reader hasn't moved.
 #[inline(always)]
 fn read_whole_run(params: &Params, reader: &mut BitReader) -> Option<i64>
     requires { params.now.interval ≤ 64 }
@@ -183,7 +183,7 @@ fn read_whole_run(params: &Params, reader: &mut BitReader) -> Option<i64>
     None
 }
 
-/// Whether a short interval comes next that is one run of zero blocks. The reader stays.
+/// Returns whether the next interval is short and one run of zero blocks. The reader doesn't move.
 pub(crate) fn comes_zero_interval(params: &Params, reader: &mut BitReader) -> bool
     ensures { reader.new ≡ reader.old }
 {
@@ -193,8 +193,8 @@ pub(crate) fn comes_zero_interval(params: &Params, reader: &mut BitReader) -> bo
     comes
 }
 
-/// Reads the interval that comes next, if it is one run of zero blocks, and puts its samples into
-/// `samples`. Else false, and the reader is where it was.
+/// Reads the next interval, if it is one run of zero blocks, and puts its samples into `samples`.
+/// Else returns false, and the reader hasn't moved.
 #[inline(always)]
 fn fill_zero_interval(params: &Params, reader: &mut BitReader, samples: &mut [i64]) -> bool
     requires short { params.now.interval ≤ 64 }
@@ -210,8 +210,8 @@ fn fill_zero_interval(params: &Params, reader: &mut BitReader, samples: &mut [i6
     true
 }
 
-/// Reads the interval that comes next, if it is of this kind, and puts its samples into `samples`.
-/// Else false, and the reader is where it was. One loop for all kinds would make each slower.
+/// Reads the next interval, if it is of kind `KIND`, and puts its samples into `samples`. Else
+/// returns false, and the reader hasn't moved. One loop for all kinds would make each slower.
 #[inline(always)]
 fn fill_interval<const N: usize, const M: usize, const KIND: usize>(
     params: &Params,
@@ -234,8 +234,8 @@ fn fill_interval<const N: usize, const M: usize, const KIND: usize>(
     fill_plain_interval::<N, M, KIND>(params, reader, values, samples)
 }
 
-/// Reads the intervals that come next, `most` of them, as long as `fill_interval` reads them, and
-/// puts their samples into `samples`. How many intervals were read.
+/// Reads the next intervals while `fill_interval` reads them, at most `most`, and puts their
+/// samples into `samples`. Returns how many intervals it read.
 #[inline(never)]
 fn fill_intervals<const N: usize, const M: usize, const KIND: usize>(
     params: &Params,
@@ -271,7 +271,7 @@ fn fill_intervals<const N: usize, const M: usize, const KIND: usize>(
     count
 }
 
-/// The same, compiled for the usual block sizes; none of others are read.
+/// `fill_intervals`, compiled for the usual block sizes. Reads no interval of any other block size.
 fn fill_usual_intervals<const KIND: usize>(
     params: &Params,
     reader: &mut BitReader,
@@ -296,7 +296,7 @@ fn fill_usual_intervals<const KIND: usize>(
     }
 }
 
-/// The same of plain blocks where such a block comes next, and else of zero blocks.
+/// `fill_usual_intervals` for plain blocks if such a block comes next, else for zero blocks.
 fn fill_coming_intervals(
     params: &Params,
     reader: &mut BitReader,
@@ -321,8 +321,8 @@ fn fill_coming_intervals(
     fill_usual_intervals::<UNPREDICTED>(params, reader, most, samples)
 }
 
-/// How many intervals from `wanted.first` on need no test of their place: their samples are within
-/// the count or the limit.
+/// Returns how many intervals from `wanted.first` on need no test of their place: their samples are
+/// within the count or the limit.
 fn untested_intervals(params: &Params, wanted: Wanted) -> u64
     requires unpadded { params.now.pad ≡ false }
     requires few { wanted.first < 2 ^ 34 }
@@ -336,8 +336,8 @@ fn untested_intervals(params: &Params, wanted: Wanted) -> u64
     samples.saturating_sub(before) / params.interval_len()
 }
 
-/// How many intervals are read at a time, for which there is room: at most `most` samples. None
-/// where an interval has many blocks, or padding.
+/// Returns how many intervals are read at a time: at most `most` samples, for which there is room.
+/// 0 if an interval has many blocks, or padding.
 fn intervals_at_once(params: &Params, wanted: Wanted, most: u64, capacity: usize) -> u64
     requires few { wanted.first < 2 ^ 34 }
     requires limit { wanted.limit ≤ 2 ^ 32 }
@@ -355,9 +355,9 @@ fn intervals_at_once(params: &Params, wanted: Wanted, most: u64, capacity: usize
     room.min(untested_intervals(params, wanted))
 }
 
-/// Reads the intervals that come next, as long as `fill_interval` reads them, and puts their
-/// samples in the place of those that are there, at most `most`. The number of the block that comes
-/// then: `wanted.first` where none was read, and `samples` may hold anything. Takes no memory.
+/// Reads the next intervals while `fill_interval` reads them, and replaces the items of `samples`
+/// by their samples, at most `most`. Returns the number of the next block: `wanted.first` if none
+/// was read; `samples` may then hold anything. Allocates nothing.
 pub(crate) fn read_short(
     params: &Params,
     wanted: Wanted,
@@ -381,7 +381,8 @@ pub(crate) fn read_short(
     ensures capacity { vec_capacity samples.old ≤ vec_capacity samples.new }
 {
     let len = params.interval_len();
-    // Places are cleared before they are filled: at first all, later twice those that were filled.
+    // Places are cleared before they are filled: all at first, later twice the number that was
+    // filled.
     let last = samples.len();
     let filled = if last == 0 { AT_ONCE as usize } else { last };
     let room = samples.capacity().min(filled.saturating_mul(2).max(64));

@@ -11,9 +11,9 @@ use aec_bits::BitReader;
 use aec_block::{Block, skip_cds};
 use aec_params::{Fault, Params};
 
-/// Goes over the coded data set of a block that is wanted, at this place of its interval, which may
-/// be read into the block `values`. The number of the block that comes then. The refusals are those
-/// of `read_next`, but for want of memory. Takes no memory.
+/// Moves past the coded data set of a wanted block, at place `place` of its interval. It may be
+/// read into the block `values`. Returns the number of the next block. Fails as `read_next` does,
+/// but never with `Memory`. Allocates nothing.
 fn skip_next(
     params: &Params,
     wanted: Wanted,
@@ -44,9 +44,9 @@ fn skip_next(
     Ok(next)
 }
 
-/// Goes over the interval that begins at a block that is wanted, up to its end or as far as blocks
-/// are wanted. Each coded data set may be read into the block `values`. The number of the block
-/// that comes then. Takes no memory.
+/// Moves past the interval that begins at a wanted block, up to its end or as far as blocks are
+/// wanted. Each coded data set may be read into the block `values`. Returns the number of the next
+/// block. Allocates nothing.
 pub(crate) fn skip_interval(
     params: &Params,
     wanted: Wanted,
@@ -79,7 +79,7 @@ pub(crate) fn skip_interval(
     }
 }
 
-/// Returns how many samples are asked for of the blocks from `wanted.first` up to another.
+/// Returns how many samples of the blocks from `wanted.first` up to `next` are asked for.
 pub(crate) fn count_asked(params: &Params, wanted: Wanted, next: u64) -> u64
     requires after { wanted.first ≤ next }
     requires few { next < 2 ^ 34 }

@@ -1,4 +1,4 @@
-//! A whole stream read back.
+//! Reads a whole stream back.
 
 ghost use Rattle.std.specs.Prelude.{◌≡◌, ◌≤◌, ◌^◌, None, IfOk, IfErr};
 ghost use Rattle.std.specs.Result.{result_err};
@@ -10,7 +10,7 @@ use aec_bits::BitBuf;
 use aec_params::{Fault, Params};
 use std::alloc::Global;
 
-/// Refuses a sample count that is above the limit.
+/// Fails with `TooManySamples` if a sample count is above the limit.
 pub(crate) fn judge_count(count: Option<u64>, limit: u64) -> Result<(), Fault>
     ensures { result_err result ≡ count_refusal limit count }
 {
@@ -22,12 +22,15 @@ pub(crate) fn judge_count(count: Option<u64>, limit: u64) -> Result<(), Fault>
 
 /// Returns the samples that coded bits stand for.
 ///
-/// With a count the first `count` samples: as many blocks are read as hold them, and bits after
-/// the last coded data set that is needed are ignored. Without one all samples of all blocks, up to
-/// a rest of zero bits. `TooManySamples` first where a given count is above `limit`; then at each
-/// coded data set in turn `Truncated`, `ValueTooLarge`, `RunTooLong` with the bit where it begins,
-/// `TooManySamples` without a count where the samples with it pass the limit, and `Memory`. So
-/// `Memory` comes only after at least one coded data set was read without a fault.
+/// With a count, returns the first `count` samples: reads only the blocks that hold them, and
+/// ignores bits after the last coded data set that is needed. Without a count, returns all samples
+/// of all blocks, up to a rest of zero bits.
+///
+/// Fails with `TooManySamples` first, if a given count is above `limit`. Then fails at each coded
+/// data set in turn: with `Truncated`, `ValueTooLarge` or `RunTooLong` and the bit where it begins;
+/// with `TooManySamples`, without a count, if the samples with it pass the limit; with `Memory` if
+/// an allocation fails. So `Memory` is returned only after at least one coded data set was read
+/// without a fault.
 pub fn decode_all(
     alloc: Global,
     params: &Params,

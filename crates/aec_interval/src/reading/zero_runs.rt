@@ -10,8 +10,8 @@ ghost use Rattle.aec_interval.specs.Reached.{AreFilled};
 use crate::segment::previous_of;
 use aec_params::Params;
 
-/// The sample that a zero block repeats after these: that of its reference, or else the
-/// prediction, and 0 where nothing is predicted.
+/// Returns the sample that a zero block repeats after these: that of its reference, or else the
+/// prediction, or 0 if nothing is predicted.
 #[tactic(auto, using(crate::proofs::ZeroRunLemmas::repeated))]
 pub(crate) fn repeated_sample(params: &Params, reference: Option<u32>, samples: &[i64]) -> i64
     requires { IfSome reference (λ r. r < 2 ^ params.now.bits) }
@@ -24,8 +24,8 @@ pub(crate) fn repeated_sample(params: &Params, reference: Option<u32>, samples: 
     }
 }
 
-/// Appends the samples of so many zero blocks that come next, after `block` others; the first has
-/// the reference sample where there is one. They are all equal. Takes no memory.
+/// Appends the samples of the next `blocks` zero blocks, after `block` others. The first has the
+/// reference sample if there is one. All these samples are equal. Allocates nothing.
 pub(crate) fn push_zero_run(
     params: &Params,
     reference: Option<u32>,

@@ -4,7 +4,7 @@ use aec_params::{Fault, Params, load_samples};
 use std::alloc::Global;
 use std::marker::Model;
 
-/// Samples, seen as their list. The places after them keep samples from before, so that places are
+/// Samples; contracts see their list. The places after them keep old samples, so that places are
 /// made once and then filled again and again.
 #[derive(Debug, Drop)]
 pub(crate) struct HeldSamples {
@@ -30,7 +30,7 @@ impl HeldSamples {
     ghost use Rattle.aec_params.specs.Params.{IsHeld, storage_len};
     ghost use Rattle.aec_params.specs.Stored.{samples_of_bytes, samples_behind};
 
-    /// No samples. Takes no memory.
+    /// Returns no samples. Allocates nothing.
     pub(crate) fn new(alloc: Global) -> HeldSamples
         ensures { result ≡ [] }
     {
@@ -40,24 +40,24 @@ impl HeldSamples {
         }
     }
 
-    /// What memory is taken from.
+    /// Returns the allocator.
     pub(crate) fn alloc(&self) -> Global {
         *self.places.allocator()
     }
 
-    /// The number of samples.
+    /// Returns the number of samples.
     pub(crate) fn len(&self) -> usize
         ensures { result ≡ length self.now }
     {
         self.len
     }
 
-    /// The number of samples for which there are places.
+    /// Returns the number of samples for which there are places.
     pub(crate) fn places(&self) -> usize {
         self.places.len()
     }
 
-    /// The samples.
+    /// Returns the samples.
     pub(crate) fn as_slice(&self) -> &[i64]
         ensures { result.now ≡ self.now }
     {
@@ -71,8 +71,8 @@ impl HeldSamples {
         self.len = 0;
     }
 
-    /// Puts the samples of bytes that hold no bad one, as `first_bad` tells, after these. `Memory`
-    /// where a growth was refused; they stay then.
+    /// Appends the samples of bytes in which `first_bad` finds none. Fails with `Memory` if an
+    /// allocation fails; the samples are then unchanged.
     pub(crate) fn push_stored(&mut self, params: &Params, bytes: &[u8]) -> Result<(), Fault>
         requires { result_err (samples_of_bytes params.now bytes.now) ≡ None }
         ensures ok { OnOk result (samples_behind self.old (samples_of_bytes params.now bytes.now)
@@ -95,7 +95,8 @@ impl HeldSamples {
 ghost use Rattle.std.specs.Prelude.{◌≡◌, ◌≤◌, take, vec_len, OnOk, OnErr, IfErr};
 ghost use Rattle.aec_params.specs.declared.fault.Fault.TheVariants.{Memory};
 
-/// Makes so many places, if there are fewer. `Memory` where that was refused; they stay then.
+/// Makes `count` places, if there are fewer. Fails with `Memory` if an allocation fails; the places
+/// are then unchanged.
 fn make_places(places: &mut Vec<i64>, count: usize) -> Result<(), Fault>
     ensures room { OnOk result (count ≤ vec_len places.new) }
     ensures kept { take (vec_len places.old) places.new.items ≡ places.old.items }

@@ -15,26 +15,26 @@ use aec_bits::BitBuf;
 use aec_params::{Fault, Params, first_bad};
 use std::mem;
 
-/// The bounds of how many samples are taken at once, where an interval has no more.
+/// The bounds of how many samples are taken at once, if an interval has no more.
 const FEWEST_AT_ONCE: usize = 256;
 
 const MOST_AT_ONCE: usize = 4096;
 
-/// What samples are taken under: how they are coded, and how many of them there may be.
+/// The terms for taking samples: how they are coded, and their greatest number.
 #[derive(Debug, Drop)]
 pub(crate) struct Terms {
     pub(crate) params: Params,
     pub(crate) limit: u64,
 }
 
-/// The samples of the interval that is not complete, and how many samples there were so far.
+/// The samples of the incomplete interval, and the number of samples so far.
 #[derive(Debug, Drop)]
 pub(crate) struct Progress {
     pub(crate) held: HeldSamples,
     pub(crate) count: u64,
 }
 
-/// Whether the samples that are held are as many as an interval has, or more.
+/// Returns whether the held samples are at least those of an interval.
 fn are_complete(terms: &Terms, held: &HeldSamples) -> bool
     ensures whole { result ≡ true → interval_len terms.now.params ≤ length held.now }
     ensures few { result ≡ false → length held.now < interval_len terms.now.params }
@@ -43,8 +43,8 @@ fn are_complete(terms: &Terms, held: &HeldSamples) -> bool
     held.len() as u64 >= terms.params.interval_len()
 }
 
-/// Takes the bytes of some samples, and codes those that are held if they are whole intervals then.
-/// Fails with `Memory` if an allocation fails; nothing is appended then.
+/// Takes the bytes of some samples, then codes the held samples if they are whole intervals. Fails
+/// with `Memory` if an allocation fails; nothing is then appended.
 fn take_part(
     terms: &Terms,
     progress: &mut Progress,
@@ -156,8 +156,8 @@ fn part_len(terms: &Terms, progress: &Progress, bytes: &[u8]) -> Result<usize, F
     Ok((taken - taken % interval) * width)
 }
 
-/// Completes the sample of which bytes are there, with the front of a piece that is long enough.
-/// The bytes of the piece after it.
+/// Completes the sample of which some bytes are there, with the front of a piece that is long
+/// enough. Returns the bytes of the piece after that front.
 fn complete_rest<'a>(
     terms: &Terms,
     progress: &mut Progress,

@@ -2,7 +2,7 @@
 
 use std::marker::Model;
 
-/// At most four bytes, seen as their list.
+/// At most four bytes; contracts see their list.
 #[derive(Debug, Drop)]
 pub(crate) struct Rest {
     bytes: [u8; 4],
@@ -22,7 +22,7 @@ impl Model for Rest {
 impl Rest {
     ghost use Rattle.std.specs.Prelude.{◌≡◌, ◌+◌, ◌≤◌, [], ◌++◌, length};
 
-    /// No bytes.
+    /// Returns no bytes.
     pub(crate) fn new() -> Rest
         ensures { result ≡ [] }
     {
@@ -32,21 +32,21 @@ impl Rest {
         }
     }
 
-    /// The number of bytes.
+    /// Returns the number of bytes.
     pub(crate) fn len(&self) -> usize
         ensures { result ≡ length self.now }
     {
         self.len
     }
 
-    /// The bytes.
+    /// Returns the bytes.
     pub(crate) fn as_slice(&self) -> &[u8]
         ensures { result.now ≡ self.now }
     {
         &self.bytes[..self.len]
     }
 
-    /// Puts bytes after these.
+    /// Appends bytes.
     pub(crate) fn extend(&mut self, more: &[u8])
         requires { length self.old + length more.now ≤ 4 }
         ensures { self.new ≡ self.old ++ more.now }
