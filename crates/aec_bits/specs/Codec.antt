@@ -40,6 +40,6 @@ pub record BeginsAt (f : Format) (bits : List Bool) (place count : ℕ) (s : Lis
   pub stands : (rest : List Bool) × (drop place bits ≡ f.bits_of s ++ rest)
 
 -- the code of samples: they are cut into intervals, and the bits of these follow each other (one
--- function of the whole list, with no place)
+-- function of the whole list, without positions)
 abbrev pub code_of : Format → List ℤ → List Bool
 code_of f s = flat_map f.bits_of (pieces_of f.most s)

@@ -24,8 +24,8 @@ pub record CanGrow {Z : Type 0} (len more : ℕ) (words : Vec ℕ Z) : Type 0 wh
   pub room : len + more ≤ 64 * vec_capacity words
   pub packed : ArePacked words.items len
 
--- words that kept a list of `len` bits keep it with a part of `more` bits after it, and their
--- capacity does not shrink
+-- words that kept `len` bits keep them and the `more` bits of a part after them, and their capacity
+-- does not shrink
 pub record Extends {Z : Type 0} (len more : ℕ) (part : List Bool) (old new : Vec ℕ Z) : Type 0 where
   pub list : Keep new.items (len + more) (take len (bits_of_words old.items) ++ part)
   pub capacity : vec_capacity old ≤ vec_capacity new

@@ -15,20 +15,20 @@ use Rattle.aec_block.specs.declared.choice.Choice.{Choice}
 abbrev pub FitsReference : Settings → Option ℕ → Type 0
 FitsReference s reference = HasReference s (is_some reference) reference
 
--- a block that these settings have: J values, and a reference if it has one, all of n bits
+-- J values and, if there is one, a reference, all of n bits
 pub record IsFull (s : Settings) (b : Block) : Type 0 where
   pub len : length b.values ≡ s.block_size
   pub values : AllByRecursion (λ v. v < 2 ^ s.bits) b.values
   pub reference : FitsReference s b.reference
 
--- a block that these settings have, of n values
+-- a block as `IsFull` says, of n values, with 0 in the reference place
 pub record IsWhole (s : Settings) (n : ℕ) (b : Block) : Type 0 where
   pub full : IsFull s b
   pub sound : IsSound b
   pub len_is : length b.values ≡ n
 
--- a block that allowed settings have, with what is computed once for it: the length of identifiers,
--- and the values that are written one by one
+-- a block as `IsFull` says of allowed settings, with what is computed once for it: the length of
+-- identifiers, and the values that are written one by one
 pub record IsPrepared (s : Settings) (identifier : ℕ) (b : Block) (values : List ℕ) : Type 0 where
   pub allowed : IsAllowed s
   pub id_len_is : identifier ≡ id_len s

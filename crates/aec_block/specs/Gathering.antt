@@ -48,7 +48,7 @@ kept_members false members = members
 abbrev pub small_members : ℕ → Bool → List ℕ → Option (List ℕ)
 small_members limit placed members = small_values limit (kept_members placed members)
 
--- the block of such values, if they are below the limit
+-- the block of values without the reference place, if they are below the limit
 abbrev pub small_block : ℕ → Option ℕ → List ℕ → Option Block
 small_block limit reference values = when (all_below limit values) (block_of_values reference values)
 

@@ -14,7 +14,7 @@ sample_offset s x = unsigned_abs (x -ℤ x_min s)
 abbrev pub top_offset : Settings → ℕ
 top_offset s = 2 ^ s.bits - 1
 
--- how far an offset can lie on both sides of p
+-- how far offsets can lie to either side of p
 abbrev pub offset_room : ℕ → ℕ → ℕ
 offset_room top p = min p (top - p)
 
@@ -45,8 +45,7 @@ near_offset p m = if m % 2 == 0 then p + m / 2 else p - (m / 2 + 1)
 abbrev pub near_difference : ℕ → ℕ
 near_difference m = if m % 2 == 0 then m / 2 else 2 ^ 32 - (m / 2 + 1)
 
--- values for which there is room on both sides, each at the offset of the one before, which is p
--- for the first
+-- mapped values that have room on both sides of the offset before each; before the first it is p
 abbrev pub AreNear : ℕ → ℕ → List ℕ → Type 0
 AreNear top p [] = ⊤
 AreNear top p (m ∷ ms) = (m ≤ 2 * offset_room top p) × AreNear top (near_offset p m) ms

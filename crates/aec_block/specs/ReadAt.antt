@@ -13,7 +13,7 @@ pub data Taken (X : Type 0) : Type 0 where
   nothing : Taken X
   taken : X → List Bool → Taken X
 
--- one thing, then what follows it
+-- what a reader of one thing, then of another takes
 abbrev pub then_at : {X Y : Type 0} → Taken X → (X → List Bool → Taken Y) → Taken Y
 then_at nothing next = nothing
 then_at (taken x rest) next = next x rest

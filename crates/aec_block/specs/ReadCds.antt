@@ -85,7 +85,7 @@ is_run_body (value_pairs members) = false
 is_run_body (split_values k values) = false
 is_run_body (zero_blocks m) = true
 
--- whether such an identifier was taken
+-- whether an identifier was taken that announces values written one by one
 abbrev pub is_plain_taken : Taken Kind → Bool
 is_plain_taken nothing = false
 is_plain_taken (taken kind rest) = is_plain kind

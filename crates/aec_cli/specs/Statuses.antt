@@ -36,7 +36,7 @@ start_status start.Stream = 1
 start_status start.Words = 2
 start_status start.Memory = 1
 
--- faults of the words: one is no text, or there is no memory for them
+-- the faults of words: a word is no text, or there is no memory for the words
 abbrev pub ConcernsWords : StartFault → Type 0
 ConcernsWords start.Stream = ⊥
 ConcernsWords start.Words = Unit {0}

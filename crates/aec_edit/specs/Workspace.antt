@@ -46,7 +46,8 @@ abbrev pub start_of : Format → List ℤ → ℕ → ℕ
 start_of f s i = length (code_of f (take (i * f.most) s))
 
 -- the bits of bytes begin with the code of these held samples, whatever follows, and with the code
--- of no other held list of this length (by any codec, where the code decodes interval by interval)
+-- of no other held list of this length (stated for every codec; the code decodes interval by
+-- interval)
 pub record HasOneReading (f : Format) (bytes : List ℕ) (samples : List ℤ) : Type 0 where
   pub held : AreHeld f samples
   pub begins : (rest : List Bool) × (bits_of_bytes bytes ≡ code_of f samples ++ rest)

@@ -17,7 +17,7 @@ abbrev pub values_after : Settings → Option ℤ → List ℤ → List ℕ
 values_after s None v = mapped_values s v
 values_after s (Some previous) v = mapped_after s previous v
 
--- the reference sample of a block after the sample before it, if there is one
+-- the reference of the block of samples v: none if there is a sample before it
 abbrev pub reference_after : Settings → Option ℤ → List ℤ → Option ℕ
 reference_after s None v = reference_of s v
 reference_after s (Some previous) v = None
@@ -27,7 +27,7 @@ abbrev pub block_after : Settings → Option ℤ → List ℤ → Block
 block_after s previous v =
     record { reference = reference_after s previous v; values = values_after s previous (filled_samples s v) }
 
--- b is `block_after` of these samples, and it can be coded
+-- b is `block_after` of the samples v, and can be coded
 pub record IsFilledBlock (s : Settings) (previous : Option ℤ) (v : List ℤ) (b : Block) : Type 0 where
   pub value : b ≡ block_after s previous v
   pub full : IsFull s b

@@ -39,15 +39,15 @@ kept_count s (Some count) i z = min z (div_ceil count s.block_size - i)
 abbrev pub blocks_before_end : Settings → ℕ → ℕ
 blocks_before_end s i = s.interval - i % s.interval
 
--- what was read can come after samples of i blocks, and its first `kept` blocks are in their
--- interval
+-- what a coded data set stands for can come after samples of i blocks: a block, by `IsNextBlock`;
+-- or a run whose first `kept` blocks are in their interval
 abbrev pub IsNextCds : Settings → ℕ → List ℤ → ℕ → Cds → Type 0
 IsNextCds s i samples kept (Single b) = IsNextBlock s samples b
 IsNextCds s i samples kept (Zeros reference len) =
     (1 ≤ kept) × ((i % s.interval + kept ≤ s.interval)
     × HasReference s (is_reference_block s (i % s.interval)) reference)
 
--- the first `kept` of its blocks
+-- of what a coded data set stands for, the one block, or the first `kept` blocks of the run
 abbrev pub cds_front : Settings → ℕ → Cds → List Block
 cds_front s kept (Single b) = b ∷ []
 cds_front s kept (Zeros reference len) = run_blocks s reference kept

@@ -17,7 +17,7 @@ use Rattle.aec_block.specs.Written.{run_bits}
 use Rattle.aec_interval.specs.Chunks.{AreBlockAfter}
 use Rattle.aec_interval.specs.declared.interval.pending_run.Run.{Run}
 
--- a run of z blocks before groups: it joins a run that comes first
+-- a run of z blocks before groups: if the first group is a run, both are one
 abbrev pub with_run : Option ℕ → ℕ → List Group → List Group
 with_run reference zero groups = groups
 with_run reference (suc z) (zero_run later m ∷ groups) = zero_run reference (suc z + m) ∷ groups

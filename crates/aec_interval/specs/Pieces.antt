@@ -53,15 +53,15 @@ pub record ReadsInterval (p : Place) (samples : List ℤ) (q : Place) : Type 0 w
   pub within : q.block ≤ p.block + p.settings.interval
   pub to_end : is_wanted_at q ≡ true → q.block ≡ p.block + p.settings.interval
 
--- several steps at once, or one: more is wanted where an interval begins, and samples are read from
--- there up to a place further on
+-- more is wanted where an interval begins, and samples are read from there up to a place further
+-- on, maybe within an interval
 pub record ReadsIntervals (p : Place) (samples : List ℤ) (q : Place) : Type 0 where
   pub wanted : is_wanted_at p ≡ true
   pub begins : p.block % p.settings.interval ≡ 0
   pub piece : ReadsPiece p samples q
   pub ahead : p.block < q.block
 
--- the samples that were read up to a place (by one step from the first bit, of any length)
+-- the samples that were read from the first bit up to a place (as one piece)
 abbrev pub HasRead : Place → List ℤ → Type 0
 HasRead p samples = ReadsPiece (place_at p.settings p.count p.limit p.bits 0 0) samples p
 

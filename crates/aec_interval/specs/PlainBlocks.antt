@@ -29,8 +29,8 @@ pub record ReadsPlain (s : Settings) (n : ℕ) (old : Cursor) (samples : List �
   pub leads : (wanted : Wanted) (end i : ℕ) → n ≤ end - i → IsUntestedAt s wanted end i old samples
       → IsUntestedAt s wanted end (i + n) new more
 
--- `count` plain blocks were read, at most `most`: their samples come after the first `from`
--- samples; the list keeps its length
+-- `count` blocks were read, at most `most`: their samples come after the first `from` samples; the
+-- list keeps its length
 pub record FillsBlocks (s : Settings) (most from : ℕ) (old : Cursor) (before : List ℤ) (count : ℕ) (new : Cursor)
     (after : List ℤ) : Type 0 where
   pub reads : ReadsPlain s count old (take from before) new (take (from + count * s.block_size) after)

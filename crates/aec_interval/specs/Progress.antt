@@ -33,7 +33,7 @@ pub record AreHeldFew (s : Settings) (held : List ℤ) : Type 0 where
   pub samples : AllByRecursion (IsHeld s) held
   pub few : length held < interval_len s
 
--- samples of an interval that isn't complete, no more of them so far than the limit
+-- samples of an interval that isn't complete; all samples so far are at most the limit
 pub record IsProgress (terms : Terms) (progress : Progress) : Type 0 where
   pub held : AreHeldFew terms.params progress.held
   pub within : progress.count ≤ terms.limit

@@ -19,7 +19,7 @@ pub record AreWithin (s : Settings) (count : Option ℕ) (limit last : ℕ) : Ty
   pub counted : IfSome count (λ n. n ≤ 2 ^ 32)
   pub samples : last * s.block_size ≤ unwrap_or count limit
 
--- a reading that begins at block `first` and position `start`, where an interval begins
+-- a reading that begins at block `first` and position `start`
 abbrev pub begun_at : Option ℕ → ℕ → ℕ → ℕ → Wanted
 begun_at count limit first start = record { first = first; start = start; count = count; limit = limit }
 

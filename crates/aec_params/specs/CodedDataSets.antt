@@ -23,8 +23,8 @@ pub record CodedDataSet : Type 0 where
   pub reference : Option ℕ
   pub body : Body
 
--- the number of a pair (§7; without bound, where the choice counts in 64 bits and stops at a pair
--- that adds up to 2^16, and writing counts in 128. Law `each_number_is_one_pair`)
+-- the number of a pair (§7; unbounded. The choice uses 64 bits and stops at a pair that adds up to
+-- 2^16, writing uses 128 bits. Law `each_number_is_one_pair`)
 abbrev pub pair_number : ℕ → ℕ → ℕ
 pair_number a b = (a + b) * (a + b + 1) / 2 + b
 
@@ -73,7 +73,7 @@ abbrev pub written_count : Settings → Bool → ℕ
 written_count s is_reference = if is_reference then s.block_size - 1 else s.block_size
 
 -- a body of single values has `written_count` of them, a body of pairs as many members as a block
--- has values; values without compression fit n bits, and k is that of an option (§7)
+-- has values; values without compression fit n bits, and k belongs to an option (§7)
 abbrev pub HasBody : Settings → Bool → Body → Type 0
 HasBody s is_reference (uncompressed_values values) =
     (length values ≡ written_count s is_reference) × AllByRecursion (λ v. v < 2 ^ s.bits) values
@@ -96,7 +96,7 @@ judged_in (Some r) (value_pairs values) = drop 1 values
 judged_in reference (split_values k values) = values
 judged_in reference (zero_blocks m) = []
 
--- whether the values of a coded data set are at most 2^n - 1 (§12; judged after the whole, where
--- the code judges each value, or the sum of the high parts)
+-- whether the values of a coded data set are at most 2^n - 1 (§12; judged once the set is
+-- whole, while the code judges each value, or the sum of the high parts)
 abbrev pub has_small_values : Settings → CodedDataSet → Bool
 has_small_values s c = list_all (λ v. nat_lt v (2 ^ s.bits)) (judged_in c.reference c.body)

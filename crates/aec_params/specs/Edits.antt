@@ -13,8 +13,8 @@ samples_after samples (Truncate count) = take count samples
 samples_after samples (Insert first values) = take first samples ++ (values ++ drop first samples)
 samples_after samples (Remove first len) = take first samples ++ drop (first + len) samples
 
--- the numbers of the intervals of n samples in which the len places from first on lie, each once
--- (consecutive ones: law `edits_touch_few`)
+-- the numbers, each once, of the intervals of n samples that contain the `len` places from `first`
+-- on (consecutive ones: law `edits_touch_few`)
 abbrev pub touched_intervals : ℕ → ℕ → ℕ → List ℕ
 touched_intervals n first len = dedup (λ i k. i == k) (map (λ place. place / n) (range_with_len first len))
 
@@ -23,8 +23,8 @@ pub record Stretch : Type 0 where
   pub first : ℕ
   pub stop : ℕ
 
--- the numbers of the intervals of n samples from that of the first place, up to the last that
--- begins before the end of the places
+-- the numbers of the intervals of n samples, from the one that contains the first place up to the
+-- last that begins before `stop`
 abbrev pub reached_intervals : ℕ → Stretch → List ℕ
 reached_intervals n places = range_with_len (places.first / n) (div_ceil places.stop n - places.first / n)
 
@@ -35,14 +35,14 @@ cut_calls n old count = if count == old then 0 else (if count % n == 0 then 0 el
 
 -- the intervals that are cut anew if len samples are inserted or removed: none if len is 0; if len
 -- fills whole intervals, those that the places reach, since later samples keep their grouping;
--- otherwise all intervals of `count` samples from that of the first place on
+-- otherwise, of `count` samples, all intervals from the one that contains the first place on
 abbrev pub moved_intervals : ℕ → ℕ → ℕ → Stretch → List ℕ
 moved_intervals n len count places =
     if len == 0 then [] else reached_intervals n
     (record { first = places.first; stop = if len % n == 0 then places.stop else count })
 
--- how many intervals of n samples an edit of old samples codes: those of the result that hold a new
--- sample or are cut anew (of an insertion or a removal those that did not exist before: law
+-- how many intervals of n samples an edit of `old` samples codes: those of the result that hold a
+-- new sample or are cut anew (of an insertion or a removal those that did not exist before: law
 -- `moves_code_what_is_new`; how many, by lengths: law `moves_by_length`)
 abbrev pub needed_calls : ℕ → ℕ → Edit → ℕ
 needed_calls n old (Overwrite first values) = length (touched_intervals n first (length values))

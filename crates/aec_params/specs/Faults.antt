@@ -23,7 +23,7 @@ pub data IsNotRead (s : Settings) (is_reference : Bool) (bits : List Bool) (b : 
       → IsNotRead s is_reference bits b (ValueTooLarge b)
 
 -- what is wrong at block i of the stream and position b (§12; none is read there, or the set that
--- is read breaks a rule. The first in the table's order counts)
+-- is read breaks a rule. The first in the order of §12's table counts)
 pub data IsWrongAt (s : Settings) (count : Option ℕ) (limit : ℕ) (bits : List Bool) (i b : ℕ) : Fault → Type 0 where
   -- no coded data set is read there
   not_read : (fault : Fault) → IsNotRead s (is_reference_block s (i % s.interval)) bits b fault

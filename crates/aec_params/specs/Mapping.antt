@@ -4,8 +4,8 @@ use Rattle.std.specs.Int.{int_min}
 use Rattle.aec_params.specs.declared.settings.Settings.{Settings}
 use Rattle.aec_params.specs.Params.{x_min, x_max, sample_pattern}
 
--- how far a sample can lie on both sides of its prediction p (§4; whole numbers with sign, where
--- the code has 32-bit offsets from the least sample)
+-- how far samples can lie to either side of a prediction p (§4; whole numbers with sign, while the
+-- code has 32-bit offsets from the least sample)
 abbrev pub room_around : Settings → ℤ → ℤ
 room_around s p = int_min (p -ℤ x_min s) (x_max s -ℤ p)
 

@@ -41,7 +41,7 @@ spellings s b = uncompressed b ∷ compressed_spellings s b
 abbrev pub is_shorter : Settings → CodedDataSet → CodedDataSet → Bool
 is_shorter s c d = nat_lt (length (cds_bits s c)) (length (cds_bits s d))
 
--- the first spelling that none is shorter than (§9; writes every candidate out and takes the first
--- best, where the code compares lengths and writes one)
+-- the first of the shortest spellings (§9; writes every candidate out and takes the first best,
+-- while the code compares lengths and writes one)
 abbrev pub shortest_spelling : Settings → Block → CodedDataSet
 shortest_spelling s b = best_of (is_shorter s) (uncompressed b) (compressed_spellings s b)

@@ -7,8 +7,8 @@ use Rattle.aec_params.specs.declared.fault.Fault.{Fault}
 use Rattle.aec_params.specs.declared.fault.Fault.TheVariants.{SampleRange, Memory}
 use Rattle.aec_params.specs.Params.{storage_len, pattern_value}
 
--- a sample in all bits of its bytes: unsigned with zeros in the unused bits, signed with its sign
--- in them (§2; by the sign, where the code takes a remainder)
+-- the number that all bits of a sample's bytes spell: the unused bits are 0 if unsigned, and copies
+-- of the sign if signed (§2; by the sign, while the code takes a remainder)
 abbrev pub stored_number : Settings → ℤ → ℕ
 stored_number s (pos m) = m
 stored_number s (negsuc m) = 2 ^ (8 * storage_len s) - (m + 1)

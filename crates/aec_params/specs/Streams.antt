@@ -5,7 +5,7 @@ use Rattle.aec_params.specs.declared.settings.Settings.{Settings}
 use Rattle.aec_params.specs.Blocks.{intervals_of}
 use Rattle.aec_params.specs.Intervals.{interval_bits}
 
--- the intervals' codes, one after the other (§11; one function of all samples, with no place and no
+-- the intervals' codes, one after the other (§11; one function of all samples, without positions or
 -- index)
 abbrev pub stream_of : Settings → List ℤ → List Bool
 stream_of s samples = flat_map (interval_bits s) (intervals_of s samples)

@@ -28,9 +28,9 @@ pub(crate) fn judge_count(count: Option<u64>, limit: u64) -> Result<(), Fault>
 ///
 /// Fails with `TooManySamples` first, if a given count is above `limit`. Then fails at each coded
 /// data set in turn: with `Truncated`, `ValueTooLarge` or `RunTooLong` and the bit where it begins;
-/// with `TooManySamples`, without a count, if the samples with it pass the limit; with `Memory` if
-/// an allocation fails. So `Memory` is returned only after at least one coded data set was read
-/// without a fault.
+/// with `TooManySamples`, without a count, if the samples, including those of this set, pass the
+/// limit; with `Memory` if an allocation fails. So `Memory` is returned only after at least one
+/// coded data set was read without a fault.
 pub fn decode_all(
     alloc: Global,
     params: &Params,
