@@ -39,7 +39,7 @@ FENCE = "\n```"
 LIBRARY = "`rt lemma WORD` prints what each is."
 # The words of a device's bytes, and what they leave open.
 KNOWN_BYTES = "std.specs.Io.KnownBytes"
-UNKNOWN = "Of bytes that aren't known `Appends` and `Keeps` say nothing. Those of a device over memory are known."
+UNKNOWN = "`Appends` and `Keeps` say nothing of unknown bytes. Those of a device over memory are known."
 
 
 class Item(NamedTuple):
@@ -278,7 +278,7 @@ def page_of(crate, name, clauses, title):
     names = [f"`{new}` stands for `{true}`" for new, true in library.renamed([contract, *cited])]
     page = [
         f"# {title}",
-        f"{what}. A reader has to believe what this page shows: {counts}, and {sum(map(len, words.values()))} library "
+        f"{what}. What a reader must judge is on this page: {counts}, and {sum(map(len, words.values()))} library "
         "words, listed at the end.",
         "## The contract",
         *sections_of([contract]),

@@ -28,7 +28,8 @@ pub struct Edited {
     pub bits: u64,
     /// All samples that the stream is read as.
     pub samples: Vec<i64>,
-    /// The codec's own counter of coded intervals, which need not start at 0.
+    /// A count of coded intervals, which need not start at 0. Clause `answers` relates it to the
+    /// edits. That it is the codec's own count isn't proved.
     pub calls: u64,
 }
 

@@ -24,7 +24,7 @@ use std::alloc::Global;
 pub struct Decoded {
     /// The outcome of each edit.
     pub outcomes: Vec<Outcome>,
-    /// How many intervals were coded.
+    /// A count of coded intervals, from 0, as in `Edited`.
     pub calls: u64,
     /// The bytes of the stream.
     pub stream: Vec<u8>,

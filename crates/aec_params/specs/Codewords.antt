@@ -28,8 +28,8 @@ padded_to_byte bits = bits ++ replicate (up_to_multiple 8 (length bits)) false
 abbrev pub bytes_of : List Bool → List ℕ
 bytes_of bits = map bits_number (pieces_of 8 (padded_to_byte bits))
 
--- the bits of bytes (§10, backwards; where the code joins eight bytes to a word. Both undo each
--- other: law `bytes_are_bits`)
+-- the bits of bytes (§10, backwards; the code joins eight bytes to a word. They undo `bytes_of`, up
+-- to its padding: law `bytes_are_bits`)
 abbrev pub bits_of_bytes : List ℕ → List Bool
 bits_of_bytes [] = []
 bits_of_bytes (b ∷ bytes) = binary 8 b ++ bits_of_bytes bytes
