@@ -74,7 +74,7 @@ enum {
     AECP_STREAM_TOO_LONG = 16, /* place: the greatest length in bytes, 2^40; the command aec allows 2^35 */
     AECP_EVEN_BLOCK_SIZE = 17, /* `even_blocks` is on, and `block_size` isn't an even number from 8 to 64 */
     AECP_NO_ROOM = 18,         /* len: the bytes, or samples, that the result needs */
-    AECP_NOT_OPEN = 19         /* the handle holds no workspace, the coder or reader isn't open */
+    AECP_NOT_OPEN = 19         /* the handle holds no workspace; the coder or reader isn't open; the coder is finished */
 };
 
 /* As a sample count: all samples that the stream decodes to, including the filler at its end. */
@@ -88,7 +88,8 @@ enum {
 
 /* Codes stored samples. Bytes at the end that don't fill a sample are dropped. Faults: options, SAMPLE_RANGE, TOO_MANY_SAMPLES, MEMORY,
  * NO_ROOM. Allocates up to twice the code's length and 72 KiB, and eight bytes for each sample of an interval, or for 4,096 samples if
- * these are more. Traps: `samples_len` is bytes, but aecp_bound takes samples; keep the sample count, which decoding needs. */
+ * these are more. Traps: `samples_len` is bytes, but aecp_bound takes samples; keep the sample count, which decoding needs; if `is_signed`
+ * is set, a stored sample whose unused bits are zeros is read from its `bits` lowest bits alone: 2048 in 12 bits is -2048. */
 uint32_t aecp_encode(const aecp_options *options, const void *samples, size_t samples_len, uint8_t *out, size_t out_len,
                      aecp_reply *reply);
 
