@@ -22,8 +22,8 @@ ghost use Rattle.aec_interval.specs.Pending.{IsKept, AreNext, TakesBlock, Writes
 
 use crate::block_sizes::by_block_size;
 use crate::interval::filled_blocks::map_block;
-use crate::interval::short_blocks::write_short;
 use crate::interval::pending_run::{NO_RUN, Run, are_zero};
+use crate::interval::short_blocks::write_short;
 use crate::segment::SEGMENT_BLOCKS;
 use aec_bits::BitBuf;
 use aec_block::write_shortest_of;
