@@ -22,6 +22,9 @@
 
 #ifdef __cplusplus
 extern "C" {
+#define AECP_UINT32(n) static_cast<uint32_t>(n)
+#else
+#define AECP_UINT32(n) ((uint32_t)(n))
 #endif
 
 /* The version of this header, 1.0.0: 10,000 times its first number, plus 100 times its second, plus its third. aecp_version returns that of
@@ -45,7 +48,7 @@ typedef struct {
 } aecp_options;
 
 /* Options to begin with. Trap: `preprocess` is false in `aecp_options o = {0}`. */
-#define AECP_OPTIONS(n) {(uint32_t)(n), 16, 128, false, false, false, true, false, false, false}
+#define AECP_OPTIONS(n) {AECP_UINT32(n), 16, 128, false, false, false, true, false, false, false}
 
 /* How a call ended. If `fault` is 0, `len` is the length of the result, in bytes unless the call says otherwise. If `fault` is
  * AECP_NO_ROOM, `len` is the length that the result needs. For other faults `place` is what the fault's comment says, or 0. */
@@ -143,7 +146,7 @@ typedef struct {
     bool full;
 } aecp_handle;
 
-#define AECP_HANDLE {0, false}
+#define AECP_HANDLE {NULL, false}
 
 /* Opens an empty workspace of at most 2^32 samples. On success the workspace that the handle held is freed; after a fault the handle is
  * unchanged. Faults: options, MEMORY. aecp_close frees what it allocates. Trap: with an uninitialized handle it frees arbitrary memory. */
@@ -204,7 +207,7 @@ typedef struct {
     bool full;
 } aecp_coder;
 
-#define AECP_CODER {0, false}
+#define AECP_CODER {NULL, false}
 
 /* Opens a coder of at most 2^32 samples. On success the coder that `coder` held is freed; after a fault it is unchanged. Faults: options,
  * MEMORY. Trap: with an uninitialized coder it frees arbitrary memory. */
@@ -237,7 +240,7 @@ typedef struct {
     bool full;
 } aecp_reader;
 
-#define AECP_READER {0, false}
+#define AECP_READER {NULL, false}
 
 /* Opens a reader of a stream's first `count` samples, or of all with AECP_ALL, at sample 0. `reply->len` is the length in bytes of the
  * samples of a whole interval. On success the reader that `reader` held is freed; after a fault it is unchanged. Faults: options,

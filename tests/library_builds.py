@@ -3,7 +3,8 @@
 
 Installs bin/libaecp.a, bin/libaecp.so and the header by `make install-c`, once into lib and once into a folder below lib, and builds a
 small program with what is there: by CMake's `find_package`, and by the words of pkg-config. The program has to code and decode a sample.
-A version that isn't there is refused by both. Then `make uninstall-library` has to leave no file. Ends with 1 where a check failed.
+A version that isn't there is refused by both. A project that CMake configures twice, with two installations, uses the second one; an
+installation without the header is refused. Then `make uninstall-library` has to leave no file. Ends with 1 where a check failed.
 """
 
 import os
@@ -75,6 +76,23 @@ def try_cmake(prefix, version, folder, tally):
             tally.check("the program that CMake builds", ran(os.path.join(built, "uses_aecp")), (0, ""))
 
 
+def try_cmake_twice(prefix, lib, version, folder, tally):
+    """A project configured with an installation, then with a copy of it, then with the copy after it has lost its header."""
+    source, built, other = (os.path.join(folder, name) for name in ("source", "twice", "other"))
+    with open(os.path.join(source, "CMakeLists.txt"), "w", encoding="utf-8") as file:
+        file.write(PROJECT.format(asked=version))
+    shutil.copytree(prefix, other, symlinks=True)
+    for place in (prefix, other):
+        words = [f"-Daecp_DIR={place}/{lib}/cmake/aecp", "-DCMAKE_EXPORT_COMPILE_COMMANDS=ON"]
+        status, said = ran("cmake", "-S", source, "-B", built, *words)
+        tally.holds(status == 0, f"cmake with {place}: {said[-800:]}")
+        with open(os.path.join(built, "compile_commands.json"), encoding="utf-8") as file:
+            tally.holds(f"{place}/include" in file.read(), f"the header of {place} isn't used")
+    os.remove(os.path.join(other, "include", "aecp.h"))
+    status, said = ran("cmake", "-S", source, "-B", built)
+    tally.holds(status != 0 and "The header aecp.h is neither in" in " ".join(said.split()), f"cmake without the header: {said[-800:]}")
+
+
 def try_pkg_config(libdir, version, folder, tally):
     """The program by the words of pkg-config, linked with the shared library and with the archive."""
     source, built = os.path.join(folder, "main.c"), os.path.join(folder, "by_pkg_config")
@@ -99,6 +117,7 @@ def try_install(lib, version, tally):
         tally.holds(status == 0, f"make install-c into {lib}: {said}")
         if has("cmake", "find_package"):
             try_cmake(prefix, version, folder, tally)
+            try_cmake_twice(prefix, lib, version, folder, tally)
         if has("pkg-config", "aecp.pc"):
             try_pkg_config(os.path.join(prefix, lib), version, folder, tally)
         status, said = ran("make", "-s", "-C", TOP, "uninstall-library", *places)

@@ -1,5 +1,5 @@
-"""The header aecp.h as compilers read it, for library.py: a program that is C and C++ at once, over samples of 16 bits, without a warning;
-and README's C, over 4,096 samples of 16 bits."""
+"""The header aecp.h as compilers read it, for library.py: a program that is C and C++ at once, over samples of 16 bits, without a warning,
+in C++ also about casts and null pointers of C; and README's C, over 4,096 samples of 16 bits."""
 
 import os
 import re
@@ -12,6 +12,7 @@ TOP = os.path.join(os.path.dirname(os.path.abspath(__file__)), "..")
 
 PROGRAM = """
 #include <aecp.h>
+#include <inttypes.h>
 #include <stdio.h>
 #include <string.h>
 
@@ -22,15 +23,19 @@ int main(void) {
     const int64_t one = 7;
     aecp_options options = AECP_OPTIONS(16);
     aecp_handle handle = AECP_HANDLE;
+    aecp_coder coder = AECP_CODER;
+    aecp_reader reader = AECP_READER;
     aecp_reply reply;
     if (aecp_version() != AECP_VERSION) return 5;
     if (aecp_encode(&options, samples, sizeof samples, coded, sizeof coded, &reply)) return 1;
-    size_t len = (size_t)reply.len;
+    size_t len = reply.len;
     if (aecp_decode(&options, 8, coded, len, back, sizeof back, &reply) || memcmp(samples, back, sizeof back)) return 2;
     if (aecp_range(&options, 8, 4, 2, coded, len, back, sizeof back, &reply) || back[0] != 1000 || back[1] != 1001) return 3;
     if (aecp_load(&options, 8, coded, len, &handle, &reply) || aecp_append(&handle, &one, 1, &reply)) return 4;
-    printf("%u samples\\n", (unsigned)aecp_size(&handle));
+    printf("%" PRIu64 " samples\\n", aecp_size(&handle));
     aecp_close(&handle);
+    aecp_coder_close(&coder);
+    aecp_reader_close(&reader);
     return 0;
 }
 """
@@ -74,12 +79,12 @@ def try_version(include, version, tally):
 
 def try_types(include, archive, folder, tally):
     """The program, by the compiler of C and, where there is one, by that of C++."""
-    for compiler, suffix in (("cc", "c"), ("c++", "cpp")):
+    for compiler, suffix, more in (("cc", "c", []), ("c++", "cpp", ["-Wold-style-cast", "-Wzero-as-null-pointer-constant"])):
         if shutil.which(compiler):
             source, path = os.path.join(folder, f"types.{suffix}"), os.path.join(folder, f"types_{suffix}")
             with open(source, "w", encoding="utf-8") as file:
                 file.write(PROGRAM)
-            words = ["-O1", "-Wall", "-Wextra", "-Wpedantic", "-Werror", "-I", include, "-o", path, source, archive]
+            words = ["-O1", "-Wall", "-Wextra", "-Wpedantic", "-Werror", *more, "-I", include, "-o", path, source, archive]
             ended = subprocess.run([compiler, *words], capture_output=True, text=True)
             tally.check(f"{compiler}: {ended.stderr[-500:]}", ended.returncode, 0)
             tally.check(f"types by {compiler}", Program(path, folder).run(), (0, "9 samples\n"))
