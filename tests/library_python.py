@@ -5,6 +5,7 @@ FOLDER has libaecp.so. In turn
   - eight threads that append to one workspace, read it, and edit it: no sample is lost, and each reads what was written;
   - copies, deep copies and pickles have samples of their own; one that is dropped leaves the original alone;
   - what is no whole number is refused with TypeError, and so are options that aren't numbers or bools;
+    so are samples, streams and options of other kinds, with a message that names the argument (library_refusals.py);
   - a workspace by chance does what a list does, slices with steps and of other lengths too;
   - a wrong count takes no memory; `out` is filled, or refused and left as it was;
   - a library that is missing, or another one, is an ImportError of one line;
@@ -28,19 +29,11 @@ import tempfile
 import threading
 
 from library_arrays import interpreter
+from library_refusals import raised, try_refusals
 from program import Tally
 
 TOP = os.path.join(os.path.dirname(os.path.abspath(__file__)), "..")
 THREADS, ROUNDS = 8, 150
-
-
-def raised(call):
-    """The exception that a call ends with, None where it ends with none."""
-    try:
-        call()
-    except Exception as fault:  # noqa: BLE001 - which one it is is judged
-        return fault
-    return None
 
 
 def in_threads(work):
@@ -351,6 +344,7 @@ def main():
     try_copies(tally)
     try_closed(tally)
     try_types(tally)
+    try_refusals(aecp, numpy, tally)
     try_memory(tally)
     try_out(tally)
     try_undone(tally)

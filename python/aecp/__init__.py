@@ -1,4 +1,4 @@
-"""Lossless coding of samples as CCSDS 121.0-B-3 has it, over the proved library libaecp.so.
+r"""Lossless coding of samples as CCSDS 121.0-B-3 has it, over the proved library libaecp.so.
 
     >>> import aecp
     >>> options = aecp.Options(bits=16)

@@ -18,6 +18,9 @@ else:
     Array = Writable = Any
 
 SMALL = 1 << 20  # bytes that take no time to clear
+ORDERS = "@=<>!"  # what the format of a buffer may begin with: the order of bytes
+BYTES = frozenset(order + code for order in ("", *ORDERS) for code in "Bbc")  # formats of buffers of bytes
+KINDS = {**dict.fromkeys("bhilqn", "int"), **dict.fromkeys("BHILQN", "uint"), **dict.fromkeys("efdg", "float")}
 
 
 def numpy_if_there() -> Any:
@@ -34,19 +37,38 @@ def numpy_type(name: str) -> Any:
     return getattr(sys.modules.get("numpy"), name, ())
 
 
-class Source:
-    """The address and the size of bytes, which it holds on to."""
+def view_of(data: Any, name: str, taken: str) -> memoryview:
+    """The memory of an argument. TypeError for an argument without a buffer, with its name and what it must be."""
+    try:
+        return memoryview(data)
+    except TypeError:
+        raise TypeError(f"{name} must be {taken}, not {type(data).__name__}") from None
 
-    def __init__(self, data: Any) -> None:
+
+def item_type(view: memoryview) -> str:
+    """The type of a buffer's items as numpy names it, such as uint16; the buffer's format if that is no number."""
+    kind = KINDS.get(view.format.lstrip(ORDERS))
+    return f"format {view.format!r}" if kind is None else f"{kind}{8 * view.itemsize}"
+
+
+def is_big_endian(view: memoryview) -> bool:
+    """Whether the items of a buffer have their most significant byte first."""
+    return view.format[0] in ">!" or view.format[0] != "<" and sys.byteorder == "big"
+
+
+class Source:
+    """The address and the size of the bytes of an argument, which it holds on to."""
+
+    def __init__(self, data: Any, name: str, taken: str = "bytes") -> None:
         self.held: Any
         self.at: Any
         if type(data) is bytes:
             self.held = self.at = data
             self.size = len(data)
             return
-        view = memoryview(data)
+        view = view_of(data, name, taken)
         if not view.c_contiguous:
-            raise TypeError("the bytes must lie one after the other")
+            raise TypeError(f"the bytes of {name} must lie one after the other")
         self.size = view.nbytes
         self.held = view
         if self.size == 0:
@@ -66,7 +88,7 @@ class Target:
     """The address and the size of memory that a call fills, which it holds on to."""
 
     def __init__(self, data: Any) -> None:
-        with memoryview(data) as view:
+        with view_of(data, "out", "memory that can be written") as view:
             if view.readonly or not view.c_contiguous:
                 raise TypeError("out must be memory that can be written and lies in one piece")
             self.view = view.cast("B") if view.nbytes else memoryview(bytearray())

@@ -3,9 +3,10 @@
 from __future__ import annotations
 
 import ctypes
+from array import array
 from typing import Any, Optional, Union, overload
 
-from aecp.buffers import Array, Source, Target, Writable, numpy_if_there, numpy_type, room_for
+from aecp.buffers import BYTES, Array, Source, Target, Writable, is_big_endian, item_type, numpy_if_there, numpy_type, room_for
 from aecp.faults import NO_ROOM, fault_of
 from aecp.library import LIBRARY, Reply, c_options, text_of
 from aecp.options import Options, whole
@@ -18,26 +19,66 @@ GUESS = 8  # bytes of samples for a coded byte, where nobody says how many sampl
 def encode(samples: Any, options: Options) -> bytes:
     """The code of samples, as bytes.
 
-    samples: bytes, or what has a buffer of bytes, that hold stored samples (bytes at the end that make up no whole sample are
-    dropped); or a numpy array of any shape, in C order, whose dtype is that of the options but for its byte order.
-    Raises OptionsRefused, SampleRefused, LimitPassed, NoMemory; TypeError for an array of another dtype, or with a mask.
+    samples: stored samples as bytes, or in a buffer of bytes (bytes at the end that make up no whole sample are dropped); or
+    integers of the size and sign of options.dtype, in either byte order: a numpy array of any shape, an array of the module array,
+    or another buffer of them.
+    Raises OptionsRefused, SampleRefused, LimitPassed, NoMemory; TypeError for anything else, such as a list, floats, integers of
+    another size or sign, and an array with a mask.
     """
-    given, source = c_options(options), Source(native(samples, options))
+    given, source = c_options(options), Source(native(samples, options), "samples")
     most = LIBRARY.aecp_bound(given, source.size // options.storage)
     return bytes(filled("aecp_encode", [given], source, most))
 
 
 def native(samples: Any, options: Options) -> Any:
-    """Samples as encode takes them, in memory as the options store them."""
-    array = numpy_type("ndarray")
-    if type(samples) is array and samples.ndim and samples.flags.c_contiguous and samples.dtype.str == options.dtype:
+    """Samples as encode takes them, in memory as the options store them. TypeError for what encode doesn't take."""
+    if type(samples) is bytes:
         return samples
-    if not isinstance(samples, array):
+    if isinstance(samples, numpy_type("ndarray")):
+        return native_array(samples, options)
+    try:
+        view = memoryview(samples)
+    except TypeError:
+        raise wrong_samples(options, type(samples).__name__) from None
+    if view.format in BYTES:
+        return view
+    if item_type(view) != sample_type(options):
+        raise wrong_samples(options, f"an array of {item_type(view)}")
+    if is_big_endian(view) == options.msb_first or not view.c_contiguous:
+        return view
+    turned = array("H" if view.itemsize == 2 else "I", view.tobytes())
+    turned.byteswap()
+    return turned
+
+
+def native_array(samples: Any, options: Options) -> Any:
+    """A numpy array as the options store its samples, which is the array itself if it is stored so."""
+    refuse_mask(samples)
+    given, wanted = samples.dtype.str, options.dtype
+    if given[1:] == wanted[1:] and given[0] in ("|", wanted[0]) and samples.ndim and samples.flags.c_contiguous:
         return samples
-    numpy = numpy_if_there()
-    if isinstance(samples, numpy.ma.MaskedArray):
+    if given[1:] != wanted[1:]:
+        hint = ": use samples.astype(options.dtype) if all samples fit" if samples.dtype.kind in "iu" else ""
+        raise TypeError(f"samples must be an array of {sample_type(options)} (options.dtype), not of {samples.dtype.name}{hint}")
+    return needed_numpy().ascontiguousarray(samples.astype(wanted, order="C", copy=False))
+
+
+def refuse_mask(samples: Any) -> None:
+    """Raises TypeError for an array with a mask."""
+    array_type = numpy_type("ndarray")
+    if type(samples) is not array_type and isinstance(samples, array_type) and isinstance(samples, needed_numpy().ma.MaskedArray):
         raise TypeError("an array with a mask can't be coded: use its filled()")
-    return numpy.ascontiguousarray(samples.astype(options.dtype, order="C", casting="equiv", copy=False))
+
+
+def sample_type(options: Options) -> str:
+    """The type of stored samples, such as uint16. No array has the type uint24."""
+    return f"{'int' if options.signed else 'uint'}{8 * options.storage}"
+
+
+def wrong_samples(options: Options, given: str) -> TypeError:
+    """The exception for samples that encode doesn't take."""
+    wanted = "bytes" if options.storage == 3 else f"bytes, or an array of {sample_type(options)} (options.dtype)"
+    return TypeError(f"samples must be {wanted}, not {given}")
 
 
 def decode(coded: Any, count: Optional[int], options: Options, out: Optional[Array] = None) -> Array:
@@ -71,7 +112,7 @@ def decode_bytes(coded: Any, count: Optional[int], options: Options, out: Option
     Raises OptionsRefused, StreamRefused, LimitPassed, NoMemory; a Fault with the number 18 where `out` is too short; TypeError for
     what has no such buffer. 1.5 MB can stand for 2^32 samples: give a count.
     """
-    source, before = Source(coded), [c_options(options), number_of(count)]
+    source, before = Source(coded, "coded"), [c_options(options), number_of(count)]
     if out is not None:
         return put("aecp_decode", before, source, out)
     return filled("aecp_decode", before, source, most_stored(source, count, options))
@@ -89,7 +130,7 @@ def decode_range_bytes(
     coded: Any, count: Optional[int], first: int, length: int, options: Options, out: Optional[Writable] = None
 ) -> Union[bytearray, memoryview]:
     """What decode_range returns, as decode_bytes returns it."""
-    source = Source(coded)
+    source = Source(coded, "coded")
     before = [c_options(options), number_of(count), place(first, "first"), place(length, "length")]
     if out is not None:
         return put("aecp_range", before, source, out)
@@ -145,14 +186,16 @@ def put(name: str, before: list[Any], source: Source, out: Any) -> memoryview:
     reply, target = Reply(), Target(out)
     number = getattr(LIBRARY, name)(*before, source.at, source.size, target.at, target.size, reply)
     if number:
-        raise fault_of(number, reply.place, text_of(reply))
+        unit = " bytes" if number == NO_ROOM else ""
+        raise fault_of(number, reply.place, text_of(reply) + unit)
     return target.view[: reply.len]
 
 
 def of_dtype(out: Any, options: Options) -> Any:
-    """An array to be filled. TypeError where its dtype isn't that of the options."""
+    """An array to be filled. TypeError where its dtype isn't that of the options, or `options` isn't Options."""
     if out is None:
         return None
+    c_options(options)
     if isinstance(out, numpy_type("ndarray")) and out.dtype == options.dtype and out.flags.c_contiguous:
         return out
     raise TypeError(f"out must be a numpy array of the dtype {options.dtype} in C order")

@@ -10,7 +10,7 @@ from __future__ import annotations
 from dataclasses import replace
 from typing import Any
 
-from aecp.calls import decode_bytes, encode
+from aecp.calls import decode_bytes, encode, refuse_mask
 from aecp.options import Options
 from numcodecs.abc import Codec  # type: ignore[import]
 from numcodecs.compat import ensure_contiguous_ndarray, ensure_ndarray, ndarray_copy  # type: ignore[import]
@@ -33,11 +33,15 @@ class Aecp(Codec):  # type: ignore[misc]
         return replace(self.usual, msb_first=self.usual.msb_first != is_other)
 
     def encode(self, buf: Any) -> bytes:
-        """The chunk of an array of integers, or of bytes."""
+        """The chunk of stored samples: an array of integers of the options' size, signed or not, or bytes. TypeError for an array of
+        anything else, and for one with a mask."""
+        refuse_mask(buf)
         dtype = ensure_ndarray(buf).dtype
+        is_integers = dtype.kind in "iu" and dtype.itemsize == self.usual.storage
+        if dtype.itemsize != 1 and not is_integers:
+            raise TypeError(f"a chunk must be bytes, or integers of {self.usual.storage} bytes each, not {dtype.name}")
         data = memoryview(ensure_contiguous_ndarray(buf)).cast("B")
-        has_order = dtype.itemsize == self.usual.storage and dtype.kind in "iu" and dtype.str[0] in "<>"
-        is_other = has_order and (dtype.str[0] == ">") != self.usual.msb_first
+        is_other = is_integers and dtype.str[0] in "<>" and (dtype.str[0] == ">") != self.usual.msb_first
         count, rest = divmod(data.nbytes, self.usual.storage)
         if rest:
             raise ValueError(f"{data.nbytes} bytes are no whole samples of {self.usual.storage}")

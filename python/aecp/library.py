@@ -135,9 +135,16 @@ def judge_version(library: ctypes.CDLL) -> None:
 LIBRARY = load()
 
 
-@functools.lru_cache(maxsize=256)
 def c_options(options: Options) -> COptions:
-    """Options for C, which nothing changes. ValueError where a number doesn't fit 32 bits, which ctypes would cut."""
+    """Options for C, which nothing changes. TypeError for anything but Options; ValueError as made_options."""
+    if not isinstance(options, Options):
+        raise TypeError(f"options must be aecp.Options, not {type(options).__name__}")
+    return made_options(options)
+
+
+@functools.lru_cache(maxsize=256)
+def made_options(options: Options) -> COptions:
+    """The structure of options, one for equal options. ValueError where a number doesn't fit 32 bits, which ctypes would cut."""
     for name in NUMBERS:
         if not 0 <= getattr(options, name) < 2**32:
             raise ValueError(f"{name} must be 0 to 2^32 - 1")

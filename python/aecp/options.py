@@ -5,6 +5,8 @@ from __future__ import annotations
 import operator
 from dataclasses import dataclass
 
+from aecp.buffers import numpy_type
+
 NUMBERS = ("bits", "block_size", "interval")
 FLAGS = ("signed", "msb_first", "three_byte", "preprocess", "pad", "restricted", "even_blocks")
 
@@ -24,7 +26,7 @@ class Options:
     restricted   the restricted set of code options, for at most 4 bits
     even_blocks  see block_size
 
-    Raises TypeError where a number is no whole number, or a flag isn't True or False.
+    Raises TypeError where a number is no whole number, or a flag is no bool of Python or numpy.
     """
 
     bits: int
@@ -42,7 +44,9 @@ class Options:
         for name in FLAGS:
             value = getattr(self, name)
             if type(value) is not bool:
-                raise TypeError(f"{name} must be True or False, not {value!r}")
+                if not isinstance(value, numpy_type("bool_")):
+                    raise TypeError(f"{name} must be True or False, not {value!r}")
+                object.__setattr__(self, name, bool(value))
         for name in NUMBERS:
             value = getattr(self, name)
             if type(value) is not int:

@@ -35,6 +35,13 @@ class Held:
         return int(self.samples.max() if hasattr(self.samples, "max") else max(self.samples))
 
 
+def several(samples: Any) -> Any:
+    """The samples themselves. TypeError for a single number, of numpy too: it is no list."""
+    if not hasattr(samples, "__iter__") or getattr(samples, "shape", None) == ():
+        raise TypeError(f"samples must be a list or another iterable, not {type(samples).__name__}")
+    return samples
+
+
 def held_in(samples: Any) -> Any:
     """A sample, or several, as an array('q'), or as a numpy array of the same numbers. OverflowError where one doesn't fit 64 bits;
     TypeError where one isn't a whole number."""

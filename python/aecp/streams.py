@@ -23,7 +23,7 @@ def edit(coded: Any, count: Optional[int], script: Union[str, Any], options: Opt
     Raises ScriptRefused with the `line` that is no edit; what decode_bytes raises; and for an edit that is refused a RangeRefused,
     SampleRefused, LimitPassed or NoMemory with its `line`.
     """
-    source, text = Source(coded), Source(script.encode() if isinstance(script, str) else script)
+    source, text = Source(coded, "coded"), Source(script.encode() if isinstance(script, str) else script, "script", "text or bytes")
     given, number, edited = c_options(options), number_of(count), EditReply()
     room = source.size + 2 * text.size + SPARE
     while True:
@@ -70,7 +70,7 @@ class Encoder(Alone):
     def feed(self, samples: Any) -> bytes:
         """Takes samples, as encode does, and returns the bytes that are complete: those of whole intervals. In bytes a sample may be cut
         in two. Raises what encode does, and after that the same each time."""
-        source, reply = Source(native(samples, self.options)), Reply()
+        source, reply = Source(native(samples, self.options), "samples"), Reply()
         with self._lock:
             judge(LIBRARY.aecp_coder_feed(self._coder, source.at, source.size, reply), reply)
             self._bytes += source.size
@@ -110,7 +110,7 @@ class Decoder(Alone):
         self.options = options
         self._lock = threading.Lock()
         self._reader = Reader()
-        source, reply = Source(coded), Reply()
+        source, reply = Source(coded, "coded"), Reply()
         given = c_options(options)
         judge(LIBRARY.aecp_reader_open(given, number_of(count), source.at, source.size, self._reader, reply), reply)
         self._room = bytearray(reply.len)

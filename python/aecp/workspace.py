@@ -12,7 +12,7 @@ from aecp.calls import number_of, place
 from aecp.faults import NO_ROOM, NOT_OPEN, SAMPLE_RANGE, Fault, fault_of
 from aecp.library import LIBRARY, Handle, Reply, c_options, text_of
 from aecp.options import Options, whole
-from aecp.samples import Held, Samples
+from aecp.samples import Held, Samples, several
 
 SHOWN = 6  # samples that repr shows
 FIRST_ROOM = 1 << 16  # bytes for a stream whose length isn't known yet
@@ -27,8 +27,8 @@ class Workspace(MutableSequence[int]):
             coded, count = work.tobytes(), len(work)
 
     It is a list of whole numbers. Samples come as numbers in any iterable, an array of the module array or a numpy array of
-    integers; `append` and `insert` take one sample or several. Bytes, text, bools, floats and arrays with a mask raise TypeError.
-    Iteration, `index` and `count` decode all samples once.
+    integers; `append`, `insert` and `overwrite` also take a single number. Bytes, text, bools, floats and arrays with a mask raise
+    TypeError. Iteration, `index` and `count` decode all samples once.
 
     Any number of threads may use a workspace: its calls run one after the other. A copy, also by pickle, has samples of its own.
     After close, which the end of the block calls, it has length 0 and its edits raise a Fault.
@@ -36,14 +36,14 @@ class Workspace(MutableSequence[int]):
 
     __hash__ = None  # type: ignore[assignment]
 
-    def __init__(self, options: Options, samples: Samples = ()) -> None:
+    def __init__(self, options: Options, samples: Iterable[int] = ()) -> None:
         self.options = options
         self._lock = threading.RLock()
         self._handle = Handle()
         self._room = FIRST_ROOM
         self._call("aecp_open", c_options(options), front=True)
         try:
-            self.append(samples)
+            self.append(several(samples))
         except BaseException:
             self.close()
             raise
@@ -51,7 +51,7 @@ class Workspace(MutableSequence[int]):
     @classmethod
     def of_coded(cls, coded: Any, count: Optional[int], options: Options) -> Workspace:
         """A workspace with the first `count` samples of coded bytes, or all with count None. Raises what decode_bytes does."""
-        work, source = cls(options), Source(coded)
+        work, source = cls(options), Source(coded, "coded")
         work._call("aecp_load", c_options(options), number_of(count), source.at, source.size, front=True)
         return work
 
@@ -99,8 +99,8 @@ class Workspace(MutableSequence[int]):
             return self._call("aecp_insert", first, held.at, held.len)
 
     def extend(self, samples: Iterable[int]) -> None:
-        """Adds samples after the last one."""
-        self.append(samples)
+        """Adds the samples of an iterable after the last one. TypeError for a single number."""
+        self.append(several(samples))
 
     def clear(self) -> None:
         """Takes out all samples."""
@@ -233,13 +233,14 @@ class Workspace(MutableSequence[int]):
         return samples[::step] if step != 1 else samples
 
     def __setitem__(self, key: Union[SupportsIndex, slice], samples: Any) -> None:
-        """Replaces the sample at a place, or those of a slice by any number, or with steps by as many."""
+        """Replaces the sample at a place by a number, or those of a slice by the samples of an iterable: with steps by as many, else by
+        any number of them."""
         with self._lock:
             if not isinstance(key, slice):
                 held = Held([samples])
                 self._call("aecp_overwrite", self._place(key), held.at, held.len)
                 return
-            new, (first, length, step) = Held(samples), self._part(key)
+            new, (first, length, step) = Held(several(samples)), self._part(key)
             if step == 1:
                 self._replace(first, length, new)
                 return
