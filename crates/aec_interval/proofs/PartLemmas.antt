@@ -1,5 +1,5 @@
 -- The bytes of some samples of a piece, and the piece as a whole.
-use Rattle.std.proofs.Common.{◌≡◌, ℕ, zero, suc, ◌+◌, ◌*◌, ◌/◌, ◌<◌, ◌≤◌, inl, inr, Bool, None, ℤ, List, [], ◌++◌, length, take, drop, refl, sym, ap, ◌∙◌, subst, arith, append-nil, append_assoc}
+use Rattle.std.proofs.Common.{◌≡◌, ℕ, zero, suc, ◌+◌, ◌-◌, ◌*◌, ◌/◌, ◌<◌, ◌≤◌, inl, inr, Bool, None, ℤ, List, [], ◌++◌, length, take, drop, refl, sym, ap, ◌∙◌, subst, arith, append-nil, append_assoc}
 use Rattle.std.specs.Prelude.{Result, Ok, Err, OnOk, OnErr, IfErr, MatchResult}
 use Rattle.std.specs.List.{AllByRecursion}
 use Rattle.std.specs.Result.{result_err}
@@ -216,13 +216,20 @@ rest_refused u p rest g piece front behind before after fault a e cut stops =
     (rest_stops u p rest front before after fault (subst (λ l. StopsFeeding (coder_at u p []) l before after fault) e stops)))
 
 -- a part that is no longer than a sample is the sample
-pub whole_sample : (u : Terms) (p : Progress) (sample : List ℕ) (n : ℕ) → length sample ≡ storage_len u.params → n ≤ length sample
+whole_sample : (u : Terms) (p : Progress) (sample : List ℕ) (n : ℕ) → length sample ≡ storage_len u.params → n ≤ length sample
     → IsPart u p (take n sample) → take n sample ≡ sample
 whole_sample u p sample n len within k = take_all n sample (omega (arith, len, within, length-take-le n sample within, least k.samples k.some k.whole))
   where
     least : (m : ℕ) → 0 < m → length (take n sample) ≡ m * storage_len u.params → storage_len u.params ≤ length (take n sample)
     least zero some e = absurd (omega arith)
     least (suc m) some e = omega arith
+
+-- a part of the sample that was begun and is completed is that sample
+pub completed_sample : (u : Terms) (p : Progress) (rest front sample : List ℕ) (n width have : ℕ) → sample ≡ rest ++ front
+    → length front ≡ width - have → width ≡ storage_len u.params → have ≡ length rest → length rest < storage_len u.params
+    → n ≤ length sample → IsPart u p (take n sample) → take n sample ≡ rest ++ front
+completed_sample u p rest front sample n width have e len is_width is_rest short within k =
+    whole_sample u p sample n (omega (arith, ap length e, length-append rest front, len, is_width, is_rest, short)) within k ∙ e
 
 -- the sample that was begun is taken
 pub rest_completed : (u : Terms) (p q : Progress) (rest g piece front left : List ℕ) (before after : List Bool) → g ≡ rest ++ front
