@@ -7,7 +7,7 @@ ghost use Rattle.aec_interval.specs.Reached.{RefusesReading};
 ghost use Rattle.aec_interval.specs.Pieces.{IsPlace, place_at};
 ghost use Rattle.aec_engine.specs.Transfers.{are_past, Taking, taking_of, Putting, putting_of, Leaves};
 ghost use Rattle.aec_engine.specs.Output.{IsDecoded};
-ghost use Rattle.aec_engine.specs.ReadingTwice.{AreFewKept, GrowsForFew, IsAtStart, KeepsFront, KeepsItems};
+ghost use Rattle.aec_engine.specs.ReadingTwice.{AreFewKept, GrowsForFew, KeepsFront, KeepsItems};
 
 use crate::engine::bit_intake::read_bits;
 use crate::engine::two_readings::{
@@ -128,31 +128,6 @@ pub(crate) fn keep_more(
     Ok(kept)
 }
 
-/// Reads the samples of a stream from its first bit on, and keeps the bytes of the first samples as
-/// far as there is room. Returns how many samples are kept: the reader is after them. Fails as
-/// judging does.
-fn keep_front(
-    params: &Params,
-    reader: &mut StreamReader,
-    samples: &mut Vec<i64>,
-    bytes: &mut Vec<u8>,
-) -> Result<u64, Fault>
-    requires start { IsAtStart reader.old params.now }
-    requires empty { vec_len bytes.old ≡ 0 }
-    ensures kept { IfOk result (λ before. KeepsFront reader.new params.now before bytes.new.items) }
-    ensures few { AreFewKept (vec_len bytes.new) (4 * interval_len params.now)
-        (length reader.old.bits) }
-    ensures same { OnOk result (let old = reader.old in
-        reader.new ≡ place_at old.settings old.count old.limit old.bits reader.new.block
-        reader.new.bit) }
-    ensures refuses { IfErr result (λ fault. let old = reader.old in
-        RefusesReading old.settings old.count old.limit old.bits 0 0 fault) }
-    ensures room { vec_capacity samples.old ≤ vec_capacity samples.new }
-    ensures buffer { vec_capacity bytes.old ≤ vec_capacity bytes.new }
-{
-    keep_more(params, reader, 0, samples, bytes)
-}
-
 /// Reads the source whole, and writes the bytes of the samples that it codes: the first `count`, or
 /// all without a count. The refusals in their order: `Read`, `StreamTooLong` and `Memory` as they
 /// are met while the source is read; those of `decode_all`; `Memory`, for the room that the second
@@ -187,7 +162,7 @@ pub fn decode<R: Source, W: Sink>(
             return Err(fault);
         }
     };
-    let kept = keep_front(params, &mut reader, &mut samples, &mut bytes)?;
+    let kept = keep_more(params, &mut reader, 0, &mut samples, &mut bytes)?;
     let judged = judge_from(params, &mut reader, kept, kept)?;
     let part = Part {
         before: judged.before,

@@ -1,8 +1,9 @@
-use Rattle.std.proofs.Common.{Some, Err, ◌∙◌, ap, refl}
+use Rattle.std.proofs.Common.{Some, Err, arith, ◌∙◌, ap, refl}
+use Rattle.std.proofs.lemmas.List.{nil_from_length}
 use Rattle.std.proofs.lemmas.Result.{err_from_is_err_and}
 use Rattle.aec_params.specs.declared.fault.Fault.TheVariants.{Memory}
 use Rattle.aec_engine.specs.ReadingTwice.{unread, no_memory}
-use Rattle.aec_engine.proofs.KeepingLemmas.{refuses_behind, settles_kept}
+use Rattle.aec_engine.proofs.KeepingLemmas.{few_none, keeps_none, refuses_behind, settles_kept}
 use Rattle.aec_engine.proofs.SettlingLemmas.{leaves_refusal, intake_decoded, leaves_decoded, settles_refusal, refuses_count, refuses_reading}
 use Rattle.aec_engine.proofs.engine.decoding.decode.Goals as goal
 
@@ -40,6 +41,14 @@ returns-in-Err g c =
     (settles_refusal _ (Err c.in-Err.fault) c.in-Err.fault Memory (g.W.Sink.taken c.args.sink.now) (g.W.Sink.mark c.args.sink.now)
     (g.W.Sink.begun c.args.sink.now) (g.W.Sink.failed c.args.sink.now) refl c.in-Err.ensures.fault no_memory)
 
+pub keep_more-requires-clause-kept : goal.keep_more-requires-clause-kept
+keep_more-requires-clause-kept g c =
+    keeps_none c.in_ok-reader.reader c.args.params.now _ (ap (λ p. p.block) c.in_ok-reader.ensures.ok) (ap (λ p. p.bit) c.in_ok-reader.ensures.ok)
+    (nil_from_length _ (omega (arith, c.in-Ok.ensures.empty)))
+
+pub keep_more-requires-clause-few : goal.keep_more-requires-clause-few
+keep_more-requires-clause-few g c = few_none _ _ _ c.in-Ok.ensures.empty
+
 pub returns-in_err-kept : goal.returns-in_err-kept
 returns-in_err-kept g c =
     let exit = err_from_is_err_and c.from_residual-in_err-kept.result c.from_residual-in_err-kept.ensures.1 in
@@ -59,14 +68,14 @@ returns-in_err-judged g c =
     c.samples.ensures.value c.in_ok-bits.ensures.ok
     (settles_refusal _ _ exit.0 judged.field-0.0 (g.W.Sink.taken c.args.sink.now) (g.W.Sink.mark c.args.sink.now)
     (g.W.Sink.begun c.args.sink.now) (g.W.Sink.failed c.args.sink.now) exit.1 exit.2
-    (unread judged.field-0.0 (refuses_behind _ _ _ _ c.in_ok-reader.reader c.keep_front.new.reader judged.field-0.0 c.in_ok-reader.ensures.ok
+    (unread judged.field-0.0 (refuses_behind _ _ _ _ c.in_ok-reader.reader c.keep_more.new.reader judged.field-0.0 c.in_ok-reader.ensures.ok
     c.in_ok-kept.ensures.same c.in_ok-reader.ensures.refuses judged.ensures.refuses)))
 
 pub returns : goal.returns
 returns g c =
     leaves_decoded c.args.params.now c.args.limits c.args.count _ _ _ _ _ c.in_ok-bits.bits.list _ _ c.bytes.ensures.value
     c.samples.ensures.value c.in_ok-bits.ensures.ok
-    (settles_kept c.args.params.now c.args.count _ _ c.in_ok-reader.reader c.keep_front.new.reader c.judge_from.new.reader c.in_ok-kept.kept
-    c.in_ok-judged.judged.total c.saturating_sub.result c.keep_front.new.bytes.items _ c.deliver_range.result c.buffers.ensures.allowed
+    (settles_kept c.args.params.now c.args.count _ _ c.in_ok-reader.reader c.keep_more.new.reader c.judge_from.new.reader c.in_ok-kept.kept
+    c.in_ok-judged.judged.total c.saturating_sub.result c.keep_more.new.bytes.items _ c.deliver_range.result c.buffers.ensures.allowed
     c.in_ok-reader.ensures.ok c.in_ok-reader.ensures.refuses c.in_ok-kept.ensures.same c.in_ok-judged.ensures.same c.in_ok-kept.ensures.kept
     c.in_ok-judged.ensures.ok c.saturating_sub.ensures c.deliver_range.ensures.delivers)
