@@ -41,7 +41,8 @@ fn skip_numbers(reader: &mut BitReader, width: u32, count: usize) -> Result<(), 
     reader.skip_bits(numbers_len(width, count))
 }
 
-/// Reads `count` high parts and tests each. Returns whether all are below `limit`.
+/// Reads `count` high parts and tests each. Returns whether all are below `limit`. Out of line, so
+/// that `skip_highs` clears no array where the sum decides.
 #[inline(never)]
 fn judge_highs(reader: &mut BitReader, count: usize, limit: u64) -> Result<bool, Fault>
     requires most { count ≤ most_values }

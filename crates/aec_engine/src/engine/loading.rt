@@ -126,6 +126,8 @@ fn carry_early<C: Codec>(
 
 /// Appends the samples of coded bits to an empty workspace over a codec that has coded nothing, and
 /// meanwhile makes edits of a script. The edits that are left are then ahead.
+///
+/// No clause uses the premise `room`: it proves that room is there before the first append.
 pub(crate) fn append_all<C: Codec>(
     alloc: Global,
     params: &Params,
