@@ -43,7 +43,7 @@ WAYS = [
     Way(
         "A decoded sample, of a block read at once",
         ["aec_engine::engine::decoding::decode", "StreamReader::next_few", "reading::plain::fill_plain_blocks", "plain::read_plain", "BitReader::read_sequences", "BitBuf::word_from"],
-        21,
+        20,
         11,
     ),
     Way(
