@@ -21,7 +21,7 @@ ghost use Rattle.aec_params.specs.Places.{placed_values};
 ghost use Rattle.aec_block.specs.BlockShape.{most_values};
 
 /// Returns the number of values in the reference place, 0 or 1.
-pub(crate) fn places_before(reference: Option<u32>) -> usize
+pub(crate) fn reference_places(reference: Option<u32>) -> usize
     ensures value { result ≡ length (placed_values reference []) }
     ensures most { result ≤ 1 }
 {
@@ -31,8 +31,8 @@ pub(crate) fn places_before(reference: Option<u32>) -> usize
 /// The values of a block of zeros, which are copied faster than they are pushed.
 static ZEROS: [u32; MOST_VALUES] = [0; MOST_VALUES];
 
-/// Replaces the values by `len` zeros.
-fn set_len(values: &mut SmallVec<u32, MOST_VALUES>, len: usize)
+/// Replaces the values by `len` zeros. The clauses say only how many values there are.
+fn put_zeros(values: &mut SmallVec<u32, MOST_VALUES>, len: usize)
     requires most { len ≤ most_values }
     requires room { values.old.capacity ≡ most_values }
     ensures len { length values.new.items ≡ len }
@@ -85,7 +85,7 @@ impl Block {
     {
         self.reference = reference;
         if self.values.len() != len {
-            set_len(&mut self.values, len);
+            put_zeros(&mut self.values, len);
         }
         if reference.is_some() {
             self.values.as_mut_slice()[0] = 0;

@@ -90,7 +90,7 @@ pub(crate) fn read_reference(
 }
 
 /// Returns how many zero blocks the number of a run's code stands for; 4 is the remainder code.
-fn run_len(number: u64) -> RunLen
+fn run_len_of(number: u64) -> RunLen
     ensures { result ≡ run_len_of number }
 {
     match number {
@@ -125,7 +125,7 @@ pub(crate) fn read_body(
 {
     match kind {
         Kind::ZeroBlocks => {
-            let len = run_len(read_sequence(reader)?);
+            let len = run_len_of(read_sequence(reader)?);
             Ok(Some(Found::Zeros { reference, len }))
         }
         Kind::NoCompression => {

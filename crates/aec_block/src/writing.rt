@@ -103,8 +103,9 @@ fn put_low_groups<const N: usize>(
     put_each_low_part(&values[whole..], width, gathered, out)
 }
 
-/// Gathers the lowest `width` bits of each value, two, four or eight values at a time, as their
-/// bits fit a word, or all seven after a reference.
+/// Gathers the lowest `width` bits of each value: seven values at once if `width` is below 10; else
+/// eight, four or two at a time, so that they have fewer than 64 bits; with a width of 32 one by
+/// one.
 #[inline(always)]
 fn put_low_parts(values: &[u32], width: u32, gathered: Gathered, out: &mut BitBuf) -> Gathered
     requires width { width ≤ 32 }

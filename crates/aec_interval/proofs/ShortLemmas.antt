@@ -2,7 +2,7 @@
 use Rattle.std.proofs.Common.{◌≡◌, ℕ, ◌+◌, ◌-◌, ◌*◌, ◌/◌, ◌%◌, ◌<◌, ◌≤◌, ◌^◌, ◌==◌, ◌&&◌, Bool, true, false, if◌then◌else◌, Option, Some, None, Ok, ℤ, pos, List, [], ◌∷◌, ◌++◌, length, take, drop, ⊎_elim, refl, sym, ap, ◌∙◌, subst, arith}
 use Rattle.std.proofs.Math.Nat.{mul-le-mul_right, add-mul-mod_self_right, add-mul, div-mul-le_self, le-mul_of_pos_right}
 use Rattle.std.proofs.lemmas.Bool.{cases_lt}
-use Rattle.std.proofs.lemmas.List.{take_at, length-take-le}
+use Rattle.std.proofs.lemmas.List.{take_at, length-take, length-take-le}
 use borrow.Rule.Slice.PartMut.{put_mid}
 use Rattle.std.specs.List.{AllByRecursion}
 use Rattle.aec_params.specs.declared.settings.Settings.{Settings}
@@ -92,6 +92,11 @@ reads_unpredicted s old new values x more allowed off read one zero unmaps same 
     (λ next. fills_block_plain s [] more (block_of_values None values) x values allowed next refl zero refl unmaps) same
     (held-unmapped s x values more unmaps)
 
+-- as many places were filled as the block has values
+pub filled_places : {X : Type 0} (filled samples : List X) (n size : ℕ) → length filled ≡ length (take n samples) → n ≡ size → size ≤ length samples
+    → length filled ≡ size
+filled_places filled samples n size is all room = omega (arith, is, all, room, length-take n samples)
+
 -- ---- one interval
 
 pub whole_end : (s : Settings) (count : Option ℕ) (limit i n : ℕ) → IsAllowed s → n ≡ i + s.interval → AreWithin s count limit n
@@ -123,6 +128,13 @@ reads_none s old new samples same none = record {
       subst (λ j. IsReached s count limit old.list i old.pos j new.pos samples) nothing
       (reached-start s count limit old.list i old.pos new.pos samples (ap (λ (cursor : Cursor). cursor.pos) same) none);
 }
+
+-- a reader that stays, and samples whose front stays
+pub reads_stay : (s : Settings) (n at len : ℕ) (old here there : Cursor) (before after : List ℤ) → there ≡ here → at ≡ len
+    → take at after ≡ take at before → ReadsWhole s n old here (take at before) → ReadsWhole s n old there (take len after)
+reads_stay s n at len old here there before after stays place kept reads =
+    subst (λ (cursor : Cursor). ReadsWhole s n old cursor (take len after)) (sym stays)
+    (subst (λ k. ReadsWhole s n old here (take k after)) place (subst (ReadsWhole s n old here) (sym kept) reads))
 
 wanted_first : (s : Settings) (count : Option ℕ) (limit : ℕ) (bits : List Bool) (i b : ℕ) (sets : List CodedDataSet) (j e : ℕ) → i < j
     → LeadsTo s count limit bits i b sets j e → is_wanted s count bits i b ≡ true

@@ -14,8 +14,9 @@ use Rattle.aec_interval.specs.Feeding.{Coder, fresh_coder, taken_of, Feeds, Stop
 abbrev pub all_bytes : List (List ℕ) → List ℕ
 all_bytes pieces = flat_map (λ piece. piece) pieces
 
--- the bytes' samples (bytes left over at the end are none) are as many as were counted and no more
--- than the limit; what was appended is their stream up to the code of those that are still held
+-- all samples of the bytes (bytes left over at the end are none) are in range, as many as were
+-- counted and no more than the limit; what was appended is their stream up to the code of those
+-- that are still held
 pub record IsStreamSoFar (s : Settings) (limit : ℕ) (bytes : List ℕ) (before after : List Bool)
     (d : Coder) : Type 0 where
   pub samples : List ℤ

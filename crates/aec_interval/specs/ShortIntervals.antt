@@ -1,10 +1,10 @@
 -- For proofs alone: no public contract cites this file.
 -- Whole intervals read one after the other: what the private functions of `reading::short` do for
 -- every reading in which none of their blocks needs a test of its place.
-use Rattle.std.specs.Prelude.{◌≡◌, ◌≤◌, ◌^◌, ℕ, ◌+◌, ◌*◌, ◌%◌, false, Option, IfSome, ℤ, List, unwrap_or}
+use Rattle.std.specs.Prelude.{◌≡◌, ◌<◌, ◌≤◌, ◌^◌, ℕ, ◌+◌, ◌*◌, ◌%◌, Bool, true, false, Option, IfSome, ℤ, List, length, take, unwrap_or}
 use Rattle.std.specs.List.{AllByRecursion}
 use Rattle.aec_params.specs.declared.settings.Settings.{Settings}
-use Rattle.aec_params.specs.Params.{IsHeld}
+use Rattle.aec_params.specs.Params.{IsHeld, interval_len}
 use Rattle.aec_bits.specs.BitReader.{Cursor}
 use Rattle.aec_interval.specs.declared.reading.Wanted.{Wanted}
 use Rattle.aec_interval.specs.Reached.{IsReached}
@@ -38,3 +38,30 @@ pub record ReadsWhole (s : Settings) (n : ℕ) (old new : Cursor) (samples : Lis
   pub list : new.list ≡ old.list
   pub leads : (count : Option ℕ) (limit i : ℕ) → i % s.interval ≡ 0 → AreWithin s count limit (i + n * s.interval)
       → IsReached s count limit old.list i old.pos (i + n * s.interval) new.pos samples
+
+-- the first block of an interval was read into the front of the samples, if `is_read`; both lists
+-- keep their lengths
+pub record FillsFirst (s : Settings) (old : Cursor) (values : List ℕ) (samples : List ℤ) (is_read : Bool) (new : Cursor)
+    (values_after : List ℕ) (samples_after : List ℤ) : Type 0 where
+  pub ok : is_read ≡ true → ReadsFirst s old new (take s.block_size samples_after)
+  pub list : new.list ≡ old.list
+  pub count : length values_after ≡ length values
+  pub len : length samples_after ≡ length samples
+
+-- the next interval was read into the samples, if `is_read`; else the reader hasn't moved. The list
+-- of samples keeps its length
+pub record FillsInterval (s : Settings) (old : Cursor) (before : List ℤ) (is_read : Bool) (new : Cursor)
+    (after : List ℤ) : Type 0 where
+  pub ok : is_read ≡ true → ReadsWhole s 1 old new after
+  pub stays : is_read ≡ false → new ≡ old
+  pub len : length after ≡ length before
+
+-- n intervals, at most `most`, were read into the front of the samples; if none, the reader hasn't
+-- moved. The list of samples keeps its length
+pub record FillsIntervals (s : Settings) (most : ℕ) (old : Cursor) (before : List ℤ) (n : ℕ) (new : Cursor)
+    (after : List ℤ) : Type 0 where
+  pub reads : 0 < n → ReadsWhole s n old new (take (n * interval_len s) after)
+  pub stays : n ≡ 0 → new ≡ old
+  pub list : new.list ≡ old.list
+  pub within : n ≤ most
+  pub len : length after ≡ length before

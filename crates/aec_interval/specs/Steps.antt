@@ -33,8 +33,8 @@ pub record IsUntestedEnd (s : Settings) (count : Option ℕ) (limit first last :
   pub keeps : keeps_limit s count limit last ≡ true
   pub few : last < 2 ^ 34
 
--- the interval that begins at block `first` was skipped up to block `next` at position b: to its
--- end, if more is wanted there
+-- the interval that begins at block `first` was read or skipped up to block `next` at position b:
+-- to its end, if more is wanted there
 pub record IsGoneOver (s : Settings) (count : Option ℕ) (bits : List Bool) (first next b : ℕ) : Type 0 where
   pub forward : first < next
   pub within : next ≤ first + s.interval

@@ -154,7 +154,7 @@ impl<'a> StreamReader<'a> {
     }
 
     /// Returns whether several intervals may be read at once, judged by the next coded data set
-    /// alone. The reader doesn't move.
+    /// alone; no clause says so. The reader doesn't move.
     fn comes_short(&mut self) -> bool
         ensures { self.new ≡ self.old }
     {

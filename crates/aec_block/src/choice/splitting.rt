@@ -142,11 +142,13 @@ fn best_of_three(all: &[u32], values: &[u32], first: u32) -> Splitting
 }
 
 /// Returns the k below `options` with which values below `2^bits` have the fewest bits, and of
-/// equal ones the least; 0 if there are no options. The sum falls at least by half with each k, so
-/// what one more low bit gains never grows: after the first k whose successor isn't shorter, no
-/// later k is shorter. The sum of the values determines the k to begin with; if two further k exist
-/// after that one, they are enough. The sums are those of `all`: a 0 in the reference place adds
-/// nothing, and with it the values fill lanes.
+/// equal ones the least. Without options returns 0, which no clause says.
+///
+/// The sum of the values without their low bits falls at least by half with each k, so what one
+/// more low bit gains never grows: after the first k whose successor isn't shorter, no later k is
+/// shorter. The sum of the values determines the k to begin with; if two further k exist after that
+/// one, they are enough. The sums are those of `all`: a 0 in the reference place adds nothing, and
+/// with it the values fill lanes.
 #[inline(always)]
 pub(crate) fn best_split(all: &[u32], values: &[u32], bits: u32, options: u32) -> Splitting
     requires below { AllByRecursion (λ v. v < 2 ^ bits) all.now }

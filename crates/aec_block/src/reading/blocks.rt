@@ -8,7 +8,7 @@ ghost use Rattle.aec_block.specs.BlockShape.{most_values};
 ghost use Rattle.aec_block.specs.ReadAt.{map_taken, binary_at, values_at, members_at, split_at};
 ghost use Rattle.aec_block.specs.Gathering.{as_taken_by, when, small_block, pair_block, Takes};
 
-use crate::block::{Block, places_before};
+use crate::block::{Block, reference_places};
 use crate::reading::codewords::read_block_numbers;
 use crate::reading::values::{read_block_split, read_pairs};
 use aec_bits::BitReader;
@@ -38,7 +38,7 @@ pub(crate) fn fill_uncompressed(
         reader.old (as_taken_by (λ _. block.new) result) reader.new }
 {
     block.restart(reference, block_len(params));
-    let values = &mut block.values.as_mut_slice()[places_before(reference)..];
+    let values = &mut block.values.as_mut_slice()[reference_places(reference)..];
     read_block_numbers(reader, params.bits(), values)
 }
 
@@ -59,7 +59,7 @@ pub(crate) fn fill_split(
         (as_taken_by (λ fit. when fit block.new) result) reader.new }
 {
     block.restart(reference, block_len(params));
-    let values = &mut block.values.as_mut_slice()[places_before(reference)..];
+    let values = &mut block.values.as_mut_slice()[reference_places(reference)..];
     read_block_split(params, reader, k, values)
 }
 

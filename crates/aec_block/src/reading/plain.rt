@@ -118,7 +118,8 @@ fn fill_first<const M: usize>(
 /// moves past it, if it is plain and its values are at most the greatest that the width has:
 /// `values` then contains them, with 0 in the reference place. Returns the pattern of the reference
 /// sample. Else returns `None`; the reader then hasn't moved, and the contents of `values` are
-/// unspecified. Allocates nothing. Inlined for blocks of which `M` values are written.
+/// unspecified. No clause says that it returns `None` only then. Allocates nothing. Inlined for
+/// blocks of which `M` values are written.
 #[inline(always)]
 pub fn read_plain_first<const M: usize>(
     params: &Params,

@@ -14,14 +14,14 @@ ghost use Rattle.aec_block.specs.ReadCds.{checked, checked_body, is_run_body, Ha
 
 use crate::cds::RunLen;
 use crate::reading::codewords::read_sequence;
-use crate::reading::{Kind, read_kind, read_reference, run_len};
+use crate::reading::{Kind, read_kind, read_reference, run_len_of};
 use aec_bits::BitReader;
 use aec_params::{Fault, Params};
 
 /// Reads what follows the identifier of a run and its reference sample. Returns how many zero
 /// blocks the run stands for.
 #[inline(always)]
-fn read_len(
+fn take_run_len(
     params: &Params,
     reader: &mut BitReader,
     reference: Option<u32>,
@@ -31,7 +31,7 @@ fn read_len(
         (body_at params.now (is_some reference) ZeroBlocks bits)) reader.old
         (as_taken_by (λ len. Some (Zeros reference len)) result) reader.new }
 {
-    Ok(run_len(read_sequence(reader)?))
+    Ok(run_len_of(read_sequence(reader)?))
 }
 
 /// Reads the next coded data set, if it is a run. Returns its reference sample, if one is due, and
@@ -58,7 +58,7 @@ fn take_run(
         return Ok(None);
     }
     let reference = read_reference(params, reader, is_ref)?;
-    let len = read_len(params, reader, reference)?;
+    let len = take_run_len(params, reader, reference)?;
     Ok(Some((reference, len)))
 }
 

@@ -101,7 +101,7 @@ pub(crate) fn read_pairs(
 }
 
 /// Puts the next numbers into `highs`, one by one. Returns whether all are below `limit`; if not,
-/// some are left out.
+/// the contents of `highs` are unspecified.
 fn read_long_highs(reader: &mut BitReader, highs: &mut [u32], limit: u64) -> Result<bool, Fault>
     requires within { reader.old.pos ≤ length reader.old.list }
     requires limit { limit ≤ 2 ^ 32 }
@@ -132,8 +132,8 @@ fn are_short(values: &[u32], gone: u64, limit: u64) -> bool
     gone < limit + values.len() as u64 || are_below(values, limit)
 }
 
-/// Puts the next numbers into `highs`. Returns whether all are below `limit`; if not, some are left
-/// out.
+/// Puts the next numbers into `highs`. Returns whether all are below `limit`; if not, the contents
+/// of `highs` are unspecified.
 #[inline(always)]
 pub(crate) fn read_highs(
     reader: &mut BitReader,

@@ -11,7 +11,11 @@ use aec_params::Params;
 
 /// Returns the reference of a block of samples after `previous`, or at an interval's start.
 #[inline(always)]
-pub(crate) fn reference_of(params: &Params, previous: Option<i64>, samples: &[i64]) -> Option<u32>
+pub(crate) fn reference_after(
+    params: &Params,
+    previous: Option<i64>,
+    samples: &[i64],
+) -> Option<u32>
     requires some { 0 < length samples.now }
     requires held { AllByRecursion (IsHeld params.now) samples.now }
     ensures { result ≡ reference_after params.now previous samples.now }
@@ -53,5 +57,5 @@ pub(crate) fn map_block(
     ensures len { length values.new ≡ length values.old }
 {
     map_samples(params, previous, samples, values);
-    reference_of(params, previous, samples)
+    reference_after(params, previous, samples)
 }

@@ -12,7 +12,7 @@ ghost use Rattle.aec_block.specs.Choices.{IsFull};
 ghost use Rattle.aec_interval.specs.Chunks.{values_after, reference_after, block_after, AreBlockAfter, IsFilledBlock};
 ghost use Rattle.aec_interval.specs.Pending.{IsRun, AreNext, TakesBlock};
 
-use crate::interval::filled_blocks::reference_of;
+use crate::interval::filled_blocks::reference_after;
 use crate::interval::pending_run::{NO_RUN, Run};
 use crate::segment::previous_of;
 use aec_bits::BitBuf;
@@ -56,7 +56,7 @@ fn mapped_block(alloc: Global, params: &Params, previous: Option<i64>, samples: 
     ensures reference { result.reference ≡ reference_after params.now previous samples.now }
     ensures values { result.values ≡ values_after params.now previous samples.now }
 {
-    let mut block = Block::new(alloc, reference_of(params, previous, samples));
+    let mut block = Block::new(alloc, reference_after(params, previous, samples));
     // A sample in the reference place has no value of its own. It predicts the next one.
     let first = previous.unwrap_or(samples[0]);
     let others = &samples[block.len()..];

@@ -9,7 +9,8 @@ ghost use Rattle.aec_params.specs.Params.{IsHeld, interval_len};
 ghost use Rattle.aec_block.specs.BlockShape.{most_values};
 ghost use Rattle.aec_interval.specs.Reached.{IsReached};
 ghost use Rattle.aec_interval.specs.PlainBlocks.{ReadsPlain};
-ghost use Rattle.aec_interval.specs.ShortIntervals.{AreWithin, ReadsFirst, ReadsWhole};
+ghost use Rattle.aec_interval.specs.Steps.{IsWantedNext};
+ghost use Rattle.aec_interval.specs.ShortIntervals.{AreWithin, ReadsWhole, FillsFirst, FillsInterval, FillsIntervals};
 
 use crate::block_sizes::FIRST_UNPREDICTED;
 use crate::reading::plain::fill_plain_blocks;
@@ -22,7 +23,8 @@ use aec_params::Params;
 /// The greatest number of samples that are read at a time.
 const AT_ONCE: u64 = 4096;
 
-/// Intervals of more blocks are read one at a time: the cost of each is then small.
+/// Intervals of more blocks are read one at a time: what an interval costs besides its blocks is
+/// then small.
 const MOST_BLOCKS: u32 = 8;
 
 /// Kinds of intervals: one run of zero blocks; plain blocks of samples that are predicted, or not.
@@ -44,11 +46,8 @@ fn fill_reference_block<const M: usize>(
     requires on { params.now.preprocess ≡ true }
     requires count { length values.old ≡ params.now.block_size }
     requires room { params.now.block_size ≤ length samples.old }
-    ensures ok { result ≡ true → ReadsFirst params.now reader.old reader.new
-        (take params.now.block_size samples.new) }
-    ensures list { reader.new.list ≡ reader.old.list }
-    ensures count { length values.new ≡ length values.old }
-    ensures len { length samples.new ≡ length samples.old }
+    ensures { FillsFirst params.now reader.old values.old samples.old result reader.new values.new
+        samples.new }
 {
     params.known_allowed();
     match read_plain_first::<M>(params, reader, values) {
@@ -73,11 +72,8 @@ fn fill_unpredicted_block<const N: usize>(
     requires off { params.now.preprocess ≡ false }
     requires count { length values.old ≡ params.now.block_size }
     requires room { params.now.block_size ≤ length samples.old }
-    ensures ok { result ≡ true → ReadsFirst params.now reader.old reader.new
-        (take params.now.block_size samples.new) }
-    ensures list { reader.new.list ≡ reader.old.list }
-    ensures count { length values.new ≡ length values.old }
-    ensures len { length samples.new ≡ length samples.old }
+    ensures { FillsFirst params.now reader.old values.old samples.old result reader.new values.new
+        samples.new }
 {
     params.known_allowed();
     if !read_plain::<N, FIRST_UNPREDICTED>(params, reader, values) {
@@ -98,11 +94,8 @@ fn fill_first_block<const N: usize, const M: usize, const KIND: usize>(
 ) -> bool
     requires count { length values.old ≡ params.now.block_size }
     requires room { params.now.block_size ≤ length samples.old }
-    ensures ok { result ≡ true → ReadsFirst params.now reader.old reader.new
-        (take params.now.block_size samples.new) }
-    ensures list { reader.new.list ≡ reader.old.list }
-    ensures count { length values.new ≡ length values.old }
-    ensures len { length samples.new ≡ length samples.old }
+    ensures { FillsFirst params.now reader.old values.old samples.old result reader.new values.new
+        samples.new }
 {
     if params.preprocess() {
         KIND == PREDICTED && fill_reference_block::<M>(params, reader, values, samples)
@@ -146,10 +139,8 @@ fn fill_plain_interval<const N: usize, const M: usize, const KIND: usize>(
     requires size { N ≡ params.now.block_size }
     requires count { length values.old ≡ params.now.block_size }
     requires len { length samples.old ≡ interval_len params.now }
-    ensures ok { result ≡ true → ReadsWhole params.now 1 reader.old reader.new samples.new }
-    ensures stays { result ≡ false → reader.new ≡ reader.old }
+    ensures fills { FillsInterval params.now reader.old samples.old result reader.new samples.new }
     ensures count { length values.new ≡ length values.old }
-    ensures len { length samples.new ≡ length samples.old }
 {
     params.known_allowed();
     let start = reader.pos();
@@ -183,7 +174,8 @@ fn read_whole_run(params: &Params, reader: &mut BitReader) -> Option<i64>
     None
 }
 
-/// Returns whether the next interval is short and one run of zero blocks. The reader doesn't move.
+/// Returns whether the next interval is short and one run of zero blocks; no clause says so. The
+/// reader doesn't move.
 pub(crate) fn comes_zero_interval(params: &Params, reader: &mut BitReader) -> bool
     ensures { reader.new ≡ reader.old }
 {
@@ -199,9 +191,7 @@ pub(crate) fn comes_zero_interval(params: &Params, reader: &mut BitReader) -> bo
 fn fill_zero_interval(params: &Params, reader: &mut BitReader, samples: &mut [i64]) -> bool
     requires short { params.now.interval ≤ 64 }
     requires len { length samples.old ≡ interval_len params.now }
-    ensures ok { result ≡ true → ReadsWhole params.now 1 reader.old reader.new samples.new }
-    ensures stays { result ≡ false → reader.new ≡ reader.old }
-    ensures len { length samples.new ≡ length samples.old }
+    ensures { FillsInterval params.now reader.old samples.old result reader.new samples.new }
 {
     let Some(sample) = read_whole_run(params, reader) else {
         return false;
@@ -223,10 +213,8 @@ fn fill_interval<const N: usize, const M: usize, const KIND: usize>(
     requires short { params.now.interval ≤ 64 }
     requires count { length values.old ≡ params.now.block_size }
     requires len { length samples.old ≡ interval_len params.now }
-    ensures ok { result ≡ true → ReadsWhole params.now 1 reader.old reader.new samples.new }
-    ensures stays { result ≡ false → reader.new ≡ reader.old }
+    ensures fills { FillsInterval params.now reader.old samples.old result reader.new samples.new }
     ensures count { length values.new ≡ length values.old }
-    ensures len { length samples.new ≡ length samples.old }
 {
     if KIND == ZEROS {
         return fill_zero_interval(params, reader, samples);
@@ -247,12 +235,7 @@ fn fill_intervals<const N: usize, const M: usize, const KIND: usize>(
     requires small { N ≤ most_values }
     requires short { params.now.interval ≤ 64 }
     requires room { most * interval_len params.now ≤ length samples.old }
-    ensures reads { ReadsWhole params.now result reader.old reader.new
-        (take (result * interval_len params.now) samples.new) }
-    ensures stays { result ≡ 0 → reader.new ≡ reader.old }
-    ensures list { reader.new.list ≡ reader.old.list }
-    ensures within { result ≤ most }
-    ensures len { length samples.new ≡ length samples.old }
+    ensures { FillsIntervals params.now most reader.old samples.old result reader.new samples.new }
 {
     // A copy that no other call can see stays in registers.
     let own = *params;
@@ -280,12 +263,7 @@ fn fill_usual_intervals<const KIND: usize>(
 ) -> usize
     requires short { params.now.interval ≤ 64 }
     requires room { most * interval_len params.now ≤ length samples.old }
-    ensures reads { 0 < result → ReadsWhole params.now result reader.old reader.new
-        (take (result * interval_len params.now) samples.new) }
-    ensures stays { result ≡ 0 → reader.new ≡ reader.old }
-    ensures list { reader.new.list ≡ reader.old.list }
-    ensures within { result ≤ most }
-    ensures len { length samples.new ≡ length samples.old }
+    ensures { FillsIntervals params.now most reader.old samples.old result reader.new samples.new }
 {
     match params.block_size() {
         8 => fill_intervals::<8, 7, KIND>(params, reader, most, samples),
@@ -305,12 +283,7 @@ fn fill_coming_intervals(
 ) -> usize
     requires short { params.now.interval ≤ 64 }
     requires room { most * interval_len params.now ≤ length samples.old }
-    ensures reads { 0 < result → ReadsWhole params.now result reader.old reader.new
-        (take (result * interval_len params.now) samples.new) }
-    ensures stays { result ≡ 0 → reader.new ≡ reader.old }
-    ensures list { reader.new.list ≡ reader.old.list }
-    ensures within { result ≤ most }
-    ensures len { length samples.new ≡ length samples.old }
+    ensures { FillsIntervals params.now most reader.old samples.old result reader.new samples.new }
 {
     if !comes_plain(params, reader) {
         return fill_usual_intervals::<ZEROS>(params, reader, most, samples);
@@ -366,10 +339,8 @@ pub(crate) fn read_short(
     samples: &mut Vec<i64>,
 ) -> u64
     requires begins { reader.old.pos ≡ wanted.start }
-    requires aligned { wanted.first % params.now.interval ≡ 0 }
-    requires few { wanted.first < 2 ^ 34 }
-    requires limit { wanted.limit ≤ 2 ^ 32 }
-    requires counted { IfSome wanted.count (λ count. count ≤ 2 ^ 32) }
+    requires wanted { IsWantedNext params.now wanted.count wanted.limit reader.old.list
+        wanted.first wanted.first reader.old.pos }
     ensures reached { wanted.first < result → IsReached params.now wanted.count wanted.limit
         reader.new.list wanted.first wanted.start result reader.new.pos samples.new.items }
     ensures stays { result ≡ wanted.first → reader.new ≡ reader.old }

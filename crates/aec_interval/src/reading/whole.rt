@@ -26,11 +26,11 @@ pub(crate) fn judge_count(count: Option<u64>, limit: u64) -> Result<(), Fault>
 /// ignores bits after the last coded data set that is needed. Without a count, returns all samples
 /// of all blocks, up to a rest of zero bits.
 ///
-/// Fails with `TooManySamples` first, if a given count is above `limit`. Then fails at each coded
-/// data set in turn: with `Truncated`, `ValueTooLarge` or `RunTooLong` and the bit where it begins;
-/// with `TooManySamples`, without a count, if the samples, including those of this set, pass the
-/// limit; with `Memory` if an allocation fails. So `Memory` is returned only after at least one
-/// coded data set was read without a fault.
+/// Fails with `TooManySamples` first, if a given count is above `limit`. Then tests each coded data
+/// set in turn, and fails at the first that is refused: with `Truncated`, `ValueTooLarge` or
+/// `RunTooLong` and the bit where it begins; with `TooManySamples`, without a count, if the
+/// samples, including those of this set, pass the limit; with `Memory` if an allocation fails. So
+/// `Memory` is returned only after at least one coded data set was read without a fault.
 pub fn decode_all(
     alloc: Global,
     params: &Params,

@@ -44,7 +44,8 @@ fn are_complete(terms: &Terms, held: &HeldSamples) -> bool
 }
 
 /// Takes the bytes of some samples, then codes the held samples if they are whole intervals. Fails
-/// with `Memory` if an allocation fails; nothing is then appended.
+/// with `Memory` if an allocation fails. Nothing is then appended, but the clause allows the code
+/// of some of the intervals, from the first on.
 fn take_part(
     terms: &Terms,
     progress: &mut Progress,
@@ -106,7 +107,7 @@ fn refusal(terms: &Terms, count: u64, taken: usize) -> Fault
 
 /// Returns how many samples are taken at once, if an interval has no more: twice as many as there
 /// are places for, since new places are cleared before they are first filled.
-fn most_at_once(places: usize) -> usize {
+fn samples_at_once(places: usize) -> usize {
     places.saturating_mul(2).clamp(FEWEST_AT_ONCE, MOST_AT_ONCE)
 }
 
@@ -144,7 +145,7 @@ fn part_len(terms: &Terms, progress: &Progress, bytes: &[u8]) -> Result<usize, F
     let width = terms.params.storage();
     let interval = terms.params.interval_len() as usize;
     let held = &progress.held;
-    let at_once = most_at_once(held.places());
+    let at_once = samples_at_once(held.places());
     let samples = part_samples(interval, held.len(), bytes.len() / width, at_once);
     let taken = taken_samples(terms, progress.count, &bytes[..samples * width]);
     if taken == samples {

@@ -16,6 +16,6 @@ returns-clause-values c =
     let x : ℤ = slice_index_or c.args.samples.now 0 (pos 0) in
     let first_fits : FitsSigned w64 (slice_index_or c.args.samples.now 0 (pos 0)) = search rules in
     let first = to_z-of_z w64 c.unwrap_or-first.result fits ∙ c.unwrap_or-first.ensures ∙ ap (unwrap_or c.args.previous) (to_z-of_z w64 x first_fits) in
-    mapped-whole s c.args.previous v p c.reference_of.result start _ c.len.result c.requires.block.allowed c.requires.block.some first
-    c.requires.block.samples.held c.reference_of.ensures c.new-block.ensures.values c.len.ensures.value (ap (λ (b : Block). b.values) c.push_mapped.ensures
+    mapped-whole s c.args.previous v p c.reference_after.result start _ c.len.result c.requires.block.allowed c.requires.block.some first
+    c.requires.block.samples.held c.reference_after.ensures c.new-block.ensures.values c.len.ensures.value (ap (λ (b : Block). b.values) c.push_mapped.ensures
     ∙ ap (λ (behind : List ℤ). start ++ mapped_after s p behind) (take_rest v c.len.result))

@@ -5,7 +5,7 @@ use Rattle.std.proofs.lemmas.Slice.{take-put_mid}
 use borrow.Rule.Slice.PartMut.{put_mid}
 use Rattle.aec_params.specs.Params.{interval_len}
 use Rattle.aec_interval.specs.ShortIntervals.{ReadsWhole}
-use Rattle.aec_interval.proofs.ShortLemmas.{reads_none, reads_one_more, front_kept, part_fits}
+use Rattle.aec_interval.proofs.ShortLemmas.{reads_none, reads_one_more, reads_stay, front_kept, part_fits}
 use Rattle.aec_interval.proofs.reading.short.fill_intervals.Goals as goal
 
 pub loop-count-init : goal.loop-count-init
@@ -26,8 +26,8 @@ slice_bounds-part-end g c =
     inv.place (omega (arith, c.loop-count-test.true)) c.interval_len-len.ensures.value (omega (arith, c.requires.room, inv.len)) in
     search (rules, fits)
 
-pub returns-then-not-fill_interval-clause-reads : goal.returns-then-not-fill_interval-clause-reads
-returns-then-not-fill_interval-clause-reads g c =
+pub returns-then-not-fill_interval : goal.returns-then-not-fill_interval
+returns-then-not-fill_interval g c =
     let inv = c.loop-count.invariant in
     let s = c.args.params.now in
     let at = c.loop-count.at in
@@ -36,28 +36,30 @@ returns-then-not-fill_interval-clause-reads g c =
     part_fits c.loop-count.at c.loop-count.count c.args.most c.interval_len-len.result (interval_len c.args.params.now) (length c.loop-count.samples)
     inv.place (omega (arith, c.loop-count-test.true)) c.interval_len-len.ensures.value (omega (arith, c.requires.room, inv.len)) in
     let place : at ≡ c.loop-count.count * interval_len s = inv.place ∙ ap (λ n. c.loop-count.count * n) c.interval_len-len.ensures.value in
-    let part = c.fill_interval.new.samples in
-    let kept = front_kept c.loop-count.samples part at k (omega (arith, fits)) in
-    let all = put_mid at k c.loop-count.samples part in
-    subst (λ cursor. ReadsWhole s c.loop-count.count c.args.reader.now cursor (take (c.loop-count.count * interval_len s) all))
-    (sym (c.if-not-fill_interval.ensures.stays refl))
-    (subst (λ n. ReadsWhole s c.loop-count.count c.args.reader.now c.loop-count.reader (take n all)) place
-    (subst (ReadsWhole s c.loop-count.count c.args.reader.now c.loop-count.reader) (sym kept) inv.reads))
+    let kept = front_kept c.loop-count.samples c.fill_interval.new.samples at k (omega (arith, fits)) in
+    record {
+      reads = λ some. reads_stay s c.loop-count.count at _ c.args.reader.now c.loop-count.reader c.fill_interval.new.reader c.loop-count.samples _
+          (c.if-not-fill_interval.ensures.fills.stays refl) place kept inv.reads;
+      stays = search rules;
+      list = search rules;
+      within = search rules;
+      len = search rules;
+    }
 
 pub loop-count-preserved : goal.loop-count-preserved
 loop-count-preserved g c =
     let inv = c.loop-count.invariant in
     let at = c.loop-count.at in
     let len = c.interval_len-len.result in
-    let k = at + len - at in
     let fits : at + len ≤ length c.loop-count.samples =
     part_fits at c.loop-count.count c.args.most len (interval_len c.args.params.now) (length c.loop-count.samples) inv.place
     (omega (arith, c.loop-count-test.true)) c.interval_len-len.ensures.value (omega (arith, c.requires.room, inv.len)) in
     let size : at + len ≡ at + length c.fill_interval.new.samples =
-    omega (arith, c.fill_interval.ensures.len, length-take k (drop at c.loop-count.samples), length-drop at c.loop-count.samples, fits) in
+    omega (arith, c.fill_interval.ensures.fills.len, length-take (at + len - at) (drop at c.loop-count.samples), length-drop at c.loop-count.samples, fits) in
     record {
       reads = reads_one_more _ _ _ _ _ (take at c.loop-count.samples) c.fill_interval.new.samples _ c.interval_len-len.ensures.allowed inv.reads
-          (c.if-not-fill_interval.ensures.ok refl) (take-put_mid at k c.loop-count.samples c.fill_interval.new.samples (at + len) size (omega (arith, fits)));
+          (c.if-not-fill_interval.ensures.fills.ok refl)
+          (take-put_mid at (at + len - at) c.loop-count.samples c.fill_interval.new.samples (at + len) size (omega (arith, fits)));
       stays = λ none. absurd (omega (arith, none));
       within = search rules;
       place = omega (arith, inv.place, add-mul c.loop-count.count 1 len);
