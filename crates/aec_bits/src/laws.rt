@@ -114,7 +114,8 @@ pub fn judges_places_first()
     ensures { JudgesPlacesFirst }
 {}
 
-/// An append or an insertion past the limit is refused for the limit, whatever its values are.
+/// An append past the limit is refused for the limit, whatever its values are; so is an insertion
+/// at a place that is not past the samples.
 pub fn judges_the_limit_first()
     ensures { JudgesTheLimitFirst }
 {}

@@ -26,8 +26,8 @@ pub data CannotRead (s : Settings) (count : Option ℕ) (bytes : List ℕ) (faul
   not_read : IsAllowed s → RefusesDecoding s count (2 ^ 32) (bits_of_bytes bytes) fault → CannotRead s count bytes fault
   no_memory : IsAllowed s → fault ≡ Memory → CannotRead s count bytes fault
 
--- a workspace with these samples, whose coder was called once for each interval of them, and never
--- to decode
+-- a workspace with these samples, whose coder has counted one call for each interval of them, and
+-- no call to decode
 pub record Holds (s : Settings) (samples : List ℤ) (w : OpenWorkspace) : Type 0 where
   pub samples_are : w.workspace.samples ≡ samples
   pub limit : w.workspace.limit ≡ 2 ^ 32

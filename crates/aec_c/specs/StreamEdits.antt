@@ -65,7 +65,8 @@ abbrev pub line_of : Result (List ℕ) EditFault → ℕ
 line_of (Ok bytes) = 0
 line_of (Err fault) = line_in fault
 
--- the number of samples in the reply to an answer: those that the bytes code; 0 after a refusal
+-- the number of samples in the reply to an answer: the bytes are the code of so many samples; 0
+-- after a refusal
 abbrev pub IsCounted : Settings → Result (List ℕ) EditFault → ℕ → Type 0
 IsCounted s (Ok bytes) count = CodesSoMany s bytes count
 IsCounted s (Err fault) count = count ≡ 0

@@ -5,8 +5,9 @@ ghost use Rattle.aec_c.specs.Replies.{done, wants_room, refused_for, reply_of};
 
 use aec_params::Fault;
 
-/// How a call ended. If `fault` is 0, `len` bytes of `out` are the answer; if it is 18, the answer
-/// takes `len` bytes, more than `out` has; else it is the number of a refusal, with its place.
+/// How a call ended. If `fault` is 0, the call has succeeded, and says what `len` is; if it is 18,
+/// the answer takes `len` bytes or samples, more than `out` has; else it is the number of a
+/// refusal, with its place.
 #[repr(C)]
 #[derive(Clone, Copy)]
 pub struct Reply {

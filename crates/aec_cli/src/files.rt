@@ -148,9 +148,9 @@ impl<'a, F: Files> DestSink<'a, F> {
     }
 
     /// Makes the system write out what was written to the file, and ends the sink. Fails with
-    /// `Write` if that fails, or if the sink has failed. A file that can't be synced, like a pipe
-    /// or a terminal, needs no sync. A sink that neither was begun nor has failed is done without a
-    /// file.
+    /// `Write` if that fails, or if the sink has failed. An error that says that the file can't be
+    /// synced, like a pipe or a terminal, is no failure. A sink that neither was begun nor has
+    /// failed is done without a file.
     pub fn finish(self) -> Result<Done, Fault>
         ensures failed { ⟦<DestSink<'a, F> as Sink>⟧.failed self.entry ≡ 1 → IsErr result }
         ensures unbegun { ⟦<DestSink<'a, F> as Sink>⟧.begun self.entry ≡ 0

@@ -50,7 +50,7 @@ head_of n first s = drop (first / n * n) (take first s)
 abbrev pub tail_of : ℕ → ℕ → List ℤ → List ℤ
 tail_of n stop s = drop stop (take (div_ceil stop n * n) s)
 
--- an exchange that was made: enough calls were left, and each interval was coded once
+-- an exchange that was made: enough calls were left, and the calls rose by one for each interval
 pub record IsExchanged (needed calls coded after : ℕ) : Type 0 where
   pub left : want_of_calls calls needed ≡ None
   pub coded_is : coded ≡ needed

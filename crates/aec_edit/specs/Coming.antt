@@ -31,7 +31,8 @@ pub record MovesToFront (n : ℕ) (old new : Fresh) : Type 0 where
   pub next : new.next ≡ old.next
   pub end : new.end ≡ old.end
 
--- fresh samples of which some old intervals were taken: each of these was decoded once
+-- fresh samples of which some old intervals were taken: the count of reads rose by at most one for
+-- each
 pub record MovesOn (reads reads_after : ℕ) (old new : Fresh) : Type 0 where
   pub order : new.next ≤ new.end
   pub end : new.end ≡ old.end
@@ -71,7 +72,7 @@ pub record CanBeCoded {C : Type 0} (format_of : C → Format) (w : Contents C) (
   pub held : AreHeld (format_of w.codec) (coming format_of w fresh)
   pub count_is : count ≡ length (coming format_of w fresh)
 
--- the code of these fresh samples, made by one call for each interval
+-- the code of these fresh samples; the count of calls rises by one for each interval
 pub record CodesFresh {C : Type 0} (format_of : C → Format) (called : C → ℕ) (w w_after : Contents C) (fresh : Fresh)
     (count : ℕ) (coded : Coded)
     : Type 0 where

@@ -71,8 +71,8 @@ impl Coded {
     }
 
     /// Replaces the intervals between two cuts by those of other code, moves the starts after them,
-    /// and sets the number of samples to `count`. Fails with `Memory` if an allocation fails;
-    /// nothing is changed then.
+    /// and sets the number of samples to `count`. Reserves all room before it changes the lists: if
+    /// it fails with `Memory`, the code is the same, but its room may have changed.
     pub fn replace(&mut self, from: Cut, to: Cut, with: &Coded, count: u64) -> Result<(), Fault>
         requires { CanBeReplaced self.old with.now from to }
         ensures ok { OnOk result (IsReplaced self.old self.new with.now from to count) }

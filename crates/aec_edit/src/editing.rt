@@ -221,9 +221,9 @@ impl<C: Codec> Workspace<C> {
         held
     }
 
-    /// Makes edits in their order, and appends the outcome of each to `outcomes`. A refused edit
-    /// changes neither samples nor stream, and the edits after it are made all the same. Fails with
-    /// `Memory` if an allocation for the outcomes fails; nothing is changed then.
+    /// Tries edits in their order, and appends the outcome of each to `outcomes`. A refused edit
+    /// changes neither samples nor stream, and the edits after it are tried all the same. Fails
+    /// with `Memory` only if `outcomes` lacks room for so many; nothing is changed then.
     #[tactic(auto, using(crate::proofs::RunLemmas::run_goes_on))]
     pub fn run(&mut self, edits: &[Edit], outcomes: &mut Vec<Outcome>) -> Result<(), Fault>
         ensures ok { OnOk result ((done : List OutcomeOf)

@@ -4,8 +4,7 @@ ghost use Rattle.std.specs.Prelude.{◌≡◌, ◌+◌, ◌-◌, ◌^◌, ◌≤
 ghost use Rattle.aec_edit.specs.CodedLists.{CanMoveOn, CanShift, with_starts, CanTakeStarts};
 
 /// Replaces the starts from number `from` up to number `to` by those in `with`, each plus `base`,
-/// and moves the starts after them from `old_end` to `new_end`. There must be room for the new
-/// starts.
+/// and adds `new_end - old_end` to each start after them. There must be room for the new starts.
 pub fn replace_starts(
     starts: &mut Vec<u64>,
     from: usize,

@@ -10,7 +10,8 @@ ghost use Rattle.aec_edit.specs.Laws.{
   RunsLeaveSamples,
 };
 
-/// An overwrite that is made has called the coder once for each interval that it touches.
+/// For an overwrite that is made, one call of the coder is counted for each interval that it
+/// touches.
 pub fn overwrites_code_what_they_touch()
     ensures { OverwritesCodeWhatTheyTouch }
 {}

@@ -238,8 +238,8 @@ impl<C: Codec> Workspace<C> {
     }
 
     /// Replaces the intervals from number `from` up to number `to` by the code of fresh samples,
-    /// and moves the starts of the later ones. Fails with `Memory` if an allocation fails; nothing
-    /// is changed then.
+    /// and moves the starts of the later ones. If it fails with `Memory`, samples, limit and codec
+    /// are unchanged, but the room may have changed.
     pub(crate) fn put(&mut self, from: u64, to: u64, coded: &Coded) -> Result<(), Fault>
         requires { (fresh : List ℤ)
             × IsCodeFor (C.format self.old.codec) self.old.limit self.old.samples from to

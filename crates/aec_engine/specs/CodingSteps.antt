@@ -19,7 +19,7 @@ pub record IsFedSoFar (s : Settings) (limit : ℕ) (before after : Option (List 
   pub taken : Consumes before after bytes
   pub feeds : Feeds (fresh_coder s limit) bytes [] bits coder
 
--- a coder was fed all that a source gave
+-- a new coder was fed all that a source gave
 pub record IsFed (s : Settings) (limit : ℕ) (source : Taking) (bits : List Bool) (coder : Coder) : Type 0 where
   pub allowed : IsAllowed s
   pub bytes : List ℕ

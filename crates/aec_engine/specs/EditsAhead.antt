@@ -50,6 +50,6 @@ abbrev pub unread : EditsAhead → ℕ
 unread ahead = (length ahead.window.now - ahead.taken) + text_left (text_ahead ahead)
 
 -- no edit is left, or the next one is no overwrite inside `count` samples, or the coder was called
--- 2^62 times
+-- 2^62 times or more
 abbrev pub StopsAt : EditsAhead → ℕ → ℕ → Type 0
 StopsAt ahead count calls = MatchOption ahead.next ⊤ (λ next. (2 ^ 62 ≤ calls) ⊎ (IsInside count next.edit → ⊥))

@@ -32,7 +32,8 @@ pub struct Decoded {
     pub samples: Vec<i64>,
 }
 
-/// The result of edits: their stream, as bytes and as bits, and the number of samples.
+/// The result of edits: the bytes of their stream, the bits of these bytes, and the number of
+/// samples.
 #[derive(Drop)]
 struct Written {
     outcomes: Vec<Outcome>,

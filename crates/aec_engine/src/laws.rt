@@ -19,9 +19,9 @@ pub fn no_edits_keep_the_samples()
     ensures { NoEditsKeepTheSamples }
 {}
 
-/// A front of an input is refused whatever follows it: in coding, if the front contains a sample
-/// that is too many or out of range; in decoding, if the front is longer than the limit. So is a
-/// script.
+/// An input is refused for its first part alone, whatever follows: in coding, if this part contains
+/// a sample that is too many or out of range; in decoding, ranges and edits, if it is longer than
+/// the limit. So is a script.
 pub fn refused_fronts_are_enough()
     ensures { RefusedFrontsAreEnough }
 {}

@@ -126,7 +126,8 @@ fn joined_bits_of_each<T: ByteOrder>(bytes: &[u8], width: usize) -> u32
     joined
 }
 
-/// Returns the bits that are set in either of two numbers. Neither number is greater.
+/// Returns the bits that are set in either of two numbers. The clauses say only that neither number
+/// is greater than the result.
 #[inline(always)]
 #[tactic(auto, using(crate::proofs::StoredListLemmas::joins))]
 fn joined_with(bits: u32, number: u32) -> u32

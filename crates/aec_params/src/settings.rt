@@ -21,7 +21,8 @@ pub struct Settings {
     pub pad: bool,
     /// Whether the restricted set of code options is used.
     pub restricted: bool,
-    /// Whether the block size may be any even number from 8 to 64. This changes nothing else.
+    /// Whether the block size may be any even number from 8 to 64. Any other size is then refused
+    /// with `EvenBlockSize` instead of `BlockSize`. This changes nothing else.
     pub even_blocks: bool,
 }
 

@@ -64,8 +64,8 @@ fn full_width(params: &Params, x: i64) -> u64
     x.cast_unsigned() % (1u64 << (8 * params.storage()))
 }
 
-/// Writes the bytes of a sample to the front of `out` and leaves the other bytes. Returns their
-/// number, `storage`.
+/// Writes the bytes of a sample to the front of `out` and leaves the other bytes. Returns how many
+/// bytes it has written, `storage`.
 pub fn put_sample(params: &Params, x: i64, out: &mut [u8; 4]) -> usize
     requires { IsHeld params.now x }
     ensures bytes { out.new ≡ stored_bytes params.now x ++ drop (storage_len params.now) out.old }

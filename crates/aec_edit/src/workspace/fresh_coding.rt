@@ -72,8 +72,8 @@ pub(crate) fn drop_front(items: &mut Vec<i64>, len: usize)
     items.truncate(count - len);
 }
 
-/// Empty lists for the fresh samples before and after the values, and for their code. They have the
-/// room that the last accepted edit left.
+/// Empty lists for the fresh samples before and after the values, and for their code. After an
+/// accepted edit they have the room that it left; after a refusal with `Memory` maybe none.
 #[derive(Debug, Drop)]
 pub(crate) struct Scratch {
     pub front: Vec<i64>,

@@ -8,7 +8,7 @@ use aec_bits::Source;
 use aec_params::Fault;
 use std::alloc::Global;
 
-/// How many bytes are taken from a source at a time: few enough for the stack.
+/// At most so many bytes are taken from a source at a time: few enough for the stack.
 pub(crate) const PIECE: usize = 8192;
 
 /// Returns the bytes of a source up to its end, up to its failure, or past `limit` bytes, and

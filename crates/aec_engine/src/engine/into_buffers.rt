@@ -208,9 +208,9 @@ fn put_first(params: &Params, samples: &[i64], out: &mut [u8]) -> u64
     size as u64
 }
 
-/// Returns the bytes of the samples that were read first. There is also room for the bytes of an
-/// interval and for `WAITING` bytes, or for the bytes of `places` samples if these are few. So a
-/// short answer takes little memory.
+/// Returns the bytes of the samples that were read first, in a list whose whole room is for the
+/// bytes of an interval and for `WAITING` bytes, or for the bytes of `places` samples if these are
+/// few. So a short answer takes little memory.
 fn first_bytes(
     alloc: Global,
     params: &Params,

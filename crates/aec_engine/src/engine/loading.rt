@@ -159,7 +159,8 @@ pub(crate) fn append_all<C: Codec>(
 }
 
 /// Judges all bits, and returns a reader at the first bit, whose samples can be read, with the
-/// result of judging. Allocates nothing. Fails as `decode_all` does, but not with `Memory`.
+/// result of judging. Allocates nothing. Fails as `decode_all` does; no clause says that it never
+/// fails with `Memory`.
 pub(crate) fn judged_reader<'a>(
     alloc: Global,
     params: &Params,

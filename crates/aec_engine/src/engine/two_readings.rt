@@ -57,7 +57,8 @@ pub(crate) struct Judged {
 }
 
 /// Judges all samples from where the reader is, after `before` samples, and goes back to the last
-/// interval that it passed and that begins at or before sample `first`. Never fails with `Memory`.
+/// interval that it passed and that begins at or before sample `first`. It never fails with
+/// `Memory`, which no clause says.
 pub(crate) fn judge_from(
     params: &Params,
     reader: &mut StreamReader,
