@@ -278,11 +278,12 @@ def page_of(crate, name, clauses, title):
     names = [f"`{new}` stands for `{true}`" for new, true in library.renamed([contract, *cited])]
     page = [
         f"# {title}",
-        f"{what}. What a reader must judge is on this page: {counts}, and {sum(map(len, words.values()))} library "
-        "words, listed at the end.",
+        f"{what}. What a reader must judge: {counts}, all on this page, and {sum(map(len, words.values()))} words of the standard "
+        "library, named at the end.",
         "## The contract",
         *sections_of([contract]),
-        "## What it cites\n\nEach definition stands after those that it cites. Brackets in comments say how the code differs."
+        "## What it cites\n\nEach definition follows those that it cites. In parentheses a comment names the section of FORMAT.md (§), and says "
+        "how the code does the same in another way."
         + (f" Other names: {', '.join(names)}." if names else ""),
         *sections_of(cited),
         "## Words of the standard library\n\n" + LIBRARY + (f" {UNKNOWN}" if KNOWN_BYTES in words else ""),
