@@ -1,10 +1,8 @@
-use Rattle.std.proofs.Common.{rules, ◌≡◌, ◌+◌, ◌-◌, ◌*◌, ◌≤◌, ◌∙◌, length, take, drop, refl, sym, ap, subst, arith}
+use Rattle.std.proofs.Common.{rules, ◌≡◌, ◌+◌, ◌-◌, ◌*◌, ◌≤◌, ◌∙◌, length, take, drop, refl, ap, arith}
 use Rattle.std.proofs.Math.Nat.{add-mul}
 use Rattle.std.proofs.lemmas.List.{length-take, length-drop, length-replicate, nil_from_length}
 use Rattle.std.proofs.lemmas.Slice.{take-put_mid}
-use borrow.Rule.Slice.PartMut.{put_mid}
 use Rattle.aec_params.specs.Params.{interval_len}
-use Rattle.aec_interval.specs.ShortIntervals.{ReadsWhole}
 use Rattle.aec_interval.proofs.ShortLemmas.{reads_none, reads_one_more, reads_stay, front_kept, part_fits}
 use Rattle.aec_interval.proofs.reading.short.fill_intervals.Goals as goal
 
