@@ -282,8 +282,8 @@ def page_of(crate, name, clauses, title):
         "library, named at the end.",
         "## The contract",
         *sections_of([contract]),
-        "## What it cites\n\nEach definition follows those that it cites. In parentheses a comment names the section of FORMAT.md (§), and says "
-        "how the code does the same in another way."
+        "## What it cites\n\nEach definition follows those that it cites. Parentheses in a comment name the section of FORMAT.md (§), and "
+        "say how the code differs."
         + (f" Other names: {', '.join(names)}." if names else ""),
         *sections_of(cited),
         "## Words of the standard library\n\n" + LIBRARY + (f" {UNKNOWN}" if KNOWN_BYTES in words else ""),

@@ -35,12 +35,11 @@ pub struct Edited {
 
 /// Makes edits, beginning with no samples, and writes the resulting stream.
 ///
-/// Each edit has the outcome that is defined for the samples and calls that earlier edits left. The
-/// written bytes are, bit for bit, the code of the samples that the accepted edits leave; with the
-/// number of these samples they are read as these samples and no others. Fails with `Memory` only
-/// if there are edits; nothing is written then. Fails with `Write` if the sink fails; the sink has
-/// then taken a prefix of the stream. If the sink's bytes are unknown, nothing is said about what
-/// is written.
+/// Each edit has an outcome that is permitted for the samples and calls that earlier edits left.
+/// The written bytes are, bit for bit, the code of the samples that the accepted edits leave, and
+/// of no other list of as many samples. Fails with `Memory` only if there are edits; nothing is
+/// written then. Fails with `Write` only if the sink has failed; the sink has then taken a prefix
+/// of the stream. If the sink's bytes are unknown, nothing is said about what is written.
 pub fn write_edited<C: Codec + Drop, W: Sink>(
     alloc: Global,
     codec: C,

@@ -1,5 +1,5 @@
-//! A program for tests: it makes each library call that can lack memory, and prints its result and
-//! the state after it.
+//! A program for tests: it makes most library calls that can lack memory, and prints their results
+//! and the state after them.
 #![tactic(auto)]
 
 mod bits;
