@@ -13,14 +13,14 @@ these lines, each of which may go on below its text:
            of the trait; `Fault: from_gives` is a ghost item of a type
     wrong  must-fail edits of the crate
     test   tests of the trial crates, as `builds_and_edits` or `skipping::*`, or scripts of tests/
-    bare   in place of all these: public functions with no wrong body; the sentences say why
+    bare   in place of all these: public functions with no wrong body in the gate; the sentences say why
 
 docs/claims.txt has what stands around the claims; its line `@crates` gives way to them, its words
 `@gate` and `@others` to how many must-fail edits the gate tries and leaves out.
 
 Fails where a name is none; where an ensures clause of a public function (of no crate of tests), its premise, a must-fail
 edit, a test or a script of tests/ that make runs stands in no claim; where a public function that is no law stands
-neither in a claim with an edit nor among the bare ones; and with --check, which writes nothing, where the
+neither in a claim with an edit of the gate nor among the bare ones; and with --check, which writes nothing, where the
 page isn't what is written.
 """
 
@@ -88,7 +88,7 @@ class Names:
         self.scripts = set(re.findall(r"tests/\w+\.py", runs)) - NO_TESTS
         self.edits = {name: edits_of(name) for name in self.crates}
         self.gate = {name: set(edits_of(name, ["must-fail"])) for name in self.crates}
-        # Paths of functions beside whose claim an edit stands, and of the bare ones.
+        # Paths of functions beside whose claim the gate tries an edit, and of the bare ones.
         self.guarded, self.bare = set(), set()
         self.words = set(re.findall(r"\w+", self.all_text()))
         self.named, self.wrongs = set(), []
@@ -112,14 +112,14 @@ class Names:
         self.bare.update(one.path() for one in ones)
 
     def judge_guards(self):
-        """Each public function has a wrong body, or is said to have none."""
+        """Each public function has a wrong body in the gate, or is said to have none."""
         for one in self.functions:
             path = one.path()
             is_left_out = one.is_declared or one.module == "laws" or one.crate.endswith("_tests")
             if one.is_public and not is_left_out and path not in self.guarded | self.bare:
-                self.wrongs.append(f"neither with an edit nor bare: {path}")
+                self.wrongs.append(f"neither with an edit of the gate nor bare: {path}")
         for path in sorted(self.guarded & self.bare):
-            self.wrongs.append(f"bare, though an edit stands beside it: {path}")
+            self.wrongs.append(f"bare, though the gate tries an edit beside it: {path}")
 
     def judge_carrier(self, crate, name, clauses, is_given, is_guarded):
         meets = re.fullmatch(r"(\w+) meets (\w+)", name)
@@ -264,7 +264,7 @@ def judge_claim(lines, crate, names):
     if crate:
         edits = lines.get("wrong", "").split()
         names.judge_edits(crate, edits)
-        is_guarded = bool(edits)
+        is_guarded = bool(names.gate[crate.name] & set(edits))
         for name, clauses in carriers_of(lines.get("by", "")):
             names.judge_carrier(crate, name, clauses, "given" in lines, is_guarded)
         for name, _ in carriers_of(lines.get("bare", "")):

@@ -9,7 +9,6 @@ ghost use Rattle.aec_params.specs.Params.{IsHeld, interval_len};
 ghost use Rattle.aec_block.specs.BlockShape.{most_values};
 ghost use Rattle.aec_interval.specs.Reached.{IsReached};
 ghost use Rattle.aec_interval.specs.PlainBlocks.{ReadsPlain};
-ghost use Rattle.aec_interval.specs.Steps.{IsWantedNext};
 ghost use Rattle.aec_interval.specs.ShortIntervals.{AreWithin, ReadsWhole, FillsFirst, FillsInterval, FillsIntervals};
 
 use crate::block_sizes::FIRST_UNPREDICTED;
@@ -339,8 +338,10 @@ pub(crate) fn read_short(
     samples: &mut Vec<i64>,
 ) -> u64
     requires begins { reader.old.pos ≡ wanted.start }
-    requires wanted { IsWantedNext params.now wanted.count wanted.limit reader.old.list
-        wanted.first wanted.first reader.old.pos }
+    requires aligned { wanted.first % params.now.interval ≡ 0 }
+    requires few { wanted.first < 2 ^ 34 }
+    requires limit { wanted.limit ≤ 2 ^ 32 }
+    requires counted { IfSome wanted.count (λ count. count ≤ 2 ^ 32) }
     ensures reached { wanted.first < result → IsReached params.now wanted.count wanted.limit
         reader.new.list wanted.first wanted.start result reader.new.pos samples.new.items }
     ensures stays { result ≡ wanted.first → reader.new ≡ reader.old }
