@@ -77,7 +77,7 @@ first_set s kind pattern start behind after rest answer kind_read pattern_read b
     ∙ (ap (λ t. map_taken (checked s) (then_at (map_taken (λ r. Some r) t) (set_after_reference s true kind))) pattern_read
     ∙ (map_taken-map_taken (set_of (Some pattern)) (checked s) (body_at s true kind after) ∙ body_read))
 
-written : (s : Settings) (n : ℕ) → n + 1 ≡ s.block_size → n ≡ written_count s true
+pub written : (s : Settings) (n : ℕ) → n + 1 ≡ s.block_size → n ≡ written_count s true
 written s n count = omega (arith, count)
 
 pub first_split : (s : Settings) (kind : Kind) (k n pattern : ℕ) (start behind after rest : List Bool) (values : List ℕ) (fit : Bool) → kind ≡ Split k

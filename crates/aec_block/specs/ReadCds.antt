@@ -95,10 +95,10 @@ is_plain_taken (taken kind rest) = is_plain kind
 abbrev pub begins_plain : Settings → List Bool → Bool
 begins_plain s bits = is_plain_taken (kind_at (id_len s) bits)
 
--- no plain coded data set without a reference sample, whose values are at most 2^n - 1, begins the
--- bits
-abbrev pub HasNoPlain : Settings → List Bool → Type 0
-HasNoPlain s bits = (c : CodedDataSet) (rest : List Bool) → cds_at s false bits ≡ taken c rest
+-- no plain coded data set, with a reference sample or without, whose values are at most 2^n - 1,
+-- begins the bits
+abbrev pub HasNoPlain : Settings → Bool → List Bool → Type 0
+HasNoPlain s is_reference bits = (c : CodedDataSet) (rest : List Bool) → cds_at s is_reference bits ≡ taken c rest
     → is_plain_body c.body ≡ true → has_small_values s c ≡ false
 
 -- no run of zero blocks begins the bits

@@ -89,6 +89,9 @@ fn fill_first<const M: usize>(
     ensures taken { IfOk result (λ found. IfSome found (λ pattern.
         map_taken (checked params.now) (cds_at params.now true (bits_at reader.old))
         ≡ taken (Some (Single (block_of_values (Some pattern) values.new))) (bits_at reader.new))) }
+    ensures none { IfOk result (λ found. is_some found ≡ false
+        → HasNoPlain params.now true (bits_at reader.old)) }
+    ensures cut { OnErr result (HasNoPlain params.now true (bits_at reader.old)) }
     ensures one { IfOk result
         (λ found. is_some found ≡ true → has_one (bits_at reader.old) ≡ true) }
     ensures below { IfOk result (λ found. IfSome found (λ pattern. pattern < 2 ^ params.now.bits)) }
@@ -118,8 +121,7 @@ fn fill_first<const M: usize>(
 /// moves past it, if it is plain and its values are at most the greatest that the width has:
 /// `values` then contains them, with 0 in the reference place. Returns the pattern of the reference
 /// sample. Else returns `None`; the reader then hasn't moved, and the contents of `values` are
-/// unspecified. No clause says that it returns `None` only then. Allocates nothing. Inlined for
-/// blocks of which `M` values are written.
+/// unspecified. Allocates nothing. Inlined for blocks of which `M` values are written.
 #[inline(always)]
 pub fn read_plain_first<const M: usize>(
     params: &Params,
@@ -132,6 +134,9 @@ pub fn read_plain_first<const M: usize>(
     ensures below { IfSome result (λ pattern.
         AllByRecursion (λ v. v < 2 ^ params.now.bits) values.new) }
     ensures pattern { IfSome result (λ pattern. pattern < 2 ^ params.now.bits) }
+    ensures refuses { is_some result ≡ false → (c : CodedDataSet)
+        → IsSetAt params.now true reader.old.list reader.old.pos c
+        → is_plain_body c.body ≡ true → has_small_values params.now c ≡ false }
     ensures one { is_some result ≡ true → has_one (bits_at reader.old) ≡ true }
     ensures stays { is_some result ≡ false → reader.new ≡ reader.old }
     ensures len { length values.new ≡ length values.old }
@@ -142,7 +147,11 @@ pub fn read_plain_first<const M: usize>(
     values[0] = 0;
     match fill_first::<M>(params, reader, &mut values[1..]) {
         Ok(Some(pattern)) => Some(pattern),
-        Ok(None) | Err(_) => {
+        Ok(None) => {
+            reader.seek(start);
+            None
+        }
+        Err(_) => {
             reader.seek(start);
             None
         }

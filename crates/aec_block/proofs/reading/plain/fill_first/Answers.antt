@@ -1,4 +1,5 @@
 use Rattle.aec_block.specs.Gathering.{bits_at}
+use Rattle.aec_block.proofs.NoPlainLemmas.{first_large}
 use Rattle.aec_block.proofs.PlainLemmas.{first_split, first_numbers}
 use Rattle.aec_block.proofs.reading.plain.fill_first.Goals as goal
 
@@ -16,3 +17,10 @@ returns-else-not-branch-clause-taken g c =
     (bits_at c.read_kind.new.reader) (bits_at c.read_pattern.new.reader) (bits_at c.read_usual_split.new.reader) c.read_usual_split.new.values
     c.in_ok-read_usual_split-in-Split.field-0 c.in-Split.is c.requires.count c.in_ok-kind.ensures.taken.taken c.in_ok-pattern.ensures.taken.taken
     c.if-not-branch.false c.in_ok-read_usual_split-in-Split.ensures.taken
+
+pub returns-then-not-branch-clause-none : goal.returns-then-not-branch-clause-none
+returns-then-not-branch-clause-none g c =
+    λ unread. first_large c.args.params.now c.in_ok-kind.kind c.in-Split.k _ c.in_ok-pattern.pattern (bits_at c.args.reader.now)
+    (bits_at c.read_kind.new.reader) (bits_at c.read_pattern.new.reader) (bits_at c.read_usual_split.new.reader) c.read_usual_split.new.values
+    c.in_ok-read_usual_split-in-Split.field-0 c.in-Split.is c.requires.count c.in_ok-kind.ensures.taken.taken c.in_ok-pattern.ensures.taken.taken
+    c.if-not-branch.true c.in_ok-read_usual_split-in-Split.ensures.taken

@@ -1,4 +1,4 @@
-use Rattle.std.proofs.Common.{rules, ◌∙◌}
+use Rattle.std.proofs.Common.{false, rules, ◌∙◌}
 use Rattle.aec_block.specs.Gathering.{bits_at}
 use Rattle.aec_block.proofs.NoPlainLemmas.{IsJudged, none_stands, not_begun, numbers_judged, split_judged, none_judged, judged_to}
 use Rattle.aec_block.proofs.PlainLemmas.{plain-read, plain-below}
@@ -11,7 +11,7 @@ returns-then-not-read-clause-refuses g c =
     let s = c.args.params.now in
     let bits = bits_at c.args.reader.now in
     let behind = bits_at c.read_kind.new.reader in
-    λ same. none_stands s c.args.reader.now c.read_kind.ensures.allowed
+    λ same. none_stands s false c.args.reader.now c.read_kind.ensures.allowed
     (elim c.match-read_kind.branch [
       | in-Ok-NoCompression w ↦ (numbers_judged s w.in-Ok-NoCompression.field-0 w.bits.result _ bits behind (bits_at w.read_usual_numbers.new.reader)
           w.read_usual_numbers.new.numbers w.read_usual_numbers.result c.match-read_kind.read (w.read-is ∙ w.is_ok-read.ensures.value)
@@ -20,8 +20,8 @@ returns-then-not-read-clause-refuses g c =
       | in-Ok-Split w ↦ (split_judged s w.in-Ok-Split.field-0 w.in-Ok-Split.k _ bits behind (bits_at w.read_usual_split.new.reader)
           w.read_usual_split.new.values w.read_usual_split.result c.match-read_kind.read (w.read-is ∙ w.unwrap_or-read.ensures)
           w.in-Ok-Split.ensures.taken.taken w.in-Ok-Split.field-0-is c.requires w.read_usual_split.ensures.taken).none c.if-not-read.true
-      | in_default w ↦ not_begun s bits (search rules)
-      | in_default-2 w ↦ not_begun s bits (search rules)
+      | in_default w ↦ not_begun s false bits (search rules)
+      | in_default-2 w ↦ not_begun s false bits (search rules)
     ])
 
 pub returns-clause-read : goal.returns-clause-read

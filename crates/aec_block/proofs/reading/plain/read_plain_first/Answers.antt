@@ -1,10 +1,12 @@
-use Rattle.std.proofs.Common.{◌≡◌, true, Some, arith}
+use Rattle.std.proofs.Common.{◌≡◌, true, Some, arith, ap}
+use Rattle.std.specs.Option.{is_some}
 use Rattle.aec_params.specs.Places.{block_of_values}
 use Rattle.aec_params.proofs.SettingLaws.{block_size-positive}
 use Rattle.aec_block.specs.declared.cds.Cds.TheVariants.{Single}
 use Rattle.aec_block.specs.ReadAt.{taken, map_taken, cds_at}
 use Rattle.aec_block.specs.Gathering.{bits_at}
 use Rattle.aec_block.specs.ReadCds.{checked}
+use Rattle.aec_block.proofs.NoPlainLemmas.{none_stands}
 use Rattle.aec_block.proofs.PlainLemmas.{of_some, placed_first, first-read, first-below}
 use Rattle.aec_block.proofs.StandingLemmas.{read_as}
 use Rattle.aec_block.proofs.reading.plain.read_plain_first.Goals as goal
@@ -24,3 +26,12 @@ returns-in-Ok-Some-clause-read g c =
 pub returns-in-Ok-Some-clause-below : goal.returns-in-Ok-Some-clause-below
 returns-in-Ok-Some-clause-below g c =
     first-below c.args.params.now c.args.reader.now c.fill_first.new.reader c.in-Ok-Some.pattern _ (returns-in-Ok-Some-clause-read g c)
+
+pub returns-in-Ok-None-clause-refuses : goal.returns-in-Ok-None-clause-refuses
+returns-in-Ok-None-clause-refuses g c =
+    let found = c.in-Ok-None.ensures in
+    λ none. none_stands c.args.params.now true c.args.reader.now found.allowed (found.none (ap is_some c.in-Ok-None.field-0-is))
+
+pub returns-in-Err-clause-refuses : goal.returns-in-Err-clause-refuses
+returns-in-Err-clause-refuses g c =
+    λ none. none_stands c.args.params.now true c.args.reader.now c.in-Err.ensures.allowed c.in-Err.ensures.cut
