@@ -1,4 +1,4 @@
-//! Tests of `aec_params` and `aec_bits`: what their clauses don't say, and values from outside.
+//! Tests of `aec_params` and `aec_bits`: what their clauses don't say, and worked values.
 #![tactic(auto)]
 
 #[cfg(test)]

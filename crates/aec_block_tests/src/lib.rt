@@ -1,4 +1,4 @@
-//! Tests of `aec_block`: what its clauses don't say, and values from outside.
+//! Tests of `aec_block`: what its clauses don't say, and worked values.
 #![tactic(auto)]
 
 #[cfg(test)]

@@ -1,4 +1,4 @@
-//! Tests of the engines: what the clauses of `aec_engine` leave open, and values from outside. The
+//! Tests of the engines: what the clauses of `aec_engine` leave open, and worked values. The
 //! tests of the command use its devices too.
 #![tactic(auto)]
 

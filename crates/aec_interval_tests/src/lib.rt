@@ -1,5 +1,5 @@
-//! Tests of intervals and streams: what no clause of `aec_interval` promises, and values from
-//! outside.
+//! Tests of intervals and streams: what no clause of `aec_interval` promises, and worked
+//! values.
 #![tactic(auto)]
 
 #[cfg(test)]
