@@ -2,8 +2,8 @@
  *
  * A coded stream contains neither its options nor its sample count. Keep both with the stream: no call is sure to notice wrong ones.
  *
- * Every caller must ensure, since no call can check: no pointer is NULL, except to an empty buffer; each length is its buffer's; `out` and
- * `reply` overlap nothing else that is passed; a bool is 0 or 1; if you replace malloc, replace realloc and free too. Make no call in a
+ * Every caller must ensure, since no call can check: only the pointer to an empty buffer may be NULL; each length is its buffer's; `out`
+ * and `reply` overlap nothing else that is passed; a bool is 0 or 1; if you replace malloc, replace realloc and free too. Make no call in a
  * signal handler, or in a forked child of a process with threads.
  *
  * Between calls the library keeps only what handles, coders and readers hold. Every buffer stays the caller's. A call frees what it
@@ -29,7 +29,7 @@ extern "C" {
 
 /* The version of this header, 1.0.0: 10,000 times its first number, plus 100 times its second, plus its third. aecp_version returns that of
  * the library, which may differ; it allocates nothing. The structs below change only with the first number, and then the soname changes
- * too. A greater second number means more calls. */
+ * too. A greater second number means that calls were added. */
 #define AECP_VERSION 10000
 uint32_t aecp_version(void);
 
@@ -47,7 +47,8 @@ typedef struct {
     bool even_blocks;    /* see block_size */
 } aecp_options;
 
-/* Options to begin with. Trap: `preprocess` is false in `aecp_options o = {0}`. */
+/* Options to begin with: block_size 16, interval 128. Traps: the program `aec` has 8 and 2 if it isn't told others; `preprocess` is false
+ * in `aecp_options o = {0}`. */
 #define AECP_OPTIONS(n) {AECP_UINT32(n), 16, 128, false, false, false, true, false, false, false}
 
 /* How a call ended. If `fault` is 0, `len` is the length of the result, in bytes unless the call says otherwise. If `fault` is
@@ -64,15 +65,15 @@ enum {
     AECP_BLOCK_SIZE = 2,       /* `even_blocks` is off, and `block_size` isn't 8, 16, 32 or 64 */
     AECP_INTERVAL = 3,
     AECP_RESTRICTED_WIDTH = 4,
-    AECP_SAMPLE_RANGE = 5,     /* place: index of the first sample that is out of range. Index 0 is the first value of the call (append,
-                                * overwrite, insert) or of the script's line; in feed it is the first of all samples */
+    AECP_SAMPLE_RANGE = 5,     /* place: index of the first sample that is out of range. Index 0 is the first of all samples in encode and
+                                * feed, the first value of the call in append, overwrite and insert, or the first of the script's line */
     AECP_TRUNCATED = 6,        /* place: bit where the incomplete or missing coded data set begins */
     AECP_VALUE_TOO_LARGE = 7,  /* place: bit where the coded data set begins */
     AECP_RUN_TOO_LONG = 8,     /* place: bit where the coded data set begins */
     AECP_TOO_MANY_SAMPLES = 9, /* place: the greatest number, 2^32 */
     AECP_OUT_OF_RANGE = 10,    /* place: the number of samples */
     AECP_SPENT = 11,           /* a workspace codes at most 2^64 - 1 intervals in all; the edit needs more */
-    AECP_MEMORY = 12,
+    AECP_MEMORY = 12,          /* 13 and 14 are faults of files, which no call here returns */
     AECP_SCRIPT = 15,          /* place: the first line that isn't an edit, counted from 1 */
     AECP_STREAM_TOO_LONG = 16, /* place: the greatest length in bytes, 2^40; the command aec allows 2^35 */
     AECP_EVEN_BLOCK_SIZE = 17, /* `even_blocks` is on, and `block_size` isn't an even number from 8 to 64 */
@@ -90,16 +91,16 @@ enum {
  * 17. */
 
 /* Codes stored samples. Bytes at the end that don't fill a sample are dropped. Faults: options, SAMPLE_RANGE, TOO_MANY_SAMPLES, MEMORY,
- * NO_ROOM. Allocates up to twice the code's length and 72 KiB, and eight bytes for each sample of an interval, or for 4,096 samples if
- * these are more. Traps: `samples_len` is bytes, but aecp_bound takes samples; keep the sample count, which decoding needs; if `is_signed`
- * is set, a stored sample whose unused bits are zeros is read from its `bits` lowest bits alone: 2048 in 12 bits is -2048. */
+ * NO_ROOM. Allocates up to twice the code's length and 72 KiB, and eight bytes for each sample of an interval, but for at least 4,096
+ * samples. Traps: `samples_len` is bytes, but aecp_bound takes samples; keep the sample count, which decoding needs; if `is_signed` is set,
+ * a stored sample whose unused bits are zeros is read from its `bits` lowest bits alone: 2048 in 12 bits is -2048. */
 uint32_t aecp_encode(const aecp_options *options, const void *samples, size_t samples_len, uint8_t *out, size_t out_len,
                      aecp_reply *reply);
 
 /* Decodes the first `count` samples of a stream, or all with AECP_ALL. The result has 1, 2, 3 or 4 bytes for each sample. Ignores bytes of
  * the stream after these samples. Faults: options, TRUNCATED, VALUE_TOO_LARGE, RUN_TOO_LONG, TOO_MANY_SAMPLES, STREAM_TOO_LONG, MEMORY,
  * NO_ROOM. Allocates:
- * - the samples of an interval, and their bytes;
+ * - eight bytes for each sample of an interval, or for up to 4,096 samples if an interval has fewer; and the stored bytes of an interval;
  * - 64 KiB;
  * - the first aecp_bound(options, count) bytes of the stream; all of it with AECP_ALL, or if those don't yield `count` samples;
  * - up to 16 MiB, if a block's samples are stored in at most 32 bytes.
@@ -107,9 +108,9 @@ uint32_t aecp_encode(const aecp_options *options, const void *samples, size_t sa
 uint32_t aecp_decode(const aecp_options *options, uint64_t count, const uint8_t *coded, size_t coded_len, void *out,
                      size_t out_len, aecp_reply *reply);
 
-/* Decodes `len` of the first `count` samples, from sample `first` on, counted from 0. Faults: OUT_OF_RANGE, and those of aecp_decode, also
- * outside the range, since it checks all `count` samples. Allocates an interval of samples, at least 16 KiB, and as much of the stream as
- * aecp_decode. Trap: `first` and `len` are samples, `out_len` is bytes. */
+/* Decodes `len` of the first `count` samples, from sample `first` on, counted from 0. Faults: OUT_OF_RANGE, and those of aecp_decode,
+ * anywhere in the `count` samples, since it checks them all. Allocates an interval of samples, at least 16 KiB, and as much of the stream
+ * as aecp_decode. Trap: `first` and `len` are samples, `out_len` is bytes. */
 uint32_t aecp_range(const aecp_options *options, uint64_t count, uint64_t first, uint64_t len, const uint8_t *coded,
                     size_t coded_len, void *out, size_t out_len, aecp_reply *reply);
 
@@ -152,10 +153,10 @@ typedef struct {
  * unchanged. Faults: options, MEMORY. aecp_close frees what it allocates. Trap: with an uninitialized handle it frees arbitrary memory. */
 uint32_t aecp_open(const aecp_options *options, aecp_handle *handle, aecp_reply *reply);
 
-/* Opens, as aecp_open does, a workspace with the first `count` samples of a stream, or all with AECP_ALL. `reply->len` is their number, and
- * aecp_calls counts each of their intervals once. Faults: those of aecp_decode except NO_ROOM and STREAM_TOO_LONG. During the call it also
- * holds the stream and eight bytes a sample. Trap: the samples are coded anew, so aecp_write may return other bytes than another coder
- * wrote. */
+/* Opens, as aecp_open does, a workspace with the first `count` samples of a stream, or all with AECP_ALL. `reply->len` is their number;
+ * aecp_calls then returns the number of their intervals. Faults: those of aecp_decode except NO_ROOM and STREAM_TOO_LONG. During the call
+ * it also holds the stream and eight bytes a sample. Trap: the samples are coded anew, so aecp_write may return other bytes than another
+ * coder wrote. */
 uint32_t aecp_load(const aecp_options *options, uint64_t count, const uint8_t *coded, size_t coded_len, aecp_handle *handle,
                    aecp_reply *reply);
 
@@ -174,8 +175,8 @@ uint32_t aecp_append(aecp_handle *handle, const int64_t *values, size_t values_l
  * that is kept in part is coded again. */
 uint32_t aecp_truncate(aecp_handle *handle, uint64_t count, aecp_reply *reply);
 
-/* Removes `len` samples, from sample `first` on. Faults: OUT_OF_RANGE, SPENT, MEMORY, NOT_OPEN. Trap: if `len` isn't whole intervals, all
- * later intervals are coded again; aecp_insert does the same if `values_len` isn't whole intervals. */
+/* Removes `len` samples, from sample `first` on. Faults: OUT_OF_RANGE, SPENT, MEMORY, NOT_OPEN. Trap: if `len` isn't a multiple of an
+ * interval's samples, all later intervals are coded again; so they are by aecp_insert for such a `values_len`. */
 uint32_t aecp_remove(aecp_handle *handle, uint64_t first, uint64_t len, aecp_reply *reply);
 
 /* Replaces `values_len` samples by the values, from sample `first` on. Faults: OUT_OF_RANGE, SAMPLE_RANGE, SPENT, MEMORY, NOT_OPEN.
@@ -223,8 +224,8 @@ uint32_t aecp_coder_feed(aecp_coder *coder, const void *samples, size_t samples_
  * samples of the last interval are lost. */
 uint32_t aecp_coder_finish(aecp_coder *coder, aecp_reply *reply);
 
-/* Moves all bytes that are left to take to `out`. Faults: MEMORY, NO_ROOM, NOT_OPEN. Allocates as much as it writes. Trap: after a fault of
- * feed, take nothing: the stream is incomplete. */
+/* Moves all bytes that are left to take to `out`. Faults: MEMORY, NO_ROOM, NOT_OPEN. Allocates as much as it writes. Trap: don't call it
+ * after a fault of feed, since the stream is incomplete. */
 uint32_t aecp_coder_take(aecp_coder *coder, uint8_t *out, size_t out_len, aecp_reply *reply);
 
 /* Frees the coder. Does nothing if none is open. */
