@@ -4,15 +4,16 @@
 #     sh install.sh PREFIX
 #     sh install.sh uninstall PREFIX
 #
-# The files are those of the folders bin, lib, include and share beside this script. The program is bin/aec. If libaec's client is
-# already `aec`, set PROGRAM=aec-proved in the environment: the program gets this name. Set it for `uninstall` too.
+# Replaces files of the same names without asking. The files are those of the folders bin, lib, include and share beside this script;
+# `uninstall` removes these. The program is bin/aec. If libaec's client is installed as `aec`, set PROGRAM=aec-proved in the environment:
+# the program gets this name. Set it for `uninstall` too.
 set -eu
 umask 022
 from=$(cd "$(dirname "$0")" && pwd)
 program=${PROGRAM:-aec}
 
 usage() {
-    echo "usage: sh install.sh PREFIX, or sh install.sh uninstall PREFIX" >&2
+    echo "usage: [PROGRAM=NAME] sh install.sh PREFIX, or [PROGRAM=NAME] sh install.sh uninstall PREFIX" >&2
     exit 1
 }
 

@@ -1,15 +1,15 @@
 #!/usr/bin/env python3
-"""The command `aecp`: kept files, edits that are taken back, and damage: archive.py FOLDER [--seed N] [--cases N] [--only N]
+"""Tests the command `aecp`: kept files, undone edits, and damage: archive.py FOLDER [--seed N] [--cases N] [--only N]
 
-FOLDER has libaecp.so. In turn
-  - 1,000 scripts by chance beside the model of tests/, and the scripts that take them back; each line that is refused;
-  - 300 kept files with edits by chance, each taken back to the first stream bit for bit, with a sound check after each step;
-  - damage of every kind, which `check` finds, and none that it finds in sound files;
-  - streams that are cut and flipped, rescued; keep.sh's notes; each verb and its refusals (archive_verbs.py);
-  - stops at each call of the system and at 200 random moments, full disks, two processes at once, ^C (archive_stops.py);
+FOLDER contains libaecp.so. Tests on all cores at once
+  - 1,000 random scripts against the model of tests/, and the scripts that undo them; each line that must be refused;
+  - 300 kept files with random edits, each undone to the first stream bit for bit; `check` finds nothing after any step;
+  - damage of every kind: `check` finds it, and finds none in sound files;
+  - cut streams, rescued; keep.sh's notes; each verb and its refusals (archive_verbs.py);
+  - stops at each system call and at 200 random moments, full disks, two processes at once, ^C (archive_stops.py);
   - the commands of docs/ARCHIVE.md.
 
-Prints the checks that fail and, last, how many passed. Ends with 1 where one failed.
+Prints the checks that fail and, last, how many passed. Ends with status 1 if one failed.
 """
 
 import argparse
@@ -29,7 +29,7 @@ TOP = os.path.join(HERE, "..")
 
 
 def try_scripts(tally, seed, numbers):
-    """Scripts by chance: what they leave, and what takes them back."""
+    """Tests random scripts: the samples after them, and the scripts that undo them."""
     for number in numbers:
         chance, settings, samples = drawn_case(seed, number)
         options, what = options_of(settings), f"script {seed} {number}"
@@ -70,7 +70,7 @@ LINES = [
 
 
 def try_lines(tally, _):
-    """Each line that is refused, what is said of it, and that the lines after it are judged too."""
+    """Checks the message for each line that must be refused, and that the lines after it are checked too."""
     options = options_of(USUAL._replace(bits=8))
     for script, wanted in LINES:
         tally.check(f"a bad line: {script}", scripts.judged(script, 8, options).complaints, [wanted])
@@ -80,7 +80,7 @@ def try_lines(tally, _):
 
 
 def try_kept(tally, seed, numbers):
-    """Kept files with edits, taken back one by one."""
+    """Edits kept files, and undoes the edits one by one."""
     with tempfile.TemporaryDirectory() as folder:
         for number in numbers:
             chance, settings, samples = drawn_case(f"kept {seed}", number)
@@ -106,7 +106,7 @@ def try_kept(tally, seed, numbers):
 
 
 def changed_note(pair, change, seal=True):
-    """Writes another note, with its own sum or with the old one."""
+    """Changes the fields of a note, and writes it with its new checksum or with the old one."""
     fields = json.loads(read(pair.note_path))
     change(fields)
     if seal:
@@ -129,7 +129,7 @@ def cut(path, size):
 
 
 def damages(chance, pair):
-    """Each way to damage a pair, and the kind of fault that it is."""
+    """Returns by name each way to damage a pair, and a text with the kinds of fault that `check` may report."""
     size = os.path.getsize(pair.path)
     return {
         "flip": (lambda: flip(pair.path, chance.randrange(8 * size)), "other bytes"),
@@ -156,7 +156,7 @@ def damages(chance, pair):
 
 
 def try_damage(tally, seed):
-    """Each kind in turn among sound files, all found by one check, and no other."""
+    """Checks that one `check` finds each kind of damage among sound files and nothing else, and that no damaged pair is edited."""
     chance = random.Random(f"damage {seed}")
     names = list(damages(chance, kept_of(chance, tempfile.mkdtemp(dir=FOLDERS[0]), "one")))
     for trial in range(8):
@@ -185,14 +185,14 @@ FOLDERS = []
 
 
 def kept_of(chance, folder, name):
-    """A kept file of 800 samples, edited once."""
+    """Makes a kept file of 800 samples that was edited once. Returns its pair."""
     pair = kept_file(folder, name, walk(chance, 800))
     edited(pair, b"overwrite 5 7\n")
     return pair
 
 
 def try_rescue(tally, seed):
-    """A stream that is cut gives every sample whose code is whole; one that is flipped all before the bit where decoding stops."""
+    """Checks that a cut stream is rescued up to the last sample whose code is whole."""
     chance = random.Random(f"rescue {seed}")
     settings = USUAL._replace(interval=1)
     for number in range(40):
@@ -214,7 +214,7 @@ def try_rescue(tally, seed):
 
 
 def try_page(tally, _):
-    """The commands of docs/ARCHIVE.md, one block after the other, and what their remarks say that they print."""
+    """Runs the commands of docs/ARCHIVE.md block by block, and checks that they print each remark that has a digit."""
     folder = tempfile.mkdtemp(dir=FOLDERS[0])
     bin_folder = os.path.join(folder, "bin")
     os.mkdir(bin_folder)
@@ -246,7 +246,7 @@ def words():
 
 
 def on_one_core(work, *more):
-    """The tally of a part of the tests, which prints what fails. A folder of its own where it is given none."""
+    """Runs a part of the tests, which gets a new folder if it has no other argument. Returns its tally."""
     tally = Tally()
     with tempfile.TemporaryDirectory() as folder:
         FOLDERS[:] = [folder]
@@ -255,7 +255,7 @@ def on_one_core(work, *more):
 
 
 def parts_of(asked):
-    """The parts of all tests, longest first: functions and what they are given."""
+    """Returns the parts of all tests, longest first: functions and their arguments after the tally."""
     if asked.only is not None:
         return [(try_scripts, asked.seed, [asked.only]), (try_kept, asked.seed, [asked.only])]
     parts = [(part, *more) for part, *more in archive_stops.parts(asked.seed)]

@@ -1,4 +1,4 @@
-"""What the tests of the command `aecp` share: samples and scripts by chance, files that are kept, and the command itself."""
+"""What the tests of the command `aecp` share: random samples and scripts, kept files, and calls of the command."""
 
 import os
 import random
@@ -21,7 +21,7 @@ def options_of(settings):
 
 
 def walk(chance, count, most=4095):
-    """Samples that move in small steps."""
+    """Returns samples that move in small steps."""
     x, out = most // 2, []
     for _ in range(count):
         x = min(max(x + chance.randint(-9, 9), 0), most)
@@ -30,13 +30,13 @@ def walk(chance, count, most=4095):
 
 
 def keep(path, settings, **how):
-    """Keeps a file. What became of it."""
+    """Keeps a file. Returns the outcome."""
     keeping.leftovers_in.cache_clear()
     return keeping.keep(keeping.Keeping(options_of(settings), **how), keeping.Found(path, True))
 
 
 def kept_file(folder, name, samples, settings=USUAL):
-    """The pair of a new file of these samples."""
+    """Keeps a new file of these samples. Returns the pair."""
     path = os.path.join(folder, name)
     with open(path, "wb") as file:
         file.write(settings.stored(samples))
@@ -46,7 +46,7 @@ def kept_file(folder, name, samples, settings=USUAL):
 
 
 def some_script(chance, settings, samples, lines=6):
-    """A script by chance that fits, and the samples that it leaves by the model of tests/."""
+    """Returns a random script that fits, and the samples after it by the model of tests/."""
     script = []
     for _ in range(chance.randint(1, lines)):
         count = len(samples)
@@ -87,28 +87,28 @@ def read(path):
 
 
 def state(pair):
-    """The bytes of a kept stream and the samples' sum of its note."""
+    """Returns the bytes of a kept stream, and the samples' checksum in its note."""
     opened = pair.open()
     return opened.stream, opened.note.samples.sha256
 
 
 def refusal(call):
-    """The text of what a call raises, None where it raises nothing."""
+    """Returns the text of what a call raises, None if it raises nothing."""
     try:
         call()
-    except Exception as fault:  # noqa: BLE001 - which one it is is judged
+    except Exception as fault:  # noqa: BLE001 - the caller checks which one it is
         return f"{type(fault).__name__}: {fault}"
     return None
 
 
 def command(folder, *words, given=None, **more):
-    """The status of a run of the command, and what it prints on both streams."""
+    """Runs the command. Returns its status, standard output and standard error."""
     ended = subprocess.run([sys.executable, "-m", "aecp", *words], cwd=folder, input=given, capture_output=True, check=False, **more)
     return ended.returncode, ended.stdout.decode(errors="replace"), ended.stderr.decode(errors="replace")
 
 
 def drawn_case(seed, number):
-    """Settings and samples by chance."""
+    """Returns a source of chance, and random settings and samples."""
     chance = random.Random(f"{seed} {number}")
     settings = some_settings(chance)
     return chance, settings, list(some_samples(settings, chance))[:400]

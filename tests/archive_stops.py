@@ -1,4 +1,4 @@
-"""Stops of the command `aecp`: at each call of the system, at random moments, on a full disk, by ^C, and two processes at once."""
+"""Stops the command `aecp` at each system call, at random moments, on a full disk and by ^C, and runs two processes at once."""
 
 import itertools
 import os
@@ -21,7 +21,7 @@ SCRIPT = b"overwrite 5 9\nappend 4 5 6\nremove 100 3\n"
 
 
 def in_child(work, before=lambda: None):
-    """Runs work() in a child process. Its status, or less than 0 for the signal that ended it."""
+    """Runs before() and work() in a child process. Returns its number."""
     child = os.fork()
     if child == 0:
         status = 1
@@ -35,12 +35,13 @@ def in_child(work, before=lambda: None):
 
 
 def ended(child):
+    """Waits for a child process. Returns its status, or less than 0 if a signal ended it."""
     _, status = os.waitpid(child, 0)
     return os.waitstatus_to_exitcode(status)
 
 
 def stop_at(number, after):
-    """Makes this process kill itself at the call of the system with this number, before it is made or after. Threads make them too."""
+    """Makes this process kill itself before its system call with this number, or after it. The calls of its threads count too."""
     numbers = itertools.count(1)
 
     def stopping(call):
@@ -60,7 +61,7 @@ def stop_at(number, after):
 
 
 class Trial:
-    """A file in each of three states: to be kept, to be edited, to be taken back."""
+    """A file that is to be kept, to be edited, or to be undone."""
 
     def __init__(self, folder, seed):
         chance = random.Random(seed)
@@ -70,7 +71,7 @@ class Trial:
         self.path = self.pair.path[:-4]
 
     def begin(self, verb):
-        """Puts the files there that the verb begins with. Its work, and the states that may be left."""
+        """Writes the files that the verb begins with. Returns its work, and the state before it and after it: a stop may leave either."""
         for name in os.listdir(self.folder):
             os.unlink(os.path.join(self.folder, name))
         kept_file(self.folder, "file", self.samples)
@@ -87,7 +88,7 @@ class Trial:
         return lambda: edited(self.pair, SCRIPT), first, second
 
     def judge(self, verb, old, new, what, tally):
-        """After a stop: the old pair or the new one, sound as it is; the next call of a verb leaves no other files."""
+        """Checks that a stop has left the old pair or the new one, sound, and that the next call of a verb removes all other files."""
         is_there = os.path.lexists(self.pair.path)
         if is_there or verb != "keep":
             verdict = checking.check(self.pair.path)
@@ -112,7 +113,7 @@ def mended(pair):
 
 
 def try_each(tally, folder):
-    """A stop at each call of the system that a verb makes, before it and after."""
+    """Stops each verb before and after each system call that it makes."""
     trial = Trial(folder, "each")
     for verb in ("keep", "edit", "undo"):
         for after in (False, True):
@@ -129,7 +130,7 @@ def try_each(tally, folder):
 
 
 def try_moments(tally, seed):
-    """SIGKILL at random moments."""
+    """Sends SIGKILL at random moments."""
     chance, trial = random.Random(f"moments {seed}"), Trial(None, "moments")
     times, stopped = {}, 0
     for number in range(RANDOM_STOPS):
@@ -152,7 +153,7 @@ def try_moments(tally, seed):
 
 
 def try_full(tally, folder):
-    """A file that can't grow to its size: nothing is changed, no other file is left."""
+    """Checks that nothing is changed, and no other file is left, if a file can't grow to its size."""
     trial = Trial(folder, "full")
     for verb in ("keep", "edit", "undo"):
         for most in (0, 100, 1400):
@@ -177,7 +178,7 @@ def try_full(tally, folder):
 
 
 def try_full_disk(tally, folder):
-    """A file system of 64 KiB, where one can be mounted."""
+    """Keeps a file on a file system of 64 KiB, if one can be mounted."""
     place = os.path.join(folder, "disk")
     os.mkdir(place)
     code = f"""
@@ -200,7 +201,7 @@ ls -A
 
 
 def try_two(tally, folder):
-    """Two processes that edit one file, and two that keep one folder."""
+    """Runs two processes that edit one file, and two that keep one folder."""
     pair = kept_file(folder, "both", walk(random.Random(1), 500))
     rounds = 15
 
@@ -240,7 +241,7 @@ def try_two(tally, folder):
 
 
 def try_second_name(tally, folder):
-    """A note that can't get its name: the stream gets none either, so that the file can be kept later."""
+    """Checks that if a note can't get its name, the stream gets none either, so that the file can be kept later."""
     trial, links, link = Trial(folder, "second"), [], os.link
 
     def failing(source, target):
@@ -261,7 +262,7 @@ def try_second_name(tally, folder):
 
 
 def try_interrupt(tally, folder):
-    """^C and a termination of a run that keeps many files: the rest is kept by the same command."""
+    """Stops a run that keeps many files, by ^C and by SIGTERM. The same command must then keep the rest."""
     for number, jobs in ((signal.SIGINT, "1"), (signal.SIGINT, "2"), (signal.SIGTERM, "2")):
         place = tempfile.mkdtemp(dir=folder)
         data = USUAL.stored(walk(random.Random(7), 4000))
@@ -287,5 +288,5 @@ def try_interrupt(tally, folder):
 
 
 def parts(seed):
-    """The tests, and what each is given beside the tally."""
+    """Returns the tests, each with its arguments after the tally."""
     return [(try_each,), (try_moments, seed), (try_full,), (try_full_disk,), (try_two,), (try_second_name,), (try_interrupt,)]

@@ -1,4 +1,4 @@
-"""The verbs of the command `aecp`, run as a user runs them: what they print, their statuses, and their refusals."""
+"""Tests the verbs of the command `aecp` as a user runs them: what they print, their status, and their refusals."""
 
 import json
 import os
@@ -24,7 +24,7 @@ def write(folder, name, data):
 
 
 def try_names(tally, folder):
-    """Names of every kind, in a folder and by themselves."""
+    """Tests file names of every kind, in a folder and as arguments."""
     place = os.fsencode(tempfile.mkdtemp(dir=folder))
     data = USUAL.stored(walk(random.Random(3), 500))
     for name in ODD_NAMES:
@@ -55,7 +55,7 @@ def try_names(tally, folder):
 
 
 def try_keep(tally, folder):
-    """What is kept, what is refused and why, and what becomes of files that are kept already."""
+    """Tests what `keep` keeps, what it refuses and why, and what it does with files that are kept already."""
     place = tempfile.mkdtemp(dir=folder)
     data = USUAL.stored(walk(random.Random(4), 2000))
     for name in ("a.raw", "b.raw", "c.txt", "sub.raw"):
@@ -106,7 +106,7 @@ def try_keep(tally, folder):
 
 
 def try_lone_notes(tally, folder):
-    """A file with the name of a note, and no stream beside it: it stays, unless it says just what the new note says."""
+    """Checks that a note without a stream stays, unless it says exactly what the new note says."""
     place = tempfile.mkdtemp(dir=folder)
     note, stream = os.path.join(place, "d.aec.json"), os.path.join(place, "d.aec")
     refused = (1, "1 refused\n", "aecp: d: d.aec.json exists, has no stream, and isn't just this file's note: move it away\n")
@@ -164,7 +164,7 @@ def try_back(tally, folder):
 
 
 def try_edits(tally, folder):
-    """edit, undo, log, diff, pixels and info."""
+    """Tests edit, undo, log, diff, pixels and info."""
     place = tempfile.mkdtemp(dir=folder)
     samples = walk(random.Random(8), 600)
     kept_file(place, "a", samples)
@@ -204,7 +204,7 @@ def try_edits(tally, folder):
     tally.check("undo: the first stream", read(os.path.join(place, "a.aec")), read(os.path.join(place, "b.aec")))
     status, printed, _ = command(place, "info", "a.aec", "none.aec")
     tally.holds(status == 1 and "history  2 edits, 2 taken back" in printed, f"info: {printed}")
-    # An edit whose inverse is longer than the stream keeps the stream.
+    # If an edit's inverse is longer than the stream, the note keeps the stream.
     command(place, "edit", "a.aec", "-", given=b"truncate 0\n")
     entry = json.loads(read(os.path.join(place, "a.aec.json")))["history"][-1]
     tally.check("an inverse that is long", list(entry["inverse"]), ["stream"])
@@ -213,7 +213,7 @@ def try_edits(tally, folder):
 
 
 def pixels_of(png):
-    """The grey bytes of a PNG file of one data chunk, without its rows' filters; its width and height."""
+    """Returns the grey bytes of a PNG file of one data chunk, without the filter byte of each row; its width and height."""
     width, height = int.from_bytes(png[16:20], "big"), int.from_bytes(png[20:24], "big")
     at = png.index(b"IDAT")
     rows = zlib.decompress(png[at + 4 : at + 4 + int.from_bytes(png[at - 4 : at], "big")])
@@ -222,7 +222,7 @@ def pixels_of(png):
 
 
 def try_view(tally, folder):
-    """The same samples as PNG and as PGM, a part of them, signed ones, a stream with no note, and refusals."""
+    """Tests view: PNG, PGM, a part of the samples, signed samples, a stream without a note, and refusals."""
     place = tempfile.mkdtemp(dir=folder)
     settings = Settings(bits=12, signed=True)
     kept_file(place, "s", [-100, 0, 155, 27, -100], settings)
@@ -241,7 +241,7 @@ def try_view(tally, folder):
 
 
 def try_fit(tally, folder):
-    """Sizes, what is recommended, what is found in the samples, and the options of a stream that nobody knows."""
+    """Tests fit: sizes, what it recommends, what it finds in the samples, and unknown options of a stream."""
     place = tempfile.mkdtemp(dir=folder)
     settings, samples = Settings(bits=12, block_size=32, interval=8), walk(random.Random(121), 3000)
     stored = settings.stored(samples)
@@ -270,7 +270,7 @@ def try_fit(tally, folder):
 
 
 def try_usage(tally, folder):
-    """Help, wrong words, and no library."""
+    """Tests help, wrong words, a missing library, and too little memory."""
     for verb in ("keep", "back", "check", "edit", "undo", "log", "diff", "pixels", "info", "fit", "rescue", "view"):
         status, printed, said = command(folder, verb, "--help")
         tally.holds(status == 0 and printed.startswith(f"usage: aecp {verb}") and not said, f"{verb} --help: {status} {said}")

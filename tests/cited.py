@@ -1,10 +1,10 @@
 #!/usr/bin/env python3
-"""That each lemma is cited by name, and each definition too: cited.py
+"""Checks that each lemma and each definition is cited by name: cited.py
 
-Prints each lemma of proofs/ and each definition of specs/ that no line of code, definition or proof names but its own. Ends with 1
-where there is one. The last line counts what passed and failed.
+Prints each lemma of proofs/ and each definition of specs/ that no line of code, definition or proof names except its own. The last line
+counts what passed and failed. Ends with status 1 if one failed.
 
-What the checker itself looks for by name (answers, invariants), and examples, which are checked because they stand there, are free.
+Exempt are what the checker itself looks for by name (answers, invariants), and examples, which are checked without being cited.
 """
 
 import collections
@@ -18,20 +18,20 @@ from sources import files_below, text_of
 
 FREE = re.compile(r"(Answers|Invariants|Goals|Proof|Code|Statement|Worked\w*|\w*Examples)\.antt$")
 WORD = re.compile(r"[\w◌][\w\-◌']*")
-# A line that begins with a name: its type where a colon stands behind it, else one of its clauses.
+# A line that begins with a name: its type if a colon follows, else one of its clauses.
 BEGIN = re.compile(r"(?:(?:pub|abbrev|unfoldable|opaque) )*(\w[\w\-]*)(\s*:\s)?")
 USE = re.compile(r"\s*(pub |ghost )*use ")
 
 
 def cites(line):
-    """What a line cites: nothing where it imports, of a comment what stands in backquotes, else all."""
+    """Returns what a line cites: nothing if it imports, the words in backquotes if it is a comment, else all."""
     if USE.match(line):
         return ""
     return " ".join(re.findall("`(.*?)`", line)) if line.strip().startswith(("--", "//")) else line
 
 
 def stated(lines):
-    """The names that lines give a type, each with the number of lines that begin with it: its type and its clauses."""
+    """Returns the names that lines give a type, each with the number of lines that begin with it: its type and its clauses."""
     begun = [begin for line in lines if (begin := BEGIN.match(line))]
     own = collections.Counter(begin.group(1) for begin in begun)
     return [(begin.group(1), own[begin.group(1)]) for begin in begun if begin.group(2)]

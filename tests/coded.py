@@ -1,14 +1,14 @@
 #!/usr/bin/env python3
-"""Coded samples: coded.py PATH_OF_AEC [--seed N] [--cases N] [--only N]
+"""Tests coded samples: coded.py PATH_OF_AEC [--seed N] [--cases N] [--only N]
 
-Has the program at PATH_OF_AEC code samples, and compares each byte with the plain coder of plain_coder.py. In turn
-  - the worked examples, whose bytes are known by hand: the plain coder has to give them too;
-  - runs of each action in which each option and sample count tells;
-  - samples by chance, with settings by chance: coded from a file whose unused bits are lawful ones, or aren't and are refused,
-    and as the stream of another coder's choices that an empty script edits, which has to become the same bytes.
+Codes samples with the program at PATH_OF_AEC, and compares each byte with the plain coder of plain_coder.py. In turn
+  - the worked examples, whose bytes are known by hand: the plain coder must return them too;
+  - runs of each action in which each option and each sample count makes a difference;
+  - random samples with random settings: coded from a file whose unused bits are lawful, or are not and must be refused; and as
+    the stream of a coder with other choices, which an edit by an empty script must turn into the same bytes.
 
-The seed of the last part is printed and can be given; a case of it can be tried alone by its number. Prints the checks that
-fail and, last, how many passed. Ends with 1 where one failed.
+The seed of the last part is printed and can be given; one of its cases can be tried alone by its number. Prints the checks that
+fail and, last, how many passed. Ends with status 1 if one failed.
 """
 
 import random
@@ -24,7 +24,7 @@ from worked_streams import EXAMPLES
 
 
 def try_worked(program, tally):
-    """The results by hand: of the program, and of the plain coder."""
+    """Checks that the program and the plain coder return the bytes that are known by hand."""
     for stream, settings, _, samples, _ in EXAMPLES:
         what = f"{' '.join(settings.options())} on {settings.stored(samples).hex(' ')}"
         tally.check(f"{what}: the plain coder", plain_coder.stream(samples, settings), stream)
@@ -32,8 +32,8 @@ def try_worked(program, tally):
 
 
 def some_stored(settings, samples, chance):
-    """The bytes of the samples, with any lawful unused bits or, seldom, others, and then a part of a sample. And the place of
-    the first sample whose unused bits aren't lawful, None where there is none."""
+    """Returns the bytes of the samples, with lawful unused bits or, rarely, others, and then a part of a sample; and the place of
+    the first sample whose unused bits aren't lawful, None if there is none."""
     unused, words, bad = 8 * settings.storage() - settings.bits, [], None
     for i, x in enumerate(samples):
         is_negative = settings.signed and x < 0
@@ -48,7 +48,7 @@ def some_stored(settings, samples, chance):
 
 
 def try_case(seed, number, program, tally):
-    """Samples by chance."""
+    """Tests one case of random samples."""
     chance = random.Random(f"{seed} {number}")
     settings, before = some_settings(chance), tally.failed
     samples = some_samples(settings, chance)

@@ -1,13 +1,13 @@
 #!/usr/bin/env python3
-"""Coded data that is cut: cuts.py PATH_OF_AEC
+"""Tests coded data that is cut: cuts.py PATH_OF_AEC
 
-Codes some samples with the program at PATH_OF_AEC, cuts the coded data after each byte, decodes every cut with it, without
-a count and with one, and compares bytes, status and message with the plain reader of plain_reader.py.
+Codes samples with the program at PATH_OF_AEC, cuts the coded data after each byte, decodes every cut with the program, with a
+count and without, and compares bytes, status and message with the plain reader of plain_reader.py.
 
-Without a count a cut isn't seen where the bits that are left are all zero: then the samples so far are the answer, with
-status 0. With a count each cut is seen that takes away a coded data set that the count needs.
+Without a count a cut isn't noticed if all bits after the last whole coded data set are zero: the result is then the samples so
+far, with status 0. With a count, each cut is noticed that removes a coded data set which the count needs.
 
-Prints the cuts that differ and, last, how many checks passed.
+Prints the cuts that differ and, last, how many checks passed. Ends with status 1 if one failed.
 """
 
 import sys
@@ -17,7 +17,7 @@ from plain_reader import Fault, reading
 from program import Program, Tally, said
 from settings import Settings
 
-# Samples of 8 bits, and how they are coded: zeros between others, so that cuts fall before zero bits and within data.
+# Samples of 8 bits, and their settings: zeros between others, so that cuts fall before zero bits and within data.
 ZEROS = [0] * 8
 RAMP = list(range(8))
 STEPS = [x * 37 % 256 for x in range(40)]
@@ -40,7 +40,7 @@ CASES = [
 
 
 def wanted_answer(stream, settings, count):
-    """Status, message and DEST of decoding, by the plain reader."""
+    """Returns status, message and DEST of decoding, by the plain reader."""
     try:
         return (*said(None), settings.stored(reading(stream, settings, count)))
     except Fault as fault:
@@ -48,7 +48,7 @@ def wanted_answer(stream, settings, count):
 
 
 def try_cut(program, tally, length, coded, settings, count):
-    """Coded data cut after so many bytes. Whether the cut isn't seen."""
+    """Tests coded data cut after so many bytes. Returns whether the cut isn't noticed."""
     words = ["-d", *settings.options(), *([] if count is None else ["--count", str(count)])]
     wanted = wanted_answer(coded[:length], settings, count)
     program.write("source", coded[:length])

@@ -1,17 +1,17 @@
 #!/usr/bin/env python3
-"""Damaged streams: damaged.py PATH_OF_AEC [--seed N] [--cases N] [--only N]
+"""Tests damaged streams: damaged.py PATH_OF_AEC [--seed N] [--cases N] [--only N]
 
-Has the program at PATH_OF_AEC decode streams that another coder might have written and that were damaged, and compares status,
-message and DEST with what the plain reader of plain_reader.py says: the very samples, or the very fault with its bit. In turn
-  - results that were worked out by hand, which the reader has to give too;
-  - the streams of worked examples, and others spelled by hand with blocks of every option, runs and padding: each front of them
-    in bytes, and each with a single bit turned, with and without the count;
+Decodes, with the program at PATH_OF_AEC, damaged streams that another coder might have written, and compares status, message and
+DEST with the result of the plain reader of plain_reader.py: the same samples, or the same fault with its bit. In turn
+  - results that were worked out by hand, which the reader must return too;
+  - the streams of worked examples, and others spelled by hand with blocks of every option, runs and padding: cut after each
+    byte, and with each single bit turned, with the count and without;
   - streams of random settings and samples, written by any lawful choices, or with one block written unlawfully, and then
     damaged: bits turned, bytes cut off, lost, replaced or added, or plain random bytes. Each is decoded without a count and
-    with one, and some are cut to a range. Each undamaged stream has to be read as its samples.
+    with one, and some are cut to a range. Each undamaged stream must be read as its samples.
 
-The seed of the last part is printed and can be given; a stream of it can be tried alone by its number. Prints the checks that
-fail and, last, how many passed. Ends with 1 where one failed.
+The seed of the last part is printed and can be given; one of its streams can be tried alone by its number. Prints the checks
+that fail and, last, how many passed. Ends with status 1 if one failed.
 """
 
 import random
@@ -29,7 +29,7 @@ OLD = b"what DEST held before"
 
 
 def read_by_reader(stream, settings, count):
-    """The samples, or the fault's text in their place."""
+    """Returns the samples and None, or None and the fault's text."""
     try:
         return reading(stream, settings, count), None
     except Fault as fault:
@@ -37,7 +37,7 @@ def read_by_reader(stream, settings, count):
 
 
 def try_decoding(program, tally, stream, settings, count, wanted, more=()):
-    """A run of decoding, beside the samples or the fault that are wanted. After a fault DEST has to be as it was."""
+    """Decodes a stream, and compares with the expected samples or fault. After a fault DEST must be unchanged."""
     samples, fault = wanted
     words = [*(more or ["-d"]), *settings.options(), *([] if count is None else ["--count", str(count)])]
     old = OLD if len(stream) % 2 else None
@@ -50,7 +50,7 @@ def try_decoding(program, tally, stream, settings, count, wanted, more=()):
 
 
 def try_worked(program, tally):
-    """The results by hand: of the program, and of the reader."""
+    """Checks that the program and the reader return the results that are known by hand."""
     for worked in EXAMPLES + READINGS + SPELLED:
         stream, settings, count, *wanted = worked
         tally.check(f"the reader on {worked}", read_by_reader(stream, settings, count), tuple(wanted))
@@ -58,7 +58,7 @@ def try_worked(program, tally):
 
 
 def fronts_and_turned_bits(stream):
-    """Each front of a stream, and the stream with each of its bits turned."""
+    """Yields a stream cut after each byte, then the stream with each of its bits turned."""
     yield from (stream[:length] for length in range(len(stream) + 1))
     for place in range(8 * len(stream)):
         turned = bytearray(stream)
@@ -67,7 +67,7 @@ def fronts_and_turned_bits(stream):
 
 
 def try_turned(program, examples):
-    """The damaged examples: the tally."""
+    """Tests the damaged examples. Returns the tally."""
     tally = Tally()
     for worked in examples:
         for stream in fronts_and_turned_bits(worked.stream):
@@ -78,7 +78,7 @@ def try_turned(program, examples):
 
 
 def some_range(wanted, chance):
-    """The words for a range of what a stream is read as, and the samples or the refusal that are wanted for them."""
+    """Returns the words for a random range of a stream, and the expected samples or refusal."""
     samples, fault = wanted
     present = len(samples or [])
     first = chance.choice([0, present, present + 1, chance.randint(0, present)])
@@ -90,7 +90,7 @@ def some_range(wanted, chance):
 
 
 def try_damaged(seed, number, program, tally, answers):
-    """One stream by chance."""
+    """Tests one random stream."""
     chance = random.Random(f"{seed} {number}")
     damaged = some_damaged(chance)
     settings, stream, before = damaged.settings, damaged.stream, tally.failed
@@ -108,7 +108,7 @@ def try_damaged(seed, number, program, tally, answers):
 
 
 def try_part(program, numbers, seed):
-    """The streams of these numbers: the tally, and how often each answer was wanted."""
+    """Tests the streams of these numbers. Returns the tally, and how often each kind of result was expected."""
     tally, answers = Tally(), Counter()
     for number in numbers:
         try_damaged(seed, number, program, tally, answers)
@@ -116,7 +116,7 @@ def try_part(program, numbers, seed):
 
 
 def try_all(path, seed, numbers, tally):
-    """The streams of these numbers, on all cores. No kind of answer may be missing where they are many."""
+    """Tests the streams of these numbers on all cores. If they are 1,000 or more, no kind of result may be missing."""
     answers = Counter()
     for its_tally, its_answers in on_each_core(try_part, path, numbers, seed):
         tally.add(its_tally)

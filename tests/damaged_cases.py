@@ -1,4 +1,4 @@
-"""Streams by chance, and what becomes of them: bits that turn, bytes that are lost, replaced or added, plain random bytes."""
+"""Random streams, and damage to them: turned bits, bytes lost, replaced or added, plain random bytes."""
 
 from typing import NamedTuple
 
@@ -12,7 +12,7 @@ RUNS = [1, 2, 3, 4, 5, 6, 7, 20, 62, 63, 64, 65, 130]
 
 
 class Damaged(NamedTuple):
-    """A stream of some samples, and what became of it."""
+    """A stream of some samples, and the same stream damaged."""
 
     settings: Settings
     samples: list
@@ -26,7 +26,7 @@ def some_settings(chance):
 
 
 def some_samples(settings, chance):
-    """Stretches that stay as they are, of blocks that fit the run codes and segments, and stretches that don't."""
+    """Returns stretches of equal samples, of as many blocks as test the run codes and segments, and other stretches."""
     least, most, size = settings.least(), settings.most(), settings.block_size
     samples = []
     for _ in range(chance.randint(1, 6)):
@@ -47,7 +47,7 @@ def some_samples(settings, chance):
 
 
 def turned(stream, chance, bits):
-    """The stream with so many bits turned, at places of chance."""
+    """Returns the stream with so many bits turned, at random places."""
     out = bytearray(stream)
     for _ in range(bits if out else 0):
         place = chance.randrange(8 * len(out))
@@ -56,7 +56,7 @@ def turned(stream, chance, bits):
 
 
 def random_bytes(chance):
-    """Bytes of chance, some of them with few ones."""
+    """Returns random bytes, sometimes with few ones."""
     data = chance.randbytes(chance.randint(0, 60))
     for _ in range(chance.randrange(4)):
         data = bytes(a & b for a, b in zip(data, chance.randbytes(len(data))))
@@ -64,13 +64,13 @@ def random_bytes(chance):
 
 
 def unlawful(settings, samples, chance):
-    """A stream of the samples of which one block is written unlawfully."""
+    """Returns a stream of the samples in which one block is written unlawfully."""
     bad_block = chance.randrange(-(-len(samples) // settings.block_size))
     return foreign_writer.stream(samples, settings, chance, bad_block)
 
 
 def damage(settings, samples, whole, chance):
-    """What becomes of a stream: a name for it and the bytes."""
+    """Damages a stream at random. Returns the kind of damage and the bytes."""
     place = chance.randint(0, len(whole))
     some = chance.randbytes(chance.randint(1, 3))
     kinds = {
@@ -93,7 +93,7 @@ def damage(settings, samples, whole, chance):
 
 
 def some_damaged(chance):
-    """A damaged stream of samples of chance."""
+    """Returns a damaged stream of random samples."""
     settings = some_settings(chance)
     samples = some_samples(settings, chance)
     whole = foreign_writer.stream(samples, settings, chance)
@@ -101,7 +101,7 @@ def some_damaged(chance):
 
 
 def some_count(damaged, chance):
-    """A count for it: most often the true one, else less, more, or more than there can be."""
+    """Returns a count for a stream: mostly the true one, else less, more, or more than possible."""
     true = len(damaged.samples)
     block = damaged.settings.block_size
     more = [true + 1, true + chance.randint(1, block), true + 70 * block, 2**32, 2**32 + 1, 2**64 - 1]

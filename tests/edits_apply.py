@@ -1,7 +1,8 @@
 #!/usr/bin/env python3
-"""That each wrong body of must-fail/ and more-must-fail/ can be made of the code as it stands: edits_apply.py
+"""Checks that each edit of must-fail/ and more-must-fail/ can be applied to the code: edits_apply.py
 
-Prints each edit whose old text is not once in its file. Ends with 1 where there is one. The last line counts what passed and failed.
+Prints each edit that can't be applied, and why, such as an old text that its file doesn't contain exactly once. The last line counts
+what passed and failed. Ends with status 1 if an edit failed or there is none.
 """
 
 import glob
@@ -12,7 +13,7 @@ from wrong_bodies import TOP, Edit, Unusable, changed_texts
 
 
 def why_not(path):
-    """Why an edit can't be applied to its crate, if it can't."""
+    """Returns why an edit can't be applied to its crate, or None."""
     crate = os.path.dirname(os.path.dirname(path))
     try:
         changed_texts(Edit(os.path.basename(crate), os.path.basename(path), path), crate)

@@ -1,14 +1,17 @@
 #!/usr/bin/env python3
-"""Files and devices that fail: failing_files.py PATH_OF_AEC
+"""Tests files and devices that fail: failing_files.py PATH_OF_AEC
 
-Runs the program at PATH_OF_AEC on files that can't be opened, read, created, written or synced, and compares status, what is
-printed and DEST with docs/COMMAND.md: a full device, a pipe whose reader goes away, a limit of a file's size, a disk that fails
-at the sync (by a library that is loaded before the C library), files without permission (as another user where the test runs as
-root), folders in the place of files, folders that aren't there or go away, one file as SOURCE and DEST, standard streams that
-can't be written or are closed, names of descriptors that aren't open, words that are no text, and jobs in which each option
-tells. Where DEST may hold a front of the answer, it has to be one.
+Runs the program at PATH_OF_AEC on files that can't be opened, read, created, written or synced, and compares status, output and
+DEST with docs/COMMAND.md:
+  - a full device, a pipe whose reader goes away, a limit of a file's size;
+  - a disk that fails at the sync (by a library that is loaded before the C library);
+  - files without permission (as another user if the test runs as root);
+  - folders in place of files, folders that are missing or go away, one file as SOURCE and DEST;
+  - standard streams that can't be written or are closed, names of descriptors that aren't open;
+  - words that are no text, and jobs in which each option makes a difference.
+If a failed run leaves anything in DEST, that must be the beginning of the result.
 
-Prints the checks that fail and, last, how many passed. Ends with 1 where one failed.
+Prints the checks that fail and, last, how many passed. Ends with status 1 if one failed.
 """
 
 import errno
@@ -29,20 +32,20 @@ from unsynced import build as build_unsynced
 
 OLD = b"what DEST held before"
 NOBODY = 65534
-MOST_SECONDS = 300  # of the whole test, should a pipe wait for a program that doesn't open it
+MOST_SECONDS = 300  # of the whole test, in case a pipe waits for a program that doesn't open it
 DONE, UNREAD, UNWRITTEN = said(None), said("read failed"), said("write failed")
 NO_EDITS = b"# nothing\n"
 
 
 def prepare(program, job, old=None):
-    """The files of a job."""
+    """Writes the files of a job."""
     program.write("source", job.source)
     program.write("script", job.script or NO_EDITS)
     program.write("dest", old)
 
 
 def end(run):
-    """The status of a run that was begun, and all that it prints."""
+    """Waits for a run. Returns its status and all that it prints."""
     try:
         printed = run.communicate(timeout=SECONDS)[0].decode()
     except subprocess.TimeoutExpired:
@@ -52,7 +55,7 @@ def end(run):
 
 
 def try_devices(program, tally):
-    """DEST is a full device, or one that takes everything; SOURCE is a device that can't be read from its start."""
+    """Tests a full device and /dev/null as DEST, and as SOURCE a device that can't be read from its start."""
     for job in JOBS + LARGE_JOBS:
         prepare(program, job)
         tally.check(f"{job.what} to a full device", program.run(*job.words, "source", "/dev/full"), UNWRITTEN)
@@ -65,7 +68,7 @@ def try_devices(program, tally):
 
 
 def try_pipes(program, tally):
-    """DEST is a pipe that holds less than the answer, and its reader goes away after some bytes."""
+    """Tests as DEST a pipe that holds less than the result, and whose reader goes away after some bytes."""
     for job in LARGE_JOBS:
         for taken in (0, 1, 1000):
             prepare(program, job)
@@ -83,7 +86,7 @@ def try_pipes(program, tally):
 
 
 def limit_files(most):
-    """Lets no file of a process to come be longer. What is written past that fails, as it does where a disk is full."""
+    """Returns a function that limits the files of a new process to so many bytes. Writing more fails, as on a full disk."""
 
     def limit():
         signal.signal(signal.SIGXFSZ, signal.SIG_IGN)
@@ -93,7 +96,7 @@ def limit_files(most):
 
 
 def try_syncs(program, tally):
-    """DEST is synced once, whole and last; where its sync fails as a disk's, so does the run, whatever it did."""
+    """Checks that DEST is synced once, whole and last, and that a sync that fails as a disk's does makes every run fail."""
     if not has_compiler():
         print("skipped: files whose sync fails, since there is " + NO_COMPILER)
         return
@@ -116,7 +119,7 @@ def try_syncs(program, tally):
 
 
 def try_limits(program, tally):
-    """No file can be longer than so many bytes: where the answer is, DEST holds a front of it."""
+    """Limits the size of files: if the result is longer, DEST must hold the beginning of it."""
     for job in JOBS + LARGE_JOBS:
         for most in (0, 1, 5, 5000):
             prepare(program, job, OLD)
@@ -130,7 +133,7 @@ def try_limits(program, tally):
 
 
 def unprivileged():
-    """What has a program run as a user who may not do everything; None where there is no such user."""
+    """Returns the arguments that run a program as a user with few rights, None if that is impossible."""
     if os.geteuid() != 0:
         return {}
     user = {"user": NOBODY, "group": NOBODY, "extra_groups": []}
@@ -142,7 +145,7 @@ def unprivileged():
 
 
 def try_permissions(program, tally):
-    """Files that this user may not read or write. Root may all, so another user runs the program then."""
+    """Tests files that the user may not read or write. Root may do all, so for root another user runs the program."""
     user = unprivileged()
     if user is None:
         print("skipped: files without permission, since root can't become another user here")
@@ -167,7 +170,7 @@ def try_permissions(program, tally):
 
 
 def try_folders(program, tally):
-    """Folders in the place of files, files in the place of folders, names that lead nowhere."""
+    """Tests folders in place of files, files in place of folders, and names that lead nowhere."""
     os.mkdir(program.file("folder"))
     os.symlink("nowhere", program.file("astray"))
     os.symlink("round", program.file("round"))
@@ -193,7 +196,7 @@ def try_folders(program, tally):
 
 
 def try_going_folders(program, tally):
-    """The folder of DEST, or the one that the program runs in, goes away while SOURCE is read."""
+    """Removes the folder of DEST, or the one that the program runs in, while the program reads SOURCE."""
     for job in JOBS:
         for gone, dest in (("gone", "gone/dest"), ("here", "dest")):
             prepare(program, job)
@@ -212,7 +215,7 @@ def try_going_folders(program, tally):
 
 
 def try_one_file(program, tally):
-    """One file as SOURCE and DEST, by one name and by two."""
+    """Tests one file as SOURCE and DEST, by one name and by two."""
     os.symlink("source", program.file("other"))
     for job in JOBS + LARGE_JOBS:
         for dest in ("source", "./source", "other"):
@@ -233,7 +236,7 @@ def try_one_file(program, tally):
 
 
 def try_standard_streams(program, tally):
-    """Standard output and standard error that can't be written don't change the status."""
+    """Checks that standard streams that can't be written don't change the status."""
     program.write("source", CHANGED)
     runs = [(["--help"], 0), (["--version"], 0), (["-x"], 2), (["-n", "40", "source", "dest"], 2), (["nowhere", "dest"], 1)]
     runs.append((["source", "dest"], 0))
@@ -248,7 +251,7 @@ def try_standard_streams(program, tally):
 
 
 def without(streams, most=None):
-    """Closes these standard streams, told by their numbers. From then on a process gets no descriptor from `most` on."""
+    """Returns a function that closes the standard streams of these numbers, and allows no descriptor from `most` on."""
 
     def close():
         for number in streams:
@@ -260,13 +263,13 @@ def without(streams, most=None):
 
 
 def names_of(streams):
-    """The names that lead to these standard streams."""
+    """Returns the names that lead to these standard streams."""
     names = [(f"/dev/{('stdin', 'stdout', 'stderr')[number]}", f"/dev/fd/{number}") for number in streams]
     return [name for pair in names for name in pair]
 
 
 def try_closed_streams(program, tally):
-    """With standard streams closed, no file stands at their numbers: a name of one of them is as /dev/null."""
+    """Checks that no file gets the number of a closed standard stream: the name of such a stream means /dev/null."""
     for closed in ([0], [1], [2], [0, 1], [0, 2], [1, 2], [0, 1, 2]):
         for job in JOBS:
             for dest in ["dest", *names_of(closed)]:
@@ -288,7 +291,7 @@ def try_closed_streams(program, tally):
 
 
 def try_streams_that_stay_closed(program, tally):
-    """Standard input and output are closed, and no file but one can be opened at a time."""
+    """Closes standard input and output, and allows only descriptor 0 to be opened."""
     refused = said("a standard stream is closed and /dev/null can't be opened")
     for job in JOBS:
         for dest in ["dest", *names_of([0, 1])]:
@@ -300,7 +303,7 @@ def try_streams_that_stay_closed(program, tally):
 
 
 def try_numbers(program, tally):
-    """The names of descriptors that aren't open: none of them leads to a file that the program itself has open."""
+    """Checks that no name of a descriptor that isn't open leads to a file that the program itself has open."""
     for number in range(3, 10):
         name = f"/dev/fd/{number}"
         for job in JOBS:
@@ -317,7 +320,7 @@ def try_numbers(program, tally):
 
 
 def try_words_that_are_no_text(program, tally):
-    """A name, an option or a value that isn't UTF-8."""
+    """Tests a name, an option and a value that aren't UTF-8."""
     words = [[b"\xe9", "dest"], ["source", b"\xe9"], ["source", "dest", b"-\x80"], ["--edit", b"\xed\xa0\x80", "source", "dest"]]
     words += [["-d", "--count", b"48\xff", "source", "dest"], ["--help", b"\xc3"], [b"\xe9"]]
     for given in words:

@@ -1,8 +1,8 @@
-"""Streams as another coder might write them: lawful ones by any choices, not the shortest ones alone, and unlawful ones.
+"""Streams as another coder might write them: lawful streams by any choices, not only the shortest, and unlawful streams.
 
-A block is written by any option, a zero block too; zero blocks are cut into runs anyhow; the remainder code stands for any run
-that ends its segment; a run at the end may go on past the samples; the first member of a reference pair is any number; with
-padding, the bits between two intervals are any bits.
+Any option may write a block, also a zero block. Zero blocks may be split into any runs. The remainder code may write any run that
+ends its segment. A run at the end may continue past the samples. The first member of a reference pair may be any number. With
+padding, the bits between two intervals may be any bits.
 """
 
 from spelling import Block, blocks_of, bytes_of_bits, length, options_of, run, spelled
@@ -11,7 +11,7 @@ MOST_BITS = 1200  # of a coded data set, unless it is no compression
 
 
 def single(block, settings, chance):
-    """The block in some option that doesn't take too many bits, None where there is none."""
+    """Returns the block in a random option that doesn't take too many bits, None if there is none."""
     ignored = chance.choice([0, 0, 1, 9])
     near = max(block.values).bit_length() - chance.randint(0, 3)
     options = [option for option in ("plain", "extension", near, chance.randint(0, 29)) if option in options_of(settings)]
@@ -25,8 +25,8 @@ def single(block, settings, chance):
 
 
 def some_run(block, zeros, left, is_end, settings, chance):
-    """A run that begins with that block, and how many blocks it stands for. There are so many zero blocks, and the segment has
-    so many blocks left; at the end of the samples the run may go on up to the end of the segment."""
+    """Returns a run that begins with that block, and its number of blocks: at most `zeros`, the number of zero blocks. At the end of
+    the samples the run may continue to the end of the segment, which has `left` blocks left."""
     most = left if is_end and chance.random() < 0.5 else zeros
     blocks = chance.choice([chance.randint(1, most), most])
     number = blocks - 1 if blocks <= 4 else blocks
@@ -36,7 +36,7 @@ def some_run(block, zeros, left, is_end, settings, chance):
 
 
 def unlawful(block, left, settings, chance):
-    """A coded data set with a value that is too large, or a run that is too long."""
+    """Returns a coded data set with a value that is too large, or with a run that is too long."""
     values = list(block.values)
     values[chance.randrange(len(values))] = 2**settings.bits + chance.randint(0, 2)
     too_large = single(Block(block.pattern, values), settings, chance)
@@ -47,7 +47,7 @@ def unlawful(block, left, settings, chance):
 
 
 def interval_bits(samples, settings, chance, is_last, bad_block):
-    """The code of one interval, and how many blocks it stands for. One block may be written unlawfully."""
+    """Returns the code of one interval, and its number of blocks. One block may be written unlawfully."""
     blocks, place, parts = blocks_of(samples, settings), 0, []
     while place < len(blocks):
         left = min(64 - place % 64, settings.interval - place)
@@ -67,7 +67,7 @@ def interval_bits(samples, settings, chance, is_last, bad_block):
 
 
 def stream(samples, settings, chance, bad_block=None):
-    """The bytes of some stream of the samples. One block, counted over the whole stream, may be written unlawfully."""
+    """Returns the bytes of a random stream of the samples. Writes the block `bad_block` of the whole stream unlawfully."""
     bits, size = "", settings.interval_len()
     for first in range(0, len(samples), size):
         is_last = first + size >= len(samples)

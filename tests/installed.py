@@ -1,10 +1,12 @@
 #!/usr/bin/env python3
-"""What `make install` puts where, and the completion files: installed.py PATH_OF_AEC
+"""Tests what `make install` installs, and the completion files: installed.py PATH_OF_AEC
 
 Installs the program at PATH_OF_AEC into an empty folder, as `aec` and under another name, looks for each file, follows each link of
 the installed pages, runs the program from there, and uninstalls it, which must remove every file. Installs a program that isn't
-there, which must fail with a line and install nothing. Each option of --help must be in both completion files. bash, and zsh where
-it is installed, read theirs, and bash offers each option. Each copy of the version must be that of the file VERSION.
+there, which must fail with a line and install nothing. Each option of --help must be in both completion files. bash, and zsh if it
+is installed, read theirs, and bash offers each option. Each copy of the version must be that of the file VERSION.
+
+Prints the checks that fail and, last, how many passed. Ends with status 1 if one failed.
 """
 
 import os
@@ -27,7 +29,7 @@ WORD = r"(?<![\w-])--?\w[\w-]*"
 
 
 def made(target, folder, *words):
-    """The status of a target of the Makefile that works below a folder, and what it prints on standard error."""
+    """Runs a target of the Makefile that works below a folder. Returns its status and its standard error."""
     command = ["make", "-s", "-C", TOP, target, f"DESTDIR={folder}", "PREFIX=/usr", f"PYTHON={sys.executable}", *words]
     # No folder of a toolchain is on the path.
     done = subprocess.run(command, capture_output=True, text=True, env={"PATH": "/usr/bin:/bin"})
@@ -35,7 +37,7 @@ def made(target, folder, *words):
 
 
 def helped_options(program):
-    """The options that --help lists."""
+    """Returns the options that --help lists."""
     text = subprocess.run([program, "--help"], capture_output=True, text=True).stdout
     found = set()
     for line in text.splitlines():
@@ -45,12 +47,12 @@ def helped_options(program):
 
 
 def files_below(folder):
-    """The paths of all files below a folder."""
+    """Returns the paths of all files below a folder."""
     return [os.path.join(at, name) for at, _, names in os.walk(folder) for name in names]
 
 
 def try_links(folder, tally):
-    """That each link of each page leads to a file or folder that is there."""
+    """Checks that each link of each page leads to a file or folder that is there."""
     for path in filter(lambda it: it.endswith(".md"), files_below(folder)):
         page = os.path.relpath(path, folder)
         with open(path, encoding="utf-8") as file:
@@ -62,13 +64,13 @@ def try_links(folder, tally):
 
 
 def version():
-    """The version of the file VERSION."""
+    """Returns the version of the file VERSION."""
     with open(os.path.join(TOP, "VERSION"), encoding="utf-8") as file:
         return file.read().strip()
 
 
 def try_version(tally):
-    """That each copy of the version is that of the file VERSION."""
+    """Checks that each copy of the version is that of the file VERSION."""
     done = subprocess.run([sys.executable, os.path.join(TOP, "tools", "version.py"), "--check"], capture_output=True, text=True)
     tally.holds(done.returncode == 0, done.stdout)
     with open(os.path.join(TOP, "man", "aec.1"), encoding="utf-8") as file:
@@ -76,7 +78,7 @@ def try_version(tally):
 
 
 def try_install(program, name, tally):
-    """One installation: each file is there, each link leads to a file, the program runs, and all of it can be removed."""
+    """Checks one installation: each file is there, each link leads to a file, the program runs, and all can be removed."""
     with tempfile.TemporaryDirectory() as folder:
         words = [f"BUILT={program}"] + ([] if name == "aec" else [f"PROGRAM={name}"])
         tally.check(f"install as {name}", made("install", folder, *words), (0, ""))
@@ -102,7 +104,7 @@ def try_install(program, name, tally):
 
 
 def try_refusal(tally):
-    """Where nothing is built nothing is installed."""
+    """Checks that nothing is installed if nothing is built."""
     with tempfile.TemporaryDirectory() as folder:
         status, said = made("install", folder, "BUILT=no/such/aec")
         tally.check("nothing is built: status", status != 0, True)
@@ -111,7 +113,7 @@ def try_refusal(tally):
 
 
 def try_completions(program, tally):
-    """Both files have the options of --help and no others; bash offers them, and zsh reads its file."""
+    """Checks that both files have just the options of --help, that bash offers them, and that zsh reads its file."""
     helped = helped_options(program)
     tally.check("--help lists options", "--edit" in helped, True)
     with open(os.path.join(TOP, "completions", "aec.bash"), encoding="utf-8") as file:

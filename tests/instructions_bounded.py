@@ -1,13 +1,13 @@
 #!/usr/bin/env python3
-"""That the built program takes no more instructions than it took: instructions_bounded.py PATH_OF_AEC [--measure]
+"""Checks that the built program takes no more instructions than before: instructions_bounded.py PATH_OF_AEC [--measure]
 
-Counts with `valgrind --tool=callgrind`, as bench/instructions.py does, the instructions that the program takes for each sample, starting
-included, to code generated samples and to decode what it has coded. Fails where a count is more than 3 % above the one that MEASURED has
-for it: a count doesn't differ from run to run, so a higher one says that the program does more, or that the compiler no longer inlines
-a function. Where a change takes fewer instructions, or more for a good reason, `--measure` prints the rows of MEASURED anew.
+Counts with `valgrind --tool=callgrind`, as bench/instructions.py does, the instructions a sample that the program takes, including its
+start, to code generated samples and to decode the result. Fails if a count is more than 3 % above the one in MEASURED: a count is the
+same in every run, so a higher one means that the program does more, or that the compiler no longer inlines a function. `--measure`
+prints new rows of MEASURED, for a change that takes fewer instructions, or more for a good reason.
 
-Prints the counts that fail and, last, how many checks passed. Without valgrind all checks are skipped, with status 0; where the variable
-CI is set, that is a failure.
+Prints the counts that fail and, last, how many checks passed. Ends with status 1 if one failed. Without valgrind all checks are skipped,
+with status 0; if the variable CI is set, that is a failure.
 """
 
 import os
@@ -30,11 +30,11 @@ SEED = 1
 
 
 def zeros(chance):
-    """16-bit samples: zeros alone."""
+    """Returns 16-bit samples that are all zero."""
     return bytes(2 * SAMPLES)
 
 
-# Each kind of samples: their bits, the options beside them, and the function that makes them.
+# Each kind of samples: its bits, its other options, and the function that makes it.
 INPUTS = {
     "detector": (16, [], detector),
     "zeros": (16, [], zeros),
@@ -42,7 +42,7 @@ INPUTS = {
     "ramp": (8, [], ramp_with_noise),
 }
 
-# The kind of samples, J and r; and the instructions for each sample that the proved program took, coding and decoding.
+# The kind of samples, J and r; and the instructions a sample that the proved program took in coding and in decoding.
 MEASURED = {
     ("detector", 8, 128): (47.6, 45.9),
     ("detector", 16, 128): (37.1, 38.7),
@@ -56,7 +56,7 @@ MEASURED = {
 
 
 def instructions_of(path, cell):
-    """The instructions for each sample that the program takes to code the samples of a cell, and to decode them."""
+    """Returns the instructions a sample that the program takes to code the samples of a cell, and to decode them."""
     kind, block_size, interval = cell
     bits, more, made = INPUTS[kind]
     options = ["-n", str(bits), *more, "-j", str(block_size), "-r", str(interval)]
@@ -70,7 +70,7 @@ def instructions_of(path, cell):
 
 
 def on_all_cells(path):
-    """The counts of each cell, made on all cores at once."""
+    """Returns the counts of each cell, made on all cores at once."""
     with ThreadPoolExecutor(os.cpu_count() or 1) as pool:
         found = pool.map(lambda cell: instructions_of(path, cell), MEASURED)
         return dict(zip(MEASURED, found))
@@ -96,7 +96,7 @@ def compare(found):
 
 
 def without_valgrind():
-    """What is said where nothing can be counted."""
+    """Ends the test, since nothing can be counted."""
     needed = "CI" in os.environ
     print("valgrind isn't here: no instructions are counted")
     print(f"0 passed, {int(needed)} failed")

@@ -1,19 +1,20 @@
 #!/usr/bin/env python3
-"""Two programs, one format: interop.py PATH_OF_AEC
+"""Tests two programs with one format: interop.py PATH_OF_AEC
 
 Codes generated samples with the program at PATH_OF_AEC ('ours') and with the command-line client of libaec ('theirs',
 of Debian's package libaec-tools), and checks for each case that
-  - ours reads the stream of theirs back to the samples,
-  - theirs reads the stream of ours back to the samples,
-  - the stream of ours is never the longer one.
-Its coder refuses the even block sizes that `--even-blocks` allows, and its decoder doesn't, so of these cases the second is
-checked alone. The expected samples are those that were generated, so neither program is judged by itself. Where options tie, the two
-may choose differently, so streams are compared in length alone. A stream carries no sample count: each program adds
-filler behind the samples, so the first samples are compared. Theirs answers status 0 for cut streams too, so it is
-judged by what it writes. Padded intervals are left out: the rule of -p is each program's own.
+  - ours decodes their stream to the samples,
+  - theirs decodes our stream to the samples,
+  - our stream is never the longer one.
+For block sizes that need `--even-blocks`, only the second is checked: their decoder accepts these sizes, but their
+coder refuses them. The expected samples are the generated ones, so neither program is judged by itself. Only the
+lengths of streams are compared, since the two programs may choose differently where options tie. A stream has no
+sample count, and each program adds filler after the samples, so only the first samples are compared. Theirs ends with
+status 0 for cut streams too, so it is judged by what it writes. Padded intervals are left out: each program has its
+own rule for -p.
 
-Prints the cases that fail and, last, how many checks passed. The environment variable LIBAEC names theirs where it is
-not /usr/bin/aec. Without it all checks are skipped, with status 0.
+The environment variable LIBAEC names libaec's client if it isn't /usr/bin/aec. Without the client all checks are
+skipped, with status 0. Prints the checks that fail and, last, how many passed. Ends with status 1 if one failed.
 """
 
 import os
@@ -28,7 +29,7 @@ from settings import EVEN_BLOCK_SIZES, STANDARD_BLOCK_SIZES, Settings
 
 WIDTHS = [1, 2, 3, 4, 5, 7, 8, 9, 12, 16, 17, 20, 24, 25, 31, 32]
 INTERVALS = [1, 2, 3, 63, 64, 65, 128, 200, 4096]
-# Lengths of runs of zero blocks, around the ends of the run codes and of a segment of 64 blocks.
+# Lengths of runs of zero blocks, around the limits of the run codes and of a segment of 64 blocks.
 RUNS = [1, 2, 3, 4, 5, 6, 7, 62, 63, 64, 65, 127, 128, 129]
 
 
@@ -60,7 +61,7 @@ def greatest(least, most, block, chance):
 
 
 def zero_runs(least, most, block, chance):
-    """Runs of zero blocks of many lengths, in an order of chance, with one block of another kind between two."""
+    """Returns runs of zero blocks of many lengths, in random order, with one block of another kind after each."""
     samples = []
     for length in chance.sample(RUNS, len(RUNS)):
         samples += [0] * (length * block)
@@ -73,7 +74,7 @@ def ramp(least, most, block, chance):
 
 
 def steps(least, most, block, chance):
-    """A walk by steps of at most one, kept in range: mostly zeros and ones for the coder."""
+    """Returns a walk by steps of at most one, kept in range: for the coder mostly zeros and ones."""
     samples, x = [], (least + most) // 2
     for _ in range(40 * block):
         x = min(max(x + chance.choice([-1, 0, 0, 0, 0, 0, 0, 1]), least), most)
@@ -82,7 +83,7 @@ def steps(least, most, block, chance):
 
 
 def noise(shift):
-    """Noise around the middle of the range, of that many bits less than the range has, but at least one."""
+    """Returns a function for noise around the middle of the range, with `shift` bits less than the range, but at least one."""
 
     def make(least, most, block, chance):
         reach = max((most - least) >> shift, 1)
@@ -101,13 +102,13 @@ def alternating(least, most, block, chance):
 
 
 def sparse(least, most, block, chance):
-    """Zeros with a seldom greater value: the second extension, low k, and short runs."""
+    """Returns zeros with a few greater values: the second extension, low k, and short runs."""
     spikes = [1 if most > 0 else 0, min(3, most), most, least]
     return [chance.choice(spikes) if chance.random() < 0.03 else 0 for _ in range(120 * block)]
 
 
 def growing_noise(least, most, block, chance):
-    """Noise of one bit, then two, up to the whole range: every k in turn."""
+    """Returns noise of one bit, then two, up to the whole range: every k in turn."""
     samples = []
     for bits in range(1, (most - least).bit_length() + 1):
         samples += [chance.randint(0, (1 << bits) - 1) + least for _ in range(4 * block)]
@@ -133,7 +134,7 @@ KINDS = {
 
 
 def cases(chance):
-    """Every width with every block size, sign, preprocessing and kind of samples; the other choices fall by chance."""
+    """Yields each width with each block size, sign, preprocessing and kind of samples. All else is random."""
     for bits in WIDTHS:
         for block_size in STANDARD_BLOCK_SIZES:
             for number in range(4):
@@ -152,7 +153,7 @@ def cases(chance):
 
 
 def even_cases(chance):
-    """Two of every other even block size and kind of samples; the other choices fall by chance."""
+    """Yields two cases for each other even block size and kind of samples. All else is random."""
     for block_size in EVEN_BLOCK_SIZES:
         for kind in KINDS if block_size not in STANDARD_BLOCK_SIZES else []:
             for _ in range(2):
@@ -162,17 +163,17 @@ def even_cases(chance):
 
 
 def agrees(read, *wanted):
-    """Whether what was read begins with one of the wanted bytes, and is nothing where these are nothing."""
+    """Returns whether what was read begins with one of the wanted bytes, and is empty if these are empty."""
     return read is not None and any(read[: len(it)] == it and bool(it) >= bool(read) for it in wanted)
 
 
 def try_case(case, chance, ours, theirs, tally):
-    """Both programs on one case."""
+    """Tests both programs on one case."""
     settings = case.settings
     options, their_options = settings.options(), settings._replace(even_blocks=False).options()
     samples = KINDS[case.kind](settings.least(), settings.most(), settings.block_size, chance)
     samples = samples[: len(samples) - case.cut]
-    # unused bits: zero is what both take; in decoding ours writes copies of the sign, theirs that or zeros
+    # unused bits: both programs accept zeros; decoding writes copies of the sign in ours, and copies or zeros in theirs
     given, signed = settings.stored(samples, settings.bits), settings.stored(samples)
 
     def check(is_so, what):
@@ -194,7 +195,7 @@ def try_case(case, chance, ours, theirs, tally):
 
 
 def is_theirs(path):
-    """Whether the client of libaec stands there, and no other program of that name."""
+    """Returns whether the file is the client of libaec, and no other program of that name."""
     if not os.path.exists(path):
         return False
     said = subprocess.run([path, "-h"], capture_output=True).stderr

@@ -1,4 +1,4 @@
-"""Whole runs with answers that are known: each thing that the program does, on small and on large data."""
+"""Whole runs with known results: each thing that the program does, on small and on large data."""
 
 from typing import NamedTuple
 
@@ -6,7 +6,7 @@ from spelling import bytes_of_bits
 
 
 class Job(NamedTuple):
-    """What a run does: its words before SOURCE and DEST, the bytes of SOURCE, and those that DEST gets."""
+    """A run: its words before SOURCE and DEST, the bytes of SOURCE, and the bytes that DEST gets."""
 
     what: str
     words: list
@@ -15,7 +15,7 @@ class Job(NamedTuple):
     script: bytes = b""
 
 
-# 48 samples, all zero, and with a 1 at place 20; and their streams.
+# 48 zeros, the same with a 1 at place 20, and the streams of both.
 STILL, CHANGED = bytes(48), bytes(20) + b"\1" + bytes(27)
 STILL_STREAM, CHANGED_STREAM = bytes.fromhex("00 04 00 10 00 40"), bytes.fromhex("00 04 40 30 C2 00 08")
 SCRIPT = b"""truncate 32
@@ -25,7 +25,7 @@ append 0 0 0 0 0 0 0 0 0 0 0 0 0 0 0 0
 insert 7 3 3 0
 remove 6 3
 """
-EDIT_LINES = [1, 2, 4, 5, 6]  # on which an edit may lack memory, of all scripts that are run with growths refused
+EDIT_LINES = [1, 2, 4, 5, 6]  # lines on which an edit may lack memory, in any script that is run with refused growths
 
 JOBS = [
     Job("coding", [], CHANGED, CHANGED_STREAM),
@@ -35,7 +35,7 @@ JOBS = [
     Job("an edit", ["--edit", "script", "--count", "48"], STILL_STREAM, CHANGED_STREAM, SCRIPT),
 ]
 
-# Blocks of ten samples, one in an interval; of those that are appended three are samples.
+# Blocks of ten samples, one in an interval. The edit appends a block with three samples.
 TEN = ["--even-blocks", "-j", "10", "-r", "1"]
 RAMP, RAMP_STREAM = bytes(range(10)), bytes.fromhex("20 09 24 92 48")
 EVEN_JOBS = [
@@ -44,17 +44,17 @@ EVEN_JOBS = [
     Job("an edit of blocks of ten", ["--edit", "script", "--count", "10", *TEN], RAMP_STREAM, RAMP_STREAM + b"\0\x40", b"append 0 0 0\n"),
 ]
 
-# One interval of zeros, as long as can be: 64 segments of 64 blocks of 64 samples. Each segment is a run to its end, the
-# identifier and the number 4, and the first has the reference sample.
+# The longest interval, of zeros: 64 segments of 64 blocks of 64 samples. Each segment is a run to its end: an identifier and the
+# number 4. The first one also has the reference sample.
 LONGEST = ["-j", "64", "-r", "4096"]
 ZEROS, ZEROS_STREAM = bytes(64 * 64 * 64), bytes_of_bits("0000" + "0" * 8 + "00001" + "000000001" * 63)
 
-# Bytes whose blocks no other option writes in fewer bits than no compression: three ones and the bytes as they are.
+# Bytes whose blocks no option writes in fewer bits than no compression: three ones and the bytes as they are.
 NOISE = bytes(255 - 101 * i % 256 for i in range(100_000))
 NOISE_STREAM = bytes_of_bits("".join("111" + "".join(f"{x:08b}" for x in NOISE[i : i + 8]) for i in range(0, len(NOISE), 8)))
 
-# 520 intervals of a block, of which 256 are appended at once: the first edits are made while others are still to come. They
-# change nothing.
+# 520 intervals of a block each, of which 256 are appended at once, so the first edits are made before all intervals are there.
+# The edits change nothing.
 FEW, FEW_STREAM = NOISE[:4160], NOISE_STREAM[:4355]
 EARLY_SCRIPT = b"""overwrite 1 %d
 overwrite 9 %d %d
@@ -65,7 +65,7 @@ truncate 4160
 """ % (FEW[1], *FEW[9:11], *FEW[4158:])
 EARLY_JOB = Job("edits made early", ["-N", "-r", "1", "--edit", "script"], FEW_STREAM, FEW_STREAM, EARLY_SCRIPT)
 
-# Answers that no pipe holds at once.
+# Results that no pipe holds at once.
 LARGE_JOBS = [
     Job("coding of noise", ["-N"], NOISE, NOISE_STREAM),
     Job("decoding of noise", ["-N", "-d"], NOISE_STREAM, NOISE),

@@ -1,20 +1,20 @@
 #!/usr/bin/env python3
-"""The library for C and Python: library.py PATH_OF_AEC FOLDER [--seed N] [--cases N] [--only N]
+"""Tests the library for C and Python: library.py PATH_OF_AEC FOLDER [--seed N] [--cases N] [--only N]
 
-FOLDER has libaecp.a and libaecp.so. In turn, by the C program library_calls.c and by the Python module without numpy,
-  - the rows of README's table, options that are refused with their number, and the other refusals with their place;
-  - buffers of every length around the one that is needed, with nothing changed beyond the answer, and nothing at all without one;
-  - each growth refused, that one alone and all after it: the call answers want of memory and has changed nothing, and each block that
-    was allocated is freed;
+FOLDER contains libaecp.a and libaecp.so. Tests in turn, by C programs (library_*.c) and by the Python module without numpy,
+  - worked values, refused options with their number, and the other refusals with their place;
+  - buffers of every length around the needed one: nothing changes after the result, and nothing at all if there is no result;
+  - each growth refused, with all later ones or alone: the call fails for lack of memory and changes nothing, or goes on without the
+    one growth; it frees each block that it allocated;
   - the least stack of a thread for each call, which aecp.h names (library_memory.py);
-  - eight threads at once; NULL for a buffer of no bytes; a run under valgrind, where it is installed, that loses no memory;
+  - eight threads at once; NULL for a buffer of no bytes; a run under valgrind, if it is installed, which must lose no memory;
   - samples and coded bytes in each kind of buffer that Python has (library_buffers.py);
-  - streams edited by scripts by chance, beside a model (library_edits.py);
+  - streams edited by random scripts, against a model (library_edits.py);
   - the C of docs/LIBRARY.md and README.md, and a program that is C and C++ (library_types.py);
-  - lists by chance with settings by chance: beside the plain coder, the program at PATH_OF_AEC, and libaec's client.
-And the names that the shared library defines and needs.
+  - random lists with random settings, against the plain coder, the program at PATH_OF_AEC, and libaec's client; some as workspaces.
+Also tests which names the shared library defines and which libraries it needs.
 
-Prints the checks that fail and, last, how many passed. Ends with 1 where one failed.
+Prints the checks that fail and, last, how many passed. Ends with status 1 if one failed.
 """
 
 import argparse
@@ -49,7 +49,7 @@ FLAGS = {"signed": "s", "msb_first": "m", "three_byte": "3", "pad": "p", "restri
 
 
 class Call(NamedTuple):
-    """A call of the library: its name, the settings, count, first, length, and the bytes that it is given."""
+    """A call of the library: its name, the settings, the given bytes, count, first and length."""
 
     name: str
     settings: Settings
@@ -66,7 +66,7 @@ class Call(NamedTuple):
 
 
 class Answer(NamedTuple):
-    """What a call ends with."""
+    """The result of a call."""
 
     number: int
     place: int
@@ -83,10 +83,10 @@ ROWS = [
     (Call("decode", USUAL, b"\x00\x78"), b"\x07" * 8),
     (Call("range", USUAL, CODED, ALL, 2, 3), b"\x02\x03\x04"),
 ]
-# The samples of CODED with three numbers put in, as library_calls.c does it.
+# The samples of CODED with three numbers inserted, as library_calls.c does it.
 EDITED = (Call("edit", USUAL, CODED, 8, 2), bytes(plain_coder.stream([0, 1, 9, 9, 9, 2, 3, 4, 5, 6, 7], USUAL)))
 SCRIPTED = (EDITED[0]._replace(name="script"), EDITED[1])
-# Each with its number, its place and its text. The eight samples take 3 + 8 + 2 + 6 * 3 = 31 bits.
+# Each call with its number, place and text. The eight samples take 3 + 8 + 2 + 6 * 3 = 31 bits.
 REFUSED = [
     (Call("encode", USUAL._replace(bits=0), b""), 1, 0, "bits per sample must be 1 to 32"),
     (Call("encode", USUAL._replace(bits=33), b""), 1, 0, "bits per sample must be 1 to 32"),
@@ -105,13 +105,13 @@ REFUSED = [
 
 
 class InC:
-    """The calls by the C program, in a process each."""
+    """The calls by the C program, each in its own process."""
 
     def __init__(self, program):
         self.program = program
 
     def ask(self, call, room, run=None, **more):
-        """What a call with a buffer of so many bytes answers, and what went wrong in the C program."""
+        """Returns the result of a call with a buffer of `room` bytes, or a text if the C program failed."""
         status, printed = (run or self.program.run)(*call.words(room), **more)
         lines = [line for line in printed.splitlines() if line not in ("refuse", "grant")]
         if status != 0 or not lines:
@@ -121,7 +121,7 @@ class InC:
 
 
 def in_python(aecp, call):
-    """What the module answers: bytes, or a refusal's number and place."""
+    """Makes the call by the module. Returns bytes, or a refusal's number, place and text."""
     options = aecp.Options(**call.settings._asdict())
     count = None if call.count == ALL else call.count
     try:
@@ -146,7 +146,7 @@ def try_rows(in_c, aecp, tally):
 
 
 def try_rooms(in_c, tally):
-    """Buffers that are too short, exact and longer; that the bytes around an answer stay is judged by the C program."""
+    """Tests buffers that are too short, exact and longer. The C program checks that the bytes around a result stay."""
     for call, wanted in ROWS:
         for room in range(len(wanted) + 4):
             text = f"the buffer is shorter than the answer, whose length is {len(wanted)}"
@@ -160,7 +160,7 @@ def try_threads(in_c, tally):
 
 
 def try_nulls(in_c, tally):
-    """NULL in the place of buffers of no bytes: the answer where none is needed, and else the length that is."""
+    """Tests NULL for buffers of no bytes: a call returns its result if that is empty, else the length that it needs."""
     none = ["encode 0 0", "decode 0 0", "decode 0 0", "range 0 0", "decode 6 0"]
     some = ["encode 18 5", "decode 18 8", "range 18 3", f"text {len('the buffer is shorter than the answer, whose length is 3')}"]
     some += ["edit 0 0", "edit 18 5"]
@@ -168,7 +168,7 @@ def try_nulls(in_c, tally):
 
 
 def try_page(asked, folder, tally):
-    """The program in C of the library's page, and with it the lines on workspaces. Its eight samples and those that fill the block
+    """Runs the C program of the library's page, with the page's lines on workspaces. Its eight samples and the filler of the block
     take 3 + 8 + 7 * 3 + 8 = 40 bits."""
     with open(os.path.join(TOP, "docs", "LIBRARY.md"), encoding="utf-8") as page:
         program, *lines = re.findall(r"```c\n(.*?)```", page.read(), re.S)
@@ -182,7 +182,7 @@ def try_page(asked, folder, tally):
 
 
 def try_valgrind(in_c, tally):
-    """Calls that answer and calls that refuse, none of which loses memory."""
+    """Checks that neither calls that succeed nor calls that fail lose memory."""
     if not shutil.which("valgrind"):
         return
     judge = ["valgrind", "-q", "--leak-check=full", "--error-exitcode=9", in_c.program.path]
@@ -193,7 +193,7 @@ def try_valgrind(in_c, tally):
 
 
 def try_names(folder, tally):
-    """The names that the shared library defines for others, and the libraries that it needs."""
+    """Checks the names that the shared library exports, and the libraries that it needs."""
     library = os.path.join(folder, "libaecp.so")
     names = subprocess.run(["nm", "-D", "--defined-only", library], capture_output=True, text=True, check=True).stdout
     wanted = {f"aecp_{name}" for name in CALLS}
@@ -203,13 +203,13 @@ def try_names(folder, tally):
 
 
 def part_of(chance, samples):
-    """The first place of a part of samples, and its length."""
+    """Returns the first place of a random part of the samples, and its length."""
     first = chance.randint(0, len(samples))
     return first, chance.randint(0, len(samples) - first)
 
 
 def try_case(aecp, ours, theirs, seed, number, tally):
-    """Samples by chance: coded as the plain coder and the program do, read back, a part of them, cut short by a byte."""
+    """Tests random samples: coded as by the plain coder and the program, read back, a part of them, cut by a byte."""
     chance, before = random.Random(f"{seed} {number}"), tally.failed
     settings = some_settings(chance)
     samples = some_samples(settings, chance)
@@ -230,7 +230,7 @@ def try_case(aecp, ours, theirs, seed, number, tally):
         cut = in_python(aecp, Call("decode", settings, coded[:-1], len(samples)))
         tally.check(f"{what}: cut", cut[:1], (6,))
     if theirs and settings.block_size in STANDARD_BLOCK_SIZES and not settings.pad and samples:
-        # Theirs takes no copies of the sign above the bits of a sample.
+        # libaec's client accepts no copies of the sign above the bits of a sample.
         taken = [word for word in settings.options() if word != "--even-blocks"]
         foreign = theirs.answer(taken, settings.stored(samples, settings.bits))
         tally.check(f"{what}: libaec's stream", bytes(aecp.decode_bytes(foreign, len(samples), options)), stored)
@@ -239,7 +239,7 @@ def try_case(aecp, ours, theirs, seed, number, tally):
 
 
 def some_edit(chance, samples, new):
-    """An edit by chance that fits: the name of its method, what it is given, and the samples that it leaves."""
+    """Returns a random edit that fits: the name of its method, its arguments, and the samples after it."""
     first, length = part_of(chance, samples)
     stop = first + length
     return chance.choice([
@@ -252,7 +252,7 @@ def some_edit(chance, samples, new):
 
 
 def try_list(chance, work, samples, what, tally):
-    """A workspace as a list, beside one. The samples are the same afterwards."""
+    """Compares a workspace with a list. Afterwards the samples are the same as before."""
     before = list(samples)
     first, length = part_of(chance, samples)
     part = slice(first, first + length)
@@ -275,7 +275,7 @@ def try_list(chance, work, samples, what, tally):
 
 
 def is_refused(fault, call):
-    """Whether a call raises this."""
+    """Returns whether a call raises this."""
     try:
         call()
     except fault:
@@ -284,7 +284,7 @@ def is_refused(fault, call):
 
 
 def try_workspace(aecp, seed, number, tally):
-    """Edits by chance, their samples read back, their stream beside that of the coder, and edits that are refused."""
+    """Tests random edits, their samples read back, their stream against that of the coder, and refused edits."""
     chance = random.Random(f"workspace {seed} {number}")
     settings = some_settings(chance)
     samples, what = list(some_samples(settings, chance)), f"workspace {seed} {number}"
@@ -319,7 +319,7 @@ def words():
 
 
 def module(library):
-    """The Python module, without numpy."""
+    """Returns the Python module, loaded without numpy."""
     os.environ["AECP_LIBRARY"] = os.path.join(library, "libaecp.so")
     sys.path.insert(0, os.path.join(TOP, "python"))
     sys.modules["numpy"] = None
@@ -329,20 +329,20 @@ def module(library):
 
 
 def build_in_c(asked, path, source):
-    """Builds a program over the library."""
+    """Builds a program with the library."""
     words = ["-I", os.path.join(TOP, "include"), "-o", path, source, os.path.join(asked.library, "libaecp.a"), "-pthread"]
     subprocess.run(["cc", "-O1", "-Wall", "-Werror", *words], check=True)
 
 
 def built(asked, folder, name):
-    """The path of a C program of tests/ over the library."""
+    """Builds a C program of tests/ with the library. Returns its path."""
     path = os.path.join(folder, name)
     build_in_c(asked, path, os.path.join(TOP, "tests", f"{name}.c"))
     return path
 
 
 def try_handles(path, tally):
-    """The C program library_handles, by itself and under valgrind."""
+    """Runs the C program library_handles, by itself and under valgrind."""
     judges = [[], ["valgrind", "-q", "--leak-check=full", "--error-exitcode=9"]]
     for judge in judges if shutil.which("valgrind") else judges[:1]:
         ended = subprocess.run([*judge, path], capture_output=True, text=True)

@@ -1,11 +1,11 @@
 #!/usr/bin/env python3
-"""The Python module with numpy, and its examples: library_arrays.py PATH_OF_AEC FOLDER
+"""Tests the Python module with numpy, and its examples: library_arrays.py PATH_OF_AEC FOLDER
 
-FOLDER has libaecp.a and libaecp.so. Arrays of each type go to streams that the program at PATH_OF_AEC reads, and back;
-aecp_numcodecs.py and aecp_szip.py beside numcodecs and HDF5; the Python of docs/LIBRARY.md.
+FOLDER contains libaecp.so. Codes arrays of each type into streams that the program at PATH_OF_AEC must write too, and decodes them. Tests
+aecp_numcodecs.py against numcodecs, aecp_szip.py against HDF5, and the Python of docs/LIBRARY.md.
 
-It goes on by the first interpreter that has numpy, and h5py where one has both. What isn't installed is skipped, and said. Prints the
-checks that fail and, last, how many passed. Ends with 1 where one failed.
+Continues in the first interpreter that has numpy and h5py, else in the first that has numpy. Skips what isn't installed, and prints
+that. Prints the checks that fail and, last, how many passed. Ends with status 1 if one failed.
 """
 
 import os
@@ -24,7 +24,7 @@ TYPES = {"u1": 8, "i1": 8, "<u2": 16, ">i2": 12, "<u4": 32, ">u4": 24, "<i4": 20
 
 
 def interpreter():
-    """The Python that has most of numpy and h5py."""
+    """Returns the path of the first Python that has numpy and h5py, else of the first that has numpy, or None."""
     paths = [sys.executable, "/usr/bin/python3"]
     for needed in ("numpy, h5py", "numpy"):
         for path in filter(os.path.exists, paths):
@@ -34,14 +34,14 @@ def interpreter():
 
 
 def options_of(dtype, bits):
-    """The module's options for arrays of a type, and the words for the program."""
+    """Returns the module's options for arrays of a type, and the words for the program."""
     words = ["-n", str(bits), "-j", "16", "-r", "128"]
     words += ["-s"] * (dtype.kind == "i") + ["-m"] * (dtype.str[0] == ">")
     return {"bits": bits, "signed": dtype.kind == "i", "msb_first": dtype.str[0] == ">"}, words
 
 
 def drawn_array(dtype, bits):
-    """A walk of 3,000 samples of so many bits."""
+    """Returns a walk of 3,000 samples of so many bits."""
     steps = numpy.random.default_rng(bits).integers(-3, 4, 3000).cumsum()
     least = -(1 << bits - 1) if dtype.kind == "i" else 0
     return ((steps - least) % (1 << bits) + least).astype(dtype)
@@ -61,7 +61,7 @@ def try_arrays(program, tally):
 
 
 def try_szip(program, tally):
-    """aecp_szip.py on files that HDF5 has written, one with a chunk that its place doesn't tell."""
+    """Tests aecp_szip.py on files that HDF5 has written; in one, HDF5 misses a chunk if asked by place."""
     try:
         import h5py
     except ImportError:
@@ -117,7 +117,7 @@ def try_numcodecs(tally):
 
 
 def try_entry_point(tally):
-    """The codec by its name alone, where the module is installed."""
+    """Checks that numcodecs finds the codec by its name if the module is installed."""
     with tempfile.TemporaryDirectory() as folder:
         place = os.path.join(folder, "aecp-1.2.3.dist-info")
         os.mkdir(place)
@@ -131,7 +131,7 @@ def try_entry_point(tally):
 
 
 def try_page(folder, tally):
-    """The Python of LIBRARY.md, one block after the other."""
+    """Runs the Python of LIBRARY.md, one block after the other."""
     with open(os.path.join(TOP, "docs", "LIBRARY.md"), encoding="utf-8") as file:
         blocks = re.findall(r"```python\n(.*?)```", file.read(), re.S)
     tally.check("the page's Python", Program(sys.executable, folder).run("-c", "".join(blocks)), (0, ""))

@@ -1,6 +1,6 @@
-"""Samples and coded bytes in the buffers that Python has, by the module aecp: `try_buffers` those of the standard library,
-`try_arrays` arrays of numpy, of any shape, not contiguous, that can't be written, empty, of the other byte order, and of another
-dtype, which is refused."""
+"""Tests samples and coded bytes in Python's buffers, by the module aecp. `try_buffers` tests those of the standard library.
+`try_arrays` tests numpy's arrays: of any shape, not contiguous, read-only, empty, of the other byte order, and of another dtype, which
+is refused."""
 
 import array
 import sys
@@ -9,7 +9,7 @@ EIGHT, CODED = bytes(range(8)), bytes.fromhex("20092492")
 
 
 def kinds_of(data):
-    """Bytes in each kind of buffer."""
+    """Returns the bytes in each kind of buffer."""
     return {
         "bytes": data,
         "bytearray": bytearray(data),
@@ -21,7 +21,7 @@ def kinds_of(data):
 
 
 def is_refused(call, *given):
-    """Whether a call refuses a buffer as of the wrong type."""
+    """Returns whether a call refuses a buffer because of its type."""
     try:
         call(*given)
     except TypeError:

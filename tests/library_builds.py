@@ -1,10 +1,13 @@
 #!/usr/bin/env python3
-"""The installed library, as other projects build with it: library_builds.py
+"""Tests the installed library as other projects build with it: library_builds.py
 
 Installs bin/libaecp.a, bin/libaecp.so and the header by `make install-c`, once into lib and once into a folder below lib, and builds a
-small program with what is there: by CMake's `find_package`, and by the words of pkg-config. The program has to code and decode a sample.
-A version that isn't there is refused by both. A project that CMake configures twice, with two installations, uses the second one; an
-installation without the header is refused. Then `make uninstall-library` has to leave no file. Ends with 1 where a check failed.
+small program with them: by CMake's `find_package`, and by the words of pkg-config. The program must code and decode samples. Both must
+refuse a version that isn't there. A project that CMake configures twice, with two installations, must use the second one; an installation
+without the header is refused. Then `make uninstall-library` must leave no file.
+
+Needs cc, cmake and pkg-config; a part whose command is missing is skipped, with a line. Prints the checks that fail and, last, how many
+passed. Ends with status 1 if one failed.
 """
 
 import os
@@ -40,26 +43,26 @@ target_link_libraries(uses_aecp aecp::aecp)
 
 
 def ran(*words, **more):
-    """The status of a command, and all that it prints."""
+    """Runs a command. Returns its status and all that it prints."""
     ended = subprocess.run(words, capture_output=True, text=True, **more)
     return ended.returncode, ended.stdout + ended.stderr
 
 
 def has(command, what):
-    """Whether there is a command. If not, says that what needs it is skipped."""
+    """Returns whether there is a command. If not, prints that what needs it is skipped."""
     if not shutil.which(command):
         print(f"skipped, since there is no command {command}: {what}")
     return bool(shutil.which(command))
 
 
 def later(version):
-    """The version after this one that may break its callers."""
+    """Returns the next version that may break the callers of this one."""
     major, minor, _ = map(int, version.split("."))
     return f"{major}.{minor + 1}"
 
 
 def try_cmake(prefix, version, folder, tally):
-    """A project that asks for the version by `find_package`, and one that asks for a later one."""
+    """Builds a project that asks `find_package` for the version, and one that asks for a later version."""
     source, built = os.path.join(folder, "source"), os.path.join(folder, "cmake")
     os.makedirs(source)
     for asked, is_there in ((version, True), (later(version), False)):
@@ -77,7 +80,7 @@ def try_cmake(prefix, version, folder, tally):
 
 
 def try_cmake_twice(prefix, lib, version, folder, tally):
-    """A project configured with an installation, then with a copy of it, then with the copy after it has lost its header."""
+    """Configures a project with an installation, then with a copy of it, then with the copy without its header."""
     source, built, other = (os.path.join(folder, name) for name in ("source", "twice", "other"))
     with open(os.path.join(source, "CMakeLists.txt"), "w", encoding="utf-8") as file:
         file.write(PROJECT.format(asked=version))
@@ -94,7 +97,7 @@ def try_cmake_twice(prefix, lib, version, folder, tally):
 
 
 def try_pkg_config(libdir, version, folder, tally):
-    """The program by the words of pkg-config, linked with the shared library and with the archive."""
+    """Builds the program by the words of pkg-config, with the shared library and with the archive."""
     source, built = os.path.join(folder, "main.c"), os.path.join(folder, "by_pkg_config")
     with open(source, "w", encoding="utf-8") as file:
         file.write(PROGRAM)
@@ -109,7 +112,7 @@ def try_pkg_config(libdir, version, folder, tally):
 
 
 def try_install(lib, version, tally):
-    """An installation with its libraries in this folder of the prefix."""
+    """Tests an installation with its libraries in this folder of the prefix."""
     with tempfile.TemporaryDirectory() as folder:
         prefix = os.path.join(folder, "prefix")
         places = [f"PREFIX={prefix}", f"LIBDIR={prefix}/{lib}", f"PYTHON_DIR={prefix}/python"]

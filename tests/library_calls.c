@@ -1,7 +1,7 @@
 /* Calls of libaecp for tests/library.py. `library_calls CALL BITS BLOCK INTERVAL FLAGS COUNT FIRST LEN ROOM HEX` makes one call with a
- * buffer of ROOM bytes and prints its number, place and length, the bytes of its answer, and its text; FLAGS are the letters of the
- * program's options. `library_calls threads` codes and decodes in eight threads at once, `library_calls nulls` passes NULL as
- * buffers of no bytes. Each buffer stands between bytes that have to stay as they are. */
+ * buffer of ROOM bytes, and prints its fault, place and length, the bytes of the result, and its text. FLAGS are the letters of the
+ * program's options, and e for --even-blocks. `library_calls threads` codes and decodes in eight threads at once. `library_calls nulls`
+ * passes NULL for buffers of no bytes. The bytes before and after a call's buffer must stay unchanged. */
 #include <aecp.h>
 #include <pthread.h>
 #include <stdio.h>
@@ -21,7 +21,7 @@ typedef struct {
 
 static uint8_t buffer[EDGE + MOST + EDGE];
 
-/* A workspace loaded, three numbers put in front of the sample at place FIRST, and its stream. A refused edit has to leave the size. */
+/* Loads a workspace, inserts three numbers before place FIRST, and writes the stream. A refused edit must not change the size. */
 static uint32_t edited(const asked *it, uint8_t *out, aecp_reply *reply) {
     const int64_t values[] = {9, 9, 9};
     aecp_handle handle = AECP_HANDLE;
@@ -34,7 +34,7 @@ static uint32_t edited(const asked *it, uint8_t *out, aecp_reply *reply) {
     return number;
 }
 
-/* The same by a script. The line of a refused edit has to be the first, and only an edited stream has samples. */
+/* Does the same by a script. A refused edit must name line 1, and only an edited stream has samples. */
 static uint32_t scripted(const asked *it, uint8_t *out, aecp_reply *reply) {
     char script[64];
     aecp_edit_reply made = {{99, 99, 99}, 99, 99};
@@ -61,7 +61,7 @@ static int is_untouched(const uint8_t *from, const uint8_t *to) {
     return 1;
 }
 
-/* One call, between the words that tests/refusing.py listens for. */
+/* Makes one call, between the words that tests/refusing.py looks for on standard error. */
 static int try_call(const asked *it) {
     aecp_reply reply = {99, 99, 99};
     char text[200];
@@ -109,7 +109,7 @@ static int call(char **words) {
     return try_call(&it);
 }
 
-/* Codes and decodes samples by chance, again and again. */
+/* Codes and decodes random samples, again and again. */
 static void *work(void *seed) {
     aecp_options options = AECP_OPTIONS(16);
     unsigned state = *(unsigned *)seed;
@@ -144,7 +144,7 @@ static void say(const char *call, uint32_t number, const aecp_reply *reply) {
     printf("%s %u %llu\n", call, number, (unsigned long long)reply->len);
 }
 
-/* Buffers of no bytes that are NULL: where none is needed, and where one is. */
+/* Passes NULL for buffers of no bytes, where no buffer is needed and where one is. */
 static int nulls(void) {
     aecp_options options = AECP_OPTIONS(8);
     uint8_t samples[8] = {0, 1, 2, 3, 4, 5, 6, 7}, coded[8];

@@ -1,6 +1,6 @@
-"""Streams edited by scripts in one call, for library.py: each script by chance beside the model of script_model.py, whose samples the
-library codes afresh. A refused edit is named by its line and its text, and so is a line that is no edit. And streams coded in pieces,
-which are cut anywhere, and decoded interval by interval, beside those of one call."""
+"""Tests streams edited by scripts in one call, for library.py: each random script against the model of script_model.py, whose samples the
+library codes afresh. Each refusal must have the model's text and line, also of a line that is no edit. Also tests streams that are coded
+in pieces, cut anywhere, and decoded interval by interval, against those of one call."""
 
 import copy
 import pickle
@@ -13,7 +13,7 @@ CASES = 600
 
 
 def expected(aecp, settings, samples, script):
-    """The edited stream and its number of samples; or the text of the refusal, and the line."""
+    """Returns the edited stream and its number of samples, or the text of the refusal and the line."""
     try:
         left = edited(settings, samples, edits_of(script))
     except Refused as refusal:
@@ -42,7 +42,7 @@ def try_script(aecp, seed, number, tally):
 
 
 def try_kinds(aecp, tally):
-    """The kinds of the exceptions, a stream longer than its guess, and a stream that is cut."""
+    """Tests the kinds of exceptions, a result longer than the module's first buffer, and a cut stream."""
     options = aecp.Options(8)
     coded = aecp.encode(bytes(8), options)
     tally.check("text", aecp.edit(coded, 8, "truncate 3\nappend 1 2\n", options), (aecp.encode(b"\0\0\0\1\2", options), 5))
@@ -64,7 +64,7 @@ def try_kinds(aecp, tally):
 
 
 def try_pieces(aecp, seed, number, tally):
-    """Samples fed in pieces of chance lengths; and one that is out of range, named by its index among all, each time again."""
+    """Feeds samples in pieces of random lengths."""
     chance = random.Random(f"pieces {seed} {number}")
     settings = some_settings(chance)
     stored = settings.stored(some_samples(settings, chance))
@@ -79,6 +79,7 @@ def try_pieces(aecp, seed, number, tally):
 
 
 def try_refused_pieces(aecp, tally):
+    """Checks that each call after a sample out of range names its index among all samples again."""
     coder = aecp.Encoder(aecp.Options(7))
     coder.feed(bytes(3000))
     for call in (lambda: coder.feed(b"\1\x80"), lambda: coder.feed(b"\1"), coder.finish):
@@ -95,12 +96,12 @@ def try_refused_pieces(aecp, tally):
 
 
 def left_of(decoder):
-    """The stored samples that a decoder has left, by intervals."""
+    """Returns the stored samples that a decoder still has, by intervals."""
     return list(iter(decoder.next_bytes, b""))
 
 
 def try_intervals(aecp, seed, number, tally):
-    """A stream read interval by interval, with a count and without; and from an interval on that was gone to, back or forth."""
+    """Reads a stream interval by interval, with a count and without; then goes back and forth to intervals, and reads each."""
     chance = random.Random(f"intervals {seed} {number}")
     settings = some_settings(chance)
     stored = settings.stored(some_samples(settings, chance))
@@ -119,7 +120,7 @@ def try_intervals(aecp, seed, number, tally):
 
 
 def fault_of(call):
-    """The number and the place of the fault of a call; none where there is none."""
+    """Returns the number and the place of a call's fault, None if there is none."""
     try:
         call()
     except Exception as fault:
@@ -128,7 +129,8 @@ def fault_of(call):
 
 
 def try_cut_intervals(aecp, tally):
-    """A stream cut in its second interval: the first is read, the fault is that of the whole each time. And what isn't opened or copied."""
+    """Reads a stream cut in its third interval, up to the fault, which must be that of decoding all. And tries what can't be opened or
+    copied."""
     options = aecp.Options(8, block_size=8, interval=1)
     coded = aecp.encode(bytes(range(8)) + bytes(range(100, 116)), options)
     cut = coded[: len(coded) * 2 // 3]
@@ -142,11 +144,11 @@ def try_cut_intervals(aecp, tally):
         tally.check("the fault of an interval", fault_of(call), whole)
     tally.check("back", (decoder.go_to(0), bytes(decoder.next_bytes())), (0, bytes(range(8))))
     fresh = aecp.Decoder(cut, 24, options)
-    # What lies behind the interval that is gone to isn't judged.
+    # Going to an interval checks nothing after its start.
     tally.check("to the cut", (fresh.go_to(read), fault_of(lambda: fresh.go_to(read + 1))), (8 * read, whole))
     tally.check("too many", fault_of(lambda: aecp.Decoder(coded, 2**32 + 1, options)), (9, 2**32))
     tally.check("no options", fault_of(lambda: aecp.Decoder(coded, 8, aecp.Options(33))), (1, 0))
-    # No array has samples of three bytes: the refusal leaves the reader where it was.
+    # No array has samples of three bytes: after the refusal the decoder is where it was.
     wide = aecp.Options(24, block_size=8, interval=1, three_byte=True)
     decoder = aecp.Decoder(aecp.encode(bytes(range(24)), wide), 8, wide)
     tally.check("three bytes", fault_of(lambda: next(decoder))[0] in (ValueError, ImportError), True)

@@ -1,6 +1,6 @@
-/* A handle of libaecp for tests/library.py: every call on it, its refusals, and what they leave; and eight threads with a handle each.
- * Prints what goes wrong, and last how many checks passed. `library_handles lost` opens a handle and doesn't close it. On standard error
- * stands from where to where the blocks count that are allocated and freed. */
+/* Tests a handle of libaecp for tests/library.py: every call on it, its refusals, and the samples after them; a coder and a reader; and
+ * eight threads with a handle each. Prints what goes wrong, and last how many checks passed. `library_handles lost` opens a handle and
+ * doesn't close it. The words "refuse" and "grant" on standard error mark the part in which allocated and freed blocks count. */
 #include <aecp.h>
 #include <pthread.h>
 #include <stdio.h>
@@ -91,7 +91,7 @@ static void try_empty(aecp_handle *handle) {
     aecp_close(handle);
 }
 
-/* NULL in the place of no values, and of buffers with no room. */
+/* Passes NULL for no values and for buffers of no bytes. */
 static void try_nulls(const aecp_options *options) {
     const int64_t wanted[] = {3, 4, 5};
     aecp_handle handle = AECP_HANDLE;
@@ -112,7 +112,7 @@ static void try_nulls(const aecp_options *options) {
     aecp_close(&handle);
 }
 
-/* Everything but threads, which the C library gives memory that it keeps. */
+/* Tests calls on handles. Not threads: for these the C library allocates memory that it keeps. */
 static void try_calls(void) {
     aecp_options options = AECP_OPTIONS(8), none = AECP_OPTIONS(33);
     aecp_handle handle = AECP_HANDLE;
@@ -140,7 +140,7 @@ static void lose(void) {
     check(aecp_open(&options, &handle, &reply) == AECP_OK, "open");
 }
 
-/* A list that grows by one sample a turn, of which each before the last is then the thread's number. Sets that to 0 where all is so. */
+/* In each turn appends a zero, and sets the sample before it to the thread's number. Sets the number to 0 if all samples are right. */
 static void *work(void *given) {
     int64_t *number = given, zero = 0, out[TURNS], right = 0;
     aecp_options options = AECP_OPTIONS(8);
@@ -161,7 +161,7 @@ static void *work(void *given) {
 
 enum { PIECES = 1000, LONG = 2 * PIECES };
 
-/* The stream of samples of 16 bits that are fed byte by byte, taken as they come. How long it is. */
+/* Feeds samples of 16 bits byte by byte, and takes the stream as it comes. Returns its length. */
 static size_t in_pieces(aecp_coder *coder, const uint8_t *samples, uint8_t *out) {
     aecp_reply reply;
     size_t len = 0;
@@ -179,7 +179,7 @@ static size_t in_pieces(aecp_coder *coder, const uint8_t *samples, uint8_t *out)
     return len + reply.len;
 }
 
-/* A coder opened twice, its stream beside that of one call, and its refusals. */
+/* Tests a coder opened twice, its stream against that of one call, and its refusals. */
 static void try_coder(void) {
     aecp_options options = AECP_OPTIONS(16), narrow = AECP_OPTIONS(1), none = AECP_OPTIONS(0);
     aecp_coder coder = AECP_CODER;
@@ -207,7 +207,7 @@ static void try_coder(void) {
     aecp_coder_close(&coder);
 }
 
-/* The samples of 16 bits that a reader puts from where it is, interval by interval, each time without room first. How long they are. */
+/* Reads samples of 16 bits from where the reader is, interval by interval, each first with too little room. Returns their length. */
 static size_t in_intervals(aecp_reader *reader, size_t most, uint8_t *out) {
     aecp_reply reply;
     size_t len = 0;
@@ -222,7 +222,7 @@ static size_t in_intervals(aecp_reader *reader, size_t most, uint8_t *out) {
     return len;
 }
 
-/* A reader opened twice, its samples, from the first on and from an interval on, and its refusals. */
+/* Tests a reader opened twice, its samples from the first on and from an interval on, and its refusals. */
 static void try_reader(void) {
     aecp_options options = AECP_OPTIONS(16), none = AECP_OPTIONS(0);
     aecp_reader reader = AECP_READER;

@@ -1,5 +1,5 @@
-"""Memory and stack of the library, for library.py: each growth of a call refused, the blocks that calls don't free, and the stack that
-a thread needs. Each by a C program of the library, and the first two with the library of refusing.py before the C library."""
+"""Tests memory and stack of the library, for library.py: each growth of a call refused, the blocks that calls don't free, and the stack
+that a thread needs. C programs make the calls; for the first two, the library of refusing.py is loaded before the C library."""
 
 import os
 import re
@@ -7,13 +7,13 @@ import re
 from program import Program
 from refusing import Growths, ways
 
-# In KiB: the stacks that are tried, and what a call has to leave of one, since a thread takes more by itself on another machine.
+# In KiB: the stacks that are tried, and what a call must leave of one, since on another machine a thread itself may take more.
 STACKS, LEFT = (16, 32, 64, 128), 4
 
 
 def try_refusals(in_c, library, rows, want, tally):
-    """Each growth of a call refused, that one alone and all after it. What the call has allocated it has freed in each run. A row is
-    the call and its answer with ample memory, `want` the answer for want of memory."""
+    """Refuses each growth of a call, alone and with all later ones. In each run the call must free what it has allocated. A row is
+    a call and its result with ample memory; `want` is the result for lack of memory."""
     growths = Growths(in_c.program, library, in_parts=True)
 
     def run(*words, **more):
@@ -24,7 +24,7 @@ def try_refusals(in_c, library, rows, want, tally):
         for alone in (True, False):
             for run.range in ways(alone):
                 got = in_c.ask(call, 100, run)
-                # The k-th alone may be one that the call goes on without.
+                # The call may go on without the k-th growth alone.
                 allowed = [right] if run.refused == 0 else [want, right] if alone else [want]
                 what = f"growths {run.range} refused in {call.name}"
                 tally.holds(got in allowed, f"{what}: {got}")
@@ -34,7 +34,7 @@ def try_refusals(in_c, library, rows, want, tally):
 
 
 def try_freed(handles, library, tally):
-    """Every call on handles frees what it has allocated, or closing the handle does. A handle that isn't closed is seen."""
+    """Checks that each call on a handle, or closing the handle, frees what was allocated, and that a handle left open is noticed."""
     growths = Growths(handles, library, in_parts=True)
     _, number, _ = growths.refuse(0, -1, handles.run)
     tally.holds(number > 0, "handles: no growth is counted, so the library sees none")
@@ -44,7 +44,7 @@ def try_freed(handles, library, tally):
 
 
 def stacks_of(header, names):
-    """The least stack for each call in KiB, as the header has it."""
+    """Returns the least stack for each call in KiB, as the header says it."""
     with open(header, encoding="utf-8") as file:
         text = re.sub(r"\s*\n \*\s*", " ", file.read())
     said = re.search(r"stack of a thread[^:]*: (\d+) KiB for ([^;]*); (\d+) KiB for the others", text)
@@ -55,13 +55,13 @@ def stacks_of(header, names):
 
 
 def written(stacks, name, kib):
-    """How many bytes a call writes of a stack of so many KiB; none where it doesn't end as it has to."""
+    """Returns how many bytes a call writes of a stack of so many KiB, None if it doesn't end as it must."""
     status, printed = stacks.run(name, str(kib))
     return int(printed) if status == 0 else None
 
 
 def least_stack(stacks, name):
-    """The least stack in KiB of which a call leaves enough; none where no stack that is tried suffices."""
+    """Returns the least stack in KiB of which a call leaves enough, None if no tried stack suffices."""
     for kib in STACKS:
         taken = written(stacks, name, kib)
         if taken is not None and taken <= 1024 * (kib - LEFT):
@@ -70,7 +70,7 @@ def least_stack(stacks, name):
 
 
 def try_stacks(path, folder, header, names, tally):
-    """The least stack of a thread for each call, as a table, and that the header names it."""
+    """Prints the least stack of a thread for each call as a table, and checks that the header names it."""
     stacks, said = Program(path, folder), stacks_of(header, names)
     tally.check("a thread that makes no call", least_stack(stacks, "none"), STACKS[0])
     print("| Call | Least stack of a thread | Bytes written of 128 KiB |\n|---|---|---|")

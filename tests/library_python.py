@@ -1,18 +1,18 @@
 #!/usr/bin/env python3
-"""The Python module beside a list, with threads, copies and wrong types: library_python.py FOLDER [--seed N] [--cases N] [--only N]
+"""Tests the Python module with lists, threads, copies, wrong types: library_python.py FOLDER [--seed N] [--cases N] [--only N]
 
-FOLDER has libaecp.so. In turn
-  - eight threads that append to one workspace, read it, and edit it: no sample is lost, and each reads what was written;
-  - copies, deep copies and pickles have samples of their own; one that is dropped leaves the original alone;
-  - what is no whole number is refused with TypeError, and so are options that aren't numbers or bools;
-    so are samples, streams and options of other kinds, with a message that names the argument (library_refusals.py);
-  - a workspace by chance does what a list does, slices with steps and of other lengths too;
-  - a wrong count takes no memory; `out` is filled, or refused and left as it was;
-  - a library that is missing, or another one, is an ImportError of one line;
-  - mypy --strict finds nothing, where it is installed.
+FOLDER contains libaecp.so. Tests in turn
+  - eight threads that append to one workspace, read it, and edit it: no sample is lost, and each thread reads what was written;
+  - copies, deep copies and pickles: each has its own samples, and if it is dropped the original stays;
+  - samples that are no whole numbers, and options that are no numbers or bools: refused with TypeError. So are samples, streams and
+    options of other kinds, with a message that names the argument (library_refusals.py);
+  - random workspaces: they do what a list does, also with slices that have steps or another length;
+  - a wrong count, which takes no memory; `out`, which is filled, or refused and left unchanged;
+  - a missing or other library: an ImportError of one line;
+  - mypy --strict, if it is installed: it must find nothing.
 
-It goes on by the first interpreter that has numpy, if there is one. Prints the checks that fail and, last, how many passed. Ends with
-1 where one failed.
+Continues in the first interpreter that has numpy, if there is one. Prints the checks that fail and, last, how many passed. Ends with
+status 1 if one failed.
 """
 
 import argparse
@@ -37,7 +37,7 @@ THREADS, ROUNDS = 8, 150
 
 
 def in_threads(work):
-    """Runs work(number) in eight threads. What they raised."""
+    """Runs work(number) in eight threads. Returns what they raised."""
     faults = []
 
     def run(number):
@@ -54,7 +54,7 @@ def in_threads(work):
 
 
 def try_threads(tally):
-    """Threads that append, threads that only read, and both at once with edits."""
+    """Tests threads that append, that read, that edit and read, and that append while one closes the workspace."""
     options = aecp.Options(16, interval=2)
     with aecp.Workspace(options) as work:
 
@@ -113,7 +113,7 @@ def try_copies(tally):
 
 
 def try_closed(tally):
-    """What a closed workspace and a finished encoder say."""
+    """Checks the message of a closed workspace and of a finished encoder."""
     work, coder = aecp.Workspace(aecp.Options(8)), aecp.Encoder(aecp.Options(8))
     work.close()
     coder.finish()
@@ -122,7 +122,7 @@ def try_closed(tally):
 
 
 def try_types(tally):
-    """What isn't a whole number, one by one and in lists."""
+    """Tests what isn't a whole number, alone and in lists, and what is."""
     options = aecp.Options(16)
     wrong = [bytes(8), bytearray(8), memoryview(bytes(8)), "12345678", True, 1.0, None, [1, True], [1.5], ["1"], array.array("d", [1.0])]
     right = {"array": array.array("H", [1, 2]), "list": [1, 2], "tuple": (1, 2), "iterator": iter([1, 2]), "range": range(1, 3), "dict": {1: 0, 2: 0}}
@@ -156,14 +156,14 @@ def try_types(tally):
 
 
 def some_slice(chance, count):
-    """A slice by chance, with a step or without."""
+    """Returns a random slice, with a step or without."""
     ends = [None, *range(-count - 2, count + 3)]
     step = chance.choice([None, None, None, 1, 2, 3, -1, -2, -3])
     return slice(chance.choice(ends), chance.choice(ends), step)
 
 
 def some_step(chance, work, samples, new):
-    """One thing that lists do, done to both. Returns what each answers, or which kind of exception it raises."""
+    """Does one thing that lists do to both. Returns a text, and what each returns or which kind of exception it raises."""
     key, place, value = some_slice(chance, len(samples)), chance.randint(-len(samples) - 1, len(samples)), chance.choice(new or [0])
     far = place * chance.choice([1, 1, 2, 10**9])
     steps = {
@@ -200,7 +200,7 @@ def some_step(chance, work, samples, new):
 
 
 def try_lists(tally, seed, number):
-    """A workspace and a list that get the same edits."""
+    """Makes the same edits of a workspace and of a list, and compares them."""
     chance = random.Random(f"{seed} {number}")
     options = aecp.Options(chance.choice([4, 8, 12]), block_size=8, interval=chance.choice([1, 2, 3]), signed=chance.random() < 0.5)
     samples = [chance.randint(options.least, options.most) for _ in range(chance.randint(0, 60))]
@@ -222,7 +222,7 @@ def try_lists(tally, seed, number):
 
 
 def try_memory(tally):
-    """A count of 2^31 of a short stream: refused before memory is taken. Run apart, so that its memory is known."""
+    """Checks that a count of 2^31 of a short stream is refused before memory is taken, in a process of its own to measure memory."""
     code = """
 import resource, aecp
 options = aecp.Options(16)
@@ -268,10 +268,10 @@ def try_out(tally):
 
 
 def try_undone(tally):
-    """A slice that takes two edits: if the second fails, the first is undone. With steps, the index of a refused sample is its own."""
+    """Checks that if the second edit of a slice fails, the first is undone, and the index of a refused sample in slices with steps."""
 
     class Short(aecp.Workspace):
-        """Fails with NoMemory at one of its edits."""
+        """A workspace that fails with NoMemory at one of its edits."""
 
         left = None
 
@@ -296,7 +296,7 @@ def try_undone(tally):
 
 
 def try_imports(tally, folder):
-    """No library, a file that is none, and a library without the calls."""
+    """Tests a missing library, a file that is no library, and a library without the calls."""
     empty = os.path.join(folder, "empty.so")
     with open(empty, "wb"):
         pass
@@ -308,7 +308,7 @@ def try_imports(tally, folder):
 
 
 def try_version(tally):
-    """A library with another first number or an older second one is refused; a newer second one, or no version, isn't."""
+    """Checks that a library is refused if its version has another first number or a smaller second one, but not if it has none."""
     from aecp.library import judge_version
 
     for number, is_right in ((10000, True), (10007, True), (10200, True), (9900, False), (100, False), (20000, False), (None, True)):

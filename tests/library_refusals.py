@@ -1,5 +1,5 @@
-"""What the module aecp refuses, and that the message names the argument and what it must be, for library_python.py. Samples in buffers of
-integers are coded as the numpy array that they would be; floats, pointers, bools and integers of another size or sign are refused."""
+"""Tests what the module aecp refuses, with a message that names the argument and what it must be. For library_python.py. A buffer of
+integers is coded like the equal numpy array; floats, pointers, bools and integers of another size or sign are refused."""
 
 import array
 import ctypes
@@ -9,22 +9,22 @@ TAKEN = "samples must be bytes, or an array of uint16 (options.dtype), not "
 
 
 def raised(call):
-    """The exception that a call ends with, None where it ends with none."""
+    """Returns the exception that a call raises, or None."""
     try:
         call()
-    except Exception as fault:  # noqa: BLE001 - which one it is is judged
+    except Exception as fault:  # noqa: BLE001 - the caller checks which one it is
         return fault
     return None
 
 
 def check_refused(tally, call, text):
-    """Whether a call ends with TypeError of this text."""
+    """Checks that a call raises TypeError with this text."""
     said = raised(call)
     tally.check(f"refused: {text}", (type(said).__name__, str(said)), ("TypeError", text))
 
 
 def integers_of(numbers, code):
-    """The numbers in each kind of buffer of this typecode, two or four bytes each."""
+    """Yields the numbers in each kind of buffer of this typecode, two or four bytes each."""
     held = array.array(code, numbers)
     kind = {"H": ctypes.c_uint16, "h": ctypes.c_int16, "I": ctypes.c_uint32, "i": ctypes.c_int32}[code]
     yield from (held, memoryview(held), memoryview(held.tobytes()).cast(code))
@@ -32,7 +32,7 @@ def integers_of(numbers, code):
 
 
 def try_integers(aecp, tally):
-    """Buffers of integers give the stream of the same numbers, stored as the options say."""
+    """Checks that buffers of integers are coded like the same numbers stored as the options say."""
     lists = ("H", 16, [0, 1, 258, 65535]), ("h", 12, [-2048, -1, 0, 515]), ("I", 32, [7, 2**31, 66051]), ("i", 20, [-5, 4, 66051])
     for code, bits, numbers in lists:
         for msb_first in (False, True):
@@ -49,7 +49,7 @@ def try_integers(aecp, tally):
 
 
 def try_bytes(aecp, tally):
-    """Buffers of bytes are stored samples, whatever the width."""
+    """Checks that buffers of bytes are stored samples, whatever the width."""
     data, wide = bytes(range(64)), aecp.Options(24, three_byte=True)
     for options in (aecp.Options(8), aecp.Options(16, msb_first=True), aecp.Options(32, signed=True), wide):
         same = [bytearray(data), array.array("b", data), (ctypes.c_ubyte * 64)(*data), (ctypes.c_char * 64)(*data)]
@@ -58,7 +58,7 @@ def try_bytes(aecp, tally):
 
 
 def try_buffers(aecp, tally):
-    """Buffers of anything else."""
+    """Checks that buffers of anything else are refused."""
     options, numbers = aecp.Options(16), [1, 2, 3, 4]
     wrong = [("float32", array.array("f", [1.5])), ("float32", array.array("f")), ("float64", memoryview(array.array("d", [1.5])))]
     wrong += [("int16", array.array("h", numbers)), ("uint32", array.array("I", numbers)), ("uint64", array.array("Q", numbers))]
@@ -74,7 +74,7 @@ def try_buffers(aecp, tally):
 
 
 def try_arguments(aecp, tally):
-    """Arguments of another kind, or in another order."""
+    """Checks that arguments of another kind or in another order are refused."""
     options = aecp.Options(16)
     work = aecp.Workspace(options, range(9))
     coded = work.tobytes()
@@ -98,7 +98,7 @@ def try_arguments(aecp, tally):
 
 
 def try_single_numbers(aecp, tally, numbers):
-    """A number where a list takes an iterable: refused, with nothing changed. append, insert and overwrite take one number."""
+    """Checks that a number in place of an iterable is refused and changes nothing, except in append, insert and overwrite."""
     work = aecp.Workspace(aecp.Options(16), range(9))
     for number in numbers:
         text = f"samples must be a list or another iterable, not {type(number).__name__}"
@@ -116,7 +116,7 @@ def try_single_numbers(aecp, tally, numbers):
 
 
 def try_numpy(aecp, numpy, tally):
-    """Arrays of another dtype, numpy's bools as options, and memoryviews of arrays."""
+    """Tests arrays of another dtype, numpy's bools as options, and memoryviews of arrays."""
     options = aecp.Options(16)
     for name in ("int8", "int16", "int32", "int64", "uint8", "uint64"):
         text = f"samples must be an array of uint16 (options.dtype), not of {name}: use samples.astype(options.dtype) if all samples fit"
@@ -138,7 +138,7 @@ def try_numpy(aecp, numpy, tally):
 
 
 def try_codec(aecp, numpy, tally):
-    """The codec of numcodecs: masks, floats and integers of another size are refused."""
+    """Checks that the codec of numcodecs refuses masks, floats and integers of another size."""
     try:
         from aecp.codec import Aecp
     except ImportError:

@@ -1,6 +1,6 @@
-/* How much stack a call of libaecp takes, for tests/library_memory.py: `library_stacks CALL KIB` makes a call with many settings, each time
- * in a thread with a stack of KIB KiB that ends where no memory is. Prints how much of the stack was written at most, in bytes. With the
- * call `none` that is what a thread takes by itself. */
+/* Measures how much stack a call of libaecp takes, for tests/library_memory.py: `library_stacks CALL KIB` makes a call with many settings,
+ * each time in a thread with a stack of KIB KiB that has no memory below it. Prints how many bytes of the stack were written at most.
+ * With the call `none` that is what a thread itself takes. */
 #include <aecp.h>
 #include <pthread.h>
 #include <stdio.h>
@@ -19,7 +19,7 @@ static aecp_coder coder;
 static aecp_reader reader;
 static size_t samples_len, coded_len;
 
-/* Zeros, and then values of all widths. */
+/* Fills `samples` and `values` with zeros and values of all widths in turn. */
 static void fill(void) {
     size_t width = options.bits > 16 ? 4 : options.bits > 8 ? 2 : 1;
     unsigned seed = options.bits;
@@ -33,7 +33,7 @@ static void fill(void) {
     }
 }
 
-/* A stream edited by a script of each kind of edit, which ends where the first 100 values are appended. */
+/* Edits a stream by a script with each kind of edit; the last one appends the first 100 values. */
 static int is_edited(void) {
     static char script[8000];
     aecp_edit_reply edited;
@@ -47,7 +47,7 @@ static int is(const char *name) {
     return !strcmp(call, name);
 }
 
-/* The call, and whether it ends as it has to. */
+/* Makes the call. Returns whether it ends as it must. */
 static int ends(void) {
     aecp_reply reply = {0, 0, 0};
     if (is("none")) return 1;
@@ -93,7 +93,7 @@ static void *work(void *ended) {
     return 0;
 }
 
-/* How many bytes of a stack of so many are written where the call is made in a thread; 0 where it doesn't end as it has to. */
+/* Makes the call in a thread with a stack of `size` bytes. Returns how many of these are written, 0 if it doesn't end as it must. */
 static size_t taken(size_t size) {
     uint8_t *memory = mmap(0, GUARD + size, PROT_NONE, MAP_PRIVATE | MAP_ANONYMOUS, -1, 0), *stack = memory + GUARD;
     pthread_attr_t attributes;
@@ -109,7 +109,7 @@ static size_t taken(size_t size) {
     return ended ? size - left : 0;
 }
 
-/* The same with these settings, and samples for them; settings that are refused take nothing. */
+/* Does the same with the current settings and samples for them. Refused settings take nothing. */
 static int try_settings(size_t size, size_t *most) {
     aecp_reply reply;
     fill();

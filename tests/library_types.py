@@ -1,5 +1,5 @@
-"""The header aecp.h as compilers read it, for library.py: a program that is C and C++ at once, over samples of 16 bits, without a warning,
-in C++ also about casts and null pointers of C; and README's C, over 4,096 samples of 16 bits."""
+"""Tests aecp.h with compilers, for library.py: a program that is C and C++ at once, with samples of 16 bits, compiles without a warning,
+in C++ also about casts and null pointers of C; README's C codes 4,096 samples of 16 bits."""
 
 import os
 import re
@@ -58,7 +58,7 @@ int main(void) {
 
 
 def try_readme(include, archive, folder, tally):
-    """README's C: it codes all samples of the list that its number of samples is about."""
+    """Checks that README's C codes all of its 4,096 samples."""
     with open(os.path.join(TOP, "README.md"), encoding="utf-8") as file:
         head, code = re.search(r"```c\n(#include <aecp.h>\n)(.*?)```", file.read(), re.S).groups()
     source, path = os.path.join(folder, "readme.c"), os.path.join(folder, "readme")
@@ -70,7 +70,7 @@ def try_readme(include, archive, folder, tally):
 
 
 def try_version(include, version, tally):
-    """That the header has the version of the program, three numbers with points between them."""
+    """Checks that the header has the version of the program, three numbers with points between them."""
     with open(os.path.join(include, "aecp.h"), encoding="utf-8") as file:
         said = re.search(r"#define AECP_VERSION (\d+)", file.read())
     major, minor, patch = map(int, version.split("."))
@@ -78,7 +78,7 @@ def try_version(include, version, tally):
 
 
 def try_types(include, archive, folder, tally):
-    """The program, by the compiler of C and, where there is one, by that of C++."""
+    """Runs the program, built by the compiler of C and, if there is one, by that of C++."""
     for compiler, suffix, more in (("cc", "c", []), ("c++", "cpp", ["-Wold-style-cast", "-Wzero-as-null-pointer-constant"])):
         if shutil.which(compiler):
             source, path = os.path.join(folder, f"types.{suffix}"), os.path.join(folder, f"types_{suffix}")

@@ -1,11 +1,11 @@
 #!/usr/bin/env python3
-"""The limits of the house: limits.py [FOLDER]
+"""Checks the limits of the house: limits.py [FOLDER]
 
-Prints each place of the crates, and each script of too many lines, that passes one; what is wrong with the pages that are written by
-hand (page_limits.py: words, what two pages tell, links); copies of a file that have become different; and each exception that nothing
-needs. Ends with 1 where there is one. The last line counts the files that keep the limits.
+Prints each place of the crates, and each script of too many lines, that breaks a limit; what is wrong with the pages that are written by
+hand (page_limits.py: words, text in two pages, links); copies of a file that differ; and each exception that nothing needs. The last
+line counts the files that keep the limits, and the failures. Ends with status 1 if something failed.
 
-Free are what the formatter puts on one line (`use`, attributes) and the rows of a table within a text.
+Exempt are what the formatter puts on one line (`use`, attributes) and the rows of a table within a text.
 """
 
 import os
@@ -23,10 +23,10 @@ TEXT = 100  # columns of code, clauses and comments
 SPEC, PROOF = 120, 160  # columns of a definition, of a proof
 BODY, DEFINITION, ANSWER = 40, 20, 20  # lines
 NAMES = 40  # of one `use`
-COPIES = ("asserts.rt", "tables.rt")  # of which crates of tests have copies, so that none waits for another's proof
+COPIES = ("asserts.rt", "tables.rt")  # crates of tests have copies of these, so that none waits for another's proof
 USE = re.compile(r"\s*(pub |pub\(crate\) |ghost )*use ")
 
-# Where a limit is passed for a reason: the file, the start of the line or the name, and why.
+# Exceptions: the file, the start of the line or the name, and why.
 ALLOWED = {
     ("crates/aec_bits_tests/src/params/stored_lists.rt", "lists_go_both_ways"): "rows of a table",
     ("crates/aec_block_tests/src/reading.rt", "judges_the_members_of_pairs"): "rows of a table",
@@ -55,7 +55,7 @@ class Place(NamedTuple):
 
 
 def files():
-    """The paths of all texts that have limits."""
+    """Yields the paths of all texts that have limits."""
     for folder, inner, names in os.walk(TOP):
         inner[:] = sorted(it for it in inner if it not in ("out", "bin", ".git", "__pycache__"))
         for name in sorted(names):
@@ -64,7 +64,7 @@ def files():
 
 
 def outside_texts(lines):
-    """The lines that no text goes on in or over, each with its number."""
+    """Yields the lines that aren't part of a string of several lines, each with its number."""
     inside = False
     for number, line in enumerate(lines, 1):
         marks = len(re.findall(r'(?<!\\)"', line)) if not line.lstrip().startswith("//") else 0
@@ -100,7 +100,7 @@ def long_file(path, lines):
 
 
 def long_bodies(path, lines):
-    """Functions whose body, from its brace on a line of its own or behind the signature, has too many lines."""
+    """Yields functions whose body has too many lines. Its brace ends the signature, or has a line of its own."""
     begun = None
     for number, line in enumerate(lines, 1):
         indent = len(line) - len(line.lstrip())
@@ -116,7 +116,7 @@ def long_bodies(path, lines):
 
 
 def long_parts(path, lines, most, what):
-    """Top-level parts of an .antt file, without the comment over them."""
+    """Yields top-level parts of an .antt file that are too long, not counting the comment above them."""
     begun, name = None, ""
     for number, line in enumerate(lines + ["end"], 1):
         starts = line and not line[0].isspace() and not line.startswith(("--", "}", "where"))
@@ -136,7 +136,7 @@ def text_of(path):
 
 
 def other_copies():
-    """The copies of a file that differ from the first one."""
+    """Yields the copies of a file that differ from the first one."""
     for name in COPIES:
         first, *others = [path for path in files() if path.startswith("crates/") and path.endswith(f"/src/{name}")]
         yield from (f"{path} isn't {first}" for path in others if text_of(path) != text_of(first))

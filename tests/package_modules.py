@@ -1,4 +1,4 @@
-"""The wheel in fresh environments of Python, and the Rust crate over the packed archive, for packages.py."""
+"""Tests the wheel in fresh environments of Python, and the Rust crate over the packed archive. For packages.py."""
 
 import glob
 import os
@@ -54,7 +54,7 @@ else:
         print("zarr", zarr.__version__)
 """
 
-# What a caller writes, for mypy --strict.
+# A caller's code, for mypy --strict.
 TYPED = """
 import aecp
 
@@ -74,18 +74,18 @@ def total(work: aecp.Workspace) -> int:
 
 
 def clean():
-    """An environment without the kit, cargo or a setting of this repository."""
+    """Returns an environment without the kit, cargo or a setting of this repository."""
     return {"PATH": "/usr/bin:/bin", "HOME": "/nonexistent", "LC_ALL": "C.UTF-8"}
 
 
 def run(words, **more):
-    """The status of a command in a clean environment, and what it prints."""
+    """Runs a command in a clean environment. Returns its status and what it prints."""
     done = subprocess.run(words, capture_output=True, text=True, env={**clean(), **more}, cwd="/", timeout=250)
     return done.returncode, done.stdout + done.stderr
 
 
 def venv(python, folder, *words):
-    """A fresh environment. The path of its interpreter, or None."""
+    """Makes a fresh environment. Returns the path of its interpreter, or None."""
     status, said = run([python, "-m", "venv", *words, folder])
     if status:
         print(f"skipped, since {python} can't make an environment: {said[-200:]}")
@@ -94,14 +94,14 @@ def venv(python, folder, *words):
 
 
 def files_of(python):
-    """The files of an environment but those that Python has compiled."""
+    """Returns the files of an environment, without those that Python has compiled."""
     top = os.path.dirname(os.path.dirname(python))
     found = {os.path.relpath(os.path.join(at, name), top) for at, _, names in os.walk(top) for name in names}
     return {it for it in found if "__pycache__" not in it}
 
 
 def try_bare(python, wheel, tally):
-    """The wheel without numpy: installed, used by module and command, removed."""
+    """Installs the wheel without numpy, uses its module and its command, and removes it."""
     before = files_of(python)
     status, said = run([python, "-m", "pip", "install", "--no-index", "--disable-pip-version-check", wheel])
     tally.holds(status == 0, f"pip install: {said}")
@@ -117,7 +117,7 @@ def try_bare(python, wheel, tally):
 
 
 def try_archive(command, folder, tally):
-    """The command on a file: kept, and checked."""
+    """Keeps and checks a file by the command."""
     path = os.path.join(folder, "durations.raw")
     shutil.copy(os.path.join(TOP, "examples", "durations.raw"), path)
     for words in (["keep", path, "-n", "16"], ["check", path + ".aec"]):
@@ -128,7 +128,7 @@ def try_archive(command, folder, tally):
 
 
 def try_arrays(python, wheel, folder, tally):
-    """The wheel beside numpy, numcodecs and zarr, as far as the system has them."""
+    """Tests the wheel with numpy, numcodecs and zarr, if the system has them."""
     status, said = run([python, "-m", "pip", "install", "--no-index", "--no-deps", "--disable-pip-version-check", wheel])
     tally.holds(status == 0, f"pip install beside numpy: {said}")
     tally.check("the module with numpy", run([python, "-c", WITH_NUMPY]), (0, ""))
@@ -142,7 +142,7 @@ def try_arrays(python, wheel, folder, tally):
 
 
 def try_types(python, folder, tally):
-    """A typed caller of the installed module."""
+    """Checks a typed caller of the installed module with mypy."""
     mypy = shutil.which("mypy") or shutil.which("mypy", path="/usr/bin")
     if not mypy:
         tally.skip("mypy", "a typed caller of the module")
@@ -155,7 +155,7 @@ def try_types(python, folder, tally):
 
 
 def try_wheel(wheel, folder, tally):
-    """The wheel in an environment without numpy, and in one with it."""
+    """Tests the wheel in an environment without numpy, and in one with it."""
     bare = venv(sys.executable, os.path.join(folder, "bare"))
     if bare:
         try_bare(bare, wheel, tally)
@@ -168,7 +168,7 @@ def try_wheel(wheel, folder, tally):
 
 
 def try_make(folder, tally):
-    """`make install-library` below an empty folder, and its removal."""
+    """Runs `make install-library` below an empty folder, and removes what it installed."""
     places = [f"DESTDIR={folder}", "PREFIX=/usr", "PYTHON_DIR=/usr/lib/python3/dist-packages"]
     words = ["make", "-s", "-C", TOP, *places, f"PYTHON={sys.executable}"]
     tally.check("make install-library", run([*words, "install-library"]), (0, ""))
@@ -181,7 +181,7 @@ def try_make(folder, tally):
 
 
 def try_unsafe(tally):
-    """That unsafe code is in one file, with a reason at each block."""
+    """Checks that unsafe code is in one file, with a reason at each block."""
     for path in sorted(glob.glob(os.path.join(TOP, "rust/aecp/**/*.rs"), recursive=True)):
         with open(path, encoding="utf-8") as file:
             text = re.sub(r"(?m)//(?! SAFETY:).*$", "", file.read())
@@ -193,7 +193,7 @@ def try_unsafe(tally):
 
 
 def cargo(crate, folder, *words, **more):
-    """The status of cargo in a crate, and the end of what it prints."""
+    """Runs cargo in a crate. Returns its status and the end of what it prints."""
     given = {**os.environ, "RUST_BACKTRACE": "0", "CARGO_TARGET_DIR": os.path.join(folder, "target"), "CARGO_TERM_COLOR": "never", **more}
     given.pop("AECP_LIB_DIR", None) if "AECP_LIB_DIR" not in more else None
     done = subprocess.run(["cargo", *words, "--offline"], cwd=crate, capture_output=True, text=True, env=given, timeout=250)
@@ -201,7 +201,7 @@ def cargo(crate, folder, *words, **more):
 
 
 def try_crate(unpacked, folder, tally):
-    """The tests of the crate, by AECP_LIB_DIR and by pkg-config, and clippy."""
+    """Runs the tests of the crate, with AECP_LIB_DIR and with pkg-config, and clippy."""
     try_unsafe(tally)
     if not tally.has("cargo", "the tests of the Rust crate"):
         return

@@ -5,19 +5,19 @@ import re
 import shutil
 import subprocess
 
-# What the least root has: the programs of Debian's essential packages that dpkg, install.sh and the commands of README call.
+# The programs of the least root: those of Debian's essential packages that dpkg, install.sh and the commands of README call.
 TOOLS = """sh bash env cat chmod chown cmp cp cut dirname diff echo find grep head id install ln ls mkdir mktemp mv printf readlink rm rmdir
 sed sort tar tail tee touch true uname wc xz gzip sha256sum dpkg dpkg-deb dpkg-split dpkg-query update-alternatives ldconfig
 start-stop-daemon""".split()
 SUITE, SECONDS = "bookworm", 90  # of Debian, and for debootstrap
 DPKG = [f"var/lib/dpkg/{name}" for name in ("info", "updates", "triggers", "alternatives")]
 PATH = "/usr/sbin:/usr/bin:/sbin:/bin"
-# What changes with every package that is installed and removed, or is a record of it.
+# What every installation and removal of a package changes, and its records.
 RECORDS = ("var/", "etc/ld.so.cache", "tmp/", "proc/", "dev/", "sys/", "run/")
 
 
 def chroot_words():
-    """The words that run a command in another root. None if this user can't do that."""
+    """Returns the words that run a command in another root, None if this user can't do that."""
     for words in (["chroot"], ["unshare", "--map-root-user", "chroot"]):
         try:
             if subprocess.run([*words, "/", "true"], capture_output=True).returncode == 0:
@@ -28,7 +28,7 @@ def chroot_words():
 
 
 def needed_files(path):
-    """The shared libraries of a program, and its loader."""
+    """Returns the shared libraries of a program, and its loader."""
     table = subprocess.run(["ldd", path], capture_output=True, text=True).stdout
     return re.findall(r"(/\S+)", table)
 
@@ -63,10 +63,10 @@ def least_root(root):
 
 
 def debian_root(root):
-    """Fills a folder with Debian's least system. Whether that was possible in time."""
+    """Fills a folder with Debian's least system. Returns whether that was possible in time."""
     if not shutil.which("debootstrap", path=PATH) or os.geteuid() != 0:
         return False
-    # What it mounts goes with its name space, also if the time is over.
+    # Its mounts vanish with its name space, also after a timeout.
     command = ["unshare", "--mount", "timeout", "-k", "5", str(SECONDS), "debootstrap", "--variant=minbase", SUITE, root]
     return subprocess.run(command, capture_output=True).returncode == 0
 
@@ -89,11 +89,11 @@ class Root:
         os.makedirs(self.inside("tmp"), exist_ok=True)
 
     def inside(self, path):
-        """The path here of a file of the root."""
+        """Returns where a file of the root is on this system."""
         return os.path.join(self.path, path.lstrip("/"))
 
     def run(self, script):
-        """The status of a script of the shell in the root, and what it prints."""
+        """Runs a shell script in the root. Returns its status and what it prints."""
         if self.words is None:
             command, path = ["sh", "-c", script], f"{self.inside('usr/bin')}:{PATH}"
         else:
@@ -112,7 +112,7 @@ class Root:
             shutil.copy2(path, to)
 
     def files(self):
-        """The paths of all files and links but records."""
+        """Returns the paths of all files and links that are no RECORDS."""
         found = set()
         for at, _, names in os.walk(self.path):
             found |= {os.path.relpath(os.path.join(at, name), self.path) for name in names}

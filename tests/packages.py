@@ -1,14 +1,14 @@
 #!/usr/bin/env python3
-"""The packages of `make dist`, installed where neither the kit nor, if they need none, Python or a compiler is: packages.py [--quick]
+"""Tests the packages of `make dist`, installed where there is no kit and, if they need none, no Python or compiler: packages.py [--quick]
 
 Runs `make dist` here and in a copy of the checkout elsewhere, and compares the bytes. Installs each package into an empty root, runs
-the commands of README there, removes the package, and looks for files that are left. Then the wheel in fresh environments, and the
-tests of the Rust crate over the packed archive. All versions must be that of the file VERSION.
+README's commands there, removes the package, and looks for files that are left. Then tests the wheel in fresh environments, and the
+Rust crate over the packed archive. All versions must be that of the file VERSION.
 
-A part that needs a program which isn't on the machine is skipped, with a line. MUST_RUN names programs (`lintian cargo`): if one of
-them is missing, the test fails. If MUST_RUN contains the word `proved`, the test also fails if a binary of bin/ isn't what a proving
-build has written at this commit. With --quick the root is never Debian's least system, which takes a minute to make. Prints the
-checks that fail and, last, how many passed. Ends with 1 if one failed.
+A part that needs a missing program is skipped, with a line. MUST_RUN names programs (`lintian cargo`): if one of them is missing, the
+test fails. If MUST_RUN contains the word `proved`, the test also fails if a binary of bin/ isn't what a proving build has written at
+this commit. With --quick the root is never Debian's least system, which takes a minute to make. Prints the checks that fail and, last,
+how many passed. Ends with status 1 if one failed.
 """
 
 import glob
@@ -49,13 +49,13 @@ class Checks(Tally):
         self.must = os.environ.get("MUST_RUN", "").split()
 
     def skip(self, name, what):
-        """Prints that a part is skipped, since a program isn't on the machine. Fails if it must be."""
+        """Prints that a part is skipped, since a program isn't on the machine. Fails if MUST_RUN names the program."""
         print(f"skipped, since there is no {name}: {what}", flush=True)
         if name in self.must:
             self.holds(False, f"{name} must be here")
 
     def has(self, name, what):
-        """Whether a program is on the path."""
+        """Returns whether a program is on the path."""
         if shutil.which(name):
             return True
         self.skip(name, what)
@@ -68,7 +68,7 @@ def version():
 
 
 def dist(top):
-    """Runs `make dist` in a checkout. The packages, by name. Binaries that nobody has proved are packed for a try."""
+    """Runs `make dist` in a checkout, with UNPROVED=1 if the binaries aren't proved. Returns the packages by name."""
     words = ["make", "-s", "-C", top, "dist", f"PYTHON={sys.executable}"] + ([] if is_proved() else ["UNPROVED=1"])
     subprocess.run(words, check=True, stdout=subprocess.DEVNULL)
     return {os.path.basename(path): path for path in glob.glob(os.path.join(top, "dist", "*"))}
@@ -87,7 +87,7 @@ def data_of(path):
 
 
 def copied_checkout(folder):
-    """A copy of the files of git, of git itself, and of bin/."""
+    """Copies all files that git doesn't ignore, .git and bin/ into a folder."""
     for name in filter(None, proved.git("ls-files", "-coz", "--exclude-standard").split("\0")):
         if os.path.lexists(os.path.join(TOP, name)):
             os.makedirs(os.path.dirname(os.path.join(folder, name)), exist_ok=True)
@@ -98,7 +98,7 @@ def copied_checkout(folder):
 
 
 def try_builds(made, folder, tally):
-    """That a build in another folder writes the same bytes, and that no binary contains a path of this machine."""
+    """Checks that a build in another folder writes the same bytes, and that no binary contains a path of this machine."""
     other = os.path.join(folder, "elsewhere", "checkout")
     copied_checkout(other)
     again = dist(other)
@@ -111,7 +111,7 @@ def try_builds(made, folder, tally):
 
 
 def try_links_again(tally):
-    """That linking the library again writes the same bytes."""
+    """Checks that linking the library again writes the same bytes."""
     archive = os.path.join(TOP, "crates/aec_c/out/libaec_c.a")
     if not (os.path.exists(archive) and tally.has("rt", "linking the library again")):
         print("skipped, since make library wasn't run here: linking the library again")
@@ -124,7 +124,7 @@ def try_links_again(tally):
 
 
 def try_notices(made, tally):
-    """That the tarball and the wheel contain the licence of the kit's crates, as plain text, with their names."""
+    """Checks that the tarball and the wheel contain the licence of the kit's crates, as plain text, with their names."""
     text = stage.notices(TOP).decode()
     for name in ("byteorder", "clap", "smallvec", "strsim", "thiserror", "\nTHE SOFTWARE IS PROVIDED", "\n\nPermission is hereby granted"):
         tally.holds(name in text, f"the notices lack {name!r}")
@@ -138,7 +138,7 @@ def try_notices(made, tally):
 
 
 def try_symbols(made, tally):
-    """That the binaries need no newer C library than the packages say, and no other library."""
+    """Checks that the binaries need no newer C library than the packages say, and no other library."""
     library, program = os.path.join(TOP, "bin/libaecp.so"), os.path.join(TOP, "bin/aec")
     needed = elf.glibc_needed(library)
     tally.holds(needed <= wheel.GLIBC, f"the wheel is {wheel.TAG}, and the library needs glibc {needed}")
@@ -150,14 +150,14 @@ def try_symbols(made, tally):
 
 
 def commands_of(page):
-    """The commands of README's first use of the program, which work on a file of examples/."""
+    """Returns README's first commands that run the program on a file of examples/."""
     with open(page, encoding="utf-8") as file:
         blocks = re.findall(r"(?ms)^```sh\n(.*?)^```$", file.read())
     return next(it for it in blocks if re.search(r"^aec .*examples/", it, re.M))
 
 
 def try_commands(root, page, name, tally):
-    """README's commands in a root, with the installed examples."""
+    """Runs README's commands in a root, with the installed examples."""
     top = "" if root.words else root.path
     script = f"""set -e
 export PATH="{top}/opt/aec/bin:$PATH"
@@ -171,7 +171,7 @@ ln -s {top}{os.path.dirname(page)}/examples .
 
 
 def try_tarball(made, root, folder, tally):
-    """Unpacked, installed, used, removed."""
+    """Unpacks the tarball, installs it, uses it, and removes it; then again under another name."""
     name = f"aec-{version()}-x86_64-linux"
     before = root.files()
     subprocess.run(["tar", "-C", folder, "-xzf", made[name + ".tar.gz"]], check=True)
@@ -195,13 +195,13 @@ def try_tarball(made, root, folder, tally):
 
 
 def c_example():
-    """The program of docs/LIBRARY.md."""
+    """Returns the program of docs/LIBRARY.md."""
     with open(os.path.join(TOP, "docs", "LIBRARY.md"), encoding="utf-8") as file:
         return re.search(r"(?s)```c\n(#include <aecp.h>.*?)```", file.read())[1]
 
 
 def try_c(prefix, lib, name, root, folder, tally):
-    """The program of docs/LIBRARY.md: compiled here by what is installed in the root, and run there."""
+    """Compiles the program of docs/LIBRARY.md here with what is installed in the root, and runs it there."""
     if not (tally.has("cc", "the library for C") and tally.has("pkg-config", "the library for C")):
         return
     source, built = os.path.join(folder, "example.c"), os.path.join(folder, f"example_{name}")
@@ -226,7 +226,7 @@ def try_c(prefix, lib, name, root, folder, tally):
 
 
 def try_debs(made, root, folder, tally):
-    """The Debian packages: installed beside a file /usr/bin/aec of another package and without it, used, removed."""
+    """Installs, uses and removes the Debian packages, with a file /usr/bin/aec of another package and without."""
     if root.words is None:
         print("skipped, since no other root can be entered here: dpkg")
         return
@@ -267,7 +267,7 @@ def try_lintian(made, tally):
 
 
 def try_versions(made, tally):
-    """That each package has the version of the file VERSION, in its name and inside."""
+    """Checks that each package has the version of the file VERSION, in its name and inside."""
     for name in made:
         tally.holds(version() in name, f"{name} has another version than {version()}")
     for name in filter(lambda it: it.endswith(".deb"), made):

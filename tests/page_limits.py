@@ -1,15 +1,15 @@
-"""The limits of the pages that are written by hand: how many words each has, and that none tells what another tells.
+"""The limits of the pages that are written by hand, for limits.py: the number of words in each, and that no two pages say the same.
 
-Words are counted as `wc -w` does: whatever stands between blanks, code, tables and marks of lists too. What a script writes into a page,
-from a line `<!-- Written by .. -->` up to a line `<!-- end -->` or the end of the page, isn't counted. The pages are those at the top and
-of docs/, README.md of examples/ and of each crate and package, and bench/steps.md. Not among them: docs/theorems/, bench/tables.md and
-LICENSE, and the claims, from which docs/PROOFS.md is written.
+Words are counted as `wc -w` does: whatever stands between blanks, also code, tables and marks of lists. Not counted is what a script
+writes into a page, from a line `<!-- Written by .. -->` to a line `<!-- end -->` or the end of the page. The pages are those at the top
+and in docs/, README.md of examples/ and of each crate and package, and bench/steps.md. Not among them: docs/theorems/, bench/tables.md
+and LICENSE, and the claims, from which docs/PROOFS.md is written.
 
-A run of eight words that stands in two pages is told twice. It lies within one paragraph, item or cell. Left out are blocks of code,
-heads of tables, and where links lead; code within a line is one word. The README of a package may say again what others say, since it is
-read alone, on an index of packages.
+No run of eight words may be in two pages. A run lies within one paragraph, item or cell. Blocks of code, heads of tables and targets of
+links don't count, and code within a line is one word. A package's README may repeat other pages, since it is read alone, on an index
+of packages.
 
-Each link to a page leads to a file that is there, and to a heading that it has.
+Each link to a page leads to an existing file, and to a heading that it has.
 """
 
 import fnmatch
@@ -38,14 +38,13 @@ ALONE = ("python/README.md", "rust/*/README.md")
 RUN = 8
 WRITTEN = re.compile(r"(?ms)^<!-- Written by .*?(^<!-- end -->\n|\Z)")
 
-# Runs that stand in two pages for a reason, as the words that make them up, and why.
+# Runs that are in two pages for a reason: their words, and why.
 TWICE = {
-    "szip chunks of hdf5 where hdf5 has no szip": "what one example does, on the two pages that name it",
 }
 
 
 class Told(NamedTuple):
-    """A run of words that two pages have."""
+    """A run of words that several pages have."""
 
     words: tuple
     pages: tuple
@@ -55,7 +54,7 @@ class Told(NamedTuple):
 
 
 def pages(top):
-    """Each page written by hand with its text, without what a script has written into it."""
+    """Yields each page written by hand and its text, without what a script has written into it."""
     for pattern in FOLDERS + ALONE:
         for path in sorted(glob.glob(os.path.join(top, pattern))):
             with open(path, encoding="utf-8") as file:
@@ -65,7 +64,7 @@ def pages(top):
 
 
 def too_long(found):
-    """What passes a limit of words."""
+    """Yields what exceeds a limit of words."""
     counts = {path: len(text.split()) for path, text in found.items()}
     for path, most in MOST.items():
         if counts.get(path, 0) > most:
@@ -75,7 +74,7 @@ def too_long(found):
 
 
 def parts_of(text):
-    """The paragraphs, items and cells of a page, each as its words."""
+    """Yields the paragraphs, items and cells of a page, each as its words."""
     text = re.sub(r"(?ms)^ *```.*?^ *```$", "\n", text)
     text = re.sub(r"(?m)^\|.*\n(?=\|[-|: ]+\|$)", "\n", text)
     text = re.sub(r"(?m)^    .*$|<!--.*?-->", "", text)
@@ -86,7 +85,7 @@ def parts_of(text):
 
 
 def told_twice(found):
-    """Runs that two pages have, each as long as it goes."""
+    """Returns the runs that several pages have, each in full length."""
     places = {}
     for path, text in found.items():
         if any(fnmatch.fnmatch(path, pattern) for pattern in ALONE):
@@ -106,13 +105,13 @@ def told_twice(found):
 
 
 def headings(text):
-    """What the headings of a page are called in links."""
+    """Returns the names of a page's headings in links."""
     names = re.findall(r"(?m)^#+ (.*)", re.sub(r"(?ms)^```.*?^```$", "", text))
     return {re.sub(r"[^\w -]", "", name.lower()).replace(" ", "-") for name in names}
 
 
 def lost_links(top, path, text):
-    """The links of a page that lead nowhere."""
+    """Yields the links of a page that lead nowhere."""
     for link in re.findall(r"\]\(([^)\s]+)\)", text):
         file, _, heading = link.partition("#")
         target = os.path.normpath(os.path.join(top, os.path.dirname(path), file)) if file else os.path.join(top, path)
@@ -127,7 +126,7 @@ def lost_links(top, path, text):
 
 
 def wrongs(top):
-    """What is wrong, and how many pages there are."""
+    """Returns what is wrong, and the number of pages."""
     found = dict(pages(top))
     wrong, needed = list(too_long(found)), set()
     for path, text in found.items():

@@ -1,26 +1,26 @@
 """A plain coder of samples: docs/FORMAT.md, sections 8 to 11, in other words than the definitions and the code.
 
-Shares nothing with the project's code. Each option of each block is measured, and the first of the shortest is taken.
+It shares nothing with the project's code. It measures each option of each block, and takes the first of the shortest.
 """
 
 from spelling import blocks_of, bytes_of_bits, length, options_of, run, spelled
 
 
 def block_bits(block, settings):
-    """A block that isn't all zeros, by the shortest option."""
+    """Returns the code of a block that isn't all zeros, by the shortest option."""
     option = min(options_of(settings), key=lambda option: length(option, block, settings))
     return spelled(option, block, settings)
 
 
 def run_number(blocks, reaches_end):
-    """The number that a run of so many blocks is written with."""
+    """Returns the number that a run of so many blocks is written with."""
     if blocks <= 4:
         return blocks - 1
     return 4 if reaches_end else blocks
 
 
 def interval_bits(samples, settings):
-    """The code of one interval."""
+    """Returns the code of one interval."""
     blocks, place, text = blocks_of(samples, settings), 0, ""
     while place < len(blocks):
         end = min(place - place % 64 + 64, len(blocks))
@@ -36,7 +36,7 @@ def interval_bits(samples, settings):
 
 
 def stream(samples, settings):
-    """The bytes of the code of the samples."""
+    """Returns the bytes of the code of the samples."""
     size = settings.interval_len()
     intervals = (samples[first : first + size] for first in range(0, len(samples), size))
     return bytes_of_bits("".join(interval_bits(interval, settings) for interval in intervals))

@@ -1,8 +1,7 @@
 """A plain reader of streams: docs/FORMAT.md, sections 4 to 8 and 12, in other words than the definitions and the code.
 
-It shares nothing with the project's code and was written without a look at it. It says what a reading is as plainly as it can,
-and is meant for short streams. `reading` is the samples that a stream stands for, or a `Fault` with the text that the program
-prints.
+It shares nothing with the project's code, and was written without looking at it. It is as plain as possible, and meant for short
+streams. `reading` returns the samples of a stream, or raises `Fault` with the text that the program prints.
 """
 
 from math import isqrt
@@ -27,7 +26,7 @@ class Bits:
         self.at = 0
 
     def binary(self, width):
-        """The number that the next bits write."""
+        """Returns the number that the next bits write."""
         text = self.text[self.at : self.at + width]
         if len(text) < width:
             raise End
@@ -35,7 +34,7 @@ class Bits:
         return int(text, 2) if width else 0
 
     def fundamental(self):
-        """The number of the next fundamental sequence."""
+        """Returns the number of the next fundamental sequence."""
         one = self.text.find("1", self.at)
         if one < 0:
             raise End
@@ -59,21 +58,21 @@ class DataSet(NamedTuple):
 
 
 def identifier_length(settings):
-    """L, the basic length of an identifier."""
+    """Returns L, the basic length of an identifier."""
     if settings.restricted:
         return 1 if settings.bits <= 2 else 2
     return 3 if settings.bits <= 8 else 4 if settings.bits <= 16 else 5
 
 
 def pair(number):
-    """The members (a, b) of a pair with that number, (a + b) * (a + b + 1) / 2 + b."""
+    """Returns the members (a, b) of the pair with that number, (a + b) * (a + b + 1) / 2 + b."""
     total = (isqrt(8 * number + 1) - 1) // 2
     second = number - total * (total + 1) // 2
     return [total - second, second]
 
 
 def coded_data_set(bits, settings, is_reference):
-    """The coded data set that begins at the place, not judged yet."""
+    """Returns the coded data set that begins at the current bit, without checking it."""
     length, missing = identifier_length(settings), 1 if is_reference else 0
     option = bits.binary(length)
     is_extension = option == 0 and bits.binary(1) == 1
@@ -92,12 +91,12 @@ def coded_data_set(bits, settings, is_reference):
 
 
 def sample_of_pattern(pattern, settings):
-    """The sample with that two's complement."""
+    """Returns the sample with that two's complement."""
     return pattern - 2**settings.bits if settings.signed and pattern > settings.most() else pattern
 
 
 def sample(value, before, settings):
-    """The sample with that mapped value, predicted by the sample before it."""
+    """Returns the sample with that mapped value, predicted by the sample before it."""
     if not settings.preprocess:
         return sample_of_pattern(value, settings)
     below, above = before - settings.least(), settings.most() - before
@@ -109,12 +108,12 @@ def sample(value, before, settings):
 
 
 def run_blocks(number, left):
-    """How many blocks the run with that number has, where its segment has so many left."""
+    """Returns how many blocks the run with that number has, if its segment has `left` blocks left."""
     return {0: 1, 1: 2, 2: 3, 3: 4, 4: left}.get(number, number)
 
 
 def block_samples(found, blocks, before, settings):
-    """The samples of a coded data set that stands for so many blocks."""
+    """Returns the samples of a coded data set of so many blocks."""
     first = [] if found.pattern is None else [sample_of_pattern(found.pattern, settings)]
     before = first[0] if first else before
     if found.values is None:
@@ -128,7 +127,7 @@ def block_samples(found, blocks, before, settings):
 
 
 def next_samples(bits, settings, place, before):
-    """The blocks and the samples of the coded data set at a block's place in its interval."""
+    """Returns the number of blocks and the samples of the next coded data set, which begins at block `place` of its interval."""
     start = bits.at
     try:
         found = coded_data_set(bits, settings, settings.preprocess and place == 0)
@@ -146,7 +145,7 @@ def next_samples(bits, settings, place, before):
 
 
 def reading(stream, settings, count=None):
-    """The samples of a stream, with or without their count."""
+    """Returns the samples of a stream, with or without their count."""
     too_many = Fault(f"more than {MOST_SAMPLES} samples")
     if count is not None and count > MOST_SAMPLES:
         raise too_many

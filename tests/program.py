@@ -19,7 +19,7 @@ class Program:
         return os.path.join(self.folder, name)
 
     def write(self, name, data):
-        """Puts a file there, or sees that there is none."""
+        """Writes a file, or removes it if `data` is None."""
         if data is not None:
             with open(self.file(name), "wb") as file:
                 file.write(data)
@@ -27,14 +27,14 @@ class Program:
             os.remove(self.file(name))
 
     def read(self, name):
-        """What a file holds, None where there is none."""
+        """Returns what a file holds, None if there is none."""
         if not os.path.exists(self.file(name)):
             return None
         with open(self.file(name), "rb") as file:
             return file.read()
 
     def run(self, *words, **more):
-        """The status, and all that is printed. What is given by name goes to `subprocess.run`."""
+        """Runs the program. Returns the status and all that it prints. Named arguments go to `subprocess.run`."""
         try:
             ended = subprocess.run([self.path, *words], cwd=self.folder, capture_output=True, timeout=SECONDS, **more)
             return ended.returncode, (ended.stdout + ended.stderr).decode(errors="replace")
@@ -42,7 +42,7 @@ class Program:
             return None, f"no answer in {SECONDS} seconds"
 
     def answer(self, words, given):
-        """What a run on these bytes writes, None where it writes nothing or doesn't end. What it prints is kept in `said`."""
+        """Runs the program on these bytes. Returns what it writes, None if it writes nothing or doesn't end. `said` is what it prints."""
         self.write("source", given)
         self.write("dest", None)
         status, self.said = self.run(*words, "source", "dest")
@@ -50,8 +50,8 @@ class Program:
 
 
 def asked_of(description, cases, other=False):
-    """What the words of a test ask for that tries cases by chance: the program, another one where two are compared, the seed,
-    and the numbers of the cases. Says which seed and how many."""
+    """Parses the arguments of a test with random cases: the program, another one if two are compared, the seed, and the numbers
+    of the cases. Prints the seed and how many cases there are."""
     words = argparse.ArgumentParser(description=description)
     words.add_argument("program")
     if other:
@@ -71,8 +71,8 @@ def on_one_core(work, path, numbers, *more):
 
 
 def on_each_core(work, path, numbers, *more):
-    """Does `work(program, numbers, *more)` on all cores at once, each with a part of the numbers and a folder of its own.
-    What these answer, one after another."""
+    """Calls `work(program, numbers, *more)` on all cores at once, each with a part of the numbers and a folder of its own.
+    Returns the list of the results."""
     cores = os.cpu_count() or 1
     with ProcessPoolExecutor(cores) as pool:
         parts = [pool.submit(on_one_core, work, path, numbers[i::cores], *more) for i in range(cores)]
@@ -86,7 +86,7 @@ class Tally:
         self.passed, self.failed = 0, 0
 
     def holds(self, is_so, failure):
-        """One check, and what to print where it fails."""
+        """Counts one check, and prints `failure` if it fails."""
         if is_so:
             self.passed += 1
         else:
@@ -94,11 +94,11 @@ class Tally:
             print(f"FAILED: {failure}", flush=True)
 
     def check(self, what, got, wanted):
-        """One check of what came out."""
+        """Counts one check that a result is the wanted one."""
         self.holds(got == wanted, f"{what}: {short(got)} in place of {short(wanted)}")
 
     def add(self, other):
-        """Counts what another one counted."""
+        """Adds the counts of another tally."""
         self.passed, self.failed = self.passed + other.passed, self.failed + other.failed
 
     def print(self, skipped=0, reason=""):
@@ -107,11 +107,11 @@ class Tally:
 
 
 def short(it):
-    """A text for what was found or wanted, cut where it is long."""
+    """Returns a text for what was found or wanted, cut if it is long."""
     text = it.hex(" ") if isinstance(it, bytes) else repr(it)
     return text if len(text) <= 200 else f"{text[:200]}.. ({len(text)} characters)"
 
 
 def said(message):
-    """What a run is to answer: status and print of a refusal, or of none."""
+    """Returns the expected status and output of a run: of a refusal with this message, or of success if None."""
     return (0, "") if message is None else (1, f"aec: {message}\n")

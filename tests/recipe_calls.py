@@ -1,6 +1,6 @@
 """What the tests of examples/ share: the folder on Python's path, calls of the scripts' functions,
-and modules that are hidden. A function is called in place of a run of its script where there are
-many cases: Python takes a tenth of a second to start, and numpy twice that."""
+and hidden modules. If there are many cases, a test calls a script's function instead of running the
+script, since Python takes 0.1 s to start, and 0.2 s with numpy."""
 
 import contextlib
 import io
@@ -14,8 +14,8 @@ from aec_runs import Refused, WrongWords  # noqa: E402 - in the folder that was 
 
 
 def called(action, *words, **named):
-    """What a function of a script does with these words: 0 and what it prints, or 1 and the text
-    of its refusal, or 2 where it doesn't take the words."""
+    """Calls a function of a script. Returns 0 and what it prints, 1 and the text of its refusal, or
+    2 and a text if it doesn't take the words."""
     printed = io.StringIO()
     try:
         with contextlib.redirect_stdout(printed):
@@ -28,8 +28,8 @@ def called(action, *words, **named):
 
 
 def hiding(folder, *modules):
-    """The environment of a Python that finds none of these modules. Makes a folder for that in
-    the one given."""
+    """Returns an environment in which Python finds none of these modules. Makes a folder for it
+    in `folder`."""
     hidden = os.path.join(folder, "hidden")
     os.makedirs(hidden, exist_ok=True)
     for name in modules:

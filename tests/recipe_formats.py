@@ -1,9 +1,10 @@
 #!/usr/bin/env python3
-"""The scripts of examples/ for GRIB, HDF5 and packets, where neither eccodes nor h5py is there:
+"""Tests the scripts of examples/ for GRIB, HDF5 and packets, without eccodes and h5py:
 recipe_formats.py PATH_OF_AEC [--seed N] [--cases N] [--only N]
 
-Messages, chunks and packets are made here from the formats' rules, and each refusal is tried.
-`recipes.py` runs this with eccodes, h5py and numpy hidden.
+Makes messages, chunks and packets by the rules of the formats, and tries each refusal.
+`recipes.py` runs this with eccodes, h5py and numpy hidden. Prints the checks that fail and, last,
+how many passed. Ends with status 1 if one failed.
 """
 
 import os
@@ -26,8 +27,8 @@ BLOCK_SIZES = [8, 16, 32, 10, 12, 14, 18, 20, 22, 24, 26, 28, 30]
 
 
 def written_out(samples, bits, block_size):
-    """A stream without preprocessing, each block of it uncompressed: the identifier, all of it
-    ones, then the samples. It is as long as whole blocks."""
+    """Returns a stream without preprocessing, whose blocks are all uncompressed: the identifier,
+    which is ones alone, then the samples. The samples fill whole blocks."""
     ones = 3 if bits <= 8 else 4 if bits <= 16 else 5
     text = ""
     for first in range(0, len(samples), block_size):
@@ -38,7 +39,7 @@ def written_out(samples, bits, block_size):
 
 
 def lines_of(samples, layout, is_filled_by_copies):
-    """Samples with the filler behind each line: copies of the line's last one, or zeros."""
+    """Returns the samples with filler after each line: copies of its last sample, or zeros."""
     filled = []
     for first in range(0, len(samples), layout.line):
         line = samples[first : first + layout.line]
@@ -48,8 +49,8 @@ def lines_of(samples, layout, is_filled_by_copies):
 
 
 def chunk_of(layout, elements, aec):
-    """A chunk of elements, each given as bytes: planes, lines, filler and head by the filter's
-    rules."""
+    """Returns the chunk of elements, given as bytes each, with planes, lines, filler and head by
+    the filter's rules."""
     raw = b"".join(elements)
     is_nn, is_msb = bool(layout.mask & NN), bool(layout.mask & MSB_FIRST)
     if layout.element >= 4 and layout.bits >= 32:
@@ -73,7 +74,8 @@ def chunk_of(layout, elements, aec):
 
 
 def drawn_chunk(chance):
-    """A layout, and elements that have it: of 1, 2, 4 or 8 bytes, some with fewer bits."""
+    """Returns a random layout, elements of it (1, 2, 4 or 8 bytes each, some with fewer bits), and
+    another element."""
     size, least, most = chance.choice([(1, 1, 8), (2, 9, 16), (4, 17, 24), (8, 64, 64)])
     bits = chance.choice([chance.randint(least, most), 8 * size])
     mask = chance.choice([NN, EC]) | chance.choice([MSB_FIRST, LSB_FIRST])
@@ -86,8 +88,9 @@ def drawn_chunk(chance):
 
 
 def may_follow(before, after, raw_bytes):
-    """Whether an edit may leave this chunk: a raw one is raw again, and a coded one becomes raw
-    where it doesn't shrink, but not where HDF5 1.10 would miss that, since its length stays."""
+    """Returns whether an edit may turn `before` into `after`. A raw chunk stays raw. A coded chunk
+    becomes raw if it doesn't shrink, unless it was as long as a raw one: HDF5 1.10 would miss
+    the change."""
     if before.is_raw:
         return after.is_raw
     is_as_long = len(before.data) == raw_bytes
@@ -95,7 +98,7 @@ def may_follow(before, after, raw_bytes):
 
 
 def try_chunk(number, chance, aec, tally):
-    """A chunk: its raw bytes, and those after an edit, by which it may become raw."""
+    """Checks the raw bytes of a random chunk before and after an edit, which may make it raw."""
     layout, elements, value = drawn_chunk(chance)
     chunk, raw = chunk_of(layout, elements, aec), b"".join(elements)
     what = f"own chunk {number}: {layout}"
@@ -112,7 +115,7 @@ def try_chunk(number, chance, aec, tally):
 
 
 def try_layouts(aec, tally):
-    """The words of layouts, and the layouts and chunks that are refused."""
+    """Checks the words of layouts, and the layouts and chunks that are refused."""
     for mask, more in (
         (EC | LSB_FIRST, ["-N"]),
         (EC | MSB_FIRST, ["-m", "-N"]),
@@ -149,15 +152,15 @@ def try_layouts(aec, tally):
 
 
 def packet(apid, sequence, field, secondary=b""):
-    """A space packet."""
+    """Returns a space packet."""
     body = secondary + field
     identity = (0x800 if secondary else 0) | apid
     return struct.pack(">HHH", identity, 0xC000 | sequence, len(body) - 1) + body
 
 
 def try_packets(aec, script, tally):
-    """Packets of two instruments: one is missing, one is damaged, one is idle, and the last one is
-    cut."""
+    """Reads packets of two instruments, of which two are missing, one is damaged, one is idle, and
+    the last one is cut."""
     words = ["--count", "8", "-N"]
     stream = bytes.fromhex("E0 00 20 40 60 80 A0 C0 E0")
     listed = [
@@ -196,7 +199,7 @@ def try_packets(aec, script, tally):
 
 
 def try_packet_words(words, aec, script, tally):
-    """Words that space_packets.py refuses; a folder `all` and packets `p` are there."""
+    """Checks words that space_packets.py refuses. Folder `all` and packets `p` are there."""
     usage = "read takes the words AEC FILE FOLDER SECONDARY OPTIONS.."
     for given, status, text in (
         (["all", "4", *words], 1, "all: File exists"),
@@ -210,8 +213,8 @@ def try_packet_words(words, aec, script, tally):
 
 
 def try_sample_packets(aec, script, tally):
-    """The packets that sample_packets.py makes are those that the format's rules make here, and
-    their samples are those of durations.raw."""
+    """Checks that sample_packets.py makes the packets that the format's rules make here, from the
+    samples of durations.raw."""
     with open(os.path.join(EXAMPLES, "durations.raw"), "rb") as file:
         samples = file.read()
     settings = Settings(bits=12, block_size=16, interval=32)
@@ -226,7 +229,7 @@ def try_sample_packets(aec, script, tally):
 
 
 def try_statuses(aec, script, tally):
-    """Help, no words and wrong ones, of each script that a user runs, with h5py hidden too."""
+    """Runs each script with --help, without words and with wrong ones; h5py and aecp are hidden."""
     names = sorted(it for it in os.listdir(EXAMPLES) if it.endswith(".py"))
     for name in names:
         path, more = os.path.join(EXAMPLES, name), {"env": hiding(aec.folder, "h5py", "aecp")}
@@ -248,7 +251,7 @@ def try_statuses(aec, script, tally):
 
 
 def try_without_h5py(aec, script, tally):
-    """What h5_szip.py says where h5py isn't there."""
+    """Checks what h5_szip.py prints without h5py, and aecp_szip.py without aecp."""
     said = "h5_szip.py: No module named 'h5py': python3-h5py has it for /usr/bin/python3\n"
     answer = script.run(HDF5, "show", "none.h5", "d", env=hiding(aec.folder, "h5py"))
     tally.check("without h5py", answer, (1, said))
@@ -258,7 +261,7 @@ def try_without_h5py(aec, script, tally):
 
 
 def try_refused_programs(aec, tally):
-    """A program that isn't this project's, and one that isn't there."""
+    """Tries a program that isn't this project's, and one that isn't there."""
     for path, text in (
         ("/bin/true", "/bin/true isn't this project's aec: its --version prints something else"),
         (aec.file("none"), f"{aec.file('none')}: No such file or directory"),

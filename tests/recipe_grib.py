@@ -1,11 +1,13 @@
 #!/usr/bin/env python3
-"""examples/grib_ccsds.py beside eccodes:
+"""Tests examples/grib_ccsds.py against eccodes:
 recipe_grib.py PATH_OF_AEC [--seed N] [--cases N] [--only N]
 
-eccodes writes messages of template 5.42 with 1 to 32 bits a value, signed and not, with a bitmap
+eccodes writes messages of template 5.42: 1 to 32 bits a value, signed and unsigned, with a bitmap
 and without, standard and other even block sizes. The samples that aec decodes must be the values
-that eccodes reads, and after an edit, or another value at a place, eccodes must read that value and
-nothing else otherwise. Needs python3-eccodes and libeccodes-data.
+that eccodes reads. After an edit, or after `set` at a place, eccodes must read the new value there,
+and all others as before. Needs python3-eccodes and libeccodes-data.
+
+Prints the checks that fail and, last, how many passed. Ends with status 1 if one failed.
 """
 
 import random
@@ -24,7 +26,7 @@ SIGNED, PREPROCESS, ANY_EVEN_BLOCK = 1, 8, 64  # bits of ccsdsFlags
 
 
 def drawn_values(chance, count, has_bitmap):
-    """Values of a field that isn't constant, some of them missing."""
+    """Returns the values of a field that isn't constant; with a bitmap, some are missing."""
     x, values = chance.uniform(-100, 300), []
     for _ in range(count):
         x += chance.uniform(-1, 1) * chance.choice([0, 0.1, 1, 20])
@@ -33,8 +35,8 @@ def drawn_values(chance, count, has_bitmap):
 
 
 def drawn_flags(chance, bits, block_size):
-    """The ccsdsFlags of a message. Above 8 bits eccodes 2.28 writes samples that it can't read
-    itself unless 2 and 4 are set."""
+    """Returns ccsdsFlags for a message. Above 8 bits eccodes 2.28 writes samples that it can't read
+    itself, unless the flags 2 and 4 are set."""
     flags = chance.choice([0, 2, 4, 6]) if bits <= 8 else 6
     flags += chance.choice([PREPROCESS, PREPROCESS, PREPROCESS, 0])
     flags += chance.choice([SIGNED, 0, 0])
@@ -42,7 +44,7 @@ def drawn_flags(chance, bits, block_size):
 
 
 def drawn_message(chance, bits):
-    """The bytes of a message of that many bits a value."""
+    """Returns the bytes of a random message with so many bits a value."""
     handle = eccodes.codes_grib_new_from_samples("regular_ll_sfc_grib2")
     columns, rows = chance.randint(2, 40), chance.randint(2, 40)
     has_bitmap, block_size = chance.random() < 0.5, chance.choice([8, 16, 32, 64, 10, 12, 22, 62])
@@ -64,7 +66,7 @@ def drawn_message(chance, bits):
 
 
 class Read:
-    """What eccodes reads of a message."""
+    """A message as eccodes reads it."""
 
     def __init__(self, data):
         handle = eccodes.codes_new_from_message(data)
@@ -78,42 +80,42 @@ class Read:
         self.decimal = eccodes.codes_get_long(handle, "decimalScaleFactor")
 
     def places(self):
-        """The points that have a value."""
+        """Returns the points that have a value."""
         values = enumerate(self.values)
         return [i for i, x in values if not (self.has_bitmap and x == MISSING)]
 
     def least(self):
-        """The least sample of so many bits."""
+        """Returns the least sample."""
         return -1 << self.bits - 1 if self.flags & SIGNED else 0
 
     def unsigned(self, sample, words):
-        """The number that eccodes takes a sample for: its stored bytes without sign, where libaec
-        stores copies of the sign above the sample with preprocessing alone."""
+        """Returns the number that eccodes makes of a sample: its stored bytes without sign. libaec
+        stores copies of the sign above the sample only with preprocessing."""
         bits = 8 * bytes_of_sample(words) if self.flags & PREPROCESS else self.bits
         return sample % (1 << bits)
 
     def value(self, number):
-        """The value of a number."""
+        """Returns the value of a number."""
         return (self.reference + number * 2.0**self.binary) / 10.0**self.decimal
 
     def numbers(self):
-        """How many numbers from 0 on eccodes reads rightly: of signed samples not always all."""
+        """Returns how many numbers from 0 on eccodes reads correctly: if signed, not always all."""
         is_odd = self.flags & SIGNED and self.bits not in (8, 16, 32)
         return 1 << self.bits - 1 if is_odd else 1 << self.bits
 
     def takes_value(self, value):
-        """Whether a value is that of such a number."""
+        """Returns whether a value is that of such a number."""
         return value < self.value(self.numbers() - 0.5)
 
     def agrees(self, value, number):
-        """Whether a value that eccodes has read is that of the number."""
+        """Returns whether a value that eccodes has read is that of the number."""
         wanted = self.value(number)
         step = 2.0**self.binary / 10.0**self.decimal
         return abs(value - wanted) <= max(1e-3 * step, 1e-12 * abs(value))
 
 
 def try_case(number, seed, aec, tally):
-    """One message: its samples, its stream put back, and an edit."""
+    """Tests one message: its samples, its own stream put back, an edit, and single values."""
     chance = random.Random(f"{seed} {number}")
     data = drawn_message(chance, 1 + number % 32)
     read, source, out = Read(data), aec.file("message"), aec.file("out")
@@ -145,8 +147,8 @@ def try_case(number, seed, aec, tally):
 
 
 def try_values(what, read, data, chance, aec, tally):
-    """Values as eccodes reads them, and another value at a place, of the second message of a file:
-    numbers that eccodes reads as they are, and values that no number has."""
+    """Tests `values` and `set` on the second message of a file, with numbers that eccodes reads
+    correctly and with values that no number has."""
     aec.write("message", b"".join([data, b"between", data]))
     source, out = aec.file("message"), aec.file("out")
     more, places = {"message": "2"}, read.places()

@@ -1,10 +1,13 @@
 #!/usr/bin/env python3
-"""examples/h5_szip.py beside HDF5: recipe_hdf5.py PATH_OF_AEC [--seed N] [--cases N] [--only N]
+"""Tests examples/h5_szip.py against HDF5:
+recipe_hdf5.py PATH_OF_AEC [--seed N] [--cases N] [--only N]
 
 HDF5 writes data sets with its szip filter: 11 element types in both byte orders, 1 to 4 dimensions,
-chunks that don't divide the shape, NN and EC, J 8 to 32 and other even sizes, old and new formats
-of the file. What the script reads must be what was written, and after an edit HDF5 must read that
-value there and all others as before. Needs h5py with szip.
+chunks that don't divide the shape, NN and EC, each even J from 8 to 32, old and new file formats.
+What the script reads must be what was written. After an edit, HDF5 must read the new value there
+and all others as before. Needs h5py with szip; without szip all is skipped, with status 0.
+
+Prints the checks that fail and, last, how many passed. Ends with status 1 if one failed.
 """
 
 import math
@@ -37,7 +40,7 @@ SZIP = h5py.h5z.FILTER_SZIP
 
 
 def drawn_elements(chance, shape):
-    """Elements of one of 11 types, in either byte order: walks, noise, and nearly equal ones."""
+    """Returns elements of one of 11 types, in either byte order: a walk, noise, or mostly zeros."""
     dtype = numpy.dtype(chance.choice("<>") + chance.choice(TYPES))
     source, count = numpy.random.default_rng(chance.randrange(1 << 32)), math.prod(shape)
     elements = {
@@ -50,8 +53,8 @@ def drawn_elements(chance, shape):
 
 
 def drawn_file(chance, path):
-    """Writes a file with one data set. Its elements, and a text for it; None where HDF5 refuses the
-    data set."""
+    """Writes a file with one data set. Returns its elements and a text for it, or None if HDF5
+    refuses the data set."""
     shape = tuple(chance.randint(1, most) for most in chance.choice(MOST))
     elements = drawn_elements(chance, shape)
     keys = {
@@ -66,14 +69,14 @@ def drawn_file(chance, path):
             made = file.create_dataset("d", shape, elements.dtype, compression="szip", **keys)
         except ValueError:
             return None
-        rows = keys["chunks"][0] if is_part else shape[0]  # chunks behind these aren't there
+        rows = keys["chunks"][0] if is_part else shape[0]  # later chunks aren't there
         made[:rows] = elements[:rows]
         elements[rows:] = keys["fillvalue"]
     return elements, f"{elements.dtype.str} {shape}, {keys}, {version}"
 
 
 def drawn_value(chance, dtype):
-    """A value of a type, as text."""
+    """Returns a value of a type, as text."""
     if dtype.kind == "f":
         return chance.choice(["0", "-1.5", "1e4", "-inf", "nan", "0.1"])
     limits = numpy.iinfo(dtype)
@@ -82,13 +85,13 @@ def drawn_value(chance, dtype):
 
 
 def differences(aec):
-    """What h5diff says of the data set before and after an edit: its last line but empty ones."""
+    """Returns what h5diff says of an edit: the last line before an empty one."""
     _, said = Program(shutil.which("h5diff"), aec.folder).run("-r", "before.h5", "d.h5", "/d")
     return (said.split("\n\n")[0].strip().splitlines() or [""])[-1]
 
 
 def try_edit(what, chance, elements, aec, tally):
-    """One edit of a data set, which HDF5 must read, and h5diff must see."""
+    """Makes one edit of a data set, which HDF5 must read, and h5diff must see."""
     path, place = aec.file("d.h5"), tuple(chance.randrange(n) for n in elements.shape)
     value, before = drawn_value(chance, elements.dtype), elements.copy()
     shutil.copy(path, aec.file("before.h5"))
@@ -102,7 +105,7 @@ def try_edit(what, chance, elements, aec, tally):
 
 
 def try_case(number, seed, aec, tally):
-    """One data set: its elements, and two edits. Whether HDF5 takes it."""
+    """Tests one data set: its elements, and two edits. Returns whether HDF5 takes it."""
     chance, path = random.Random(f"{seed} {number}"), aec.file("d.h5")
     drawn = drawn_file(chance, path)
     if drawn is None:

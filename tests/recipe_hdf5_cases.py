@@ -1,5 +1,5 @@
 """Single cases of recipe_hdf5.py: the words of each mask, chunks that no longer shrink, chunks that
-HDF5 1.10 doesn't find by their place, elements of fewer bits, and what is refused."""
+HDF5 1.10 misses if asked by place, elements of fewer bits, and refusals."""
 
 import os
 
@@ -20,14 +20,14 @@ def made_set(path, elements, chunks, option=("nn", 8), mode="w"):
 
 
 def stored_chunk(path):
-    """Whether the first chunk of d is raw, and its bytes."""
+    """Returns whether the first chunk of d is raw, and its bytes."""
     with h5py.File(path, "r") as file:
         mask, data = file["d"].id.read_direct_chunk((0,) * file["d"].ndim)
     return mask & 1 == 1, data
 
 
 def try_masks(aec, tally):
-    """The words that `show` prints for either byte order, with preprocessing and without."""
+    """Checks the words that `show` prints for either byte order, with preprocessing and without."""
     path = aec.file("mask.h5")
     for dtype, coding, more in (
         ("<i2", "nn", ""),
@@ -38,7 +38,7 @@ def try_masks(aec, tally):
         elements = numpy.arange(60 * 70).reshape(60, 70).astype(dtype)
         made_set(path, elements, (16, 70), (coding, 16))
         status, said = called(h5_szip.show, path, "d")
-        # 15 lines of 70 samples are filled up to 80, and the last one is
+        # 16 lines of 70 samples: all but the last count with their filler, as 80
         wanted = f"aec --count 1270 -n 16 -j 16 -r 5{more}"
         tally.check(f"show {dtype} {coding}", (status, said.splitlines()[-1:]), (0, [wanted]))
         answer = called(h5_szip.read, aec.path, path, "d", aec.file("raw"))
@@ -47,7 +47,7 @@ def try_masks(aec, tally):
 
 
 def is_read(path, elements):
-    """Whether HDF5 reads these elements of d."""
+    """Returns whether HDF5 reads these elements of d."""
     try:
         with h5py.File(path, "r") as file:
             return file["d"][...].tobytes() == elements.tobytes()
@@ -56,8 +56,8 @@ def is_read(path, elements):
 
 
 def edit_all(what, path, elements, values, aec, tally):
-    """Gives elements of the one chunk of d other values, one after another; HDF5 reads each.
-    Whether the chunk was raw after each edit."""
+    """Gives elements of the one chunk of d other values, one by one, and checks that HDF5 reads
+    each. Returns whether the chunk was raw after each edit."""
     seen = []
     for place, value in values:
         answer = called(h5_szip.edit, aec.path, path, "d", str(place), str(value))
@@ -70,8 +70,8 @@ def edit_all(what, path, elements, values, aec, tally):
 
 
 def try_raw(aec, tally):
-    """Chunks that no longer shrink: one is written raw, and stays so; one that was as long as a raw
-    one before stays coded."""
+    """Tests chunks that no longer shrink: one becomes raw and stays raw; one that was as long as a
+    raw one before stays coded."""
     path, noise = aec.file("raw.h5"), numpy.random.default_rng(121).integers(0, 256, 64)
     elements = numpy.zeros(64, "u1")
     made_set(path, elements, (64,))
@@ -93,8 +93,8 @@ def try_raw(aec, tally):
 
 
 def try_grown(aec, tally):
-    """A data set whose last dimension may grow: HDF5 1.10 doesn't tell by its place that a chunk is
-    there."""
+    """Tests a data set whose last dimension may grow: if asked for the chunk at a place, HDF5 1.10
+    misses chunks that are there."""
     path, elements = aec.file("grown.h5"), numpy.arange(600, dtype="<i4").reshape(20, 30)
     with h5py.File(path, "w", libver="latest") as file:
         keys = {"compression": "szip", "compression_opts": ("nn", 8)}
@@ -127,7 +127,7 @@ def made_type(path, stored, shape=(40,), values=None):
 
 
 def integer(name, bits, offset=0):
-    """A type of HDF5 for integers of so many bits."""
+    """Returns a type of HDF5 for integers of so many bits."""
     stored = h5py.h5t.py_create(numpy.dtype(name)).copy()
     stored.set_precision(bits)
     stored.set_offset(offset)
@@ -135,7 +135,7 @@ def integer(name, bits, offset=0):
 
 
 def try_precision(aec, tally):
-    """Integers of fewer bits than their bytes have: values within them are edited."""
+    """Edits integers of fewer bits than their bytes have, to values that fit and that don't."""
     path = aec.file("bits.h5")
     for name, bits, least, most in (
         ("<i2", 12, -2048, 2047),
@@ -155,7 +155,7 @@ def try_precision(aec, tally):
 
 
 def try_types(aec, tally):
-    """Types that aren't read or edited."""
+    """Checks types that aren't read or edited."""
     path = aec.file("types.h5")
     bfloat = h5py.h5t.IEEE_F32LE.copy()
     bfloat.set_fields(23, 15, 8, 0, 15)
@@ -190,7 +190,7 @@ def made_bad(path):
 
 
 def try_refusals(aec, tally):
-    """What the script refuses, and that the file is then as it was."""
+    """Checks what the script refuses, and that the file is then unchanged."""
     path = aec.file("bad.h5")
     made_bad(path)
     before = aec.read("bad.h5")
@@ -232,7 +232,7 @@ def try_refusals(aec, tally):
 
 
 def try_command_lines(aec, script, tally):
-    """Statuses and texts of runs."""
+    """Checks the status and the text of runs."""
     made_bad(aec.file("bad.h5"))
     before = aec.read("bad.h5")
     aec.write("none.h5", b"no data")

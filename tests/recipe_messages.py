@@ -14,12 +14,12 @@ GRIB = os.path.join(EXAMPLES, "grib_ccsds.py")
 
 
 def section(number, body):
-    """A section of a message."""
+    """Returns a section of a message."""
     return struct.pack(">IB", len(body) + 5, number) + body
 
 
 def message(stream, count, settings, flags, template=42, bits=None, edition=2, more=b""):
-    """A message with this stream. `more` stands behind section 7."""
+    """Returns a message with this stream. `more` follows section 7."""
     bits = settings.bits if bits is None else bits
     packing = struct.pack(">fHHBBB", 250.0, SIGN | 9, 0, bits, 0, flags)
     packing += struct.pack(">BH", settings.block_size, settings.interval)
@@ -30,7 +30,7 @@ def message(stream, count, settings, flags, template=42, bits=None, edition=2, m
 
 
 def drawn_settings(chance, bits):
-    """Settings that a message may have, and its flags."""
+    """Returns random settings that a message may have, and its flags."""
     settings = Settings.by_chance(chance, [bits], [8, 16, 32, 64], [1, 2, 64, 128, 4096], 0)
     restricted = bits <= 4 and chance.random() < 0.3
     settings = settings._replace(bits=bits, pad=False, restricted=restricted)
@@ -47,7 +47,7 @@ def drawn_settings(chance, bits):
 
 
 def drawn_samples(chance, settings, count):
-    """A walk within the range of the settings."""
+    """Returns a random walk within the range of the settings."""
     x, samples = settings.least(), []
     for _ in range(count):
         x = min(max(x + chance.randint(-9, 10), settings.least()), settings.most())
@@ -56,8 +56,8 @@ def drawn_samples(chance, settings, count):
 
 
 def try_message(number, chance, aec, tally):
-    """A message with samples of so many bits: its options, its stream, and an edit; another message
-    behind it stays."""
+    """Tests a message with samples of so many bits: its options, its stream, an edit, and values.
+    Another message after it must stay."""
     settings, flags = drawn_settings(chance, 1 + number % 32)
     samples = drawn_samples(chance, settings, chance.randint(1, 700))
     stream = aec.answer(settings.options(), settings.stored(samples))
@@ -89,7 +89,7 @@ def try_message(number, chance, aec, tally):
 
 
 def try_fit(what, stream, paths, aec, tally):
-    """Streams that don't fit a message: cut ones, and one with more bytes."""
+    """Puts streams that don't fit a message: cut ones, and one with a byte more."""
     aec.write("o", b"old")
     for name, other in (("cut", stream[:-1]), ("none", b""), ("longer", stream + b"\0")):
         aec.write("s", other)
@@ -99,7 +99,7 @@ def try_fit(what, stream, paths, aec, tally):
 
 
 def bad_messages(good, settings):
-    """Messages that are refused, and the text of each refusal."""
+    """Returns messages that are refused, and the text of each refusal."""
 
     def made(stream=b"", flags=8, **more):
         return message(stream, 8, settings, flags, **more)
@@ -125,7 +125,7 @@ def bad_messages(good, settings):
 
 
 def try_bad_messages(aec, script, tally):
-    """Each refusal, by its text; OUT is then as it was."""
+    """Checks the text of each refusal, and that OUT is then unchanged."""
     settings = Settings(bits=8, block_size=8, interval=2)
     good = message(bytes.fromhex("20 09 24 92"), 8, settings, 8)
     source, out = aec.file("m"), aec.file("out")
@@ -164,7 +164,7 @@ def try_bad_messages(aec, script, tally):
 
 
 def try_words(aec, script, tally):
-    """Words that the script doesn't take, files that aren't there, and OUT that is read too."""
+    """Tries words that the script refuses, missing files, and an OUT that is also read."""
     for words, wanted, text in (
         (["edit", aec.path, "script", "m", "m"], 1, "m is read, so it can't be written too"),
         (["edit", aec.path, "m", "m"], 2, "edit takes the words AEC SCRIPT FILE OUT [--message M]"),
@@ -195,8 +195,8 @@ def try_words(aec, script, tally):
 
 
 def try_several(aec, script, tally):
-    """A file of three messages, one of them of edition 1, with bytes between them: each is found,
-    and the others stay."""
+    """Tests a file of three messages, one of them of edition 1, with bytes between them: each is
+    found, and the others stay."""
     settings, stream = Settings(bits=8, block_size=8, interval=2), bytes.fromhex("20 09 24 92")
     one, two = message(stream, 8, settings, 8), message(b"\0\x78", 5, settings, 8)
     old = b"GRIB\0\0\x20\1" + b"GRIB" * 6

@@ -1,11 +1,13 @@
 #!/usr/bin/env python3
-"""The scripts of examples/ and the page about them:
+"""Tests the scripts of examples/ and the page about them:
 recipes.py PATH_OF_AEC [--seed N] [--cases N] [--only N]
 
-Each command of docs/RECIPES.md in a folder of its own, those of `aecp` where `make library` has built
-bin/libaecp.so. Meanwhile the formats are tried: with eccodes and h5py hidden (recipe_formats.py), and
-beside these by an interpreter that has them (recipe_grib.py, recipe_hdf5.py). What needs a program
-or a module that isn't installed is skipped, and said.
+Runs each command of docs/RECIPES.md in a new folder, those of `aecp` if `make library` has built
+bin/libaecp.so. Meanwhile tests the formats: with eccodes, h5py and numpy hidden
+(recipe_formats.py), and against eccodes and HDF5 by an interpreter that has them (recipe_grib.py,
+recipe_hdf5.py). Skips what needs a program or a module that isn't installed, and prints that.
+
+Prints the checks that fail and, last, how many passed. Ends with status 1 if one failed.
 """
 
 import os
@@ -27,7 +29,7 @@ MODULES = ("eccodes", "gribapi", "h5py", "numpy")
 
 
 def interpreter_with(module, environment=None):
-    """A Python that has a module, None where none has."""
+    """Returns the path of a Python that has a module, None if none has."""
     for path in (sys.executable, "/usr/bin/python3"):
         words = [path, "-c", f"import {module}"]
         if os.path.exists(path):
@@ -38,7 +40,7 @@ def interpreter_with(module, environment=None):
 
 
 def begun(python, name, asked, environment=None):
-    """A test that runs by itself, with the seed and the cases asked for."""
+    """Starts a test in a process of its own, with the same seed and cases."""
     words = [python, os.path.join(HERE, name), asked.program]
     words += ["--seed", str(asked.seed), "--cases", str(asked.cases)]
     words += [] if asked.only is None else ["--only", str(asked.only)]
@@ -47,7 +49,7 @@ def begun(python, name, asked, environment=None):
 
 
 def add_test(running, tally):
-    """Waits for a test, prints what it says, and adds what it counts."""
+    """Waits for a test, prints its output, and adds its counts."""
     said, name = running.communicate()[0], os.path.basename(running.args[1])
     print(f"{name}: {said}", end="", flush=True)
     counts = re.findall(r"^(\d+) passed, (\d+) failed", said, re.M)
@@ -58,7 +60,7 @@ def add_test(running, tally):
 
 
 def begun_hidden(asked, folder, tally):
-    """The test of the formats, where no Python has eccodes, h5py or numpy."""
+    """Starts the test of the formats, with MODULES hidden from each Python."""
     environment = hiding(folder, *MODULES)
     found = [it for it in MODULES if interpreter_with(it, environment)]
     tally.check("modules that are hidden", found, [])
@@ -66,7 +68,7 @@ def begun_hidden(asked, folder, tally):
 
 
 def begun_judged(asked):
-    """The tests of the formats beside eccodes and HDF5, and what is skipped."""
+    """Starts the tests against eccodes and HDF5. Returns them, and what is skipped."""
     running, skipped = [], []
     for module, name in (("eccodes", "recipe_grib.py"), ("h5py", "recipe_hdf5.py")):
         if python := interpreter_with(module):
@@ -77,7 +79,7 @@ def begun_judged(asked):
 
 
 def missing_for(block):
-    """What a block of commands needs and isn't there."""
+    """Returns what a block of commands needs and isn't there."""
     needs = {
         "libeccodes-tools": ("grib_get", shutil.which("grib_get")),
         "libeccodes-data": (SAMPLES, os.path.isdir(SAMPLES)),
@@ -90,14 +92,14 @@ def missing_for(block):
 
 
 def wanted_words(line):
-    """What a command must print: its remark up to a comma, where that has a number."""
+    """Returns what a command must print: its remark up to a comma, if that has a digit."""
     remark = line.partition("  # ")[2].split(", ")[0].strip()
     return remark if re.search(r"\d", remark) else ""
 
 
 def prepare_page(aec):
-    """What the commands of the page find: `aec` and `aecp` on the path, and examples/. The
-    environment to run them in."""
+    """Puts examples/, `aec` and `aecp` where the commands of the page find them. Returns the
+    environment for the commands."""
     bin_folder = aec.file("bin")
     os.mkdir(bin_folder)
     os.symlink(aec.path, os.path.join(bin_folder, "aec"))
@@ -109,7 +111,7 @@ def prepare_page(aec):
 
 
 def try_block(block, aec, environment, tally):
-    """The commands of a block, and what its remarks say that they print."""
+    """Runs a block of commands, and checks that they print what its remarks say."""
     more = {"env": environment, "capture_output": True, "text": True}
     ended = subprocess.run(["sh", "-euc", block], cwd=aec.folder, check=False, **more)
     said = f"{ended.stdout[-300:]} {ended.stderr[-300:]}"
@@ -120,7 +122,7 @@ def try_block(block, aec, environment, tally):
 
 
 def try_page(aec, tally):
-    """Each block of commands of the page, in one folder. What was skipped."""
+    """Runs each block of commands of the page, in one folder. Returns what was skipped."""
     environment, skipped, failed_before = prepare_page(aec), [], set()
     with open(PAGE, encoding="utf-8") as file:
         text = file.read()

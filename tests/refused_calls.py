@@ -1,19 +1,22 @@
 #!/usr/bin/env python3
-"""Refused memory within calls of the libraries: refused_calls.py PATH_OF_AEC_MEMORY_TRIALS
+"""Tests library calls that lack memory: refused_calls.py PATH_OF_AEC_MEMORY_TRIALS
 
-The program at PATH_OF_AEC_MEMORY_TRIALS makes calls of the libraries that can lack memory, and prints what it answers and what is
-there after it; a call that lacked memory is made once more. Growths (calls of malloc, calloc and realloc) are refused within
-those calls: the k-th and all after it in the same call, and the k-th alone, for each k until a run meets no refusal. That run has
-to print the file stdout of the crate. Each other one has to print the same, but that one call lacked memory: what was there
-before it is there still, though of a codec's counters as many as the call may raise can have risen, and the same call then gives
-what the file says. A coder in pieces answers the refusal for good, and a new one gives what the file says. In a run of edits the
-refused growth of an edit is the edit's outcome, and the others are made. A run of the program ends with status 1 and one line, and makes
-no DEST. No call goes on without a growth that is refused, with two exceptions if it alone is refused: `edit` goes on without that of the
-list of a script's overwrites in the order of their places, and `encode_bytes` without the room that it makes before it codes. The answer
-is the same then.
+The program at PATH_OF_AEC_MEMORY_TRIALS makes calls of the libraries that can lack memory, and prints the result of each call and the
+state after it. It repeats a call that lacked memory. A preloaded library refuses growths (calls of malloc, calloc and realloc) within
+those calls: the k-th and all later ones in the same call, and the k-th alone, for each k until a run meets no refusal. That run must
+print the file stdout of the crate aec_memory_tests. Each other run must print the same, except for the call that lacked memory:
+  - The state is the one before the call, but a codec's counters may have risen, at most as far as in a successful call. The repeated
+    call prints its line of the file.
+  - A coder in pieces returns the refusal for good. A new coder prints the line of the file.
+  - In a run of edits, the refused growth of an edit is the outcome of that edit, and the other edits are made.
+  - A run of the program ends with status 1 and one line, and makes no DEST.
 
-The library that refuses is built by `cc`; without that command nothing is tried, which is a failure where CI is set. Prints a table, the checks that fail and, last,
-how many passed. Ends with 1 where one failed.
+Each refused growth makes its call fail, with two exceptions if it alone is refused: `edit` and `perform --edit` go on without the list
+of a script's overwrites in the order of their places, and `encode_bytes` without the room that it makes before it codes. The result is
+then the same.
+
+The command `cc` builds the preloaded library. Without `cc` nothing is tested, which is a failure if CI is set. Prints a table, the
+checks that fail and, last, how many passed. Ends with status 1 if one failed.
 """
 
 import os
@@ -28,13 +31,13 @@ from refusing import Growths, build, has_compiler, print_skipped, ways
 
 ROWS = os.path.join(os.path.dirname(__file__), "..", "crates", "aec_memory_tests", "stdout")
 WANT = "out of memory"
-# The calls that go on without one growth, in turn: that which makes room before, and those that make an overwrite of a script.
+# The calls that go on without one growth, in order: the one that makes room in advance, and those that apply a script's overwrite.
 GOING_ON = ["encode_bytes", "edit", "perform --edit script source dest"]
 COUNTERS = re.compile(r"calls (\d+), reads (\d+),")
 
 
 class Line(NamedTuple):
-    """A call, what it answers, and what is there after it."""
+    """A printed line: a call, its result, and the state after it."""
 
     call: str
     answer: str
@@ -46,7 +49,7 @@ def lines_of(text):
 
 
 def counters(line):
-    """The numbers of calls and of reads that a line tells, none where it has no codec."""
+    """Returns the numbers of calls and of reads in a line, zeros if it has no codec."""
     found = COUNTERS.search(line.left)
     return [int(number) for number in found.groups()] if found else [0, 0]
 
@@ -56,18 +59,18 @@ def rise(old, new):
 
 
 def raised(line, by):
-    """The line where the counters are greater."""
+    """Returns the line with these numbers added to its counters."""
     calls, reads = (number + more for number, more in zip(counters(line), by))
     return line._replace(left=COUNTERS.sub(f"calls {calls}, reads {reads},", line.left))
 
 
 def end_of_trial(rows, place):
-    """The place behind the last call that goes on from this one."""
+    """Returns the place after the last call of the series that this call belongs to."""
     return next((i for i in range(place, len(rows)) if rows[i].call == "new"), len(rows))
 
 
 def most_rise(rows, place):
-    """How far a refused call may raise the counters, and how far it has to."""
+    """Returns by how much a refused call may raise the counters, and by how much it must."""
     most = rise(rows[place - 1], rows[place])
     if rows[place].call == "Codec::code":
         return [0, 0], [0, 0]
@@ -75,7 +78,7 @@ def most_rise(rows, place):
 
 
 def after_refusal(rows, place, refused):
-    """What a run has to print from a refused call on: nothing has changed but counters, and the same call gives its row."""
+    """Returns the lines expected from a refused call on: only counters have changed, and the repeated call prints its row."""
     before = rows[place - 1]
     by = rise(before, refused)
     most, least = most_rise(rows, place)
@@ -86,8 +89,8 @@ def after_refusal(rows, place, refused):
 
 
 def after_refused_piece(rows, place, refused):
-    """The same for a coder in pieces, which lacks memory for good: what it has appended is the code of none of the intervals or of
-    those that were complete, and it holds fewer samples than an interval has. A new one gives the last row."""
+    """Returns the same for a coder in pieces, which lacks memory for good. It has appended the code of no interval, or of those that
+    were complete, and holds fewer samples than an interval has. A new coder prints the last row."""
     end = end_of_trial(rows, place)
     codes = [without_held(rows[i].left) for i in (place - 1, place)]
     code = without_held(refused.left)
@@ -103,7 +106,7 @@ def without_held(left):
 
 
 def after_lost_edit(rows, place, refused):
-    """The same for a run of edits, one of which is refused for want of memory: the edits after it are made of what was there."""
+    """Returns the same for a run of edits in which one edit lacks memory: the later edits are made of the samples before it."""
     spent, _, _, coded = re.findall(r" .*?;", rows[place].left)
     empty = next(row for row in reversed(rows[:place]) if row.call == "new")
     by = [1, 0] if rise(empty, refused) == [1, 0] else [0, 0]
@@ -112,8 +115,8 @@ def after_lost_edit(rows, place, refused):
 
 
 def after_refused_run(rows, place, refused):
-    """The same for a run of the program: its status is 1, it says that memory lacks, of an edit by a script maybe with the line that
-    it came to, and DEST isn't there. The same run then gives its row."""
+    """Returns the same for a run of the program: its status is 1, DEST isn't there, and the message is that of lacking memory, in an
+    edit perhaps with a line of the script. The repeated run prints its row."""
     texts = [f"aec: {WANT}", *([f"aec: line 1: {WANT}"] if "--edit" in refused.call else [])]
     lefts = [f" status 1, '{text}' no dest" for text in texts]
     left = refused.left if refused.left in lefts else lefts[0]
@@ -146,22 +149,22 @@ def compare(what, lines, want, tally):
 
 
 class Calls:
-    """The program, and the lines that it prints with some growths refused."""
+    """The program, run with some growths refused."""
 
     def __init__(self, path, library, folder):
         self.program = Program(path, folder)
         self.growths = Growths(self.program, library, in_parts=True)
 
     def lines(self, first, last):
-        """What is printed, without the marks on standard error, and the numbers of growths and refusals. None where a run doesn't
-        end well."""
+        """Returns the printed lines, without the marks on standard error, and the numbers of growths and refusals. The lines are None
+        if the status isn't 0."""
         (status, text), growths, refused = self.growths.refuse(first, last, self.program.run)
         text = re.sub(r"(?m)^(refuse|grant)\n", "", text)
         return lines_of(text) if status == 0 else None, growths, refused
 
 
 def refuse_in_turn(path, library, rows, alone, tally):
-    """All calls, with each growth refused in turn: the name of the call in which each growth is."""
+    """Refuses each growth in turn. Returns the name of the call in which each growth is, or "" if no call failed without it."""
     calls = []
     with tempfile.TemporaryDirectory() as folder:
         program = Calls(path, library, folder)
@@ -187,7 +190,7 @@ def refuse_in_turn(path, library, rows, alone, tally):
 
 
 def print_table(rows, calls):
-    """For each call its rows, and its growths in all of them."""
+    """Prints the number of rows of each call, and of its growths in all rows."""
     print("| Call | Rows | Growths |\n|---|---|---|")
     names, found = ([call.split(" ")[0] for call in listed] for listed in ([row.call for row in rows], calls))
     for call in dict.fromkeys(name for name in names if name != "new"):

@@ -1,19 +1,19 @@
 #!/usr/bin/env python3
-"""Refused memory: refused_memory.py PATH_OF_AEC
+"""Tests refused memory: refused_memory.py PATH_OF_AEC
 
-Runs the program at PATH_OF_AEC with a small library loaded before the C library, which refuses growths (calls of malloc, calloc
-and realloc): the k-th and all after it, and the k-th alone, for each k until a run meets no refusal. Each refused run has to
-end with status 1, with the one line for want of memory on standard error, and has to leave DEST as it was, or absent. The
-run that meets no refusal has to give the right bytes. A run goes on, and then has to give the right bytes too, without three kinds of
-growths alone: one that takes more room than is needed, on inputs longer than a piece; and where that growth alone is refused, the list of
-the words of the process, which is then made step by step, and the list of overwrites in the order of their places, which are then made in
-the order of the script.
+Runs the program at PATH_OF_AEC with a small library loaded before the C library, which refuses growths (calls of malloc, calloc and
+realloc): the k-th and all later ones, and the k-th alone, for each k until a run meets no refusal. That run must write the right bytes.
+A refused run must end with status 1 and the one line for lack of memory on standard error, and must leave DEST as it was, or absent.
+Only without these growths may a run go on, and must then write the right bytes too:
+  - one that takes more room than is needed, on inputs longer than a piece;
+  - the list of the process's words, if it alone is refused: the list is then built step by step;
+  - the list of overwrites in the order of their places, if it alone is refused: they are then made in the script's order.
 
-Beside that a short stream of very many samples is decoded, cut to a range and edited with little memory, and a stream is edited
-by a script of a million lines with four times its bytes, without the library.
+Without the library and with little memory, the program also decodes a short stream of very many samples, cuts it to a range and edits
+it; and it edits a stream by a script of a million lines, with four times the script's bytes and 16 MiB.
 
-The library is built by `cc`; without that command its runs are skipped, which is a failure where CI is set. Prints a table, the checks that fail and, last, how
-many passed. Ends with 1 where one failed.
+The command `cc` builds the library. Without `cc` the library's runs are skipped, which is a failure if CI is set. Prints a table, the
+checks that fail and, last, how many passed. Ends with status 1 if one failed.
 """
 
 import os
@@ -35,7 +35,7 @@ WANT = "aec: out of memory\n"
 WANT_OF_AN_EDIT = [f"aec: line {line}: out of memory\n" for line in EDIT_LINES]
 
 class Run(NamedTuple):
-    """A run, and what it has to answer where no growth is refused: status, print (None: not judged here) and DEST."""
+    """A run, and its result if no growth is refused: status, output (None: not checked here) and DEST."""
 
     what: str
     words: list
@@ -61,23 +61,23 @@ RUNS = [
     Run("no folder of DEST", ["source", "nowhere/dest"], b"", b"", 1, "aec: write failed\n", None),
 ]
 
-# Runs on more bytes than a piece, and whether they go on without room beyond their need where all growths after it are refused too:
+# Runs on more bytes than a piece, which go on without room beyond their need. True: also if all later growths are refused, since
 # decoding then keeps no more bytes.
 SPARING = {"decoding of noise": True, "an edit of noise": False}
 
-# Runs that go on without one growth more where it alone is refused: that of the list of overwrites.
+# Runs that go on without one more growth if it alone is refused: the list of overwrites.
 ORDERED = {"edits made early"}
 
 
 def list_of_words(run):
-    """The number of the growth for the list of the words of the process. Before it the words are read: a growth for each, one for the
-    end, and those of a list that is doubled when it is full."""
+    """Returns the number of the growth for the list of the process's words. Reading the words takes the growths before it: one for
+    each word, one for the end, and those of a list that doubles when it is full."""
     words = len(run.words) + 1
     return words + 3 + (words > 4) + (words > 8)
 
 
 def may_go_on(run, alone, first, spared):
-    """Whether a run that went on without some growths may go on without another."""
+    """Returns whether a run that went on without the growths `spared` may go on without the growth `first`."""
     if run.what in ORDERED and alone and not spared - {list_of_words(run)}:
         return True
     return alone and first == list_of_words(run) or run.what in SPARING and (alone or SPARING[run.what])
@@ -93,14 +93,14 @@ class Refusing:
         self.program.write("script", run.script)
 
     def answer(self, old, first, last):
-        """What a run answers of whose growths the first to the last are refused, and the numbers of growths and refusals. DEST
-        holds the old bytes before it, or isn't there."""
+        """Runs with the growths from `first` to `last` refused, and with `old` in DEST, or no DEST. Returns the result, and the numbers
+        of growths and refusals."""
         self.program.write("dest", old)
         answer, growths, refused = self.growths.refuse(first, last, self.program.run, *self.run.words)
         return (*answer, self.program.read("dest")), growths, refused
 
     def is_complete(self, answer, old):
-        """Whether that is what a run with ample memory answers."""
+        """Returns whether this is the result of a run with ample memory."""
         status, printed, dest = answer
         wanted = old if self.run.dest is None else self.run.dest
         return status == self.run.status and dest == wanted and self.run.printed in (None, printed)
@@ -111,16 +111,16 @@ class Refusing:
 
 
 class Row(NamedTuple):
-    """What is seen of a run whose growths are refused in turn."""
+    """The observations of a run whose growths are refused in turn."""
 
     growths: int
     runs: int
-    spared: set  # the growths without which a run goes on where they alone are refused
+    spared: set  # the growths without which a run went on
     tally: Tally
 
 
 def refuse_in_turn(refusing, alone, old, tally):
-    """A run with each growth refused in turn: how many runs that took, and the growths without which it went on."""
+    """Refuses each growth of a run in turn. Returns how many runs that took, and the growths without which a run went on."""
     what, spared = refusing.run.what, set()
     for first, last in ways(alone):
         answer, _, refused = refusing.answer(old, first, last)
@@ -138,7 +138,7 @@ def refuse_in_turn(refusing, alone, old, tally):
 
 
 def try_run(path, library, run):
-    """A run with each growth refused in turn, in both ways, with a DEST before it and without."""
+    """Refuses each growth of a run in turn, alone and with all later ones, with an old DEST and without."""
     with tempfile.TemporaryDirectory() as folder:
         refusing, tally = Refusing(path, library, folder, run), Tally()
         answer, growths, _ = refusing.answer(None, 0, -1)
@@ -153,7 +153,7 @@ def try_run(path, library, run):
 
 
 def refuse_all_in_turn(path, tally):
-    """All runs with each growth refused in turn, as a table."""
+    """Refuses each growth of all runs in turn, and prints a table."""
     print("| Run | Growths | Runs | Growths that it goes on without |\n|---|---|---|---|")
     with tempfile.TemporaryDirectory() as folder, ProcessPoolExecutor() as pool:
         rows = pool.map(partial(try_run, path, build(folder)), RUNS)
@@ -164,16 +164,16 @@ def refuse_all_in_turn(path, tally):
 
 
 def try_little_memory(path, tally):
-    """Runs on a stream of some 18,000 bytes that stands for 67 million samples, with little memory."""
+    """Runs the program with little memory on a stream of 18,688 bytes with 67 million samples."""
 
     def limit():
         resource.setrlimit(resource.RLIMIT_AS, (LITTLE, LITTLE))
 
     with tempfile.TemporaryDirectory() as folder:
         program = Program(path, folder)
-        program.write("source", ZEROS_STREAM * 256)  # whole bytes, so that the next interval begins with a byte
+        program.write("source", ZEROS_STREAM * 256)  # whole bytes, so that the next interval begins at a byte
         program.write("script", b"append 1")
-        # Behind the zeros an interval of one sample: a block of equal ones, in a run of one.
+        # After the zeros, an interval of one sample: a block of equal samples, as a run of one.
         appended = ZEROS_STREAM * 256 + bytes_of_bits("0000" + "00000001" + "1")
         for words, wanted in (
             (["-d"], bytes(2**26)),
@@ -187,7 +187,7 @@ def try_little_memory(path, tally):
 
 
 def try_long_script(path, tally):
-    """A script of a million lines, with memory of four times its bytes and 16 MiB."""
+    """Edits by a script of a million lines, with an address space of four times its bytes and 16 MiB."""
     script = b"overwrite 20 1\n" * 10**6
     most = 4 * len(script) + 2**24
     with tempfile.TemporaryDirectory() as folder:

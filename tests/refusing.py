@@ -1,5 +1,5 @@
-"""A library that is loaded before the C library, refuses growths of a program, calls of malloc, calloc and realloc, and counts the
-blocks that are not freed."""
+"""A library that is loaded before the C library. It refuses growths of a program (calls of malloc, calloc and realloc), and counts
+the blocks that are not freed."""
 
 import os
 import shutil
@@ -72,15 +72,15 @@ def has_compiler():
 
 
 def print_skipped(tally, number):
-    """The last line of a test that leaves out so many checks for want of a compiler. Where continuous integration runs, which sets CI, that
-    is a failure."""
+    """Prints the last line of a test that skips so many checks because there is no compiler. If CI is set, as continuous integration
+    does, that is a failure."""
     if os.environ.get("CI"):
         tally.holds(False, NO_COMPILER)
     tally.print(number, NO_COMPILER)
 
 
 def build(folder):
-    """Builds the library, and gives its name."""
+    """Builds the library. Returns its path."""
     source, library = os.path.join(folder, "refusing.c"), os.path.join(folder, "refusing.so")
     with open(source, "w", encoding="utf-8") as file:
         file.write(LIBRARY)
@@ -89,15 +89,15 @@ def build(folder):
 
 
 class Growths:
-    """Runs of a program with the library. The growths that count are all, or those of the parts that the program names."""
+    """Runs of a program with the library. All growths count, or only those in the parts that the program marks."""
 
     def __init__(self, program, library, in_parts=False):
         self.program, self.at_first, self.kept = program, 0 if in_parts else 1, 0
         self.environment = {**os.environ, "LD_PRELOAD": library, "GROWTHS": program.file("growths")}
 
     def refuse(self, first, last, run, *words):
-        """What a run answers of whose growths the first to the last are refused, and the numbers of growths and refusals.
-        `run` is a way to run the program. The number of blocks that it didn't free is kept too."""
+        """Calls `run`, which runs the program, with the growths from `first` to `last` refused. Returns the result, and the numbers
+        of growths and refusals. `self.kept` becomes the number of blocks that weren't freed."""
         self.program.write("growths", struct.pack("6l", 0, 0, first, last, self.at_first, 0))
         answer = run(*words, env=self.environment)
         growths, refused, *_, self.kept = struct.unpack("6l", self.program.read("growths"))
@@ -105,5 +105,5 @@ class Growths:
 
 
 def ways(alone):
-    """For each growth in turn, the first and the last to refuse: that one alone, or all after it too."""
+    """Returns for each growth in turn the first and the last to refuse: that one alone, or all later ones too."""
     return ((first, first if alone else ALL_AFTER) for first in range(1, MOST_GROWTHS))

@@ -1,14 +1,14 @@
 #!/bin/sh
 # Runs every test, from the top of the repository, for `make test`: that generated pages are current, that files keep the limits of
-# the house, that each wrong body can be made, that each lemma is cited, then the gate, then the scripts of tests/ on the programs that
-# the gate has built.
-# Fails if one part fails. At the end it prints the seconds of each part. The last line counts what passed and failed: that of the
-# gate if all parts have passed, else that of the first part that failed; the lines that say why stand before it.
+# the house, that each must-fail edit can be applied, that each lemma is cited, then the gate, then the scripts of tests/ on the programs
+# that the gate has built.
+# Fails if one part fails. At the end it prints the seconds of each part. The last line counts what passed and failed: it is the gate's
+# line if all parts have passed, else that of the first part that failed, and the lines above say why it failed.
 export PYTHONDONTWRITEBYTECODE=1
 kept=$(mktemp -d)
 trap 'rm -rf "$kept"' EXIT
 
-# Runs a part: its name, and the words of its command. Shows what it prints, and keeps that, its status and its time.
+# Runs a part, given its name and the words of its command. Shows its output, and keeps the output, the status and the time.
 part() {
     name=$1
     shift
@@ -21,7 +21,7 @@ has_passed() {
     [ "$(cat "$kept/$1.status")" = 0 ]
 }
 
-# Runs a test on a program that the gate has built: `aec`, or the one that is named.
+# Runs a test on a program that the gate has built: the second argument, or `aec`.
 on_program() {
     program=crates/${2:-aec}/out/${2:-aec}
     if [ -x "$program" ]; then
@@ -33,7 +33,7 @@ on_program() {
     fi
 }
 
-# Shows once more, behind all else, the lines of a part that say why it failed, and what the machine has left.
+# Shows once more the lines of a part that say why it failed, then the free disk and memory.
 explain() {
     echo "== why $1 failed"
     grep -E 'NOT PROVED|NOT REFUSED|BAD EDIT|FAILED|rt fmt|error|killed|: not proved|no verdict' "$kept/$1.log" | cut -c 1-300 | tail -n 30
@@ -52,7 +52,7 @@ part edits python3 tests/edits_apply.py
 part cited python3 tests/cited.py
 at=$(python3 packaging/proved.py commit)
 part gate rt ci
-# What `make dist` packs: the program that the gate has proved and built, and the gate's last line.
+# For `make dist`: the program that the gate has proved and built, and the gate's last line.
 if has_passed gate; then
     mkdir -p bin
     cp crates/aec/out/aec bin/aec
@@ -88,7 +88,7 @@ echo "== instructions a sample"
 part instructions on_program tests/instructions_bounded.py
 
 last=gate
-# Every part in the order above: the first that failed is explained.
+# Every part in the order above. The first that failed is explained.
 for name in pages definitions modules theorems man walk limits edits cited gate coded cuts damaged memory calls files small trips scripts \
     recipes installed worked pictures instructions; do
     if ! has_passed "$name"; then

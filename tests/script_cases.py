@@ -1,4 +1,4 @@
-"""Settings, samples and scripts by chance, for streams that scripts are to edit."""
+"""Random settings, samples and scripts, for streams that scripts edit."""
 
 from script_examples import BAD_LINES, SKIPPED_LINES
 from script_model import decoded_without_count
@@ -15,7 +15,7 @@ def some_settings(chance):
 
 
 def some_samples(settings, chance):
-    """Samples of one of several natures, as many as an edge of blocks and intervals asks for."""
+    """Returns samples of one of five kinds; their number is often at an edge of blocks or intervals."""
     size, whole = settings.block_size, settings.interval_len()
     edges = [0, 1, size - 1, size, 5 * size, 7 * size + 1, 70 * size + 5, whole - 1, whole, whole + 1, 2 * whole + 3]
     count = chance.choice(edges)
@@ -46,7 +46,7 @@ def some_values(settings, chance, most_of_them):
 
 
 def written(x, chance):
-    """A number as a script may write it."""
+    """Returns a number as a script may write it."""
     digits = "0" * chance.choice([0, 0, 0, 0, 1, 30]) + str(abs(x))
     return ("-" if x < 0 else "") + digits
 
@@ -56,20 +56,20 @@ def value_written(x, chance):
 
 
 def line_of(name, numbers, chance):
-    """A line of a script, with blanks by chance."""
+    """Returns a line of a script, with random blanks."""
     blank = lambda least: "".join(chance.choice(" \t") for _ in range(chance.choice([least, 1, 1, 2])))
     return "".join([blank(0), name] + [blank(1) + number for number in numbers] + [blank(0)]).encode()
 
 
 def some_place(settings, most, chance):
-    """A place up to that one: the first, the last, where an interval begins, or any."""
+    """Returns a place up to `most`: the first, the last, the start of an interval, or any."""
     whole = settings.interval_len()
     inside = chance.randint(0, most)
     return chance.choice([0, most, most // whole * whole, inside // whole * whole, inside, inside])
 
 
 def fitting_line(settings, count, chance):
-    """A line whose edit fits so many samples, and their number after it."""
+    """Returns a line whose edit fits so many samples, and their number after it."""
     kind = chance.choice(["overwrite", "append", "truncate", "insert", "insert", "remove"])
     if kind == "remove":
         whole = settings.interval_len()
@@ -90,7 +90,7 @@ def fitting_line(settings, count, chance):
 
 
 def misfit_line(settings, count, chance):
-    """A line whose edit doesn't fit so many samples."""
+    """Returns a line whose edit doesn't fit so many samples."""
     wrong = chance.choice([settings.least() - 1, settings.most() + 1, 2**63 - 1, -(2**63)])
     values = [chance.randint(settings.least(), settings.most()) for _ in range(chance.randrange(4))]
     mixed = values + [wrong] + values
@@ -118,7 +118,7 @@ def misfit_line(settings, count, chance):
 
 
 def some_script(settings, count, chance, number):
-    """A script for so many samples: sound, or with a line that is no edit, or with one that doesn't fit."""
+    """Returns a script for so many samples: sound, or with a line that is no edit, or with an edit that doesn't fit."""
     lines = []
     for _ in range(chance.choice([0, 0, 3, 20]) if count else 0):
         values = some_values(settings, chance, count if chance.random() < 0.2 else 1)
@@ -137,7 +137,7 @@ def some_script(settings, count, chance, number):
 
 
 def some_count(settings, samples, chance):
-    """A count to edit with or none, and the samples that the stream is read as with it."""
+    """Returns a count to edit with, or None, and the samples that are then read from the stream."""
     filled = decoded_without_count(settings, samples)
     kind = chance.choice(["none", "none", "true", "true", "true", "less", "filler"])
     if kind == "none":

@@ -1,4 +1,4 @@
-"""Edits by scripts, worked out by hand: streams, scripts, and what is left or refused. And lines that are no edit."""
+"""Edits by scripts, worked out by hand: streams, scripts, and results or refusals. And lines that are no edit."""
 
 from typing import NamedTuple, Optional
 
@@ -15,10 +15,10 @@ class Example(NamedTuple):
 
 
 ZEROS = bytes.fromhex("00 04 00 10 00 40")  # 48 zeros
-ONE_CHANGED = bytes.fromhex("00 04 40 30 C2 00 08")  # these with a 1 at place 20
+ONE_CHANGED = bytes.fromhex("00 04 40 30 C2 00 08")  # 48 zeros, but a 1 at place 20
 MORE_ZEROS = bytes.fromhex("00 04 00 10 00 40 01")  # 64 zeros
 SEVENS = bytes.fromhex("00 78")  # five sevens
-FOREIGN = bytes.fromhex("40 15 55 80")  # 0 to 7, not as this program codes them
+FOREIGN = bytes.fromhex("40 15 55 80")  # 0 to 7, coded otherwise than by this program
 RAMP = bytes.fromhex("20 09 24 92")
 FIVE_LINES = b"append 1\n\nappend 2 256\nappend 3\nappend 4\n"
 SIXTEEN = b" 0" * 16
@@ -52,7 +52,7 @@ EXAMPLES = [
     Example("a great count", b"truncate 18446744073709551615", ZEROS, None, "line 1: position outside the 48 samples"),
     Example("a great value", b"append 9223372036854775807", ZEROS, None, "line 1: sample 0 is out of range"),
     Example("the least value", b"append 0 -9223372036854775808", ZEROS, None, "line 1: sample 1 is out of range"),
-    # Insertions: whole intervals and part of one, at the front, within, and at the end, where they are appends.
+    # Insertions of whole intervals and of a part, at the front, within, and at the end, where they are appends.
     Example("an interval between two", b"insert 16" + SIXTEEN, ZEROS, MORE_ZEROS),
     Example("an interval within one", b"insert 8" + SIXTEEN, ZEROS, MORE_ZEROS),
     Example("one after an interval", b"insert 16" + SIXTEEN + b"\ninsert 20 0", ZEROS, bytes.fromhex("00 04 00 10 00 40 01 00 08")),
@@ -67,7 +67,7 @@ EXAMPLES = [
     Example("its value out of range", b"insert 48 0 256", ZEROS, None, "line 1: sample 1 is out of range"),
     Example("its line", b"remove 0 8\n#\ninsert 40\ninsert 0 256", ZEROS, None, "line 4: sample 0 is out of range"),
     Example("its great place", b"insert 18446744073709551615 1", ZEROS, None, "line 1: position outside the 48 samples"),
-    # Removals: of whole intervals and of less, at the front, within, and up to the end, where they are cuts.
+    # Removals of whole intervals and of a part, at the front, within, and up to the end, where they are cuts.
     Example("an interval taken out", b"remove 0 16", ONE_CHANGED, bytes.fromhex("10 0C 30 80 02")),
     Example("two halves taken out", b"remove 8 16", MORE_ZEROS, ZEROS),
     Example("a removal after an insertion", b"insert 20 1\nremove 20 1", ZEROS, ZEROS),
@@ -158,5 +158,5 @@ BAD_LINES = [
     b"-",
     b"0",
 ]
-# Lines that say nothing.
+# Lines that do nothing.
 SKIPPED_LINES = [b"", b" ", b"\t \t", b"#", b"# append 1", b"\t#x \0\x80\xff", b"#overwrite", b"##\r#"]

@@ -27,21 +27,21 @@ MOST_SAMPLES = 2**32
 
 
 def whole_number(word):
-    """What FIRST, COUNT and LEN may be; None for anything else."""
+    """Returns the number of a word that may be FIRST, COUNT or LEN, None for any other word."""
     if re.fullmatch(rb"[0-9]+", word) and int(word) < 2**64:
         return int(word)
     return None
 
 
 def value(word):
-    """What V may be; None for anything else."""
+    """Returns the number of a word that may be V, None for any other word."""
     if re.fullmatch(rb"-?[0-9]+", word) and -(2**63) <= int(word) < 2**63:
         return int(word)
     return None
 
 
 def edit_of(number, words):
-    """The edit that the words of a line say; None where they say none."""
+    """Returns the edit that the words of a line mean, None if they are no edit."""
     if words[0] not in FORMS:
         return None
     many, has_values = FORMS[words[0]]
@@ -53,7 +53,7 @@ def edit_of(number, words):
 
 
 def edits_of(script):
-    """The edits of a script. The first line that is none refuses it."""
+    """Returns the edits of a script. Raises Refused at the first line that is no edit."""
     edits = []
     for number, line in enumerate(script.split(b"\n"), 1):
         if line.endswith(b"\r"):
@@ -69,7 +69,7 @@ def edits_of(script):
 
 
 def exchanged(count, edit):
-    """From which place up to which one an edit of so many samples puts its values in place of what is there."""
+    """Returns the first place and the end of the samples that an edit replaces by its values, among so many samples."""
     first = edit.places[0] if edit.places else count
     if edit.name == b"overwrite":
         return first, first + len(edit.values)
@@ -81,7 +81,7 @@ def exchanged(count, edit):
 
 
 def edited(settings, samples, edits):
-    """The samples that the edits leave. The first edit that doesn't fit refuses all."""
+    """Returns the samples after the edits. Raises Refused at the first edit that doesn't fit."""
     for edit in edits:
         first, end = exchanged(len(samples), edit)
         left = len(samples) - (end - first) + len(edit.values)
@@ -97,7 +97,7 @@ def edited(settings, samples, edits):
 
 
 def is_zero_block(settings, samples, first):
-    """Whether all values of the block from that place on are coded as 0."""
+    """Returns whether all values of the block from that place on are coded as 0."""
     block = samples[first : first + settings.block_size]
     if not settings.preprocess:
         return not any(block)
@@ -106,8 +106,8 @@ def is_zero_block(settings, samples, first):
 
 
 def decoded_without_count(settings, samples):
-    """What the stream of samples is read as without their count: the filler comes too, and where five or more blocks of
-    zeros end the stream, all blocks that are left of their segment."""
+    """Returns the samples that are read from their stream without a count: also the filler, and if the stream ends with five or
+    more zero blocks, all remaining blocks of their segment."""
     if not samples:
         return []
     size = settings.block_size

@@ -1,13 +1,13 @@
 #!/usr/bin/env python3
-"""Edits by scripts beside a plain model: scripts.py PATH_OF_AEC [--seed N] [--cases N] [--only N]
+"""Tests edits by scripts against a plain model: scripts.py PATH_OF_AEC [--seed N] [--cases N] [--only N]
 
-Generates streams and scripts, has the program at PATH_OF_AEC edit the one by the other, and compares status, messages and
-DEST with what a model says. The model reads the script by the rules of docs/COMMAND.md and makes its edits on a list.
-The bytes that it expects are those that the same program writes when it codes that list afresh, so this is a test of
-edits and scripts, not of coding; a table of bytes worked out by hand comes first. After a refusal DEST has to be
-what it was, or absent. At last the options of --help are compared with those of the manual page and of docs/COMMAND.md.
+Generates streams and scripts, edits each stream by its script with the program at PATH_OF_AEC, and compares status, messages and DEST
+with the model. The model reads the script by the rules of docs/COMMAND.md and makes its edits on a list. The expected bytes are those
+that the same program writes when it codes that list, so this tests edits and scripts, not coding. A table of bytes worked out by hand
+comes first. After a refusal DEST must be unchanged, or absent. At the end the options of --help are compared with those of the manual
+page and of docs/COMMAND.md.
 
-Prints the cases that fail and, last, how many checks passed. Ends with 1 where one failed.
+Prints the cases that fail and, last, how many checks passed. Ends with status 1 if one failed.
 """
 
 import os
@@ -35,8 +35,8 @@ def try_example(example, program, tally):
 
 
 def try_shared_names(program, tally):
-    """One file as two of SCRIPT, SOURCE and DEST."""
-    both = bytes.fromhex("23 FF FF")  # as a script a comment, as a stream eight samples of 31 by splitting
+    """Uses one file as two of SCRIPT, SOURCE and DEST."""
+    both = bytes.fromhex("23 FF FF")  # as a script a comment, as a stream eight times 31 by sample splitting
     program.write("both", both)
     tally.check("SCRIPT is SOURCE: answer", program.run("--edit", "both", "--count", "8", "both", "dest"), said(None))
     tally.check("SCRIPT is SOURCE: DEST", program.read("dest"), bytes.fromhex("01 F8"))
@@ -53,7 +53,7 @@ def try_shared_names(program, tally):
 
 
 def try_lines(program, tally):
-    """Each bad line between others and as the last one, and all lines that say nothing."""
+    """Tests each bad line between others and as the last one, and all lines that do nothing."""
     program.write("source", ZEROS)
     for bad in BAD_LINES:
         for end in (b"\nappend\n", b""):
@@ -68,7 +68,7 @@ def try_lines(program, tally):
 
 
 def try_long_scripts(program, tally):
-    """A line of very many values, and very many lines of one value each."""
+    """Tests a line of very many values, and very many lines of one value each."""
     values = bytes(i * i % 251 for i in range(10**6))
     numbers = [b"%d" % x for x in values]
     front, few = bytes(48), values[: 10**5]
@@ -87,8 +87,8 @@ def try_long_scripts(program, tally):
 
 
 def try_overwrites(program, tally):
-    """Leading overwrites, which are made in the order of their places: in other orders, some that share samples, one that is
-    refused among them, and more than are put in order."""
+    """Tests leading overwrites, which the program makes in the order of their places: in other orders, some of the same samples,
+    with a refused one among them, and more than the program puts in order."""
     many = 20_000
     orders = {
         "descending": range(many - 1, -1, -1),
@@ -148,7 +148,7 @@ def try_case(seed, number, program, tally):
 
 
 def listed_options(lines, pattern):
-    """The options that lines of that form begin with."""
+    """Returns the options that lines of that form begin with."""
     found = set()
     for line in lines:
         match = re.match(pattern, line)
@@ -158,7 +158,7 @@ def listed_options(lines, pattern):
 
 
 def try_options(program, tally):
-    """What --help, the manual page and docs/COMMAND.md list."""
+    """Compares the options that --help, the manual page and docs/COMMAND.md list."""
     status, text = program.run("--help")
     tally.check("--help: status", status, 0)
     helped = listed_options(text.splitlines(), r" +--?\w[\w-]*(, --\w[\w-]*)?")

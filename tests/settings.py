@@ -1,4 +1,4 @@
-"""How samples are coded and stored: what the tests of the built program give it as options."""
+"""How samples are coded and stored: the options that the tests of the built program use."""
 
 import struct
 from typing import NamedTuple
@@ -8,7 +8,7 @@ EVEN_BLOCK_SIZES = range(8, 65, 2)
 
 
 class Settings(NamedTuple):
-    """How samples are coded and stored. What isn't given is as the program has it where no option is given."""
+    """How samples are coded and stored. The defaults are those of the program."""
 
     bits: int = 8
     block_size: int = 8
@@ -23,8 +23,8 @@ class Settings(NamedTuple):
 
     @classmethod
     def by_chance(cls, chance, widths, block_sizes, intervals, restricted):
-        """Some settings, with width, J and r from lists, and so often restricted, where the width is at most 4. Each third has
-        the flag for even block sizes, and any of them."""
+        """Returns random settings, with width, J and r from lists. The share `restricted` has restricted codes, and a width of at most 4.
+        A third has the flag for even block sizes, and any even J."""
         is_restricted, is_even = chance.random() < restricted, chance.random() < 1 / 3
         return cls(
             bits=chance.choice([1, 2, 3, 4] if is_restricted else widths),
@@ -41,11 +41,11 @@ class Settings(NamedTuple):
 
     @classmethod
     def of_blocks(cls, block_size=8, **more):
-        """Settings with that J, and with the flag where it needs it."""
+        """Returns settings with that J, and with the flag for even block sizes if J needs it."""
         return cls(block_size=block_size, even_blocks=block_size not in STANDARD_BLOCK_SIZES, **more)
 
     def options(self):
-        """The words that a program takes for them."""
+        """Returns the words that a program takes for them."""
         flags = {
             "-s": self.signed,
             "-N": not self.preprocess,
@@ -71,7 +71,7 @@ class Settings(NamedTuple):
         return self.block_size * self.interval
 
     def storage(self):
-        """The bytes of a stored sample."""
+        """Returns the number of bytes of a stored sample."""
         if self.bits <= 8:
             return 1
         if self.bits <= 16:
@@ -79,8 +79,8 @@ class Settings(NamedTuple):
         return 3 if self.three_byte and self.bits <= 24 else 4
 
     def stored(self, samples, used_bits=None):
-        """The bytes of a file of these samples: all bits of the stored numbers, copies of the sign too, or so many of the
-        lowest bits and zeros above them."""
+        """Returns the bytes of a file of these samples: all bits of the stored numbers, with copies of the sign, or only the lowest
+        `used_bits` bits and zeros above them."""
         size = self.storage()
         mask = (1 << (8 * size if used_bits is None else used_bits)) - 1
         words = struct.pack(f">{len(samples)}I", *(x & mask for x in samples))

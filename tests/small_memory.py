@@ -1,12 +1,12 @@
 #!/usr/bin/env python3
-"""Too little stack or address space: small_memory.py PATH_OF_AEC
+"""Tests too little stack or address space: small_memory.py PATH_OF_AEC
 
-Runs the program at PATH_OF_AEC with DEST the file that is SOURCE, where the system gives it too little: with stacks of 64 to 256
-KiB, and with an address space about the least with which the run ends well. However the run ends, by a status or by a signal, the
-file is as before or holds the whole answer. And a run with all the memory that it wants stays within a bound: decoding takes the
-stream, what it keeps of the samples, and a few MiB, however long the stream is.
+Runs the program at PATH_OF_AEC, with one file as SOURCE and DEST, on a system that gives it too little: stacks of 64 to 256 KiB, and
+address spaces around the least that is enough. However the run ends, by a status or by a signal, the file must be unchanged or hold the
+whole result. A run with enough memory must stay within a bound: decoding takes the stream, the samples that it keeps, and a few MiB,
+however long the stream is.
 
-Prints the checks that fail and, last, how many passed. Ends with 1 where one failed.
+Prints the checks that fail and, last, how many passed. Ends with status 1 if one failed.
 """
 
 import os
@@ -28,12 +28,12 @@ FEW = 8 * MIB
 
 
 def limited(limit, most):
-    """Gives a process to come at most so many bytes of something."""
+    """Returns a function that limits a new process to so many bytes of something."""
     return lambda: resource.setrlimit(limit, (most, most))
 
 
 def run_over_itself(program, job, limit, most):
-    """The status, and what the file then holds."""
+    """Runs a job with one file as SOURCE and DEST. Returns the status, and what the file then holds."""
     program.write("source", job.source)
     program.write("script", job.script or b"")
     words = [program.path, *job.words, "source", "source"]
@@ -43,7 +43,7 @@ def run_over_itself(program, job, limit, most):
 
 
 def try_size(program, tally, job, what, limit, most):
-    """One size. The file is whole, or as before: whole where the run says so, as before where it refuses."""
+    """Checks one size. The file must hold the whole result after status 0, be unchanged after status 1, and either after any other end."""
     status, held = run_over_itself(program, job, limit, most)
     allowed = {0: [job.answer], 1: [job.source]}.get(status, [job.source, job.answer])
     told = f"{len(held)} bytes, not the {len(job.source)} of before nor the {len(job.answer)} of the answer"
@@ -58,14 +58,14 @@ def try_stacks(program, tally):
 
 
 def least_space(program, job):
-    """The least address space, to a page, with which a run ends well, if more is always enough too."""
+    """Returns the least address space, to a page, with which a run ends well, if more is always enough too."""
     low, high = 0, MOST_SPACE // STEP
     while high - low > 1:
         middle = (low + high) // 2
         try:
             ended = run_over_itself(program, job, resource.RLIMIT_AS, middle * STEP)[0]
         except (OSError, subprocess.SubprocessError):
-            ended = None  # not even the program could be begun
+            ended = None  # the program couldn't even start
         low, high = (low, middle) if ended == 0 else (middle, high)
     return high * STEP
 
@@ -79,7 +79,7 @@ def try_spaces(program, tally):
 
 
 def most_resident(program, *words):
-    """The status, and the most bytes that were resident at once."""
+    """Runs the program. Returns the status, and the most bytes that were resident at once."""
     with open(os.devnull, "wb") as nowhere:
         run = subprocess.Popen([program.path, *words], cwd=program.folder, stdout=nowhere, stderr=nowhere)
         status, used = os.wait4(run.pid, 0)[1:]
@@ -88,7 +88,7 @@ def most_resident(program, *words):
 
 
 def write_pieces(program, name, piece, times):
-    """A long file, of which this process never holds more than a piece."""
+    """Writes a long file, of which this process never holds more than a piece."""
     with open(program.file(name), "wb") as file:
         for _ in range(times):
             file.write(piece)
@@ -100,8 +100,8 @@ def same_pieces(program, name, piece, times):
 
 
 def try_resident(program, tally):
-    """Streams of short blocks, 40 MiB of samples that no option makes shorter, and of 64 MiB of zeros. What this process holds
-    counts too, since the system counts it as the run's until the run begins."""
+    """Measures runs on 40 MiB of incompressible samples, in short blocks, and on 64 MiB of zeros. The memory of this process counts too,
+    since the system counts it for the run until the run begins."""
     noise = bytes((x * x // 7 + 101 * x) % 256 for x in range(MIB))
     for what, piece, times, options in (
         ("noise", noise, 40, ["-N"]),

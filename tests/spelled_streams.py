@@ -1,7 +1,7 @@
 """Streams spelled by hand, by the rules of docs/FORMAT.md: samples of many widths, blocks of every option, runs and padding.
 
-A row: settings, where they aren't the program's own; the stream's bytes in base 16, or after `bits` its bits, those of the last
-byte that are missing being zeros; a count, or `-`; and the samples that are read, or the fault. `0*8` is eight of them.
+A row: the settings that aren't the program's default; the stream's bytes in base 16, or after `bits` its bits, with zeros added
+up to a whole byte; a count, or `-`; and the samples that are read, or the fault. `0*8` is eight zeros.
 """
 
 from settings import Settings
@@ -102,7 +102,7 @@ def settings_of(cell):
 
 
 def repeated(cell):
-    """The words of a cell, each as often as it says."""
+    """Yields the words of a cell, each as often as it says."""
     for word in cell.split():
         text, _, times = word.partition("*")
         yield from [text] * int(times or 1)

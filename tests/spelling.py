@@ -1,7 +1,7 @@
 """How blocks are spelled: docs/FORMAT.md, sections 3 to 8 and 13, in other words than the definitions and the code.
 
-Shares nothing with the project's code. An option of a block is "plain" (no compression), "extension" (the second extension) or
-a number k (sample splitting).
+It shares nothing with the project's code. An option of a block is "plain" (no compression), "extension" (the second extension)
+or a number k (sample splitting).
 """
 
 from typing import NamedTuple, Optional
@@ -10,7 +10,7 @@ from plain_reader import identifier_length
 
 
 def fs(number):
-    """The fundamental sequence of a number."""
+    """Returns the fundamental sequence of a number."""
     return "0" * number + "1"
 
 
@@ -19,13 +19,13 @@ def binary(number, width):
 
 
 def bytes_of_bits(text):
-    """The bytes of a text of bits, the last one filled with zeros."""
+    """Returns the bytes of a text of bits, the last byte filled with zeros."""
     text += "0" * (-len(text) % 8)
     return bytes(int(text[i : i + 8], 2) for i in range(0, len(text), 8))
 
 
 def mapped(before, x, settings):
-    """The mapped value of a sample, by the table of section 4."""
+    """Returns the mapped value of a sample, by the table of section 4."""
     if not settings.preprocess:
         return x % 2**settings.bits
     d, t = x - before, min(before - settings.least(), settings.most() - before)
@@ -35,7 +35,7 @@ def mapped(before, x, settings):
 
 
 class Block(NamedTuple):
-    """The values of a block that are written; where it is a reference block, the pattern of its reference sample."""
+    """The written values of a block, and for a reference block the pattern of its reference sample."""
 
     pattern: Optional[int]
     values: list
@@ -45,7 +45,7 @@ class Block(NamedTuple):
 
 
 def blocks_of(samples, settings):
-    """The blocks of the samples of one interval, the last one filled up with copies of the last sample."""
+    """Returns the blocks of the samples of one interval, the last block filled with copies of the last sample."""
     size, blocks = settings.block_size, []
     filled = samples + [samples[-1]] * (-len(samples) % size)
     for first in range(0, len(filled), size):
@@ -57,18 +57,18 @@ def blocks_of(samples, settings):
 
 
 def options_of(settings):
-    """The options in the order in which the first of the shortest is taken."""
+    """Returns the options in order: the coder takes the first of the shortest."""
     return ["plain", "extension", *range(2 ** identifier_length(settings) - 2)]
 
 
 def pair_numbers(block, ignored=0):
-    """The numbers of a block's pairs. In a reference block the first member of the first pair is any number."""
+    """Returns the numbers of a block's pairs. In a reference block, `ignored` is the first member of the first pair."""
     members = block.values if block.pattern is None else [ignored, *block.values]
     return [(a + b) * (a + b + 1) // 2 + b for a, b in zip(members[::2], members[1::2])]
 
 
 def length(option, block, settings, ignored=0):
-    """The bits of a block in that option, by the table of section 13."""
+    """Returns the number of bits of a block in that option, by the table of section 13."""
     front = identifier_length(settings) + (0 if block.pattern is None else settings.bits)
     if option == "plain":
         return front + len(block.values) * settings.bits
@@ -78,7 +78,7 @@ def length(option, block, settings, ignored=0):
 
 
 def identifier_and_reference(option, block, settings):
-    """What a block's coded data set begins with. The option of a run is "zero"."""
+    """Returns what a block's coded data set begins with. The option of a run is "zero"."""
     basic = identifier_length(settings)
     identifiers = {"zero": "0" * (basic + 1), "extension": "0" * basic + "1", "plain": "1" * basic}
     identifier = identifiers.get(option) or binary(option + 1, basic)
@@ -86,7 +86,7 @@ def identifier_and_reference(option, block, settings):
 
 
 def spelled(option, block, settings, ignored=0):
-    """A block in that option."""
+    """Returns the code of a block in that option."""
     front = identifier_and_reference(option, block, settings)
     if option == "plain":
         return front + "".join(binary(value, settings.bits) for value in block.values)
@@ -97,5 +97,5 @@ def spelled(option, block, settings, ignored=0):
 
 
 def run(block, number, settings):
-    """A run of zero blocks with that number, which begins with this block."""
+    """Returns the code of a run of zero blocks that begins with this block and is written with that number."""
     return identifier_and_reference("zero", block, settings) + fs(number)

@@ -1,7 +1,7 @@
-"""Jobs in which each option and each sample count tells: without it, the run ends otherwise.
+"""Jobs in which each option and each sample count makes a difference: without it, the run ends otherwise.
 
 For each action and each option there are settings that need the option, with samples on which a run without it writes other
-bytes or is refused. What each run writes is what plain_coder.py says of the samples.
+bytes or is refused. The expected bytes are those of plain_coder.py.
 """
 
 from typing import NamedTuple, Optional
@@ -10,7 +10,7 @@ import plain_coder
 from program import said
 from settings import Settings
 
-# An option, settings that need it, and samples on which it tells.
+# An option, settings that need it, and samples on which it makes a difference.
 OPTIONS = [
     ("-n", Settings(bits=12), [0, 4095, 17, 5, 2000, 1, 1, 3, 9, 10, 300]),
     ("-j", Settings(block_size=16), [3, 9, 1, 0, 7, 7, 250, 3, 4, 4, 4, 90, 1]),
@@ -24,11 +24,11 @@ OPTIONS = [
     ("--even-blocks", Settings.of_blocks(10, interval=1), [0, 1, 2, 3, 4, 5, 6, 7, 8, 9, 3, 9]),
 ]
 
-STORAGE = ["-m", "-3"]  # say how samples are stored, and so nothing to an edit
+STORAGE = ["-m", "-3"]  # say how samples are stored, so they mean nothing to an edit
 
 
 class Telling(NamedTuple):
-    """A run, the bytes that it writes, or its refusal, and the words that it may not do without."""
+    """A run: its words, SOURCE, the bytes that it writes or None, the words with which it must end otherwise, its refusal, and SCRIPT."""
 
     words: list
     source: bytes
@@ -39,14 +39,14 @@ class Telling(NamedTuple):
 
 
 def without(words, option):
-    """The words without an option and its value."""
+    """Returns the words without an option and its value."""
     at = words.index(option)
     has_value = option in ("-n", "-j", "-r", "--count")
     return words[:at] + words[at + 1 + has_value :]
 
 
 def jobs_of(option, settings, samples):
-    """Each action with an option that it needs."""
+    """Yields each action with an option that it needs."""
     words, stream = settings.options(), plain_coder.stream(samples, settings)
     stored, count = settings.stored(samples), ["--count", str(len(samples))]
     edited = [*samples[:2], samples[0], *samples[3:]]
@@ -62,7 +62,7 @@ def jobs_of(option, settings, samples):
 
 
 def jobs_of_counts():
-    """Each action that takes a count: of five samples of 7, behind which a whole block is read without it."""
+    """Yields each action that takes a count, on five samples of 7: without the count a whole block is read."""
     stream = bytes.fromhex("00 78")
     for count, answer in (("5", bytes([7] * 5)), ("0", b""), ("7", bytes([7] * 7))):
         yield Telling(["-d", "--count", count], stream, answer, ["-d"])
@@ -70,7 +70,7 @@ def jobs_of_counts():
     for place in ("5:1", "4:2", "0:6", "6:0"):
         words = ["--range", place, "--count", "5"]
         yield Telling(words, stream, None, without(words, "--count"), outside)
-    # what follows the samples is never read with a count, and refused without one
+    # bytes after the samples are ignored with a count, and refused without one
     behind = ["--range", "3:2", "--count", "8"]
     yield Telling(behind, bytes.fromhex("00 78 FF FF"), bytes([7] * 2), without(behind, "--count"))
     words, grown = ["--edit", "script", "--count", "5"], plain_coder.stream([7] * 5 + [9], Settings())
@@ -85,7 +85,7 @@ def telling_jobs():
 
 
 def try_telling_jobs(program, tally):
-    """Each job, and each without the words that it may not do without."""
+    """Tests each job as it is, and with the words with which it must end otherwise."""
     for job in telling_jobs():
         what = " ".join(job.words)
         for words, tells in ((job.words, False), (job.without, True)):

@@ -1,15 +1,15 @@
 #!/usr/bin/env python3
-"""Two programs side by side: two_programs.py PATH_OF_AEC PATH_OF_ANOTHER [--seed N] [--cases N] [--only N]
+"""Compares two programs: two_programs.py PATH_OF_AEC PATH_OF_ANOTHER [--seed N] [--cases N] [--only N]
 
-For who changes how the program works and not what it does: has both programs do the same jobs, and compares status, what is
-printed, and DEST. A case is one list of samples by chance with settings by chance, and one stream of it that may be damaged:
+For changes of how the program works and not of what it does: runs the same jobs with both programs, and compares status, output and
+DEST. A case is one random list of samples with random settings, and one stream of it that may be damaged:
   - coding, of a file whose unused bits may be unlawful, and which may end within a sample;
   - decoding of the stream without a count and with one, and a range of it;
   - a script of edits on it.
 
-No part of `make test`, which has one program only: build the state before with `make bin/aec` in another clone. The seed is
-printed and can be given; a case can be tried alone by its number. Prints the jobs that differ and, last, how many
-were equal. Ends with 1 where one differed.
+Not part of `make test`, which has only one program: build the other one with `make bin/aec` in another clone. The seed is printed
+and can be given; a case can be tried alone by its number. Prints the jobs that differ and, last, how many were equal. Ends with
+status 1 if one differed.
 """
 
 import os
@@ -24,7 +24,7 @@ OLD = b"what DEST held before"
 
 
 def answer(program, words, given, script):
-    """All that a run of a job is told by: its status, what it prints, and DEST after it."""
+    """Runs a job. Returns its status, what it prints, and DEST after it."""
     program.write("source", given)
     program.write("script", script)
     program.write("dest", OLD)
@@ -32,7 +32,7 @@ def answer(program, words, given, script):
 
 
 def some_stored(damaged, chance):
-    """The bytes of the samples: whole, with bytes of chance among them, or with a part of a sample behind them."""
+    """Returns the bytes of the samples, perhaps with some random bytes in them, or with random bytes after them."""
     stored = damaged.settings.stored(damaged.samples)
     if chance.random() < 0.2 and stored:
         place = chance.randrange(len(stored))
@@ -41,7 +41,7 @@ def some_stored(damaged, chance):
 
 
 def some_jobs(chance, number, _):
-    """The jobs of a case: the words of each, the bytes of SOURCE, and those of a script."""
+    """Returns the jobs of a case: the words of each, the bytes of SOURCE, and those of a script."""
     damaged = damaged_cases.some_damaged(chance)
     settings, count = damaged.settings, len(damaged.samples)
     options = settings.options()
@@ -77,7 +77,7 @@ def try_part(program, numbers, seed, path, jobs):
 
 
 def main(jobs, cases):
-    """Compares the jobs of so many cases: `jobs` gives those of a case, by chance, by its number, and with the other program."""
+    """Compares the jobs of so many cases. `jobs` returns those of a case, from a source of chance, its number and the other program."""
     asked, tally = asked_of("Has two programs do the same jobs, and compares what they answer.", cases, other=True), Tally()
     for part in on_each_core(try_part, asked.program, asked.numbers, asked.seed, os.path.abspath(asked.other), jobs):
         tally.add(part)

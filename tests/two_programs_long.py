@@ -1,9 +1,10 @@
 #!/usr/bin/env python3
-"""Two programs side by side on long inputs: two_programs_long.py PATH_OF_AEC PATH_OF_ANOTHER [--seed N] [--cases N] [--only N]
+"""Compares two programs on long inputs: two_programs_long.py PATH_OF_AEC PATH_OF_ANOTHER [--seed N] [--cases N] [--only N]
 
 As two_programs.py, with 1,000 to 40,000 samples a case, so that what is done for several blocks or intervals at once is done often:
   - coding of the samples;
-  - decoding of their stream, whole, with bits turned, and cut, without a count and with the true one; of the whole one with others too;
+  - decoding of their stream, whole, with bits turned, and cut, without a count and with the true one; of the whole stream also with
+    other counts;
   - a range of the stream, a script of edits on it, and one of many overwrites, in order or not.
 """
 
@@ -19,7 +20,7 @@ WIDTHS = [1, 2, 3, 4, 5, 8, 8, 10, 12, 13, 16, 16, 16, 20, 24, 25, 27, 31, 32, 3
 BLOCK_SIZES = [8, 8, 8, 16, 16, 32, 64, 64]
 INTERVALS = [1, 2, 3, 5, 8, 64, 65, 128, 4096]
 COUNTS = [1000, 5003, 20011, 40000]
-STRETCH = 500  # samples of one kind where kinds change
+STRETCH = 500  # samples of one kind in a row, if kinds change
 CASES = 500
 
 
@@ -28,30 +29,30 @@ def noise(bits, chance, count):
 
 
 def walk(bits, chance, count):
-    """Steps that go round at both ends."""
+    """Returns a walk that wraps around at both ends."""
     reach = chance.choice([1, 3, 40, 1000])
     return [x & (1 << bits) - 1 for x in accumulate(chance.randint(-reach, reach) for _ in range(count))]
 
 
 def rare(bits, chance, count):
-    """Zeros, and some other samples among them."""
+    """Returns zeros, with some other samples among them."""
     share = chance.choice([0.001, 0.01, 0.1])
     return [chance.getrandbits(bits) if chance.random() < share else 0 for _ in range(count)]
 
 
 def level(bits, chance, count):
-    """Samples a little above the middle, and outliers."""
+    """Returns samples a little above the middle, and outliers."""
     most, reach = (1 << bits) - 1, chance.choice([2, 20, 300])
     return [chance.getrandbits(bits) if chance.random() < 0.01 else min((most >> 1) + chance.randrange(reach), most) for _ in range(count)]
 
 
 def still(bits, chance, count):
-    """Samples that stay for a while."""
+    """Returns samples that stay for a while."""
     return [x for x in noise(bits, chance, count // 50 + 1) for _ in range(50)][:count]
 
 
 def changing(bits, chance, count):
-    """Noise and small ramps in turn."""
+    """Returns noise and small ramps in turn."""
     ramp = [min(i % 7, (1 << bits) - 1) for i in range(STRETCH)]
     parts = [noise(bits, chance, STRETCH) if i % 2 else ramp for i in range(-(-count // STRETCH))]
     return [x for part in parts for x in part][:count]
@@ -66,7 +67,7 @@ def some_samples(settings, chance):
 
 
 def many_overwrites(settings, count, chance):
-    """Overwrites of one to three samples, by their places or not, and some of them of samples that others overwrite too."""
+    """Returns overwrites of one to three samples, in the order of their places or not; some have samples in common."""
     places = [chance.randrange(count - 2) for _ in range(chance.choice([50, 300]))]
     places = sorted(places) if chance.random() < 0.3 else places
     values = [[chance.randint(settings.least(), settings.most()) for _ in range(chance.randint(1, 3))] for _ in places]
@@ -74,7 +75,7 @@ def many_overwrites(settings, count, chance):
 
 
 def some_jobs(chance, number, other):
-    """The jobs of a case, as in two_programs.py. The stream is the one that the other program codes."""
+    """Yields the jobs of a case, as in two_programs.py. The other program codes the stream."""
     settings = Settings.by_chance(chance, WIDTHS, BLOCK_SIZES, INTERVALS, restricted=0.1)
     samples = some_samples(settings, chance)
     options, count, stored = settings.options(), len(samples), settings.stored(samples)

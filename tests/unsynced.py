@@ -1,4 +1,4 @@
-"""A library that is loaded before the C library, and fails syncs of a program, with the errors of a disk."""
+"""A library that is loaded before the C library, and lets syncs of a program fail with the errors of a disk."""
 
 import errno
 import os
@@ -40,15 +40,15 @@ int fsync(int file) { return note(file, "fsync"); }
 int fdatasync(int file) { return note(file, "fdatasync"); }
 """
 
-# The errors of a disk, a quota or a server: a file whose sync fails so may not be on it.
+# The errors of a disk, a quota or a server: the file may then not be on the disk.
 OF_A_DEVICE = [errno.ENOSPC, errno.EIO, errno.EDQUOT, errno.EROFS, errno.ESTALE, errno.EBADF, errno.ENOMEM, errno.ETIMEDOUT]
-# The errors of a file that can't be synced, as a pipe: it is done as it is.
+# The errors of a file that can't be synced, such as a pipe: the run then succeeds.
 OF_A_KIND = [errno.EINVAL, errno.ENOSYS, errno.EOPNOTSUPP]
 ALL = 2**31 - 1
 
 
 def build(folder):
-    """Builds the library, and gives its name."""
+    """Builds the library. Returns its path."""
     source, library = os.path.join(folder, "unsynced.c"), os.path.join(folder, "unsynced.so")
     with open(source, "w", encoding="utf-8") as file:
         file.write(LIBRARY)
@@ -63,7 +63,7 @@ class Syncs:
         self.program, self.library = program, library
 
     def fail(self, error, failing, *words):
-        """What a run answers whose first syncs fail so, and a line for each sync that it asks for."""
+        """Runs the program so that its first `failing` syncs fail with `error`. Returns the result, and a line for each sync."""
         self.program.write("syncs", b"")
         more = {"LD_PRELOAD": self.library, "SYNCS": self.program.file("syncs"), "ERRNO": str(error), "FAILING": str(failing)}
         answer = self.program.run(*words, env={**os.environ, **more})

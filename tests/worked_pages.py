@@ -1,9 +1,11 @@
 #!/usr/bin/env python3
-"""The worked commands, examples and code of README.md, docs/COMMAND.md and docs/LIBRARY.md: worked_pages.py PATH_OF_AEC
+"""Tests the commands, examples and code of README.md, docs/COMMAND.md and docs/LIBRARY.md: worked_pages.py PATH_OF_AEC
 
-Runs the commands of README's part 'Use it', of which the sizes that it names are looked at; and each example of COMMAND's part
-'Examples', which has options, perhaps the script, the bytes of SOURCE and those of DEST. The code of LIBRARY's part 'Rattle' has to stand
-in the file that is named before it. A page without commands, examples or code fails.
+Runs the commands of README's part 'Use it' and checks the size that it names. Runs each example of COMMAND's part 'Examples', which has
+options, perhaps a script, the bytes of SOURCE and those of DEST. The code of LIBRARY's part 'Rattle' must be in the file that is named
+before it. A page without commands, examples or code fails.
+
+Prints the checks that fail and, last, how many passed. Ends with status 1 if one failed.
 """
 
 import os
@@ -21,18 +23,18 @@ EXAMPLE = re.compile(r"^- (?:without options|`(-[^`]*)`)(?: with `([^`]*)`)?: `(
 
 
 def part_of(page, heading):
-    """What stands below a heading of a page."""
+    """Returns the text below a heading of a page."""
     with open(os.path.join(TOP, page), encoding="utf-8") as file:
         return file.read().split(f"\n## {heading}\n", 1)[1].split("\n## ", 1)[0]
 
 
 def commands_of(text):
-    """The first commands of a part."""
+    """Returns the first commands of a part."""
     return re.search(r"```sh\n(.*?)```", text, re.S).group(1)
 
 
 def try_examples(program, tally):
-    """Each example: the bytes that DEST gets."""
+    """Checks the bytes that DEST gets in each example."""
     part = part_of("docs/COMMAND.md", "Examples")
     examples = EXAMPLE.findall(part)
     tally.check("examples of COMMAND", len(examples), part.count("\n- "))
@@ -43,7 +45,7 @@ def try_examples(program, tally):
 
 
 def run_commands(program, commands):
-    """The status of commands run as they stand, and what they print."""
+    """Runs commands as they are. Returns their status and what they print."""
     os.makedirs(program.file("bin"), exist_ok=True)
     if not os.path.exists(program.file("bin/aec")):
         os.symlink(program.path, program.file("bin/aec"))
@@ -54,7 +56,7 @@ def run_commands(program, commands):
 
 
 def try_commands(program, tally):
-    """The commands of README, with the size beside them."""
+    """Runs the commands of README, and checks the size that is named beside them."""
     commands = commands_of(part_of("README.md", "Use it"))
     tally.check("commands of README", run_commands(program, commands), (0, ""))
     coded = int(re.search(r"bytes become ([\d,]+)", commands).group(1).replace(",", ""))
@@ -62,7 +64,7 @@ def try_commands(program, tally):
 
 
 def try_code(tally):
-    """Code of the library's page: as it stands in a file that is proved."""
+    """Checks that the code of the library's page is in a file that is proved."""
     part = part_of("docs/LIBRARY.md", "Rattle")
     shown = re.findall(r"\]\(\.\./(crates/[^)]*\.rt)\)[^`]*```rust\n(.*?)```", part, re.S)
     tally.check("code of LIBRARY", len(shown), part.count("```rust"))

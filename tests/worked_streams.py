@@ -1,4 +1,4 @@
-"""Streams that were worked out by hand, by the rules of docs/FORMAT.md: what they are read as, and the faults of others."""
+"""Streams worked out by hand, by the rules of docs/FORMAT.md: their samples, or their faults."""
 
 from typing import NamedTuple, Optional
 
@@ -7,7 +7,7 @@ from spelling import bytes_of_bits
 
 
 class Worked(NamedTuple):
-    """A stream, and the samples that it stands for with that count. A fault stands in their place."""
+    """A stream, and the samples that are read from it with that count, or a fault instead."""
 
     stream: bytes
     settings: Settings
@@ -27,7 +27,7 @@ TEN = Settings.of_blocks(10, interval=1)
 ONE_BIT = Settings(bits=1, preprocess=False)
 EXTREMES = [-(2**31), 2**31 - 1] * 4
 
-# The streams of samples as this program codes them, with the true count.
+# Streams as this program codes them, with the true count.
 EXAMPLES = [
     Worked(of_hex("00 08"), DEFAULT, 8, [0] * 8),
     Worked(of_hex("20 09 24 92"), DEFAULT, 8, list(range(8))),
@@ -68,7 +68,7 @@ READINGS = [
     Worked(of_hex("40 15 55 58 00"), TEN, None, list(range(10))),
     Worked(of_hex("10 07 80"), DEFAULT, None, [0] * 8),
     Worked(of_hex("E0 00 20 40 60 80 A0 C0 E0"), PLAIN, None, list(range(8))),
-    # each front of a stream of three intervals
+    # a stream of three intervals, cut after each byte
     *(Worked(ZEROS[:length], DEFAULT, None, [0] * (length // 2 * 16)) for length in range(7)),
     *(Worked(ZEROS[:length], DEFAULT, 48, None, cut(length // 2 * 14)) for length in range(6)),
     Worked(ZEROS, DEFAULT, 48, [0] * 48),

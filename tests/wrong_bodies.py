@@ -1,14 +1,14 @@
 #!/usr/bin/env python3
-"""Wrong bodies that the gate doesn't try: wrong_bodies.py [NAME..]
+"""Tries the wrong bodies that the gate leaves out: wrong_bodies.py [NAME..]
 
-An edit of crates/NAME/more-must-fail/ has the form of one in must-fail/, and the checker must refuse it as well. The gate tries
-each edit of must-fail/; these would make it last too long. Each crate is tried in a copy of its own below bin/, over the proofs that
-`make bin/aec` has kept, with as many crates at a time as there are processors. With names: those crates alone.
+These are the edits of crates/NAME/more-must-fail/, with which the gate would take too long. They have the form of the must-fail edits
+in must-fail/, and the checker must refuse them too. Each crate is tried in its own copy below bin/, with the proofs that `make bin/aec`
+has kept; as many crates are tried at a time as there are processors. With names, only those crates are tried.
 
-Prints for each edit the first thing that the checker refuses. Fails where an edit can't be applied, where the text that it makes
-can't be read, where the crate is proved all the same, or is refused only since a proof names what the edit took away; and where the
-crate as it stands isn't proved, before its edits or after them. The last line counts what passed and what failed; ends with 1 where
-something failed.
+Prints for each edit the first thing that the checker refuses. An edit fails if it can't be applied, if the checker can't read the
+edited text, if the crate is still proved, or if it is refused only because a proof names what the edit took away. A crate fails if it
+isn't proved without edits, before them or after them. The last line counts what passed and what failed. Ends with status 1 if something
+failed.
 """
 
 import os
@@ -24,10 +24,10 @@ TOP = os.path.abspath(os.path.join(os.path.dirname(__file__), ".."))
 EDITS = "more-must-fail"
 REFUSED = "logic=not-proved"
 SECONDS = 900
-# How the checker says that it can't read a text, in a file that is the edit's own.
+# What the checker prints if it can't read a text.
 UNREAD = re.compile(r"is not in scope|has no field|is no name|operand is missing|expected the end|cannot continue")
 
-# How it says that a proof names what isn't there any more.
+# What it prints if a proof names what isn't there any more.
 TAKEN_AWAY = re.compile(r"(\./)?proofs/.*(has no field|is not in scope|has no `|was not admitted)")
 
 
@@ -59,13 +59,13 @@ def edits_of(crate):
 
 
 def crate_of(line):
-    """The crate that a line of crates.txt is for, if it is for one."""
+    """Returns the crate that a line of crates.txt describes, or None."""
     named = re.match(r"(\w+)( staticlib)?:", line)
     return named and named[1]
 
 
 def uses():
-    """The libraries of the repository that each crate stands on, directly."""
+    """Returns for each crate the libraries of the repository that it uses directly."""
     lines = [line for line in text_of(TOP, "crates.txt").splitlines() if crate_of(line)]
     named = {crate_of(line): line.partition(":")[2].split() for line in lines}
     return {crate: [it for it in rest if it in named] for crate, rest in named.items()}
@@ -79,7 +79,8 @@ def below(crate, direct):
 
 
 def copy_of(crate, direct, room):
-    """A repository with this crate and what it stands on. The files of the others are shared: a check replaces and never writes them."""
+    """Copies a crate into its own repository, with the crates that it uses. Their files are hard links: a check replaces files, and never
+    writes into them. Returns the crate's folder."""
     top, others = os.path.join(room, crate), below(crate, direct)
     os.makedirs(os.path.join(top, "crates"))
     shutil.copy(os.path.join(TOP, "HANDLES"), top)
@@ -93,7 +94,7 @@ def copy_of(crate, direct, room):
 
 
 def changed_texts(edit, folder):
-    """The texts that the edit changes, by their path in the crate."""
+    """Returns the edited texts, by their path in the crate. Raises Unusable if the edit can't be applied."""
     texts, path, old = {}, None, None
     for line in text_of(*os.path.split(edit.path)).split("\n"):
         word, is_one, rest = line.partition(":")
@@ -118,7 +119,7 @@ def changed_texts(edit, folder):
 
 
 def check(folder):
-    """The status of a check, and the lines that the checker prints: those of `rt` itself are advice."""
+    """Returns the status of a check, None if it took too long, and the checker's lines without those of `rt`, which are advice."""
     words = ["rt", "check", "--jobs", "1"]
     try:
         ran = subprocess.run(words, cwd=folder, stdout=subprocess.PIPE, stderr=subprocess.STDOUT, timeout=SECONDS)
@@ -136,7 +137,7 @@ def is_unread(line, paths):
 
 
 def verdict(status, said, paths):
-    """Whether the checker refused what it read, and its first word on it."""
+    """Returns whether the checker refused what it read, and its first message on that."""
     unread = next((line for line in said if is_unread(line, paths)), None)
     if unread:
         return False, f"the checker can't read the edited text: {unread}"
@@ -164,7 +165,7 @@ def tried(edit, folder):
 
 
 def try_crate(crate, direct, room):
-    """How each edit of a crate ends, by its name. Before them and after them the crate as it stands has to be proved."""
+    """Tries the edits of a crate, and checks the crate without edits before and after. Returns by name whether each passed."""
     folder = copy_of(crate, direct, room)
     ends = {}
     if check(folder)[0] == 0:

@@ -19,7 +19,7 @@
 //! [`Encoder`] and [`Decoder`] code and decode in pieces, [`Workspace`] and [`edit`] edit a stream.
 //!
 //! **A stream contains neither its options nor its sample count.** Keep both with the stream: no
-//! call can tell that they are wrong.
+//! call is sure to notice wrong ones.
 //!
 //! The contracts of the library's calls are proved. This crate is tested, not proved. A thread
 //! needs at least 32 KiB of stack.
